@@ -1,0 +1,154 @@
+-- A line one place further, and its answer.
+use Rattle.std.proofs.Common.{◌≡◌, ℕ, zero, suc, ◌+◌, ◌-◌, ◌*◌, ◌<◌, ◌≤◌, List, [], ◌∷◌, ◌++◌, length, map, refl, ap, arith, ◌∙◌, Bool, true, false, min, None, Some, Ok, Err, drop, ◌⊎◌, inl, inr, length-take, length-drop, append-nil, cond, get_or, Bor}
+use Rattle.std.specs.Prelude.{is_none, unwrap_or, nat_le, not, slice_range}
+use Rattle.std.specs.List.{filter, find, range_with_len, position_or_len}
+use Rattle.std.proofs.lemmas.Int.Digits.{number_push}
+use Rattle.std.proofs.lemmas.List.{map-append}
+use Rattle.std.proofs.lemmas.Bool.Decides.{nat_tests}
+use Rattle.ick_bits.specs.declared.digits.DigitFault.TheVariants.{Word, TooLarge}
+use Rattle.std.specs.Str.{str_eq_ignore_ascii_case}
+use Rattle.ick_bits.specs.White.{is_white_byte}
+use Rattle.ick_bits.specs.Digits.{begins_word, word_at, digit_in, digit_at, beginnings, first_unknown, number_of_words, line_answer}
+
+range-more : (a n j : ℕ) → a + n ≡ j → range_with_len a (n + 1) ≡ range_with_len a n ++ j ∷ []
+range-more a zero j e = let h : a ≡ j = omega arith in rw h refl
+range-more a (suc n) j e = let h = range-more (a + 1) n j (omega arith) in let k : suc n + 1 ≡ suc (n + 1) = omega arith in rw k (ap (λ xs. a ∷ xs) h)
+
+filter-snoc : (p : ℕ → Bool) (xs : List ℕ) (x : ℕ) → filter p (xs ++ x ∷ []) ≡ filter p xs ++ filter p (x ∷ [])
+filter-snoc p [] x = refl
+filter-snoc p (y ∷ ys) x = let h = filter-snoc p ys x in
+    elim (p y) as (λ b. cond b (y ∷ filter p (ys ++ x ∷ [])) (filter p (ys ++ x ∷ [])) ≡ cond b (y ∷ filter p ys) (filter p ys) ++ filter p (x ∷ []))
+    [ true ↦ ap (λ zs. y ∷ zs) h | false ↦ h ]
+
+-- up to the first white byte, by position
+at-most : (p : ℕ → Bool) (xs : List ℕ) → position_or_len p xs ≤ length xs
+at-most p [] = omega arith
+at-most p (x ∷ xs) = let ih = at-most p xs in elim (p x) as (λ b. cond (not b) (1 + position_or_len p xs) 0 ≤ suc (length xs)) [ true ↦ omega arith | false ↦ omega arith ]
+
+pub ink_at_most : (xs : List ℕ) → position_or_len is_white_byte xs ≤ length xs
+ink_at_most xs = at-most is_white_byte xs
+
+pub begins-yes : (line : List ℕ) (n : ℕ) → begins_word line n ≡ true → beginnings line (n + 1) ≡ beginnings line n ++ n ∷ []
+unfolding beginnings
+begins-yes line n b = rw (range-more 0 n n (omega arith), filter-snoc (begins_word line) (range_with_len 0 n) n, b) refl
+
+pub begins-no : (line : List ℕ) (n : ℕ) → begins_word line n ≡ false → beginnings line (n + 1) ≡ beginnings line n
+unfolding beginnings
+begins-no line n b = rw (range-more 0 n n (omega arith), filter-snoc (begins_word line) (range_with_len 0 n) n, b) (append-nil (filter (begins_word line) (range_with_len 0 n)))
+
+find-none : (p : ℕ → Bool) (xs : List ℕ) (x : ℕ) → find p xs ≡ None → find p (xs ++ x ∷ []) ≡ cond (p x) (Some x) None
+find-none p [] x h = refl
+find-none p (y ∷ ys) x h = (elim (p y) as (λ b. cond b (Some y) (find p ys) ≡ None → cond b (Some y) (find p (ys ++ x ∷ [])) ≡ cond (p x) (Some x) None)
+    [ true ↦ (λ k. cc) | false ↦ (λ k. find-none p ys x k) ]) h
+
+find-some : (p : ℕ → Bool) (xs ys : List ℕ) (x : ℕ) → find p xs ≡ Some x → find p (xs ++ ys) ≡ Some x
+find-some p [] ys x h = cc
+find-some p (z ∷ zs) ys x h = (elim (p z) as (λ b. cond b (Some z) (find p zs) ≡ Some x → cond b (Some z) (find p (zs ++ ys)) ≡ Some x)
+    [ true ↦ (λ k. k) | false ↦ (λ k. find-some p zs ys x k) ]) h
+
+-- no word begins at n
+pub known-no : (line : List ℕ) (n : ℕ) → begins_word line n ≡ false → first_unknown line n ≡ None → first_unknown line (n + 1) ≡ None
+unfolding first_unknown
+known-no line n b k = rw (begins-no line n b) k
+
+pub number-no : (line : List ℕ) (n : ℕ) → begins_word line n ≡ false → number_of_words line (n + 1) ≡ number_of_words line n
+unfolding number_of_words
+number-no line n b = rw (begins-no line n b) refl
+
+-- a digit's name begins at n
+pub known-yes : (line : List ℕ) (n d : ℕ) → begins_word line n ≡ true → digit_at line n ≡ Some d → first_unknown line n ≡ None → first_unknown line (n + 1) ≡ None
+unfolding first_unknown
+known-yes line n d b e k = rw (begins-yes line n b) (find-none (λ i. is_none (digit_at line i)) (beginnings line n) n k ∙ rw e refl)
+
+pub number-yes : (line : List ℕ) (n d : ℕ) → begins_word line n ≡ true → digit_at line n ≡ Some d → number_of_words line (n + 1) ≡ number_of_words line n * 10 + d
+unfolding number_of_words
+number-yes line n d b e =
+    let f = λ (i : ℕ). unwrap_or (digit_at line i) 0 in
+    rw (begins-yes line n b, map-append f (beginnings line n) (n ∷ [])) (number_push 10 (map f (beginnings line n)) (f n) ∙ rw e refl)
+
+-- an unknown word begins at n
+unknown-here : (line : List ℕ) (n : ℕ) → begins_word line n ≡ true → digit_at line n ≡ None → first_unknown line n ≡ None → first_unknown line (n + 1) ≡ Some n
+unfolding first_unknown
+unknown-here line n b e k = rw (begins-yes line n b) (find-none (λ i. is_none (digit_at line i)) (beginnings line n) n k ∙ rw e refl)
+
+bool-cases : (b : Bool) → (b ≡ true) ⊎ (b ≡ false)
+bool-cases true = inl refl
+bool-cases false = inr refl
+
+unknown-more : (line : List ℕ) (n m : ℕ) → first_unknown line m ≡ Some n → first_unknown line (m + 1) ≡ Some n
+unfolding first_unknown
+unknown-more line n m h = elim (bool-cases (begins_word line m)) [
+  | inl b ↦ rw (begins-yes line m b) (find-some (λ i. is_none (digit_at line i)) (beginnings line m) (m ∷ []) n h)
+  | inr b ↦ rw (begins-no line m b) h
+]
+
+unknown-stays : (line : List ℕ) (n k m : ℕ) → first_unknown line k ≡ Some n → first_unknown line (k + m) ≡ Some n
+unknown-stays line n k zero h = let e : k + 0 ≡ k = omega arith in rw e h
+unknown-stays line n k (suc m) h = let e : k + suc m ≡ (k + m) + 1 = omega arith in rw e (unknown-more line n (k + m) (unknown-stays line n k m h))
+
+pub unknown-all : (line : List ℕ) (n : ℕ) → n < length line → begins_word line n ≡ true → digit_at line n ≡ None → first_unknown line n ≡ None → first_unknown line (length line) ≡ Some n
+unknown-all line n l b e k =
+    let s : length line ≡ (n + 1) + (length line - (n + 1)) = omega arith in
+    rw s (unknown-stays line n (n + 1) (length line - (n + 1)) (unknown-here line n b e k))
+
+-- the answers
+pub answer-unknown : (line : List ℕ) (i j : ℕ) → first_unknown line (length line) ≡ Some i → i ≤ j → j ≤ length line → slice_range line i j ≡ word_at line i → Err (Word i j) ≡ line_answer line
+unfolding line_answer
+answer-unknown line i j h l m w =
+    let n : j ≡ i + length (word_at line i) = rw (← w) (omega (arith, length-take (j - i) (drop i line), length-drop i line)) in
+    rw (h, ← n) refl
+
+pub answer-large : (line : List ℕ) (v : ℕ) → first_unknown line (length line) ≡ None → v ≡ min (number_of_words line (length line)) 4294967296 → v ≡ 4294967296 → Err TooLarge ≡ line_answer line
+unfolding line_answer
+answer-large line v h e l =
+    let t : nat_le (number_of_words line (length line)) 4294967295 ≡ false = grind (arith, nat_tests) in
+    rw (h, t) refl
+
+pub answer-number : (line : List ℕ) (v : ℕ) → first_unknown line (length line) ≡ None → v ≡ min (number_of_words line (length line)) 4294967296 → v < 4294967296 → Ok v ≡ line_answer line
+unfolding line_answer
+answer-number line v h e l =
+    let t : nat_le (number_of_words line (length line)) 4294967295 ≡ true = grind (arith, nat_tests) in
+    let n : v ≡ number_of_words line (length line) = omega arith in
+    rw (h, t, n) refl
+
+-- one more digit, kept at most at the limit
+pub kept : (v w d : ℕ) → v ≡ min w 4294967296 → min (v * 10 + d) 4294967296 ≡ min (w * 10 + d) 4294967296
+kept v w d e = omega arith
+
+pub nothing-first : (line : List ℕ) → first_unknown line 0 ≡ None
+unfolding first_unknown beginnings
+nothing-first line = refl
+
+pub nothing-number : (line : List ℕ) → number_of_words line 0 ≡ 0
+unfolding number_of_words beginnings
+nothing-number line = refl
+
+-- the rows of a table behind references
+unfoldable pub rows_of : List (Bor (List ℕ) × ℕ) → List (List ℕ × ℕ)
+rows_of table = map (λ row. (row.0.now, row.1)) table
+
+-- a row of the table that has another word
+pub named-past : (word : List ℕ) (rows : List (Bor (List ℕ) × ℕ)) (i : ℕ) → i < length rows →
+    str_eq_ignore_ascii_case word (get_or rows i (record { ref_ptr = (0, 0); now = [] }, 0)).0.now ≡ false →
+    digit_in word (drop i (rows_of rows)) ≡ digit_in word (drop (i + 1) (rows_of rows))
+unfolding rows_of
+named-past word [] i h e = absurd (omega arith)
+named-past word (row ∷ rows) zero h e = rw e refl
+named-past word (row ∷ rows) (suc i) h e = let more : suc i + 1 ≡ suc (i + 1) = omega arith in rw more (named-past word rows i (omega arith) e)
+
+-- the row that has it
+pub named-here : (word : List ℕ) (rows : List (Bor (List ℕ) × ℕ)) (i : ℕ) → i < length rows →
+    str_eq_ignore_ascii_case word (get_or rows i (record { ref_ptr = (0, 0); now = [] }, 0)).0.now ≡ true →
+    digit_in word (drop i (rows_of rows)) ≡ Some (get_or rows i (record { ref_ptr = (0, 0); now = [] }, 0)).1
+unfolding rows_of
+named-here word [] i h e = absurd (omega arith)
+named-here word (row ∷ rows) zero h e = rw e refl
+named-here word (row ∷ rows) (suc i) h e = named-here word rows i (omega arith) e
+
+-- past the last row
+pub named-nowhere : (word : List ℕ) (rows : List (Bor (List ℕ) × ℕ)) (i : ℕ) → length rows ≤ i → digit_in word (drop i (rows_of rows)) ≡ None
+unfolding rows_of
+named-nowhere word [] zero h = refl
+named-nowhere word [] (suc i) h = refl
+named-nowhere word (row ∷ rows) zero h = absurd (omega arith)
+named-nowhere word (row ∷ rows) (suc i) h = named-nowhere word rows i (omega arith)

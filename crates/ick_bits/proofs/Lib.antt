@@ -1,0 +1,9 @@
+pub mod AppendingLemmas
+pub mod DigitLemmas
+pub mod NumeralLemmas
+pub mod NumeralSteps
+pub mod OperatorLemmas
+pub mod OperatorSteps
+pub mod PrintingLemmas
+pub mod TableLemmas
+pub mod ValueLemmas

@@ -1,0 +1,56 @@
+-- A line of digit names, and the number that it writes.
+use Rattle.std.specs.Prelude.{ℕ, ◌+◌, ◌-◌, Bool, ◌&&◌, ◌||◌, not, nat_le, ◌==◌, List, map, length, drop, slice_index, if◌then◌else◌, Option, Some, None, is_none, unwrap_or, Result, Ok, Err}
+use Rattle.std.specs.Option.{option_map}
+use Rattle.ick_bits.specs.declared.digits.TheConstants.{NAMES}
+use Rattle.std.specs.List.{filter, find, before_first, range_with_len}
+use Rattle.std.specs.Int.Digits.{number_from_digits}
+use Rattle.std.specs.Str.{str_eq_ignore_ascii_case}
+use Rattle.ick_bits.specs.White.{is_white_byte}
+use Rattle.ick_bits.specs.declared.digits.DigitFault.{DigitFault}
+use Rattle.ick_bits.specs.declared.digits.DigitFault.TheVariants.{Word, TooLarge}
+
+abbrev pub is_ink : ℕ → Bool
+is_ink b = not (is_white_byte b)
+
+-- a word begins at a place with ink, at the front or after a white byte
+unfoldable pub begins_word : List ℕ → ℕ → Bool
+begins_word line i = is_ink (slice_index line i) && (i == 0 || is_white_byte (slice_index line (i - 1)))
+
+-- and goes on up to the first white byte
+unfoldable pub word_at : List ℕ → ℕ → List ℕ
+word_at line i = before_first is_white_byte (drop i line)
+
+-- the table of names: words and their digits
+abbrev pub names : List (List ℕ × ℕ)
+names = map (λ row. (row.0.now, row.1)) NAMES
+
+-- the digit of the first row with this word, in either letter case
+abbrev pub digit_in : List ℕ → List (List ℕ × ℕ) → Option ℕ
+digit_in word rows = option_map (λ row. row.1) (find (λ row. str_eq_ignore_ascii_case word row.0) rows)
+
+-- the digit that a word names
+unfoldable pub digit_of : List ℕ → Option ℕ
+digit_of word = digit_in word names
+
+abbrev pub digit_at : List ℕ → ℕ → Option ℕ
+digit_at line i = digit_of (word_at line i)
+
+-- the places below n at which a word begins
+unfoldable pub beginnings : List ℕ → ℕ → List ℕ
+beginnings line n = filter (begins_word line) (range_with_len 0 n)
+
+-- the first of them whose word names no digit
+unfoldable pub first_unknown : List ℕ → ℕ → Option ℕ
+first_unknown line n = find (λ i. is_none (digit_at line i)) (beginnings line n)
+
+-- the number that their words write, the most significant first
+unfoldable pub number_of_words : List ℕ → ℕ → ℕ
+number_of_words line n = number_from_digits 10 (map (λ i. unwrap_or (digit_at line i) 0) (beginnings line n))
+
+abbrev pub answer_of : List ℕ → Option ℕ → ℕ → Result ℕ DigitFault
+answer_of line (Some i) v = Err (Word i (i + length (word_at line i)))
+answer_of line None v = if nat_le v 4294967295 then Ok v else Err TooLarge
+
+-- the first unknown word; else too large; else the number
+unfoldable pub line_answer : List ℕ → Result ℕ DigitFault
+line_answer line = answer_of line (first_unknown line (length line)) (number_of_words line (length line))

@@ -1,0 +1,9 @@
+pub mod Digits
+pub mod Faults
+pub mod Memory
+pub mod Numeral
+pub mod Operators
+pub mod Quoted
+pub mod ValueFields
+pub mod Values
+pub mod White

@@ -1,0 +1,6 @@
+-- Want of memory.
+use Rattle.ick_bits.specs.declared.memory.NoMemory.{NoMemory}
+
+-- its only value
+abbrev pub no_memory : NoMemory
+no_memory = record {}

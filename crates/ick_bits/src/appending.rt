@@ -1,0 +1,38 @@
+//! Bytes at the end of a text: all of them, or none where memory is refused.
+
+ghost use Rattle.std.specs.Prelude.{◌≡◌, ◌<◌, ◌+◌, ◌++◌, decimal, length, OnOk, OnErr, vec_len, vec_capacity};
+ghost use Rattle.std.specs.List.{flat_map};
+
+use crate::memory::NoMemory;
+use itoa::Buffer;
+
+/// Appends the decimal digits of `number`, without leading zeros; `0` stands for zero.
+///
+/// The answer is `NoMemory` only where `out` had no room for them and could not grow; `out` is then
+/// unchanged.
+pub fn append_decimal(out: &mut Vec<u8>, number: u64) -> Result<(), NoMemory>
+    ensures ok { OnOk result (out.new.items ≡ out.old.items ++ decimal number) }
+    ensures err { OnErr result (out.new.items ≡ out.old.items) }
+    ensures full { OnErr result (vec_capacity out.old < vec_len out.old + length (decimal number)) }
+{
+    let mut buffer = Buffer::new();
+    out.extend_from_slice(buffer.format(number).as_bytes())?;
+    Ok(())
+}
+
+/// Appends the pieces one after another, or nothing.
+pub(crate) fn append_all(out: &mut Vec<u8>, pieces: &[&[u8]]) -> Result<(), NoMemory>
+    ensures ok { OnOk result (out.new.items ≡ out.old.items ++ flat_map (λ p. p.now) pieces.now) }
+    ensures err { OnErr result (out.new.items ≡ out.old.items) }
+    ensures full { let text = flat_map (λ p. p.now) pieces.now in
+        OnErr result (vec_capacity out.old < vec_len out.old + length text) }
+{
+    let start = out.len();
+    for piece in pieces {
+        if out.extend_from_slice(piece).is_err() {
+            out.truncate(start);
+            return Err(NoMemory);
+        }
+    }
+    Ok(())
+}

@@ -1,0 +1,114 @@
+//! Numbers as lines of digit names.
+
+ghost use Rattle.std.specs.Prelude.{◌≡◌, ◌<◌, ◌≤◌, length, slice_range, IfSome};
+ghost use Rattle.std.specs.List.{position_or_len};
+ghost use Rattle.std.specs.Str.{str_eq_ignore_ascii_case};
+ghost use Rattle.ick_bits.specs.White.{is_white_byte};
+ghost use Rattle.ick_bits.specs.Digits.{begins_word, word_at, digit_of, line_answer};
+
+use crate::white::is_white;
+
+/// Why a line is no number.
+#[derive(Clone, Copy, Debug, PartialEq, Eq)]
+pub enum DigitFault {
+    /// The first word that names no digit: it goes from byte `from` of the line up to byte `to`.
+    Word { from: usize, to: usize },
+    /// Each word names a digit, and the number is above 4294967295.
+    TooLarge,
+}
+
+/// The names of the digits.
+pub(crate) static NAMES: [(&[u8], u8); 12] = [
+    (b"OH", 0),
+    (b"ZERO", 0),
+    (b"ONE", 1),
+    (b"TWO", 2),
+    (b"THREE", 3),
+    (b"FOUR", 4),
+    (b"FIVE", 5),
+    (b"SIX", 6),
+    (b"SEVEN", 7),
+    (b"EIGHT", 8),
+    (b"NINE", 9),
+    (b"NINER", 9),
+];
+
+/// One more than the greatest number.
+const LIMIT: u64 = 4294967296;
+
+/// The number that a line writes by the names of its decimal digits, the most significant first
+/// (Revised Manual, 4.4.12, after INTERCAL-72). White bytes separate the names, whose letters are
+/// capitals or small. A line without a word is 0 (this profile).
+///
+/// `DigitFault::Word` is the first word anywhere in the line that names no digit; where each does,
+/// `DigitFault::TooLarge` is a number above 4294967295.
+pub fn digits_value(line: &[u8]) -> Result<u32, DigitFault>
+    ensures { result ≡ line_answer line.now }
+{
+    let mut value: u64 = 0;
+    for from in 0..line.len() {
+        if begins(line, from) {
+            let to = word_end(line, from);
+            match digit_named(&line[from..to]) {
+                Some(digit) => value = (value * 10 + u64::from(digit)).min(LIMIT),
+                None => return Err(DigitFault::Word { from, to }),
+            }
+        }
+    }
+    if value == LIMIT {
+        return Err(DigitFault::TooLarge);
+    }
+    Ok(value as u32)
+}
+
+/// Whether a word begins here.
+#[tactic(auto, unfolding(crate::specs::Digits::begins_word))]
+fn begins(line: &[u8], place: usize) -> bool
+    requires { place < length line.now }
+    ensures { result ≡ begins_word line.now place }
+{
+    !is_white(line[place]) && (place == 0 || is_white(line[place - 1]))
+}
+
+/// The end of the word that begins here.
+#[tactic(auto, using(crate::proofs::DigitLemmas::ink_at_most), unfolding(crate::specs::Digits::word_at))]
+fn word_end(line: &[u8], from: usize) -> usize
+    requires { from < length line.now }
+    ensures within { result ≤ length line.now }
+    ensures after { from ≤ result }
+    ensures word { slice_range line.now from result ≡ word_at line.now from }
+{
+    from + ink_length(&line[from..])
+}
+
+/// How many bytes stand before the first separator.
+fn ink_length(rest: &[u8]) -> usize
+    ensures { result ≡ position_or_len is_white_byte rest.now }
+{
+    for (index, byte) in rest.iter().enumerate() {
+        if is_white(*byte) {
+            return index;
+        }
+    }
+    rest.len()
+}
+
+/// The digit that a word names, in either letter case.
+fn digit_named(word: &[u8]) -> Option<u8>
+    ensures value { result ≡ digit_of word.now }
+    ensures small { IfSome result (λ digit. digit < 10) }
+{
+    for (name, digit) in &NAMES {
+        if is_name(word, name) {
+            return Some(*digit);
+        }
+    }
+    None
+}
+
+/// Whether a word is this name, in either letter case.
+fn is_name(word: &[u8], name: &[u8]) -> bool
+    ensures { result ≡ str_eq_ignore_ascii_case word.now name.now }
+{
+    word.eq_ignore_ascii_case(name)
+}

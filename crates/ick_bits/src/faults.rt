@@ -1,0 +1,194 @@
+//! Faults and their messages.
+
+ghost use Rattle.std.specs.Prelude.{◌≡◌, ◌<◌, ◌+◌, ◌++◌, OnOk, OnErr, vec_len, vec_capacity, length};
+ghost use Rattle.ick_bits.specs.Faults.{row_of, number_of, text_of, message_of, three_digits};
+
+use crate::appending::append_all;
+use crate::memory::NoMemory;
+use itoa::Buffer;
+
+/// What can be wrong with a program, or go wrong in its run (after Revised Manual, 9.2; the numbers
+/// and texts are this profile's).
+#[derive(Clone, Copy, Debug, PartialEq, Eq)]
+pub enum FaultKind {
+    /// A statement that is in no form of the language was to be done.
+    Unrecognised,
+    /// A mesh is above 65535.
+    MeshTooLarge,
+    /// Fewer than a fifth of the statements are polite.
+    Impolite,
+    /// More than a third of the statements are polite.
+    Fawning,
+    /// NEXT with 79 entries on the NEXT stack.
+    NextDepth,
+    /// NEXT to a label that no statement has.
+    NoNextLabel,
+    /// ABSTAIN or REINSTATE of a label that no statement has.
+    NoAbstainLabel,
+    /// Two statements have one label.
+    SameLabel,
+    /// A label is outside 1 to 65535.
+    LabelRange,
+    /// A variable's number is outside 1 to 65535.
+    NameRange,
+    /// An array would get a dimension of 0.
+    ZeroDimension,
+    /// Subscripts do not fit the dimensions of their array, or an array would get more than 65,536
+    /// elements.
+    Hyperspace,
+    /// A number above 65535 would go into 16 bits.
+    TooWide,
+    /// RETRIEVE of a variable with nothing stashed.
+    NothingStashed,
+    /// A number is too large: an operand of mingle above 65535, or an input above 4294967295.
+    SixtyFour,
+    /// WRITE IN with no input left.
+    NoInput,
+    /// A word of the input is no digit.
+    NoDigit,
+    /// RESUME of no entry.
+    ResumeZero,
+    /// RESUME of more entries than the NEXT stack has.
+    Rupture,
+    /// The run went past the last statement.
+    OffTheEdge,
+}
+
+/// The table of faults, in the order of the kinds: the number, and the text up to the place where a
+/// subject is shown.
+pub(crate) static FAULTS: [(u16, &[u8]); 20] = [
+    (0, b""),
+    (17, b"DO YOU EXPECT ME TO FIGURE THIS OUT?"),
+    (79, b"PROGRAMMER IS INSUFFICIENTLY POLITE"),
+    (99, b"PROGRAMMER IS OVERLY POLITE"),
+    (123, b"PROGRAM HAS DISAPPEARED INTO THE BLACK LAGOON"),
+    (129, b"PROGRAM HAS GOTTEN LOST"),
+    (139, b"I WASN'T PLANNING TO GO THERE ANYWAY"),
+    (182, b"YOU MUST LIKE THIS LABEL A LOT!"),
+    (197, b"SO! 65535 LABELS AREN'T ENOUGH FOR YOU?"),
+    (200, b"NOTHING VENTURED, NOTHING GAINED"),
+    (240, b"ERROR HANDLER PRINTED SNIDE REMARK"),
+    (241, b"VARIABLES MAY NOT BE STORED IN WEST HYPERSPACE"),
+    (275, b"DON'T BYTE OFF MORE THAN YOU CAN CHEW"),
+    (436, b"THROW STICK BEFORE RETRIEVING!"),
+    (533, b"YOU WANT MAYBE WE SHOULD IMPLEMENT 64-BIT VARIABLES?"),
+    (562, b"I DO NOT COMPUTE"),
+    (579, b"WHAT BASE AND/OR LANGUAGE INCLUDES "),
+    (621, b"ERROR TYPE 621 ENCOUNTERED"),
+    (
+        632,
+        b"THE NEXT STACK RUPTURES.  ALL DIE.  OH, THE EMBARRASSMENT!",
+    ),
+    (
+        633,
+        b"PROGRAM FELL OFF THE EDGE ON THE WAY TO THE NEW WORLD.",
+    ),
+];
+
+impl FaultKind {
+    /// The kind's row in the table.
+    fn row(self) -> usize
+        ensures { result ≡ row_of self }
+    {
+        self as usize
+    }
+
+    /// The number that the message prints with three digits.
+    pub fn number(self) -> u16
+        ensures value { result ≡ number_of self }
+        ensures short { result < 1000 }
+    {
+        FAULTS[self.row()].0
+    }
+
+    /// The text, in pieces: the subject is shown by two kinds alone.
+    #[tactic(auto, unfolding(crate::specs::Faults::text_of))]
+    fn text<'a>(self, subject: &'a [u8]) -> Text<'a>
+        ensures { result.before.now ++ result.subject.now ++ result.after.now ≡ text_of self subject.now }
+    {
+        let before = FAULTS[self.row()].1;
+        match self {
+            FaultKind::Unrecognised => Text {
+                before,
+                subject,
+                after: b"",
+            },
+            FaultKind::NoDigit => Text {
+                before,
+                subject,
+                after: b"?",
+            },
+            _ => Text {
+                before,
+                subject: b"",
+                after: b"",
+            },
+        }
+    }
+}
+
+/// A message's text, taken apart where the subject stands.
+#[derive(Clone, Copy)]
+struct Text<'a> {
+    before: &'a [u8],
+    subject: &'a [u8],
+    after: &'a [u8],
+}
+
+/// A fault of a statement.
+#[derive(Clone, Copy, Debug, PartialEq, Eq)]
+pub struct Fault<'a> {
+    /// What is wrong.
+    pub kind: FaultKind,
+    /// The statement's number, counted from 1; 0 where the program has no statement.
+    pub statement: u32,
+    /// What the message shows: the statement's text for `Unrecognised`, the word for `NoDigit`. The
+    /// other kinds show none.
+    pub subject: &'a [u8],
+}
+
+/// Appends the three lines of a fault's message, each ended by byte 10 (Revised Manual, 9.1): the
+/// number with the text, the number of the statement after the fault's, and the request to try
+/// again. The subject's bytes are printed as they are.
+///
+/// The answer is `NoMemory` only where `out` had no room for the whole message and could not grow;
+/// `out` is then unchanged.
+#[tactic(auto, unfolding(crate::specs::Faults::message_of))]
+pub fn append_message(out: &mut Vec<u8>, fault: &Fault<'_>) -> Result<(), NoMemory>
+    ensures ok { let text = message_of fault.now.kind fault.now.statement fault.now.subject.now in
+        OnOk result (out.new.items ≡ out.old.items ++ text) }
+    ensures err { OnErr result (out.new.items ≡ out.old.items) }
+    ensures full { let text = message_of fault.now.kind fault.now.statement fault.now.subject.now in
+        OnErr result (vec_capacity out.old < vec_len out.old + length text) }
+{
+    let number = number_digits(fault.kind.number());
+    let text = fault.kind.text(fault.subject);
+    let mut buffer = Buffer::new();
+    let next = buffer.format(u64::from(fault.statement) + 1).as_bytes();
+    append_all(
+        out,
+        &[
+            b"ICL",
+            &number,
+            b"I ",
+            text.before,
+            text.subject,
+            text.after,
+            b"\n        ON THE WAY TO ",
+            next,
+            b"\n        CORRECT SOURCE AND RESUBNIT\n",
+        ],
+    )
+}
+
+/// The three digits of a number.
+fn number_digits(number: u16) -> [u8; 3]
+    requires { number < 1000 }
+    ensures { result ≡ three_digits number }
+{
+    [
+        b'0' + (number / 100) as u8,
+        b'0' + (number / 10 % 10) as u8,
+        b'0' + (number % 10) as u8,
+    ]
+}

@@ -1,0 +1,120 @@
+//! Numbers as letters with bars over some of them.
+
+ghost use Rattle.std.specs.Prelude.{◌≡◌, ◌≤◌, ◌<◌, ◌++◌, ◌+◌, pos, length};
+ghost use Rattle.arrayvec.specs.ArrayVec.{array_vec_len};
+ghost use Rattle.ick_bits.specs.Numeral.{numeral_of, worth, digit_symbols, place_of, symbol};
+
+use arrayvec::ArrayVec;
+use itoa::Buffer;
+
+/// A letter of a numeral. A bar over it makes it worth a thousand times as much, and a small letter
+/// is worth a million times its capital (Revised Manual, 4.4.13).
+#[derive(Clone, Copy, Debug, PartialEq, Eq, Default)]
+pub struct Symbol {
+    /// The letter, as an ASCII byte.
+    pub letter: u8,
+    /// Whether it has a bar over it.
+    pub barred: bool,
+}
+
+/// The letters of one decimal place: for one, five and ten of it.
+#[derive(Clone, Copy)]
+pub(crate) struct Place {
+    pub(crate) one: Symbol,
+    pub(crate) five: Symbol,
+    pub(crate) ten: Symbol,
+}
+
+/// A letter, and whether it has a bar.
+type Mark = (u8, bool);
+
+/// The letters for one, five and ten of each decimal place, from the units up. That for ten of the
+/// last place is never used, since the digit there is at most 4.
+pub(crate) static PLACES: [(Mark, Mark, Mark); 10] = [
+    ((b'I', false), (b'V', false), (b'X', false)),
+    ((b'X', false), (b'L', false), (b'C', false)),
+    ((b'C', false), (b'D', false), (b'M', false)),
+    ((b'M', false), (b'V', true), (b'X', true)),
+    ((b'X', true), (b'L', true), (b'C', true)),
+    ((b'C', true), (b'D', true), (b'M', true)),
+    ((b'M', true), (b'v', false), (b'x', false)),
+    ((b'x', false), (b'l', false), (b'c', false)),
+    ((b'c', false), (b'd', false), (b'm', false)),
+    ((b'm', false), (b'v', true), (b'x', true)),
+];
+
+/// The symbol of a letter.
+fn marked(mark: Mark) -> Symbol
+    ensures { result ≡ symbol mark }
+{
+    Symbol {
+        letter: mark.0,
+        barred: mark.1,
+    }
+}
+
+/// The letters of the place that has `digits_after` digits to its right.
+fn letters_at(digits_after: usize) -> Place
+    requires { digits_after < 10 }
+    ensures { result ≡ place_of digits_after }
+{
+    let (one, five, ten) = PLACES[digits_after];
+    Place {
+        one: marked(one),
+        five: marked(five),
+        ten: marked(ten),
+    }
+}
+
+/// The numeral of a number: for each decimal digit, from the left, the letters of its place
+/// (Revised Manual, 4.4.13). Zero has no symbol (this profile).
+///
+/// Its worth, the sum in which a symbol counts with a minus sign where the next is worth more, is
+/// the number. It has at most 39 symbols, as 3888888888 has.
+pub fn numeral(number: u32) -> ArrayVec<Symbol, 39>
+    ensures symbols { result.items ≡ numeral_of number }
+    ensures worth { worth result.items ≡ pos number }
+    ensures short { length result.items ≤ 39 }
+{
+    let mut buffer = Buffer::new();
+    let digits = buffer.format(number).as_bytes();
+    let mut symbols = ArrayVec::new();
+    for (index, digit) in digits.iter().enumerate() {
+        push_digit(
+            &mut symbols,
+            letters_at(digits.len() - 1 - index),
+            *digit - b'0',
+        );
+    }
+    symbols
+}
+
+/// Adds the symbols of one digit.
+#[tactic(auto, unfolding(crate::specs::Numeral::digit_symbols))]
+fn push_digit(symbols: &mut ArrayVec<Symbol, 39>, letters: Place, digit: u8)
+    requires digit { digit < 10 }
+    requires room { array_vec_len symbols.old + length (digit_symbols letters digit) ≤ 39 }
+    ensures { symbols.new.items ≡ symbols.old.items ++ digit_symbols letters digit }
+{
+    let Place { one, five, ten } = letters;
+    match digit {
+        0 => {}
+        1 => push_all(symbols, &[one]),
+        2 => push_all(symbols, &[one, one]),
+        3 => push_all(symbols, &[one, one, one]),
+        4 => push_all(symbols, &[one, five]),
+        5 => push_all(symbols, &[five]),
+        6 => push_all(symbols, &[five, one]),
+        7 => push_all(symbols, &[five, one, one]),
+        8 => push_all(symbols, &[five, one, one, one]),
+        _ => push_all(symbols, &[one, ten]),
+    }
+}
+
+/// Adds these symbols, for which there is room.
+fn push_all(symbols: &mut ArrayVec<Symbol, 39>, more: &[Symbol])
+    requires { array_vec_len symbols.old + length more.now ≤ 39 }
+    ensures { symbols.new.items ≡ symbols.old.items ++ more.now }
+{
+    symbols.try_extend_from_slice(more).unwrap();
+}
