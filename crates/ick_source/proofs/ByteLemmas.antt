@@ -1,0 +1,149 @@
+-- Words, numbers and gaps. In this crate a lemma `x_one` says that there is at most one x at a place, `x_is` and `x_or`
+-- that there is one or none, `x_along` takes x to an equal place, `x_longer` and `x_order` say that it ends after it
+-- begins, and `x_inside` that it lies inside the text.
+use Rattle.std.proofs.Common.{Bool, IsTrue, List, [], add-one, add-zero, ap, arith, drop, false, get_or, inl, inr, length, refl, slice_range, subst, suc, sym, true, zero, ℕ, ◌*◌, ◌++◌, ◌+◌, ◌-◌, ◌<◌, ◌^◌, ◌∙◌, ◌∷◌, ◌≡◌, ◌≤◌, ◌⊎◌}
+use Rattle.std.proofs.Math.Nat.{pow-succ'}
+use Rattle.std.proofs.lemmas.Bool.{false≢true}
+use Rattle.std.proofs.lemmas.List.{get_or-drop, get_or_past, length-drop, length_push, take_more}
+use Rattle.ick_bits.specs.White.{is_white_byte}
+use Rattle.ick_source.specs.Bytes.{Gap, IsDigit, IsWhite, Number, Word, byte, value_of_digits}
+
+pub less_or : (i j : ℕ) → ((i < j) ⊎ (j < i)) ⊎ (i ≡ j)
+less_or i j = grind arith
+
+pub gap_one : {s : List ℕ} {i j k l : ℕ} → Gap s i j → Gap s k l → i ≡ k → j ≡ l
+gap_one {s} {i} {j} {k} {l} g h e = elim (less_or j l) [
+  | inl (inl lt) ↦ absurd (g.stops (h.white j (omega arith) lt))
+  | inl (inr gt) ↦ absurd (h.stops (g.white l (omega arith) gt))
+  | inr same ↦ same
+]
+
+pub number_one : {s : List ℕ} {i j k l m n : ℕ} → Number s i j m → Number s k l n → i ≡ k → (j ≡ l) × (m ≡ n)
+number_one {s} {i} {j} {k} {l} g h e =
+    let same : j ≡ l = elim (less_or j l) [
+      | inl (inl lt) ↦ absurd (g.stops (h.digits j (let some : i < j = g.some in omega arith) lt))
+      | inl (inr gt) ↦ absurd (h.stops (g.digits l (let some : k < l = h.some in omega arith) gt))
+      | inr same ↦ same
+    ] in
+    (same, cc)
+
+-- Two words that differ do not stand at one place, shown by their first bytes.
+pub differ : {A : Type 0} (s : List ℕ) {i k : ℕ} (a b : ℕ) → byte s i ≡ a → byte s k ≡ b → (a ≡ b → ⊥) → i ≡ k → A
+differ s a b x y n e = absurd (n (let f = ap (λ z. byte s z) e in omega (arith, f, x, y)))
+
+pub inside : (s : List ℕ) (i : ℕ) → (byte s i ≡ 0 → ⊥) → i < length s
+inside s i h = elim (less_or i (length s)) [
+  | inl (inl lt) ↦ lt
+  | inl (inr gt) ↦ absurd (h (get_or_past s i 0 (omega arith)))
+  | inr same ↦ absurd (h (get_or_past s i 0 (omega arith)))
+]
+
+pub Word-each : (s : List ℕ) (i : ℕ) (w : List ℕ) → Word s i w → (k : ℕ) → k < length w → byte s (i + k) ≡ get_or w k 0
+Word-each s i [] h k lt = absurd (omega arith)
+Word-each s i (b ∷ bs) h zero lt = rw add-zero h.0
+Word-each s i (b ∷ bs) h (suc k) lt = let e : i + suc k ≡ (i + 1) + k = omega arith in rw e (Word-each s (i + 1) bs h.1 k (omega arith))
+
+pub Word-from_each : (s : List ℕ) (i : ℕ) (w : List ℕ) → ((k : ℕ) → k < length w → byte s (i + k) ≡ get_or w k 0) → Word s i w
+Word-from_each s i [] h = tt
+Word-from_each s i (b ∷ bs) h = (rw add-zero at (h 0 (omega arith)), Word-from_each s (i + 1) bs (λ k lt. let e : i + suc k ≡ (i + 1) + k = omega arith in rw e at (h (suc k) (omega arith))))
+
+value-append : (xs : List ℕ) (d : ℕ) → value_of_digits (xs ++ d ∷ []) ≡ 10 * value_of_digits xs + (d - 48)
+value-append [] d = omega arith
+value-append (x ∷ xs) d = let e : 10 ^ length (xs ++ d ∷ []) ≡ 10 * 10 ^ length xs = ap (λ n. 10 ^ n) (length_push xs d) ∙ pow_more (length xs) in
+    rw e (let ih = value-append xs d in scaled (x - 48) (10 ^ length xs) _ _ _ ih) where
+      pow_more : (n : ℕ) → 10 ^ (n + 1) ≡ 10 * 10 ^ n
+      pow_more n = rw add-one (pow-succ' 10 n)
+
+      scaled : (a p v u d : ℕ) → u ≡ 10 * v + d → a * (10 * p) + u ≡ 10 * (a * p + v) + d
+      scaled a p v u d h = omega arith
+
+slice_more : (s : List ℕ) (i j : ℕ) → i ≤ j → j < length s → slice_range s i (j + 1) ≡ slice_range s i j ++ byte s j ∷ []
+slice_more s i j o l =
+    let n : j + 1 - i ≡ (j - i) + 1 = omega arith in
+    let m : i + (j - i) ≡ j = omega arith in
+    rw n (take_more (drop i s) (j - i) 0 (omega (arith, length-drop i s)) ∙ rw (get_or-drop i s (j - i) 0, m) refl)
+
+pub value_more : (s : List ℕ) (i j : ℕ) → i ≤ j → j < length s → value_of_digits (slice_range s i (j + 1)) ≡ 10 * value_of_digits (slice_range s i j) + (byte s j - 48)
+value_more s i j o l = rw (slice_more s i j o l) (value-append (slice_range s i j) (byte s j))
+
+pub between_more : (P : ℕ → Type 0) (a b : ℕ) → ((k : ℕ) → a ≤ k → k < b → P k) → P b → (k : ℕ) → a ≤ k → k < b + 1 → P k
+between_more P a b h here k x y = elim (less_or k b) [
+  | inl (inl lt) ↦ h k x lt
+  | inl (inr gt) ↦ absurd (omega arith)
+  | inr same ↦ subst P (sym same) here
+]
+
+-- Either a value and an end, or none.
+abbrev pub Finds : {A : Type 0} → (ℕ → A → Type 0) → Type 0
+Finds {A} R = ((j : ℕ) × (a : A) × R j a) ⊎ ((j : ℕ) (a : A) → R j a → ⊥)
+
+pub le_or : (a b : ℕ) → (a ≤ b) ⊎ (b < a)
+le_or a b = grind arith
+
+-- A byte that is known and not white.
+pub not_white : {A : Type 0} {b c : ℕ} → b ≡ c → is_white_byte c ≡ false → IsWhite b → A
+not_white e f w = absurd (false≢true (sym f ∙ (ap is_white_byte (sym e) ∙ w)))
+
+pub white_or : (b : ℕ) → IsWhite b ⊎ (IsWhite b → ⊥)
+white_or b = white_cases (is_white_byte b) where
+  white_cases : (w : Bool) → IsTrue w ⊎ (IsTrue w → ⊥)
+  white_cases true = inl refl
+  white_cases false = inr false≢true
+
+digit_or : (b : ℕ) → IsDigit b ⊎ (IsDigit b → ⊥)
+digit_or b = elim (le_or 48 b) [ inr x ↦ inr (λ w. omega (arith, w, x)) | inl x ↦ elim (le_or b 57) [ inl y ↦ inl (x, y) | inr y ↦ inr (λ w. omega (arith, w, y)) ] ]
+
+pub same_or : (a b : ℕ) → (a ≡ b) ⊎ (a ≡ b → ⊥)
+same_or a b = elim (less_or a b) [ inr e ↦ inl e | inl n ↦ inr (λ e. omega (arith, n, e)) ]
+
+pub past : (s : List ℕ) (i : ℕ) → length s ≤ i → byte s i ≡ 0
+past s i l = get_or_past s i 0 l
+
+-- All places from i on at which P holds, up to one at which it does not.
+run : (s : List ℕ) (P : ℕ → Type 0) → ((b : ℕ) → P b ⊎ (P b → ⊥)) → (P 0 → ⊥) → (n i : ℕ) → length s ≤ i + n → (e : ℕ) × (i ≤ e) × ((k : ℕ) → i ≤ k → k < e → P (byte s k)) × (P (byte s e) → ⊥)
+run s P or zero_not zero i l = (i, omega arith, λ k a b. absurd (omega arith), λ p. zero_not (subst P (past s i (omega arith)) p))
+run s P or zero_not (suc n) i l = elim (or (byte s i)) [
+  | inr no_more ↦ (i, omega arith, λ k a b. absurd (omega arith), no_more)
+  | inl here ↦ let r = run s P or zero_not n (i + 1) (omega arith) in (
+    r.0,
+    omega (arith, r.1),
+    λ k a b. elim (less_or i k) [
+      | inl (inl lt) ↦ r.2 k (omega arith) b
+      | inl (inr gt) ↦ absurd (omega arith)
+      | inr e ↦ subst (λ z. P (byte s z)) e here
+    ],
+    r.3,
+  )
+]
+
+pub gap_is : (s : List ℕ) (i : ℕ) → (e : ℕ) × Gap s i e
+gap_is s i = let r = run s IsWhite white_or false≢true (length s) i (omega arith) in (r.0, record { order = r.1; white = r.2; stops = r.3 })
+
+pub number_is : (s : List ℕ) (i : ℕ) → Finds (Number s i)
+number_is s i = let r = run s IsDigit digit_or (λ w. omega (arith, w)) (length s) i (omega arith) in elim (less_or i r.0) [
+  | inl (inl lt) ↦ inl (r.0, value_of_digits (slice_range s i r.0), record { some = lt; digits = r.2; stops = r.3; value = refl })
+  | inl (inr gt) ↦ absurd (omega (arith, r.1))
+  | inr e ↦ inr (λ j a x. r.3 (subst (λ z. IsDigit (byte s z)) e (x.digits i (omega arith) x.some)))
+]
+
+pub word_or : (s : List ℕ) (i : ℕ) (w : List ℕ) → Word s i w ⊎ (Word s i w → ⊥)
+word_or s i [] = inl tt
+word_or s i (b ∷ bs) = elim (same_or (byte s i) b) [
+  | inr n ↦ inr (λ x. n x.0)
+  | inl e ↦ elim (word_or s (i + 1) bs) [ inl w ↦ inl (e, w) | inr n ↦ inr (λ x. n x.1) ]
+]
+
+pub number_along : {s : List ℕ} {i k j n : ℕ} → i ≡ k → Number s i j n → Number s k j n
+number_along {s} {j = j} {n = n} e x = subst (λ y. Number s y j n) e x
+
+pub byte_along : {A : Type 0} (s : List ℕ) {i k b : ℕ} → i ≡ k → byte s i ≡ b → (byte s k ≡ b → A) → A
+byte_along s e x f = f (let h = ap (λ z. byte s z) e in cc)
+
+pub word_along : (s w : List ℕ) {i k : ℕ} → i ≡ k → Word s i w → Word s k w
+word_along s w e x = subst (λ y. Word s y w) e x
+
+pub number_inside : {s : List ℕ} {i j n : ℕ} → Number s i j n → j ≤ length s
+number_inside {s} {i} {j} x = elim (le_or j (length s)) [
+  | inl le ↦ le
+  | inr gt ↦ absurd (let d = x.digits (j - 1) (let some : i < j = x.some in omega arith) (let some : i < j = x.some in omega arith) in let z = past s (j - 1) (omega arith) in omega (arith, d, z))
+]

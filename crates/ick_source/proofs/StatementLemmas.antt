@@ -1,0 +1,120 @@
+-- Statements: exactly one stands at a start.
+use Rattle.std.proofs.Common.{Bool, List, None, Option, Some, ap, arith, inl, inr, length, refl, slice_range, subst, suc, sym, unwrap_or, zero, ℕ, ◌+◌, ◌-◌, ◌<◌, ◌≡◌, ◌≤◌}
+use Rattle.ick_source.specs.Bodies.{IsBody}
+use Rattle.ick_source.specs.Boundaries.{IsBoundary, IsStart}
+use Rattle.ick_source.specs.Bytes.{Gap, IsWhite, byte}
+use Rattle.ick_source.specs.Qualifiers.{Qualifiers}
+use Rattle.ick_source.specs.Statements.{Ends, IsStatement, Recognised, Trimmed, recognised, unrecognised}
+use Rattle.ick_source.specs.Trees.{BodyTree, StatementTree}
+use Rattle.ick_source.proofs.BodyLemmas.{body_is, body_longer, body_one}
+use Rattle.ick_source.proofs.BoundaryLemmas.{boundary_along, boundary_inside, boundary_is, next_boundary_is, next_boundary_one, opening_ends_inside, opening_inside, opening_longer, opening_one, opening_solid}
+use Rattle.ick_source.proofs.ByteLemmas.{Finds, gap_is, gap_one, less_or, white_or}
+use Rattle.ick_source.proofs.QualifierLemmas.{after_inside, chance_inside, negated_inside, qualifiers_is, qualifiers_one, qualifiers_order}
+
+recognised_one : {s : List ℕ} {b c e f : ℕ} {t u : BodyTree} → Recognised s b e t → Recognised s c f u → b ≡ c → (e ≡ f) × (t ≡ u)
+recognised_one g h e = let one = body_one g.body h.body e in (gap_one g.gap h.gap one.0, one.1)
+
+recognised_along : {s : List ℕ} {b c e : ℕ} {t : BodyTree} → b ≡ c → Recognised s b e t → Recognised s c e t
+recognised_along {s} {e = e} {t = t} q r = subst (λ x. Recognised s x e t) q r
+
+ends_one : {s : List ℕ} {h b i c e f : ℕ} {t u : Option BodyTree} → Ends s h b e t → Ends s i c f u → h ≡ i → b ≡ c → (e ≡ f) × (t ≡ u)
+ends_one (recognised g) (recognised h) p q = let one = recognised_one g h q in (one.0, ap (λ x. Some x) one.1)
+ends_one (recognised g) (unrecognised n b) p q = absurd (n _ _ (recognised_along q g))
+ends_one (unrecognised n b) (recognised g) p q = absurd (n _ _ (recognised_along (sym q) g))
+ends_one (unrecognised n b) (unrecognised m c) p q = (next_boundary_one b c p, refl)
+
+pub trimmed_one : {s : List ℕ} {i e k f : ℕ} {t u : List ℕ} → Trimmed s i e t → Trimmed s k f u → i ≡ k → e ≡ f → t ≡ u
+trimmed_one {s} g h p q =
+    let same : g.last ≡ h.last = elim (less_or g.last h.last) [
+      | inl (inl lt) ↦ absurd (h.solid (g.white h.last lt (let o = h.order in omega arith)))
+      | inl (inr gt) ↦ absurd (g.solid (h.white g.last gt (let o = g.order in omega arith)))
+      | inr same ↦ same
+    ] in cc
+
+abbrev tree : Bool → Bool → ℕ → Option BodyTree → List ℕ → StatementTree
+tree b c d e f = record { polite = b; abstained = c; chance = d; body = e; text = f }
+
+same_parts : {b m c n : Bool} {d o : ℕ} {e p : Option BodyTree} {f q : List ℕ} → b ≡ m → c ≡ n → d ≡ o → e ≡ p → f ≡ q → tree b c d e f ≡ tree m n o p q
+same_parts y z u v w = cc
+
+pub same_tree : (p q : StatementTree) → p.polite ≡ q.polite → p.abstained ≡ q.abstained → p.chance ≡ q.chance → p.body ≡ q.body → p.text ≡ q.text → p ≡ q
+same_tree p q b c d e f = same_parts b c d e f
+
+pub statement_one : {s : List ℕ} {i j e f : ℕ} {p q : StatementTree} → IsStatement s i e p → IsStatement s j f q → i ≡ j → (e ≡ f) × (p ≡ q)
+statement_one {p = p} {q = q} g h e =
+    let opening = opening_one g.says.opening h.says.opening e in
+    let qualifiers = qualifiers_one g.says.qualifiers h.says.qualifiers opening.0 in
+    let ends = ends_one g.ends h.ends qualifiers.0 (gap_one g.gap h.gap qualifiers.0) in
+    let text = trimmed_one g.trimmed h.trimmed e ends.0 in
+    let chance : p.chance ≡ q.chance = let x = g.says.chance in let y = h.says.chance in let z = qualifiers.2 in cc in
+    (ends.0, same_tree p q opening.2 qualifiers.1 chance ends.1 text)
+
+pub statement_start : {s : List ℕ} {i e : ℕ} {p : StatementTree} → IsStatement s i e p → i < length s
+statement_start g = opening_inside g.says.opening
+
+pub ends_order : {s : List ℕ} {h b e : ℕ} {t : Option BodyTree} → Gap s h b → Ends s h b e t → h ≤ e
+ends_order g (recognised r) = omega (arith, g.order, body_longer r.body, r.gap.order)
+ends_order g (unrecognised n b) = b.order
+
+pub ends_inside : {s : List ℕ} {h b e : ℕ} {t : Option BodyTree} → Ends s h b e t → e ≤ length s
+ends_inside (recognised r) = boundary_inside r.boundary
+ends_inside (unrecognised n b) = boundary_inside b.boundary
+
+ends_boundary : {s : List ℕ} {h b e : ℕ} {t : Option BodyTree} → Ends s h b e t → IsBoundary s e
+ends_boundary (recognised r) = r.boundary
+ends_boundary (unrecognised n b) = b.boundary
+
+pub statement_longer : {s : List ℕ} {i e : ℕ} {p : StatementTree} → IsStatement s i e p → i + 2 ≤ e
+statement_longer g = omega (arith, opening_longer g.says.opening, qualifiers_order g.says.qualifiers, ends_order g.gap g.ends)
+
+pub statement_boundary : {s : List ℕ} {i e : ℕ} {p : StatementTree} → IsStatement s i e p → IsBoundary s e
+statement_boundary g = ends_boundary g.ends
+
+pub not_recognised : {s : List ℕ} {b m e : ℕ} {t : BodyTree} → IsBody s b m t → Gap s m e → (IsBoundary s e → ⊥) → {j : ℕ} {u : BodyTree} → Recognised s b j u → ⊥
+not_recognised x g n r = n (boundary_along (gap_one r.gap g (body_one r.body x refl).0) r.boundary)
+
+recognised_is : (s : List ℕ) (b : ℕ) → Finds (Recognised s b)
+recognised_is s b = elim (body_is s b) [
+  | inr n ↦ inr (λ j t x. n _ _ x.body)
+  | inl x ↦ let g = gap_is s x.0 in elim (boundary_is s g.0) [
+    | inl boundary ↦ inl (g.0, x.1, record { last = x.0; body = x.2; gap = g.1; boundary = boundary })
+    | inr n ↦ inr (λ j t y. not_recognised x.2 g.1 n y)
+  ]
+]
+
+ends_is : (s : List ℕ) (h b : ℕ) → h ≤ length s → (e : ℕ) × (body : Option BodyTree) × Ends s h b e body
+ends_is s h b l = elim (recognised_is s b) [
+  | inl x ↦ (x.0, Some x.1, recognised x.2)
+  | inr n ↦ let r = next_boundary_is s (length s - h) h (omega arith) in (r.0, None, unrecognised n r.1)
+]
+
+trimmed_is : (s : List ℕ) (i e n : ℕ) → (IsWhite (byte s i) → ⊥) → i + n + 1 ≤ e → ((k : ℕ) → i + n < k → k < e → IsWhite (byte s k)) → (text : List ℕ) × Trimmed s i e text
+trimmed_is s i e zero solid l w = (slice_range s i (i + 1), record { last = i; some = omega arith; order = omega arith; solid = solid; white = λ k a b. w k (omega arith) b; bytes_are = refl })
+trimmed_is s i e (suc n) solid l w = elim (white_or (byte s (i + suc n))) [
+  | inr stop ↦ (slice_range s i (i + suc n + 1), record { last = i + suc n; some = omega arith; order = omega arith; solid = stop; white = w; bytes_are = refl })
+  | inl white ↦ trimmed_is s i e n solid (omega arith) (λ k a b. elim (less_or (i + suc n) k) [
+    | inl (inl lt) ↦ w k lt b
+    | inl (inr gt) ↦ absurd (omega arith)
+    | inr same ↦ subst (λ z. IsWhite (byte s z)) same white
+  ])
+]
+
+pub trim : (s : List ℕ) (i e : ℕ) → (IsWhite (byte s i) → ⊥) → i < e → (text : List ℕ) × Trimmed s i e text
+trim s i e solid lt = trimmed_is s i e (e - i - 1) solid (omega arith) (λ k a b. absurd (omega arith))
+
+head_inside : {s : List ℕ} {i j : ℕ} {d : Bool} {c : Option ℕ} (x : IsStart s i) → Qualifiers s x.end j d c → j ≤ length s
+head_inside x m = after_inside m.third (chance_inside m.second (negated_inside m.first (opening_ends_inside x.opening)))
+
+pub statement_is : (s : List ℕ) (i : ℕ) → IsStart s i → (e : ℕ) × (p : StatementTree) × IsStatement s i e p
+statement_is s i x =
+    let m = qualifiers_is s x.end in
+    let longer = opening_longer x.opening in
+    let order = qualifiers_order m.3 in
+    let g = gap_is s m.0 in
+    let within : m.0 ≤ length s = head_inside x m.3 in
+    let ends = ends_is s m.0 g.0 within in
+    let text = trim s i ends.0 (opening_solid x.opening) (omega (arith, longer, order, ends_order g.1 ends.2)) in (
+      ends.0,
+      record { polite = x.polite; abstained = m.1; chance = unwrap_or m.2 100; body = ends.1; text = text.0 },
+      record { head = m.0; begin = g.0; says = record { after = x.end; label = x.label; percentage = m.2; opening = x.opening; qualifiers = m.3; chance = refl }; gap = g.1; ends = ends.2; trimmed = text.1 },
+    )

@@ -1,0 +1,37 @@
+-- Bytes of a text by their places. Places are counted from 0, and a part of a text runs from one
+-- place up to another.
+use Rattle.std.specs.Prelude.{◌≡◌, ℕ, ◌+◌, ◌-◌, ◌*◌, ◌^◌, ◌<◌, ◌≤◌, List, [], ◌∷◌, length, slice_index, slice_range, IsTrue}
+use Rattle.ick_bits.specs.White.{is_white_byte}
+
+-- The byte at a place. Past the end it is 0, which is no part of any word, mark, number or gap.
+abbrev pub byte : List ℕ → ℕ → ℕ
+byte text at = slice_index text at
+
+abbrev pub IsWhite : ℕ → Type 0
+IsWhite b = IsTrue (is_white_byte b)
+
+abbrev pub IsDigit : ℕ → Type 0
+IsDigit b = (48 ≤ b) × (b ≤ 57)
+
+-- All white bytes that stand here, none included.
+pub record Gap (text : List ℕ) (from to : ℕ) : Type 0 where
+  pub order : from ≤ to
+  pub white : (at : ℕ) → from ≤ at → at < to → IsWhite (byte text at)
+  pub stops : IsWhite (byte text to) → ⊥
+
+-- The number that digits spell: each counts its power of ten.
+abbrev pub value_of_digits : List ℕ → ℕ
+value_of_digits [] = 0
+value_of_digits (d ∷ ds) = (d - 48) * 10 ^ length ds + value_of_digits ds
+
+-- All digits that stand here, of which there is one at least, spell the number.
+pub record Number (text : List ℕ) (from to number : ℕ) : Type 0 where
+  pub some : from < to
+  pub digits : (at : ℕ) → from ≤ at → at < to → IsDigit (byte text at)
+  pub stops : IsDigit (byte text to) → ⊥
+  pub value : number ≡ value_of_digits (slice_range text from to)
+
+-- A word stands here.
+abbrev pub Word : List ℕ → ℕ → List ℕ → Type 0
+Word text at [] = Unit {0}
+Word text at (b ∷ bs) = (byte text at ≡ b) × Word text (at + 1) bs

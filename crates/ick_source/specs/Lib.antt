@@ -1,0 +1,15 @@
+pub mod Answers
+pub mod Bodies
+pub mod Boundaries
+pub mod Bytes
+pub mod Cut
+pub mod Laws
+pub mod Programs
+pub mod Qualifiers
+pub mod ReadBodies
+pub mod ReadSources
+pub mod ReadStatements
+pub mod Reading
+pub mod Refusals
+pub mod Statements
+pub mod Trees
