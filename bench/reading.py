@@ -1,0 +1,43 @@
+#!/usr/bin/env python3
+"""Measures how long the built program takes to read sources of 1 MiB, and how much memory it holds.
+
+  reading.py [PROGRAM]
+
+For each source of sources.py and each of `ick check` and `ick list`: the least processor time of five runs, the
+largest resident memory, and the exit status. Nothing is judged.
+"""
+import os
+import subprocess
+import sys
+import tempfile
+
+HERE = os.path.dirname(os.path.realpath(__file__))
+RUNS = 5
+COMMANDS = ["check", "list"]
+
+
+def measured(program, command, source):
+    """The exit status, the processor time in seconds and the resident memory in KiB of one run."""
+    with open(os.devnull, "wb") as nowhere:
+        child = subprocess.Popen([program, command, source], stdin=subprocess.DEVNULL, stdout=nowhere, stderr=nowhere)
+        _, status, usage = os.wait4(child.pid, 0)
+        child.returncode = os.waitstatus_to_exitcode(status)
+    return child.returncode, usage.ru_utime + usage.ru_stime, usage.ru_maxrss
+
+
+def main():
+    program = os.path.abspath(sys.argv[1] if len(sys.argv) > 1 else os.path.join(HERE, "../crates/ick/out/ick"))
+    with tempfile.TemporaryDirectory() as folder:
+        subprocess.run([sys.executable, os.path.join(HERE, "sources.py"), folder], check=True)
+        print("| Source | " + " | ".join(f"`{it}`, s | MiB | status" for it in COMMANDS) + " |")
+        print("|---|" + "---|" * 3 * len(COMMANDS))
+        for name in sorted(os.listdir(folder)):
+            row = []
+            for command in COMMANDS:
+                runs = [measured(program, command, os.path.join(folder, name)) for _ in range(RUNS)]
+                row += [f"{min(run[1] for run in runs):.3f}", f"{max(run[2] for run in runs) / 1024:.0f}", str(runs[0][0])]
+            print(f"| {name[:-2]} | " + " | ".join(row) + " |")
+
+
+if __name__ == "__main__":
+    main()

@@ -1,0 +1,29 @@
+-- The job that words ask for, by the matches that clap defines.
+use Rattle.std.specs.Prelude.{◌≡◌, List, [], Option, codes, option_map}
+use Rattle.std.specs.Option.{option_map_or}
+use Rattle.clap.specs.Words.{Row, Text, fault_of, first_of, subcommand_of}
+use Rattle.ick_cli.specs.Words.{ick_app}
+use Rattle.ick_cli.specs.declared.words.job.Job.{Job}
+
+-- FILE
+pub record Asked : Type 0 where
+  pub file : Option Text
+
+-- what a job is, whatever memory its texts lie in
+abbrev pub asked : Job → Asked
+asked j = record { file = option_map (λ s. s.now) j.file }
+
+-- what the matches of a command ask for
+abbrev pub asked_of : List Row → Asked
+asked_of rows = record { file = first_of (codes "file") rows }
+
+-- where no command is named, a run with no argument
+abbrev pub asked_in : Option (Text × List Row) → Asked
+asked_in found = option_map_or (λ p. asked_of p.1) found (asked_of [])
+
+-- the words ask for a job: by the law of clap their parse fails for want of memory alone
+abbrev pub HasJob : List Text → Type 0
+HasJob words = fault_of ick_app words ≡ []
+
+abbrev pub job_of : List Text → Asked
+job_of words = asked_in (subcommand_of ick_app words)

@@ -1,0 +1,11 @@
+pub mod Built
+pub mod Ending
+pub mod Job
+pub mod Kept
+pub mod Run
+pub mod Serve
+pub mod Stopped
+pub mod Tool
+pub mod Usage
+pub mod Whole
+pub mod Words

@@ -1,0 +1,22 @@
+-- The command line as a parse reads it: the rules of the arguments, and the commands.
+use Rattle.std.specs.Prelude.{List, [], ◌∷◌, codes, true, false}
+use Rattle.clap.specs.Words.{App, Rule, Text, new_rule}
+use Rattle.clap.specs.Simple.{new_shape}
+
+-- FILE
+abbrev pub file_rule : Rule
+file_rule = record (new_rule (codes "file")) { value_names = 1 }
+
+-- a command with these arguments
+abbrev pub command_app : Text → List Rule → App
+command_app name rules = record { top = record (new_shape name) { rules = rules }; subs = [] }
+
+abbrev pub run_app : App
+run_app = command_app (codes "run") (file_rule ∷ [])
+
+-- ick
+abbrev pub ick_app : App
+ick_app = record {
+  top = record (new_shape (codes "ick")) { no_binary_name = true; is_leaf = false };
+  subs = run_app.top ∷ [];
+}

@@ -1,0 +1,18 @@
+//! Files that are opened by name.
+ghost use Rattle.std.specs.Prelude.{◌≡◌, ◌+◌, ◌<◌, ◌^◌, ℕ, List, true, if◌then◌else◌};
+ghost use Rattle.std.specs.Prelude.{IfOk, is_ok};
+
+use crate::devices::{ByteSource, DeviceFault};
+
+/// A source that reads the files it opens.
+pub trait Files: ByteSource {
+    /// The bytes of the file of a name.
+    ghost named: { Self → List ℕ → List ℕ };
+
+    /// Opens a file: after `Ok`, `read` reads it from its front. An `Err`, for want of memory too,
+    /// raises the count of failures by one; an `Ok` leaves it.
+    fn open_named(&mut self, name: &str) -> Result<(), DeviceFault>
+        requires { Self.failed self.old + 1 < 2 ^ 64 }
+        ensures count { Self.failed self.new ≡ Self.failed self.old + (if is_ok result then 0 else 1) }
+        ensures opened { Self.told ≡ true → IfOk result (λ _. Self.left self.new ≡ named self.old name.now) };
+}

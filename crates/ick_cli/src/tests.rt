@@ -1,0 +1,4 @@
+//! Rows through `serve`.
+
+mod fakes;
+mod rows;

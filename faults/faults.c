@@ -1,0 +1,109 @@
+/* Stands before the C library's calls for memory and for bytes, and has one of them fail.
+ *
+ *   FAULT      which kind of call: alloc, open, read, write; or short-read, short-write, which move one byte in
+ *              place of many
+ *   FAULT_AT   N, counted from 1: which call of that kind (0 or absent: none)
+ *   FAULT_TO   one (or absent): the Nth call alone; all: the Nth and each later one
+ *   FAULT_LOG  a file that afterwards holds "calls=C failed=F": the calls of that kind, and those that failed
+ *
+ * Only what the program asks for by these names is counted. What the C library takes for itself isn't seen.
+ */
+#define _GNU_SOURCE
+#include <errno.h>
+#include <fcntl.h>
+#include <stdarg.h>
+#include <stdio.h>
+#include <stdlib.h>
+#include <string.h>
+#include <sys/syscall.h>
+#include <unistd.h>
+
+enum kind { NONE, ALLOC, OPEN, READ, WRITE, SHORT_READ, SHORT_WRITE, KINDS };
+
+static const char *const names[KINDS] = {"", "alloc", "open", "read", "write", "short-read", "short-write"};
+
+static enum kind wanted;
+static int and_later;
+static unsigned long at, calls, failed;
+
+extern void *__libc_malloc(size_t);
+extern void *__libc_calloc(size_t, size_t);
+extern void *__libc_realloc(void *, size_t);
+
+static int fails(enum kind kind) {
+    if (kind != wanted)
+        return 0;
+    calls++;
+    if (at == 0 || calls < at || (calls > at && !and_later))
+        return 0;
+    failed++;
+    return 1;
+}
+
+__attribute__((constructor)) static void begin(void) {
+    const char *kind = getenv("FAULT"), *which = getenv("FAULT_AT"), *until = getenv("FAULT_TO");
+    for (int i = 1; kind && i < KINDS; i++)
+        if (!strcmp(kind, names[i]))
+            wanted = (enum kind)i;
+    at = which ? strtoul(which, NULL, 10) : 0;
+    and_later = until && !strcmp(until, "all");
+    calls = failed = 0;
+}
+
+__attribute__((destructor)) static void end(void) {
+    const char *log = getenv("FAULT_LOG");
+    char line[64];
+    int length = snprintf(line, sizeof line, "calls=%lu failed=%lu\n", calls, failed);
+    int file = log ? (int)syscall(SYS_open, log, O_WRONLY | O_CREAT | O_TRUNC, 0644) : -1;
+    if (file >= 0) {
+        syscall(SYS_write, file, line, (size_t)length);
+        syscall(SYS_close, file);
+    }
+}
+
+static void *no_memory(void) {
+    errno = ENOMEM;
+    return NULL;
+}
+
+void *malloc(size_t size) {
+    return fails(ALLOC) ? no_memory() : __libc_malloc(size);
+}
+
+void *calloc(size_t count, size_t size) {
+    return fails(ALLOC) ? no_memory() : __libc_calloc(count, size);
+}
+
+void *realloc(void *block, size_t size) {
+    return fails(ALLOC) ? no_memory() : __libc_realloc(block, size);
+}
+
+ssize_t read(int file, void *target, size_t size) {
+    if (fails(READ))
+        return errno = EIO, -1;
+    if (size > 1 && fails(SHORT_READ))
+        size = 1;
+    return syscall(SYS_read, file, target, size);
+}
+
+ssize_t write(int file, const void *text, size_t size) {
+    if (fails(WRITE))
+        return errno = EIO, -1;
+    if (size > 1 && fails(SHORT_WRITE))
+        size = 1;
+    return syscall(SYS_write, file, text, size);
+}
+
+ssize_t __write(int file, const void *text, size_t size) {
+    return write(file, text, size);
+}
+
+int open(const char *name, int flags, ...) {
+    va_list rest;
+    va_start(rest, flags);
+    mode_t mode = flags & O_CREAT ? va_arg(rest, mode_t) : 0;
+    va_end(rest);
+    if (fails(OPEN))
+        return errno = EMFILE, -1;
+    return (int)syscall(SYS_open, name, flags, mode);
+}
