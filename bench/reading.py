@@ -3,7 +3,8 @@
 
   reading.py [PROGRAM]
 
-For each source of sources.py and each of `ick check` and `ick list`: the least processor time of five runs, the
+For each source of sources.py and each of `ick check`, `ick list` and `ick run`, which compiles and then ends at its first
+fault or choice: the least processor time of five runs, the
 largest resident memory, and the exit status. Nothing is judged.
 """
 import os
@@ -13,7 +14,7 @@ import tempfile
 
 HERE = os.path.dirname(os.path.realpath(__file__))
 RUNS = 5
-COMMANDS = ["check", "list"]
+COMMANDS = ["check", "list", "run"]
 
 
 def measured(program, command, source):

@@ -1,6 +1,6 @@
 //! Bytes at the end of a text: all of them, or none where memory is refused.
 
-ghost use Rattle.std.specs.Prelude.{◌≡◌, ◌<◌, ◌+◌, ◌++◌, decimal, length, OnOk, OnErr, vec_len, vec_capacity};
+ghost use Rattle.std.specs.Prelude.{◌≤◌, ◌≡◌, ◌<◌, ◌+◌, ◌++◌, decimal, length, OnOk, OnErr, vec_len, vec_capacity};
 ghost use Rattle.std.specs.List.{flat_map};
 
 use crate::memory::NoMemory;
@@ -14,6 +14,7 @@ pub fn append_decimal(out: &mut Vec<u8>, number: u64) -> Result<(), NoMemory>
     ensures ok { OnOk result (out.new.items ≡ out.old.items ++ decimal number) }
     ensures err { OnErr result (out.new.items ≡ out.old.items) }
     ensures full { OnErr result (vec_capacity out.old < vec_len out.old + length (decimal number)) }
+    ensures capacity { vec_capacity out.old ≤ vec_capacity out.new }
 {
     let mut buffer = Buffer::new();
     out.extend_from_slice(buffer.format(number).as_bytes())?;
@@ -26,6 +27,7 @@ pub(crate) fn append_all(out: &mut Vec<u8>, pieces: &[&[u8]]) -> Result<(), NoMe
     ensures err { OnErr result (out.new.items ≡ out.old.items) }
     ensures full { let text = flat_map (λ p. p.now) pieces.now in
         OnErr result (vec_capacity out.old < vec_len out.old + length text) }
+    ensures capacity { vec_capacity out.old ≤ vec_capacity out.new }
 {
     let start = out.len();
     for piece in pieces {

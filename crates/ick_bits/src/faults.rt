@@ -1,6 +1,6 @@
 //! Faults and their messages.
 
-ghost use Rattle.std.specs.Prelude.{◌≡◌, ◌<◌, ◌+◌, ◌++◌, OnOk, OnErr, vec_len, vec_capacity, length};
+ghost use Rattle.std.specs.Prelude.{◌≤◌, ◌≡◌, ◌<◌, ◌+◌, ◌++◌, OnOk, OnErr, vec_len, vec_capacity, length};
 ghost use Rattle.ick_bits.specs.Faults.{row_of, number_of, text_of, message_of, three_digits};
 
 use crate::appending::append_all;
@@ -160,6 +160,7 @@ pub fn append_message(out: &mut Vec<u8>, fault: &Fault<'_>) -> Result<(), NoMemo
     ensures err { OnErr result (out.new.items ≡ out.old.items) }
     ensures full { let text = message_of fault.now.kind fault.now.statement fault.now.subject.now in
         OnErr result (vec_capacity out.old < vec_len out.old + length text) }
+    ensures capacity { vec_capacity out.old ≤ vec_capacity out.new }
 {
     let number = number_digits(fault.kind.number());
     let text = fault.kind.text(fault.subject);

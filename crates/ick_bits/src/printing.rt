@@ -20,6 +20,7 @@ pub fn append_numeral(out: &mut Vec<u8>, number: u32) -> Result<(), NoMemory>
     ensures err { OnErr result (out.new.items ≡ out.old.items) }
     ensures full { let text = printed (numeral_of number) in
         OnErr result (vec_capacity out.old < vec_len out.old + length text) }
+    ensures capacity { vec_capacity out.old ≤ vec_capacity out.new }
 {
     let text = printed_lines(numeral(number).as_slice());
     out.extend_from_slice(text.as_slice())?;

@@ -1,12 +1,20 @@
 -- A turn of a run, and how a run stops.
 use Rattle.std.proofs.Common.{◌≡◌, ◌∙◌, ◌+◌, ◌-◌, ◌<◌, ◌≤◌, ◌++◌, ◌==◌, ◌&&◌, ◌||◌, ℕ, zero, suc, Bool, true, false, List, [], Option, Some, None, if◌then◌else◌, ap, sym, refl, arith, length, nat_lt, add-one, add-zero, add_assoc}
-use Rattle.std.specs.Prelude.{option_map, slice_get}
+use Rattle.std.specs.List.{list_all}
+use Rattle.std.specs.Prelude.{map, option_map, slice_get}
 use Rattle.std.proofs.Math.Nat.{add-sub_cancel}
 use Rattle.std.proofs.lemmas.Bool.Decides.{nat_tests}
+use Rattle.std.proofs.lemmas.List.Folds.{list_all-map}
 use Rattle.std.proofs.lemmas.Option.{slice_get_past}
 use Rattle.ick_bits.specs.declared.faults.FaultKind.TheVariants as kind
 use Rattle.ick_source.specs.Trees.{StatementTree}
-use Rattle.ick_cli.specs.Run.{End, Ran, State, Stop, ask, asked_at, at_choice, at_end, behind, body_end, body_output, choice, ended, fault, is_passed, move, moved_over, plain, ran_on, ran_out, run_from, run_of, standing, statement_at, stopped}
+use Rattle.ick_source.specs.BodyTree.{item_tree}
+use Rattle.ick_source.specs.declared.body.Item.{Item}
+use Rattle.ick_cli.specs.Run.{End, Ran, State, Stop, ask, asked_at, at_choice, at_end, behind, body_end, body_output, choice, ended, fault, is_mesh, is_passed, move, moved_over, plain, ran_on, ran_out, run_from, run_of, standing, statement_at, stopped}
+
+-- items are all meshes where the trees are
+pub all_meshes : (items : List Item) → list_all is_mesh (map item_tree items) ≡ list_all (λ item. is_mesh (item_tree item)) items
+all_meshes items = list_all-map is_mesh item_tree items
 
 -- the turns of a run, by what its state asks
 stepped : (trees : List StatementTree) (s : State) (limit : ℕ) → ask trees s ≡ plain

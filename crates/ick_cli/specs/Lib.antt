@@ -5,6 +5,7 @@ pub mod Kept
 pub mod Run
 pub mod Serve
 pub mod Stopped
+pub mod Summary
 pub mod Tool
 pub mod Usage
 pub mod Whole

@@ -1,10 +1,12 @@
--- The run of a program over the bodies that are done so far: READ OUT of meshes, and GIVE UP.
-use Rattle.std.specs.Prelude.{◌+◌, ◌-◌, ◌==◌, ◌&&◌, ◌||◌, ◌++◌, ℕ, zero, suc, Bool, List, [], Option, Some, None, if◌then◌else◌, length, nat_lt, slice_get}
-use Rattle.std.specs.List.{flat_map}
+-- The run of a program over the bodies that are done so far: READ OUT of meshes alone, and GIVE UP.
+use Rattle.std.specs.Prelude.{◌+◌, ◌-◌, ◌==◌, ◌&&◌, ◌||◌, ◌++◌, ℕ, zero, suc, Bool, true, false, List, [], Option, Some, None, if◌then◌else◌, length, nat_lt, slice_get}
+use Rattle.std.specs.List.{flat_map, list_all}
 use Rattle.ick_bits.specs.Numeral.{numeral_of, printed}
 use Rattle.ick_bits.specs.declared.faults.FaultKind.{FaultKind}
 use Rattle.ick_bits.specs.declared.faults.FaultKind.TheVariants as kind
-use Rattle.ick_source.specs.Trees.{Tree, mesh, BodyTree, give_up, read_out, StatementTree}
+use Rattle.ick_source.specs.Tree.{Tree, mesh}
+use Rattle.ick_source.specs.BodyTree.{BodyTree, give_up, read_out}
+use Rattle.ick_source.specs.Trees.{StatementTree}
 
 -- the end that a run comes to: it gave up, or a fault of this kind, statement and subject
 pub data End : Type 0 where
@@ -21,20 +23,25 @@ pub record State : Type 0 where
 abbrev pub standing : ℕ → List ℕ → State
 standing place output = record { place = place; output = output; end = None }
 
--- what an item of READ OUT appends
+-- an item of READ OUT that is done so far, and what it appends
+abbrev pub is_mesh : Tree → Bool
+is_mesh (mesh v) = true
+is_mesh _ = false
+
 abbrev pub item_output : Tree → List ℕ
 item_output (mesh v) = printed (numeral_of v)
+item_output _ = []
 
--- what a body appends, and the end that it brings to a run at this place
+-- What a body appends, and the end that it brings to a run at this place. One that is not done so
+-- far, recognised or not, appends nothing and is a fault.
 abbrev pub body_output : Option BodyTree → List ℕ
-body_output None = []
-body_output (Some give_up) = []
-body_output (Some (read_out items)) = flat_map item_output items
+body_output (Some (read_out items)) = if list_all is_mesh items then flat_map item_output items else []
+body_output _ = []
 
 abbrev pub body_end : ℕ → List ℕ → Option BodyTree → Option End
-body_end place text None = Some (fault kind.Unrecognised place text)
 body_end place text (Some give_up) = Some gave_up
-body_end place text (Some (read_out items)) = None
+body_end place text (Some (read_out items)) = if list_all is_mesh items then None else Some (fault kind.Unrecognised place text)
+body_end place text _ = Some (fault kind.Unrecognised place text)
 
 -- a statement that is passed over, whatever is chosen, and one that asks for a choice
 abbrev pub is_passed : StatementTree → Bool

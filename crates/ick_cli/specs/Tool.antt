@@ -2,11 +2,15 @@
 use Rattle.std.specs.Prelude.{◌<◌, ◌++◌, ℕ, List, [], Option, Some, None, codes, decimal, length}
 use Rattle.ick_bits.specs.Faults.{message_of}
 use Rattle.ick_bits.specs.declared.faults.FaultKind.{FaultKind}
+use Rattle.ick_source.specs.Listing.{listing}
 use Rattle.ick_source.specs.Trees.{StatementTree}
 use Rattle.ick_source.specs.Refusals.{Compiles, Refused, longest}
 use Rattle.ick_cli.specs.Run.{End, Ran, Stop, at_choice, at_end, at_limit, fault, gave_up, run_of}
+use Rattle.ick_cli.specs.Summary.{summary}
 use Rattle.ick_cli.specs.declared.ending.Line.{Line}
 use Rattle.ick_cli.specs.declared.ending.Line.TheVariants as line
+use Rattle.ick_cli.specs.declared.words.job.Verb.{Verb}
+use Rattle.ick_cli.specs.declared.words.job.Verb.TheVariants.{Check, List as ListVerb, Run}
 
 -- the lines of error texts, each with its line end
 abbrev pub line_text : Line → List ℕ
@@ -25,6 +29,10 @@ pub record Answer : Type 0 where
 -- an answer without output
 abbrev pub refusal : ℕ → List ℕ → Answer
 refusal status errors = record { output = []; errors = errors; status = status }
+
+-- an answer that ended well
+abbrev pub shown : List ℕ → Answer
+shown text = record { output = text; errors = []; status = 0 }
 
 -- the error text and the status of a run that has stopped
 abbrev pub end_text : End → List ℕ
@@ -53,13 +61,19 @@ run_answer ran = record {
 unfoldable pub usual_limit : ℕ
 usual_limit = 1000000
 
--- the answer to a source: it is too long, or it is refused, or it compiles and is run
-pub data IsSourceAnswer (source : List ℕ) : Answer → Type 0 where
-  too_long : longest < length source → IsSourceAnswer source (refusal 2 (line_text line.SourceTooLong))
-  refused : (kind : FaultKind) (n : ℕ) → Refused source kind n → IsSourceAnswer source (refusal 2 (message_of kind n []))
-  compiled : (trees : List StatementTree) → Compiles source trees → IsSourceAnswer source (run_answer (run_of trees usual_limit))
+-- the answer to a program: it is counted, listed or run
+abbrev pub program_answer : Verb → List StatementTree → Answer
+program_answer Check trees = shown (summary trees)
+program_answer ListVerb trees = shown (listing trees)
+program_answer Run trees = run_answer (run_of trees usual_limit)
+
+-- the answer to a source: it is too long, or it is refused, or it compiles to a program
+pub data IsSourceAnswer (verb : Verb) (source : List ℕ) : Answer → Type 0 where
+  too_long : longest < length source → IsSourceAnswer verb source (refusal 2 (line_text line.SourceTooLong))
+  refused : (kind : FaultKind) (n : ℕ) → Refused source kind n → IsSourceAnswer verb source (refusal 2 (message_of kind n []))
+  compiled : (trees : List StatementTree) → Compiles source trees → IsSourceAnswer verb source (program_answer verb trees)
 
 -- the answer to a job, whose source is none where the file did not open or a read of it failed
-pub data IsToolAnswer : Option (List ℕ) → Answer → Type 0 where
-  not_read : IsToolAnswer None (refusal 4 (line_text line.FileNotRead))
-  read : (source : List ℕ) (answer : Answer) → IsSourceAnswer source answer → IsToolAnswer (Some source) answer
+pub data IsToolAnswer (verb : Verb) : Option (List ℕ) → Answer → Type 0 where
+  not_read : IsToolAnswer verb None (refusal 4 (line_text line.FileNotRead))
+  read : (source : List ℕ) (answer : Answer) → IsSourceAnswer verb source answer → IsToolAnswer verb (Some source) answer

@@ -66,8 +66,8 @@ pub fn serve<F: Files, R: ByteSource, W: ByteSink, E: ByteSink>(
 
     // Words that ask for a job, over devices that do what they say: the tool's answer.
     ensures job { HasJob (texts words.entry.now) → F.told ≡ true → R.told ≡ true → W.told ≡ true → E.told ≡ true
-        → (answer : Answer) → IsToolAnswer (source_of (job_of (texts words.entry.now)).file (F.named files.old)
-        (F.failed files.old) (F.failed files.new) (R.left reader.old)) answer
+        → (answer : Answer) → let job = job_of (texts words.entry.now) in
+        IsToolAnswer job.verb (source_of job.file (F.named files.old) (F.failed files.old) (F.failed files.new) (R.left reader.old)) answer
         → Serves answer
         (R.failed reader.old + (W.failed writer.old + E.failed errors.old))
         (R.failed reader.new + (W.failed writer.new + E.failed errors.new))

@@ -2,6 +2,7 @@
 //!
 //! - `devices`: sources, sinks and files, and the loops over them
 //! - `words`: the commands and arguments, and the job that words ask for
+//! - `summary`: the line of a program that is checked
 //! - `run`: the run of a program
 //! - `stopped`: the status and the error text of a run that has stopped
 //! - `ending`: how the work of a job ends
@@ -14,6 +15,7 @@ mod ending;
 mod front;
 mod run;
 mod stopped;
+mod summary;
 mod words;
 mod work;
 

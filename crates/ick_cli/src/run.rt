@@ -1,11 +1,13 @@
-//! The run of a program over the bodies that are done so far: READ OUT of meshes (Revised Manual,
-//! 4.4.13, after INTERCAL-72) and GIVE UP (4.4.11). Every other body is a fault, with the statement's
-//! text (4.5). Nothing jumps, so a run is one pass over the statements.
+//! The run of a program over the bodies that are done so far: READ OUT of meshes alone (Revised
+//! Manual, 4.4.13, after INTERCAL-72) and GIVE UP (4.4.11). Every other body, recognised or not, is a
+//! fault with the statement's text (4.5), before any output of that statement. Nothing jumps, so a
+//! run is one pass over the statements.
 ghost use Rattle.std.specs.Prelude.{◌≡◌, ◌+◌, ◌<◌, ◌++◌, ℕ, IfOk, OnOk, length, map, option_map};
-ghost use Rattle.std.specs.List.{flat_map};
-ghost use Rattle.ick_source.specs.Trees.{body_tree_of, item_tree_of, statement_tree_of};
+ghost use Rattle.std.specs.List.{flat_map, list_all};
+ghost use Rattle.ick_source.specs.BodyTree.{body_tree_of, item_tree, read_out};
+ghost use Rattle.ick_source.specs.Trees.{statement_tree_of};
 ghost use Rattle.ick_source.specs.Programs.{trees_of};
-ghost use Rattle.ick_cli.specs.Run.{at_end, body_end, body_output, is_passed, item_output, run_of};
+ghost use Rattle.ick_cli.specs.Run.{at_end, body_end, body_output, fault, is_mesh, is_passed, item_output, run_of};
 ghost use Rattle.ick_cli.specs.Stopped.{ran_of, stop_of};
 
 use ick_bits::{Fault, FaultKind, NoMemory, append_numeral};
@@ -87,25 +89,62 @@ fn do_statement<'a>(
 {
     match &statement.body {
         Body::GiveUp => Ok(Some(Stop::GaveUp)),
-        Body::ReadOut(items) => {
-            read_out(output, items)?;
-            Ok(None)
-        }
-        Body::Unrecognised => Ok(Some(Stop::Faulted(Fault {
-            kind: FaultKind::Unrecognised,
-            statement: statement.number,
-            subject: statement.text,
-        }))),
+        Body::ReadOut(items) => do_read_out(output, items, statement),
+        _ => Ok(Some(not_done(statement))),
     }
 }
 
-/// Appends the numerals of items, one after another.
-fn read_out(output: &mut Vec<u8>, items: &[Item]) -> Result<(), NoMemory>
-    ensures { OnOk result (output.new.items ≡ output.old.items ++ flat_map item_output (map item_tree_of items.now)) }
+/// Does a READ OUT of these items, where all are meshes.
+#[tactic(auto, using(crate::proofs::RunLemmas::all_meshes, std::proofs::lemmas::Grind::common_steps))]
+fn do_read_out<'a>(
+    output: &mut Vec<u8>,
+    items: &[Item],
+    statement: &'a Statement<'_>,
+) -> Result<Option<Stop<'a>>, NoMemory>
+    ensures output { OnOk result (output.new.items ≡ output.old.items ++ body_output (Some (read_out (map item_tree items.now)))) }
+    ensures stop { IfOk result (λ stop. option_map stop_of stop ≡ option_map at_end
+        (body_end statement.entry.now.number statement.entry.now.text.now (Some (read_out (map item_tree items.now))))) }
+{
+    if !are_meshes(items) {
+        return Ok(Some(not_done(statement)));
+    }
+    append_meshes(output, items)?;
+    Ok(None)
+}
+
+/// The end that a statement brings which is not done so far.
+fn not_done<'a>(statement: &'a Statement<'_>) -> Stop<'a>
+    ensures { stop_of result ≡ at_end (fault FaultKind.Unrecognised statement.entry.now.number statement.entry.now.text.now) }
+{
+    Stop::Faulted(Fault {
+        kind: FaultKind::Unrecognised,
+        statement: statement.number,
+        subject: statement.text,
+    })
+}
+
+/// Whether all items are meshes.
+fn are_meshes(items: &[Item]) -> bool
+    ensures { result ≡ list_all (λ item. is_mesh (item_tree item)) items.now }
+{
+    items.iter().all(|item| is_mesh(item))
+}
+
+/// Whether an item is a mesh.
+fn is_mesh(item: &Item) -> bool
+    ensures { result ≡ is_mesh (item_tree item.now) }
+{
+    matches!(item, Item::Mesh(_))
+}
+
+/// Appends the numerals of the meshes among items, one after another.
+fn append_meshes(output: &mut Vec<u8>, items: &[Item]) -> Result<(), NoMemory>
+    ensures { OnOk result (output.new.items ≡ output.old.items ++ flat_map item_output (map item_tree items.now)) }
 {
     for item in items {
-        let Item::Mesh(value) = item;
-        append_numeral(output, u32::from(*value))?;
+        if let Item::Mesh(value) = item {
+            append_numeral(output, u32::from(*value))?;
+        }
     }
     Ok(())
 }

@@ -4,4 +4,4 @@ mod arguments;
 mod command;
 mod job;
 
-pub use job::{Job, read_job};
+pub use job::{Job, Verb, read_job};

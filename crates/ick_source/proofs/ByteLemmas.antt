@@ -6,7 +6,9 @@ use Rattle.std.proofs.Math.Nat.{pow-succ'}
 use Rattle.std.proofs.lemmas.Bool.{false≢true}
 use Rattle.std.proofs.lemmas.List.{get_or-drop, get_or_past, length-drop, length_push, take_more}
 use Rattle.ick_bits.specs.White.{is_white_byte}
-use Rattle.ick_source.specs.Bytes.{Gap, IsDigit, IsWhite, Number, Word, byte, value_of_digits}
+use Rattle.ick_source.specs.Bytes.{Gap, IsDigit, IsWhite, Number, Word, byte}
+use Rattle.ick_source.specs.Token.{is_digit, value_of_digits}
+use Rattle.ick_source.proofs.PlaceLemmas.{digit-low}
 
 pub less_or : (i j : ℕ) → ((i < j) ⊎ (j < i)) ⊎ (i ≡ j)
 less_or i j = grind arith
@@ -48,6 +50,7 @@ Word-from_each s i [] h = tt
 Word-from_each s i (b ∷ bs) h = (rw add-zero at (h 0 (omega arith)), Word-from_each s (i + 1) bs (λ k lt. let e : i + suc k ≡ (i + 1) + k = omega arith in rw e at (h (suc k) (omega arith))))
 
 value-append : (xs : List ℕ) (d : ℕ) → value_of_digits (xs ++ d ∷ []) ≡ 10 * value_of_digits xs + (d - 48)
+unfolding value_of_digits
 value-append [] d = omega arith
 value-append (x ∷ xs) d = let e : 10 ^ length (xs ++ d ∷ []) ≡ 10 * 10 ^ length xs = ap (λ n. 10 ^ n) (length_push xs d) ∙ pow_more (length xs) in
     rw e (let ih = value-append xs d in scaled (x - 48) (10 ^ length xs) _ _ _ ih) where
@@ -84,14 +87,22 @@ le_or a b = grind arith
 pub not_white : {A : Type 0} {b c : ℕ} → b ≡ c → is_white_byte c ≡ false → IsWhite b → A
 not_white e f w = absurd (false≢true (sym f ∙ (ap is_white_byte (sym e) ∙ w)))
 
+true_or : (b : Bool) → IsTrue b ⊎ (IsTrue b → ⊥)
+true_or true = inl refl
+true_or false = inr false≢true
+
 pub white_or : (b : ℕ) → IsWhite b ⊎ (IsWhite b → ⊥)
-white_or b = white_cases (is_white_byte b) where
-  white_cases : (w : Bool) → IsTrue w ⊎ (IsTrue w → ⊥)
-  white_cases true = inl refl
-  white_cases false = inr false≢true
+white_or b = true_or (is_white_byte b)
 
 digit_or : (b : ℕ) → IsDigit b ⊎ (IsDigit b → ⊥)
-digit_or b = elim (le_or 48 b) [ inr x ↦ inr (λ w. omega (arith, w, x)) | inl x ↦ elim (le_or b 57) [ inl y ↦ inl (x, y) | inr y ↦ inr (λ w. omega (arith, w, y)) ] ]
+digit_or b = true_or (is_digit b)
+
+-- The byte past the end is no digit.
+end_no_digit : IsDigit 0 → ⊥
+end_no_digit d = let low = digit-low 0 d in omega arith
+
+pub digit_inside : (s : List ℕ) (i : ℕ) → IsDigit (byte s i) → i < length s
+digit_inside s i d = inside s i (λ z. let low = digit-low (byte s i) d in omega arith)
 
 pub same_or : (a b : ℕ) → (a ≡ b) ⊎ (a ≡ b → ⊥)
 same_or a b = elim (less_or a b) [ inr e ↦ inl e | inl n ↦ inr (λ e. omega (arith, n, e)) ]
@@ -120,7 +131,7 @@ pub gap_is : (s : List ℕ) (i : ℕ) → (e : ℕ) × Gap s i e
 gap_is s i = let r = run s IsWhite white_or false≢true (length s) i (omega arith) in (r.0, record { order = r.1; white = r.2; stops = r.3 })
 
 pub number_is : (s : List ℕ) (i : ℕ) → Finds (Number s i)
-number_is s i = let r = run s IsDigit digit_or (λ w. omega (arith, w)) (length s) i (omega arith) in elim (less_or i r.0) [
+number_is s i = let r = run s IsDigit digit_or end_no_digit (length s) i (omega arith) in elim (less_or i r.0) [
   | inl (inl lt) ↦ inl (r.0, value_of_digits (slice_range s i r.0), record { some = lt; digits = r.2; stops = r.3; value = refl })
   | inl (inr gt) ↦ absurd (omega (arith, r.1))
   | inr e ↦ inr (λ j a x. r.3 (subst (λ z. IsDigit (byte s z)) e (x.digits i (omega arith) x.some)))
@@ -145,5 +156,10 @@ word_along s w e x = subst (λ y. Word s y w) e x
 pub number_inside : {s : List ℕ} {i j n : ℕ} → Number s i j n → j ≤ length s
 number_inside {s} {i} {j} x = elim (le_or j (length s)) [
   | inl le ↦ le
-  | inr gt ↦ absurd (let d = x.digits (j - 1) (let some : i < j = x.some in omega arith) (let some : i < j = x.some in omega arith) in let z = past s (j - 1) (omega arith) in omega (arith, d, z))
+  | inr gt ↦ absurd (let d = x.digits (j - 1) (let some : i < j = x.some in omega arith) (let some : i < j = x.some in omega arith) in let low = digit-low (byte s (j - 1)) d in let z = past s (j - 1) (omega arith) in omega (arith, low, z))
 ]
+
+-- No digits.
+pub value_none : (s : List ℕ) (i : ℕ) → value_of_digits (slice_range s i i) ≡ 0
+unfolding value_of_digits
+value_none s i = let none : i - i ≡ 0 = omega arith in rw none refl

@@ -1,90 +1,142 @@
--- The first fault of a list that grows. A text compiles in one way at most, or is refused in one way at most, and never both.
-use Rattle.std.proofs.Common.{IsSomeAnd, List, None, Option, Some, [], arith, inl, inr, length, refl, slice_get, subst, suc, sym, zero, ℕ, ◌++◌, ◌+◌, ◌<◌, ◌∙◌, ◌∷◌, ◌≡◌, ◌≤◌, ◌⊎◌}
+-- The first fault of statements; a text has one answer.
+use Rattle.std.proofs.Common.{List, None, Some, [], arith, inl, inr, length, refl, subst, suc, sym, zero, ℕ, ◌++◌, ◌+◌, ◌<◌, ◌∙◌, ◌∷◌, ◌≡◌, ◌≤◌, ◌⊎◌, ap}
 use Rattle.ick_bits.specs.declared.faults.FaultKind.{FaultKind}
-use Rattle.ick_bits.specs.declared.faults.FaultKind.TheVariants.{MeshTooLarge}
-use Rattle.ick_source.specs.Answers.{OnlyRefused}
-use Rattle.ick_source.specs.ReadSources.{IsFirst}
-use Rattle.ick_source.specs.Refusals.{Compiles, FaultAt, HasFault, Refused}
+use Rattle.ick_bits.specs.declared.faults.FaultKind.TheVariants.{Fawning, Impolite, LabelRange, MeshTooLarge, NameRange, NoAbstainLabel, NoNextLabel, SameLabel, Unrecognised}
+use Rattle.ick_source.specs.ReadRefusals.{OnlyRefused}
+use Rattle.ick_source.specs.Ranges.{IsFirst}
+use Rattle.ick_source.specs.Refusals.{At, Compiles, FaultAt, FawningAt, ImpoliteAt, IsFirstFault, IsSound, IsSoundBelow, Refused, rank}
 use Rattle.ick_source.specs.Trees.{StatementTree}
 use Rattle.ick_source.proofs.ByteLemmas.{less_or}
 use Rattle.ick_source.proofs.CutLemmas.{cut_one}
 
-none_has : (o : Option StatementTree) → IsSomeAnd o (λ _. ⊥) → ⊥
-none_has None h = h
-none_has (Some x) h = h
+pub At-inside : (P : StatementTree → Type 0) (all : List StatementTree) (m : ℕ) → At P all m → m ≤ length all
+At-inside P all zero h = omega arith
+At-inside P [] (suc k) h = absurd h
+At-inside P (x ∷ xs) (suc zero) h = omega arith
+At-inside P (x ∷ xs) (suc (suc k)) h = let ih = At-inside P xs (suc k) h in omega arith
 
--- The kinds of fault that a statement can have.
-pub fault_kind : (kind : FaultKind) (trees : List StatementTree) (n : ℕ) → FaultAt kind trees n → kind ≡ MeshTooLarge
-fault_kind kind trees zero h = absurd h
-fault_kind MeshTooLarge trees (suc k) h = refl
-fault_kind _ trees (suc k) h = absurd (none_has (slice_get trees k) h)
+At-earlier : (P : StatementTree → Type 0) (all : List StatementTree) (p : StatementTree) (m : ℕ) → At P all m → At P (all ++ p ∷ []) m
+At-earlier P all p zero h = h
+At-earlier P [] p (suc k) h = absurd h
+At-earlier P (x ∷ xs) p (suc zero) h = h
+At-earlier P (x ∷ xs) p (suc (suc k)) h = At-earlier P xs p (suc k) h
 
-fault_inside : (kind : FaultKind) (trees : List StatementTree) (m : ℕ) → FaultAt kind trees m → m ≤ length trees
-fault_inside kind trees zero h = omega arith
-fault_inside kind [] (suc k) h = absurd h
-fault_inside kind (x ∷ xs) (suc zero) h = omega arith
-fault_inside kind (x ∷ xs) (suc (suc k)) h = let ih = fault_inside kind xs (suc k) h in omega arith
+At-here : (P : StatementTree → Type 0) (all : List StatementTree) (p : StatementTree) → P p → At P (all ++ p ∷ []) (suc (length all))
+At-here P [] p h = h
+At-here P (x ∷ xs) p h = At-here P xs p h
 
-fault_earlier : (kind : FaultKind) (trees : List StatementTree) (p : StatementTree) (m : ℕ) → FaultAt kind trees m → FaultAt kind (trees ++ p ∷ []) m
-fault_earlier kind trees p zero h = h
-fault_earlier kind [] p (suc k) h = absurd h
-fault_earlier kind (x ∷ xs) p (suc zero) h = h
-fault_earlier kind (x ∷ xs) p (suc (suc k)) h = fault_earlier kind xs p (suc k) h
+At-push : (P : StatementTree → Type 0) (all : List StatementTree) (p : StatementTree) (m : ℕ) → At P (all ++ p ∷ []) m → At P all m ⊎ ((m ≡ length all + 1) × P p)
+At-push P all p zero h = inl h
+At-push P [] p (suc zero) h = inr (refl, h)
+At-push P [] p (suc (suc k)) h = absurd h
+At-push P (x ∷ xs) p (suc zero) h = inl h
+At-push P (x ∷ xs) p (suc (suc k)) h = elim (At-push P xs p (suc k) h) [ inl g ↦ inl g | inr g ↦ inr (omega (arith, g.0), g.1) ]
 
-fault_here : (kind : FaultKind) (trees : List StatementTree) (p : StatementTree) → HasFault kind p → FaultAt kind (trees ++ p ∷ []) (suc (length trees))
-fault_here kind [] p h = h
-fault_here kind (x ∷ xs) p h = fault_here kind xs p h
-
-fault_push : (kind : FaultKind) (trees : List StatementTree) (p : StatementTree) (m : ℕ) → FaultAt kind (trees ++ p ∷ []) m → FaultAt kind trees m ⊎ ((m ≡ suc (length trees)) × HasFault kind p)
-fault_push kind trees p zero h = inl h
-fault_push kind [] p (suc zero) h = inr (refl, h)
-fault_push kind [] p (suc (suc k)) h = absurd h
-fault_push kind (x ∷ xs) p (suc zero) h = inl h
-fault_push kind (x ∷ xs) p (suc (suc k)) h = elim (fault_push kind xs p (suc k) h) [ inl g ↦ inl g | inr g ↦ inr (omega (arith, g.0), g.1) ]
-
-pub first_earlier : (kind : FaultKind) (trees : List StatementTree) (p : StatementTree) (n : ℕ) → IsFirst kind trees (Some n) → IsFirst kind (trees ++ p ∷ []) (Some n)
-first_earlier kind trees p n h = (
-  fault_earlier kind trees p n h.0,
-  λ m lt f. elim (fault_push kind trees p m f) [
+pub first_earlier : (P : StatementTree → Type 0) (all : List StatementTree) (p : StatementTree) (n : ℕ) → IsFirst (At P all) (Some n) → IsFirst (At P (all ++ p ∷ [])) (Some n)
+first_earlier P all p n h = (
+  At-earlier P all p n h.0,
+  λ m lt f. elim (At-push P all p m f) [
     | inl g ↦ h.1 m lt g
-    | inr g ↦ let k = fault_inside kind trees n h.0 in omega (arith, g.0)
+    | inr g ↦ let k = At-inside P all n h.0 in omega (arith, g.0)
   ],
 )
 
-pub first_here : (kind : FaultKind) (trees : List StatementTree) (p : StatementTree) (n : ℕ) → n ≡ length trees + 1 → IsFirst kind trees None → HasFault kind p → IsFirst kind (trees ++ p ∷ []) (Some n)
-first_here kind trees p n e h f =
-    let same : suc (length trees) ≡ n = omega arith in (
-      subst (λ x. FaultAt kind (trees ++ p ∷ []) x) same (fault_here kind trees p f),
-      λ m lt g. elim (fault_push kind trees p m g) [
+pub first_here : (P : StatementTree → Type 0) (all : List StatementTree) (p : StatementTree) (n : ℕ) → n ≡ length all + 1 → IsFirst (At P all) None → P p → IsFirst (At P (all ++ p ∷ [])) (Some n)
+first_here P all p n e h f =
+    let same : suc (length all) ≡ n = omega arith in (
+      subst (λ x. At P (all ++ p ∷ []) x) same (At-here P all p f),
+      λ m lt g. elim (At-push P all p m g) [
         | inl x ↦ h m x
         | inr x ↦ omega (arith, x.0)
       ],
     )
 
-pub first_none : (kind : FaultKind) (trees : List StatementTree) (p : StatementTree) → IsFirst kind trees None → (HasFault kind p → ⊥) → IsFirst kind (trees ++ p ∷ []) None
-first_none kind trees p h n = λ m g. elim (fault_push kind trees p m g) [ inl x ↦ h m x | inr x ↦ n x.1 ]
+pub first_none : (P : StatementTree → Type 0) (all : List StatementTree) (p : StatementTree) → IsFirst (At P all) None → (P p → ⊥) → IsFirst (At P (all ++ p ∷ [])) None
+first_none P all p h n = λ m g. elim (At-push P all p m g) [ inl x ↦ h m x | inr x ↦ n x.1 ]
+
+-- The kinds that refuse a source are those of rank below 8, and each has a rank of its own.
+kind_at : ℕ → FaultKind
+kind_at zero = MeshTooLarge
+kind_at (suc zero) = NameRange
+kind_at (suc (suc zero)) = LabelRange
+kind_at (suc (suc (suc zero))) = SameLabel
+kind_at (suc (suc (suc (suc zero)))) = NoNextLabel
+kind_at (suc (suc (suc (suc (suc zero))))) = NoAbstainLabel
+kind_at (suc (suc (suc (suc (suc (suc zero)))))) = Impolite
+kind_at (suc (suc (suc (suc (suc (suc (suc zero))))))) = Fawning
+kind_at _ = Unrecognised
+
+ranked : (kind : FaultKind) → rank kind < 8 → kind ≡ kind_at (rank kind)
+unfolding kind_at
+ranked MeshTooLarge lt = refl
+ranked NameRange lt = refl
+ranked LabelRange lt = refl
+ranked SameLabel lt = refl
+ranked NoNextLabel lt = refl
+ranked NoAbstainLabel lt = refl
+ranked Impolite lt = refl
+ranked Fawning lt = refl
+ranked _ lt = absurd (omega arith)
+
+rank_one : (kind other : FaultKind) → rank kind < 8 → rank other ≡ rank kind → other ≡ kind
+rank_one kind other lt e = ranked other (omega arith) ∙ ap kind_at e ∙ sym (ranked kind lt)
+
+pub fault_ranked : (kind : FaultKind) (all : List StatementTree) (n : ℕ) → FaultAt kind all n → rank kind < 8
+fault_ranked MeshTooLarge all n h = omega arith
+fault_ranked NameRange all n h = omega arith
+fault_ranked LabelRange all n h = omega arith
+fault_ranked SameLabel all n h = omega arith
+fault_ranked NoNextLabel all n h = omega arith
+fault_ranked NoAbstainLabel all n h = omega arith
+fault_ranked Impolite all n h = omega arith
+fault_ranked Fawning all n h = omega arith
+fault_ranked _ all n h = absurd h
+
+pub sound_below_none : (all : List StatementTree) → IsSoundBelow 0 all
+sound_below_none all = record { none = λ kind n lt h. absurd (omega arith) }
+
+-- No fault of one more kind.
+pub sound_more : {all : List StatementTree} {limit : ℕ} (kind : FaultKind) → rank kind ≡ limit → limit < 8 → IsSoundBelow limit all → ((n : ℕ) → FaultAt kind all n → ⊥) → IsSoundBelow (limit + 1) all
+sound_more {all} {limit} kind e lt below h = record {
+  none = λ other n o f. elim (less_or (rank other) limit) [
+    | inl (inl less) ↦ below.none other n less f
+    | inl (inr more) ↦ absurd (omega arith)
+    | inr same ↦ h n (subst (λ k. FaultAt k all n) (rank_one kind other (omega arith) (omega arith)) f)
+  ];
+}
+
+pub sound_all : {all : List StatementTree} → IsSoundBelow 8 all → IsSound all
+sound_all {all} below kind n h = below.none kind n (fault_ranked kind all n h) h
+
+first_fault_kind : {all : List StatementTree} {kind other : FaultKind} {n m : ℕ} → IsFirstFault all kind n → IsFirstFault all other m → other ≡ kind
+first_fault_kind {all} {kind} {other} {n} {m} g h = elim (less_or (rank other) (rank kind)) [
+  | inl (inl lt) ↦ absurd (g.least.none other m lt h.fault)
+  | inl (inr gt) ↦ absurd (h.least.none kind n gt g.fault)
+  | inr same ↦ rank_one kind other (fault_ranked kind all n g.fault) same
+]
+
+first_fault_number : {all : List StatementTree} {kind other : FaultKind} {n m : ℕ} → IsFirstFault all kind n → IsFirstFault all other m → other ≡ kind → m ≡ n
+first_fault_number {all} {kind} {other} {n} {m} g h e = elim (less_or m n) [
+  | inl (inl lt) ↦ absurd (g.first m lt (subst (λ k. FaultAt k all m) e h.fault))
+  | inl (inr gt) ↦ absurd (h.first n gt (subst (λ k. FaultAt k all n) (sym e) g.fault))
+  | inr same ↦ same
+]
 
 pub compiles_one : {s : List ℕ} {a b : List StatementTree} → Compiles s a → Compiles s b → a ≡ b
 compiles_one g h = cut_one g.cut h.cut
 
-pub refused_not : {s : List ℕ} {kind : FaultKind} {n : ℕ} → Refused s kind n → (trees : List StatementTree) → Compiles s trees → ⊥
-refused_not {kind = kind} {n = n} r trees h = h.sound kind n (subst (λ x. FaultAt kind x n) (cut_one r.cut h.cut) r.fault)
-
--- The first statement that has a fault of a kind.
-first_one : (kind : FaultKind) (trees : List StatementTree) {n m : ℕ} → FaultAt kind trees n → ((k : ℕ) → k < n → FaultAt kind trees k → ⊥) → FaultAt kind trees m → ((k : ℕ) → k < m → FaultAt kind trees k → ⊥) → m ≡ n
-first_one kind trees {n} {m} g before h earlier = elim (less_or m n) [
-  | inl (inl lt) ↦ absurd (before m lt h)
-  | inl (inr gt) ↦ absurd (earlier n gt g)
-  | inr same ↦ same
-]
+pub refused_not : {s : List ℕ} {kind : FaultKind} {n : ℕ} → Refused s kind n → (all : List StatementTree) → Compiles s all → ⊥
+refused_not {kind = kind} {n = n} r all h = h.sound kind n (subst (λ x. FaultAt kind x n) (cut_one r.cut h.cut) r.first_fault.fault)
 
 pub refused_one : {s : List ℕ} {kind other : FaultKind} {n m : ℕ} → Refused s kind n → Refused s other m → (other ≡ kind) × (m ≡ n)
 refused_one {s} {kind} {other} {n} {m} g h =
-    let same : other ≡ kind = fault_kind other h.trees m h.fault ∙ sym (fault_kind kind g.trees n g.fault) in
-    let trees : h.trees ≡ g.trees = cut_one h.cut g.cut in
-    let fault = subst (λ k. FaultAt k g.trees m) same (subst (λ ts. FaultAt other ts m) trees h.fault) in
-    let earlier = subst (λ k. (l : ℕ) → l < m → FaultAt k g.trees l → ⊥) same (subst (λ ts. (l : ℕ) → l < m → FaultAt other ts l → ⊥) trees h.first) in
-    (same, first_one kind g.trees g.fault g.first fault earlier)
+    let there = subst (λ ts. IsFirstFault ts other m) (cut_one h.cut g.cut) h.first_fault in
+    let same = first_fault_kind g.first_fault there in
+    (same, first_fault_number g.first_fault there same)
 
 pub refused_only : {s : List ℕ} {kind : FaultKind} {n : ℕ} → Refused s kind n → OnlyRefused s kind n
 refused_only r = record { refused = r; only = λ other m h. refused_one r h; no_program = refused_not r }
+
+-- Statements whose manners were looked at last.
+pub judged : {all : List StatementTree} → IsSoundBelow (rank Impolite) all → ((n : ℕ) → ImpoliteAt all n → ⊥) → ((n : ℕ) → FawningAt all n → ⊥) → IsSound all
+judged {all} below a b = sound_all (sound_more Fawning refl (omega arith) (sound_more Impolite refl (omega arith) below a) b)

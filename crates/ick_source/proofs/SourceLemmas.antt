@@ -1,26 +1,33 @@
--- What the reader of a source has read, statement after statement, and what follows at the end.
+-- What the reader of a source has read, and what the end of the reading gives.
 use mir.Val.{bool_byte}
-use Rattle.std.proofs.Common.{Bool, List, None, Some, [], append_assoc, arith, cond, false, inl, inr, length, map, refl, slice_get, subst, suc, sym, true, zero, ℕ, ◌++◌, ◌+◌, ◌<◌, ◌∷◌, ◌≡◌, ◌≤◌, ◌⊎◌}
+use Rattle.std.proofs.Common.{Bool, Err, IfErr, IfOk, IsErrAnd, List, Ok, Result, Some, [], append_assoc, arith, cond, false, inl, inr, length, map, refl, slice_get, subst, suc, sym, true, zero, ℕ, ◌++◌, ◌+◌, ◌<◌, ◌∷◌, ◌≡◌, ◌≤◌, ◌⊎◌}
 use Rattle.std.proofs.lemmas.List.{append-nil, map-append}
 use Rattle.std.proofs.lemmas.List.Sums.{count_by-le-length, sum_by-append}
-use Rattle.ick_bits.specs.declared.faults.FaultKind.{FaultKind}
-use Rattle.ick_bits.specs.declared.faults.FaultKind.TheVariants.{MeshTooLarge}
+use Rattle.ick_bits.specs.declared.faults.FaultKind.TheVariants.{LabelRange, MeshTooLarge, NameRange}
+use Rattle.ick_source.specs.ReadRefusals.{Refuses, RefusesFitting, RefusesTrees}
 use Rattle.ick_source.specs.Boundaries.{IsBoundary, IsStart, NextBoundary, at_end, at_start}
 use Rattle.ick_source.specs.Bytes.{Gap}
 use Rattle.ick_source.specs.Cut.{Cut, done, next, nothing, plain, something}
-use Rattle.ick_source.specs.ReadSources.{HasRead, ReadSoFar}
-use Rattle.ick_source.specs.Refusals.{Compiles, FaultAt, Refused, longest}
+use Rattle.ick_source.specs.ReadSources.{HasRead, ReadSoFar, ReadWhole}
+use Rattle.ick_source.specs.Ranges.{AreFirst, IsEmpty}
+use Rattle.ick_source.specs.Refusals.{Compiles, IsSoundBelow, Refused, longest}
 use Rattle.ick_source.specs.Statements.{IsStatement, Trimmed}
 use Rattle.ick_source.specs.Trees.{AreNumbered, StatementTree, polite_in, statement_tree_of}
+use Rattle.ick_bits.specs.declared.faults.FaultKind.{FaultKind}
+use Rattle.ick_source.specs.Programs.{trees_of}
+use Rattle.ick_source.specs.declared.programs.Program.{Program}
+use Rattle.ick_source.specs.declared.ranges.OutOfRange.{OutOfRange}
+use Rattle.ick_source.specs.declared.refusals.Refusal.{Refusal}
+use Rattle.ick_source.specs.declared.refusals.Refusal.TheVariants.{Fault, NoMemory, TooLong}
 use Rattle.ick_source.specs.declared.source.Reader.{Reader}
 use Rattle.ick_source.specs.declared.statements.Statement.{Statement}
 use Rattle.ick_source.proofs.BoundaryLemmas.{opening_solid}
 use Rattle.ick_source.proofs.ByteLemmas.{less_or}
-use Rattle.ick_source.proofs.RefusalLemmas.{fault_kind}
+use Rattle.ick_source.proofs.RefusalLemmas.{compiles_one, refused_not, refused_only, sound_below_none, sound_more}
 use Rattle.ick_source.proofs.StatementLemmas.{statement_boundary}
 
-pub read_whole : {s : List ℕ} {at : ℕ} {x : Reader} (r : ReadSoFar s at x) → (IsStart s at → ⊥) → Cut s r.front
-read_whole {s} {at} r n = rw append-nil at (r.cut [] (done (end r.boundary))) where
+pub read_whole : {s : List ℕ} {at : ℕ} {x : Reader} (r : ReadSoFar s at x) → (IsStart s at → ⊥) → ReadWhole s x
+read_whole {s} {at} r n = record { trees = r.front; reads = r.reads; cut = rw append-nil at (r.cut [] (done (end r.boundary))) } where
   end : IsBoundary s at → at ≡ length s
   end (at_start h) = absurd (n h)
   end (at_end e) = e
@@ -56,25 +63,31 @@ read_something {s} {a} {e} {text = text} g b lt t h = record {
   cut = λ rest x. record { begin = a; start = e; rest = rest; gap = g; first = b; front = something lt t; statements = x };
 }
 
-pub added : {x : Reader} {trees : List StatementTree} {p : StatementTree} (st : Statement) → HasRead x trees → (items : List Statement) → items ≡ x.statements.items ++ st ∷ [] → x.mesh ≡ None → statement_tree_of st ≡ p → map statement_tree_of items ≡ trees ++ p ∷ []
-added {x} {trees} {p} st h items e m q = rw (e, map-append statement_tree_of x.statements.items (st ∷ []), h.same m, q) refl
+pub added : {x : Reader} {all : List StatementTree} {p : StatementTree} (st : Statement) → HasRead x all → (items : List Statement) → items ≡ x.statements.items ++ st ∷ [] → IsEmpty x.out_of_range → statement_tree_of st ≡ p → map statement_tree_of items ≡ all ++ p ∷ []
+added {x} {all} {p} st h items e m q = rw (e, map-append statement_tree_of x.statements.items (st ∷ []), h.same m, q) refl
 
-sound_none : {x : Reader} {trees : List StatementTree} → HasRead x trees → x.mesh ≡ None → (kind : FaultKind) (n : ℕ) → FaultAt kind trees n → ⊥
-sound_none {trees = trees} h m kind n f = (rw m at h.mesh) n (subst (λ k. FaultAt k trees n) (fault_kind kind trees n f) f)
+-- Where no number is out of range, the first three kinds of fault do not stand.
+pub sound_ranges : {x : OutOfRange} {all : List StatementTree} → AreFirst x all → IsEmpty x → IsSoundBelow 3 all
+sound_ranges {all = all} h e =
+    sound_more LabelRange refl (omega arith)
+    (sound_more NameRange refl (omega arith)
+    (sound_more MeshTooLarge refl (omega arith) (sound_below_none all) (rw e.mesh at h.mesh))
+    (rw e.name at h.name)) (rw e.label at h.label)
 
-pub compiled : {s : List ℕ} {x : Reader} {trees : List StatementTree} → HasRead x trees → Cut s trees → length s ≤ longest → x.mesh ≡ None → Compiles s (map statement_tree_of x.statements.items)
-compiled {s} {x} {trees} h g f m = rw (h.same m) (record { cut = g; fits = f; sound = sound_none h m })
+pub on_error : {X : Type 0} (r : Result X Refusal) (P : Refusal → Type 0) (e : Refusal) → IsErrAnd r (λ f. f ≡ e) → P e → IfErr r P
+on_error (Ok x) P e h p = tt
+on_error (Err f) P e h p = subst P (sym h) p
 
-pub refused_mesh : {s : List ℕ} {x : Reader} {trees : List StatementTree} {n : ℕ} → HasRead x trees → Cut s trees → length s ≤ longest → x.mesh ≡ Some n → Refused s MeshTooLarge n
-refused_mesh {trees = trees} h g f m =
-    let first = rw m at h.mesh in
-    record { trees = trees; cut = g; fits = f; fault = first.0; first = first.1; least = λ other k lt. absurd (omega arith) }
+pub refused_cut : {s : List ℕ} {trees : List StatementTree} (e : Refusal) → Cut s trees → length s ≤ longest → RefusesTrees trees e → RefusesFitting s e
+refused_cut {trees = trees} (Fault kind n) g f h = record { trees = trees; cut = g; fits = f; first_fault = h }
+refused_cut TooLong g f h = absurd h
+refused_cut NoMemory g f h = tt
 
-pub polite_push : (trees : List StatementTree) (p : StatementTree) → polite_in (trees ++ p ∷ []) ≡ polite_in trees + cond p.polite 1 0
-polite_push trees p = let e = sum_by-append (λ (q : StatementTree). cond q.polite 1 0) trees (p ∷ []) in omega (arith, e)
+pub polite_push : (all : List StatementTree) (p : StatementTree) → polite_in (all ++ p ∷ []) ≡ polite_in all + cond p.polite 1 0
+polite_push all p = let e = sum_by-append (λ (q : StatementTree). cond q.polite 1 0) all (p ∷ []) in omega (arith, e)
 
-pub polite_within : (trees : List StatementTree) → polite_in trees ≤ length trees
-polite_within trees = count_by-le-length (λ p. p.polite) trees
+pub polite_within : (all : List StatementTree) → polite_in all ≤ length all
+polite_within all = count_by-le-length (λ p. p.polite) all
 
 pub numbers_push : (xs : List Statement) (y : Statement) → AreNumbered xs → y.number ≡ length xs + 1 → AreNumbered (xs ++ y ∷ [])
 numbers_push xs y h e k x g = elim (pushed xs k g) [ inl old ↦ h k x old | inr new ↦ rw (new.0, ← new.1) e ] where
@@ -87,3 +100,24 @@ numbers_push xs y h e k x g = elim (pushed xs k g) [ inl old ↦ h k x old | inr
 pub byte_of_test : (b : Bool) → bool_byte b ≡ cond b 1 0
 byte_of_test true = refl
 byte_of_test false = refl
+
+pub compiles_sound : (s : List ℕ) (r : Result Program Refusal) → IfOk r (λ p. Cut s (trees_of p)) → length s ≤ longest → IfOk r (λ p. Compiles s (trees_of p))
+compiles_sound s (Ok p) h f = record { cut = h; fits = f; sound = p.sound }
+compiles_sound s (Err e) h f = tt
+
+pub compiles_alone : (s : List ℕ) (r : Result Program Refusal) → IfOk r (λ p. Compiles s (trees_of p)) → IfOk r (λ p. (trees : List StatementTree) → Compiles s trees → trees ≡ trees_of p)
+compiles_alone s (Ok p) h = λ trees g. compiles_one g h
+compiles_alone s (Err e) h = tt
+
+pub not_refused_sound : (s : List ℕ) (r : Result Program Refusal) → IfOk r (λ p. Compiles s (trees_of p)) → IfOk r (λ p. (kind : FaultKind) (n : ℕ) → Refused s kind n → ⊥)
+not_refused_sound s (Ok p) h = λ kind n g. refused_not g (trees_of p) h
+not_refused_sound s (Err e) h = tt
+
+refuses_alone : (s : List ℕ) (e : Refusal) → RefusesFitting s e → Refuses s e
+refuses_alone s (Fault kind n) h = refused_only h
+refuses_alone s TooLong h = absurd h
+refuses_alone s NoMemory h = tt
+
+pub refused_alone : (s : List ℕ) (r : Result Program Refusal) → IfErr r (RefusesFitting s) → IfErr r (Refuses s)
+refused_alone s (Ok p) h = tt
+refused_alone s (Err e) h = refuses_alone s e h

@@ -1,24 +1,27 @@
 -- Statements: exactly one stands at a start.
 use Rattle.std.proofs.Common.{Bool, List, None, Option, Some, ap, arith, inl, inr, length, refl, slice_range, subst, suc, sym, unwrap_or, zero, ℕ, ◌+◌, ◌-◌, ◌<◌, ◌≡◌, ◌≤◌}
-use Rattle.ick_source.specs.Bodies.{IsBody}
+use Rattle.ick_source.specs.BodyPlaces.{IsBody}
+use Rattle.ick_source.specs.BodyTree.{BodyTree}
 use Rattle.ick_source.specs.Boundaries.{IsBoundary, IsStart}
 use Rattle.ick_source.specs.Bytes.{Gap, IsWhite, byte}
 use Rattle.ick_source.specs.Qualifiers.{Qualifiers}
 use Rattle.ick_source.specs.Statements.{Ends, IsStatement, Recognised, Trimmed, recognised, unrecognised}
-use Rattle.ick_source.specs.Trees.{BodyTree, StatementTree}
-use Rattle.ick_source.proofs.BodyLemmas.{body_is, body_longer, body_one}
+use Rattle.ick_source.specs.Trees.{StatementTree}
+use Rattle.ick_source.specs.Kept.{both_faults}
+use Rattle.ick_source.specs.declared.faults.Faults.{Faults}
+use Rattle.ick_source.proofs.BodyPlaceLemmas.{body_is, body_longer, body_one}
 use Rattle.ick_source.proofs.BoundaryLemmas.{boundary_along, boundary_inside, boundary_is, next_boundary_is, next_boundary_one, opening_ends_inside, opening_inside, opening_longer, opening_one, opening_solid}
 use Rattle.ick_source.proofs.ByteLemmas.{Finds, gap_is, gap_one, less_or, white_or}
 use Rattle.ick_source.proofs.QualifierLemmas.{after_inside, chance_inside, negated_inside, qualifiers_is, qualifiers_one, qualifiers_order}
 
-recognised_one : {s : List ℕ} {b c e f : ℕ} {t u : BodyTree} → Recognised s b e t → Recognised s c f u → b ≡ c → (e ≡ f) × (t ≡ u)
-recognised_one g h e = let one = body_one g.body h.body e in (gap_one g.gap h.gap one.0, one.1)
+recognised_one : {s : List ℕ} {b e f : ℕ} {t u : BodyTree} → Recognised s b e t → Recognised s b f u → (e ≡ f) × (t ≡ u)
+recognised_one g h = let one = body_one g.body h.body in (gap_one g.gap h.gap one.0, one.1)
 
 recognised_along : {s : List ℕ} {b c e : ℕ} {t : BodyTree} → b ≡ c → Recognised s b e t → Recognised s c e t
 recognised_along {s} {e = e} {t = t} q r = subst (λ x. Recognised s x e t) q r
 
 ends_one : {s : List ℕ} {h b i c e f : ℕ} {t u : Option BodyTree} → Ends s h b e t → Ends s i c f u → h ≡ i → b ≡ c → (e ≡ f) × (t ≡ u)
-ends_one (recognised g) (recognised h) p q = let one = recognised_one g h q in (one.0, ap (λ x. Some x) one.1)
+ends_one (recognised g) (recognised h) p q = let one = recognised_one (recognised_along q g) h in (one.0, ap (λ x. Some x) one.1)
 ends_one (recognised g) (unrecognised n b) p q = absurd (n _ _ (recognised_along q g))
 ends_one (unrecognised n b) (recognised g) p q = absurd (n _ _ (recognised_along (sym q) g))
 ends_one (unrecognised n b) (unrecognised m c) p q = (next_boundary_one b c p, refl)
@@ -31,14 +34,8 @@ trimmed_one {s} g h p q =
       | inr same ↦ same
     ] in cc
 
-abbrev tree : Bool → Bool → ℕ → Option BodyTree → List ℕ → StatementTree
-tree b c d e f = record { polite = b; abstained = c; chance = d; body = e; text = f }
-
-same_parts : {b m c n : Bool} {d o : ℕ} {e p : Option BodyTree} {f q : List ℕ} → b ≡ m → c ≡ n → d ≡ o → e ≡ p → f ≡ q → tree b c d e f ≡ tree m n o p q
-same_parts y z u v w = cc
-
-pub same_tree : (p q : StatementTree) → p.polite ≡ q.polite → p.abstained ≡ q.abstained → p.chance ≡ q.chance → p.body ≡ q.body → p.text ≡ q.text → p ≡ q
-same_tree p q b c d e f = same_parts b c d e f
+pub same_tree : (p q : StatementTree) → p.label ≡ q.label → p.polite ≡ q.polite → p.abstained ≡ q.abstained → p.chance ≡ q.chance → p.body ≡ q.body → p.text ≡ q.text → p ≡ q
+same_tree p q a b c d e f = λ i. record { label = a i; polite = b i; abstained = c i; chance = d i; body = e i; text = f i }
 
 pub statement_one : {s : List ℕ} {i j e f : ℕ} {p q : StatementTree} → IsStatement s i e p → IsStatement s j f q → i ≡ j → (e ≡ f) × (p ≡ q)
 statement_one {p = p} {q = q} g h e =
@@ -47,7 +44,7 @@ statement_one {p = p} {q = q} g h e =
     let ends = ends_one g.ends h.ends qualifiers.0 (gap_one g.gap h.gap qualifiers.0) in
     let text = trimmed_one g.trimmed h.trimmed e ends.0 in
     let chance : p.chance ≡ q.chance = let x = g.says.chance in let y = h.says.chance in let z = qualifiers.2 in cc in
-    (ends.0, same_tree p q opening.2 qualifiers.1 chance ends.1 text)
+    (ends.0, same_tree p q opening.1 opening.2 qualifiers.1 chance ends.1 text)
 
 pub statement_start : {s : List ℕ} {i e : ℕ} {p : StatementTree} → IsStatement s i e p → i < length s
 statement_start g = opening_inside g.says.opening
@@ -71,14 +68,14 @@ pub statement_boundary : {s : List ℕ} {i e : ℕ} {p : StatementTree} → IsSt
 statement_boundary g = ends_boundary g.ends
 
 pub not_recognised : {s : List ℕ} {b m e : ℕ} {t : BodyTree} → IsBody s b m t → Gap s m e → (IsBoundary s e → ⊥) → {j : ℕ} {u : BodyTree} → Recognised s b j u → ⊥
-not_recognised x g n r = n (boundary_along (gap_one r.gap g (body_one r.body x refl).0) r.boundary)
+not_recognised x g n r = n (boundary_along (gap_one r.gap g (body_one r.body x).0) r.boundary)
 
 recognised_is : (s : List ℕ) (b : ℕ) → Finds (Recognised s b)
 recognised_is s b = elim (body_is s b) [
-  | inr n ↦ inr (λ j t x. n _ _ x.body)
-  | inl x ↦ let g = gap_is s x.0 in elim (boundary_is s g.0) [
-    | inl boundary ↦ inl (g.0, x.1, record { last = x.0; body = x.2; gap = g.1; boundary = boundary })
-    | inr n ↦ inr (λ j t y. not_recognised x.2 g.1 n y)
+  | inr n ↦ inr (λ j t x. n.nothing _ _ x.body)
+  | inl x ↦ let g = gap_is s x.end in elim (boundary_is s g.0) [
+    | inl boundary ↦ inl (g.0, x.tree, record { last = x.end; body = x.stands; gap = g.1; boundary = boundary })
+    | inr n ↦ inr (λ j t y. not_recognised x.stands g.1 n y)
   ]
 ]
 
@@ -115,6 +112,9 @@ statement_is s i x =
     let ends = ends_is s m.0 g.0 within in
     let text = trim s i ends.0 (opening_solid x.opening) (omega (arith, longer, order, ends_order g.1 ends.2)) in (
       ends.0,
-      record { polite = x.polite; abstained = m.1; chance = unwrap_or m.2 100; body = ends.1; text = text.0 },
-      record { head = m.0; begin = g.0; says = record { after = x.end; label = x.label; percentage = m.2; opening = x.opening; qualifiers = m.3; chance = refl }; gap = g.1; ends = ends.2; trimmed = text.1 },
+      record { label = x.label; polite = x.polite; abstained = m.1; chance = unwrap_or m.2 100; body = ends.1; text = text.0 },
+      record { head = m.0; begin = g.0; says = record { after = x.end; percentage = m.2; opening = x.opening; qualifiers = m.3; chance = refl }; gap = g.1; ends = ends.2; trimmed = text.1 },
     )
+
+pub both_same : {a b x y : Faults} → a ≡ x → b ≡ y → both_faults a b ≡ both_faults x y
+both_same p q = λ i. both_faults (p i) (q i)

@@ -1,18 +1,22 @@
--- What a refusal says of a text.
-use Rattle.std.specs.Prelude.{◌≡◌, ℕ, ◌<◌, List, length}
-use Rattle.ick_bits.specs.declared.faults.FaultKind.{FaultKind}
-use Rattle.ick_source.specs.declared.refusals.Refusal.{Refusal}
-use Rattle.ick_source.specs.declared.refusals.Refusal.TheVariants.{Fault, TooLong, NoMemory}
-use Rattle.ick_source.specs.Trees.{StatementTree}
-use Rattle.ick_source.specs.Refusals.{Compiles, Refused, longest}
+-- What the reader of a part answers.
+use Rattle.std.specs.Prelude.{ℕ, ◌≡◌, List, Option, Some, None}
+use Rattle.ick_source.specs.declared.faults.Faults.{Faults}
+use Rattle.ick_source.specs.declared.found.Found.{Found}
+use Rattle.ick_source.specs.Place.{left_at}
+use Rattle.ick_source.specs.Nonterminal.{Nonterminal}
 
--- The text is refused with this fault and with no other, and compiles to nothing.
-pub record OnlyRefused (text : List ℕ) (kind : FaultKind) (n : ℕ) : Type 0 where
-  pub refused : Refused text kind n
-  pub only : (other : FaultKind) (m : ℕ) → Refused text other m → (other ≡ kind) × (m ≡ n)
-  pub no_program : (trees : List StatementTree) → Compiles text trees → ⊥
+-- A value stands there: what is kept of it, and its numbers out of range.
+pub record IsFound (N : Nonterminal) (from to : List ℕ) (seen : N.Kept) (faults : Faults) : Type 0 where
+  pub value : N.Value
+  pub stands : N.stands from to value
+  pub is_kept : seen ≡ N.kept value
+  pub are_faults : faults ≡ N.faults value
 
-abbrev pub Refuses : List ℕ → Refusal → Type 0
-Refuses text (Fault kind n) = OnlyRefused text kind n
-Refuses text TooLong = longest < length text
-Refuses text NoMemory = Unit {0}
+-- Nothing stands there.
+pub record IsAbsent (N : Nonterminal) (from : List ℕ) : Type 0 where
+  pub nothing : (to : List ℕ) (x : N.Value) → N.stands from to x → ⊥
+
+-- What was found is seen as what its value stands for.
+abbrev pub Answers : (N : Nonterminal) → {T : Type 0} → (T → N.Kept) → List ℕ → List ℕ → Option (Found T) → Type 0
+Answers N seen text from None = IsAbsent N from
+Answers N seen text from (Some r) = IsFound N from (left_at text r.to) (seen r.value) r.faults

@@ -1,7 +1,8 @@
 -- Bytes of a text by their places. Places are counted from 0, and a part of a text runs from one
 -- place up to another.
-use Rattle.std.specs.Prelude.{◌≡◌, ℕ, ◌+◌, ◌-◌, ◌*◌, ◌^◌, ◌<◌, ◌≤◌, List, [], ◌∷◌, length, slice_index, slice_range, IsTrue}
+use Rattle.std.specs.Prelude.{◌≡◌, ℕ, ◌+◌, ◌<◌, ◌≤◌, List, [], ◌∷◌, slice_index, slice_range, IsTrue}
 use Rattle.ick_bits.specs.White.{is_white_byte}
+use Rattle.ick_source.specs.Token.{is_digit, value_of_digits}
 
 -- The byte at a place. Past the end it is 0, which is no part of any word, mark, number or gap.
 abbrev pub byte : List ℕ → ℕ → ℕ
@@ -11,18 +12,13 @@ abbrev pub IsWhite : ℕ → Type 0
 IsWhite b = IsTrue (is_white_byte b)
 
 abbrev pub IsDigit : ℕ → Type 0
-IsDigit b = (48 ≤ b) × (b ≤ 57)
+IsDigit b = IsTrue (is_digit b)
 
 -- All white bytes that stand here, none included.
 pub record Gap (text : List ℕ) (from to : ℕ) : Type 0 where
   pub order : from ≤ to
   pub white : (at : ℕ) → from ≤ at → at < to → IsWhite (byte text at)
   pub stops : IsWhite (byte text to) → ⊥
-
--- The number that digits spell: each counts its power of ten.
-abbrev pub value_of_digits : List ℕ → ℕ
-value_of_digits [] = 0
-value_of_digits (d ∷ ds) = (d - 48) * 10 ^ length ds + value_of_digits ds
 
 -- All digits that stand here, of which there is one at least, spell the number.
 pub record Number (text : List ℕ) (from to number : ℕ) : Type 0 where

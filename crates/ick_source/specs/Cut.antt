@@ -13,7 +13,7 @@ pub data Rest (text : List ℕ) : ℕ → List StatementTree → Type 0 where
 
 -- What stands before the first start, as a statement.
 abbrev pub plain : List ℕ → StatementTree
-plain bytes = record { polite = false; abstained = false; chance = 100; body = None; text = bytes }
+plain bytes = record { label = None; polite = false; abstained = false; chance = 100; body = None; text = bytes }
 
 -- The bytes before the first start, without white bytes at their ends, are a statement of their own,
 -- which comes before the rest. Where there are none, there is no such statement.

@@ -1,9 +1,24 @@
 -- What holds of each text.
-use Rattle.std.specs.Prelude.{◌≡◌, ℕ, List}
+use Rattle.std.specs.Prelude.{◌≡◌, ℕ, List, Option}
 use Rattle.ick_bits.specs.declared.faults.FaultKind.{FaultKind}
+use Rattle.ick_source.specs.declared.lead.Mark.{Mark}
+use Rattle.ick_source.specs.Tree.{Tree}
+use Rattle.ick_source.specs.Expression.{IsExpr, Same}
+use Rattle.ick_source.specs.BodyTree.{BodyTree}
+use Rattle.ick_source.specs.BodyPlaces.{IsBody}
 use Rattle.ick_source.specs.Trees.{StatementTree}
 use Rattle.ick_source.specs.Cut.{Cut}
 use Rattle.ick_source.specs.Refusals.{Compiles, Refused}
+
+-- From one place, under one mark, at most one expression stands: one end, one tree, one height.
+abbrev pub OneReading : Type 0
+OneReading = (m : Option Mark) (from to to' : List ℕ) (t t' : Tree) (h h' : ℕ) →
+    IsExpr m from to t h → IsExpr m from to' t' h' → Same Tree to to' t t' h h'
+
+-- From one byte at most one body stands: one end, one tree.
+abbrev pub OneBody : Type 0
+OneBody = (text : List ℕ) (from to end : ℕ) (body other : BodyTree) →
+    IsBody text from to body → IsBody text from end other → (to ≡ end) × (body ≡ other)
 
 -- There is a cut, and any other is the same.
 abbrev pub OneCut : Type 0

@@ -1,22 +1,42 @@
 -- What the reader of a statement answers.
-use Rattle.std.specs.Prelude.{◌≡◌, ℕ, ◌↔◌, false, List, Option, IsTrue}
-use Rattle.ick_bits.specs.declared.faults.FaultKind.TheVariants.{MeshTooLarge}
-use Rattle.ick_source.specs.declared.bodies.Draft.{Draft}
+use Rattle.std.specs.Prelude.{◌≡◌, ℕ, List, Option, Some, None}
+use Rattle.ick_source.specs.declared.draft.Draft.{Draft}
 use Rattle.ick_source.specs.declared.pieces.Candidate.{Candidate}
+use Rattle.ick_source.specs.declared.pieces.KeptLabel.{KeptLabel}
 use Rattle.ick_source.specs.Bytes.{Gap}
-use Rattle.ick_source.specs.Trees.{BodyTree, StatementTree, statement_tree_of}
-use Rattle.ick_source.specs.Statements.{Ends}
-use Rattle.ick_source.specs.Refusals.{HasFault}
-use Rattle.ick_source.specs.ReadBodies.{ReadsBody}
+use Rattle.ick_source.specs.BodyTree.{BodyTree, body_tree_of}
+use Rattle.ick_source.specs.Trees.{StatementTree, statement_tree_of}
+use Rattle.ick_source.specs.Kept.{no_faults}
+use Rattle.ick_source.specs.StatementFaults.{faults_of_recognised, faults_of_label, faults_of_statement}
+use Rattle.ick_source.specs.Statements.{Recognised, Ends}
 
-pub record EndsAt (text : List ℕ) (head to : ℕ) (x : Draft) : Type 0 where
+pub record ReadsBody (x : Draft) (body : Option BodyTree) : Type 0 where
+  pub faults : x.faults ≡ faults_of_recognised body
+  pub same : x.faults ≡ no_faults → body_tree_of x.body ≡ body
+
+-- A body that goes up to a boundary, which is the draft's end.
+pub record ReadsRecognised (text : List ℕ) (from : ℕ) (x : Draft) : Type 0 where
+  pub tree : BodyTree
+  pub recognised : Recognised text from x.end tree
+  pub reads : ReadsBody x (Some tree)
+
+abbrev pub AnswersRecognised : List ℕ → ℕ → Option Draft → Type 0
+AnswersRecognised text from None = (to : ℕ) (tree : BodyTree) → Recognised text from to tree → ⊥
+AnswersRecognised text from (Some x) = ReadsRecognised text from x
+
+-- What stands after a head, up to the draft's end.
+pub record EndsAt (text : List ℕ) (head : ℕ) (x : Draft) : Type 0 where
   pub begin : ℕ
   pub body : Option BodyTree
   pub gap : Gap text head begin
-  pub ends : Ends text head begin to body
+  pub ends : Ends text head begin x.end body
   pub reads : ReadsBody x body
 
+pub record KeepsLabel (x : KeptLabel) (label : Option ℕ) : Type 0 where
+  pub faults : x.faults ≡ faults_of_label label
+  pub same : x.faults ≡ no_faults → x.label ≡ label
+
 pub record ReadsStatement (x : Candidate) (tree : StatementTree) : Type 0 where
-  pub mesh : IsTrue x.faults.mesh ↔ HasFault MeshTooLarge tree
+  pub faults : x.faults ≡ faults_of_statement tree
   pub polite : x.statement.polite ≡ tree.polite
-  pub same : x.faults.mesh ≡ false → statement_tree_of x.statement ≡ tree
+  pub same : x.faults ≡ no_faults → statement_tree_of x.statement ≡ tree

@@ -1,32 +1,92 @@
 -- Which texts compile, to which statements, and which are refused.
-use Rattle.std.specs.Prelude.{ℕ, zero, suc, ◌<◌, ◌≤◌, List, length, slice_get, Any, IsSomeAnd}
+use Rattle.std.specs.Prelude.{◌≡◌, ℕ, zero, suc, ◌/◌, ◌<◌, ◌≤◌, List, length, slice_get, Option, Some, None, option_and_then, IsSomeAnd, IsTrue}
 use Rattle.ick_bits.specs.declared.faults.FaultKind.{FaultKind}
-use Rattle.ick_bits.specs.declared.faults.FaultKind.TheVariants.{MeshTooLarge}
-use Rattle.ick_source.specs.Trees.{Tree, mesh, BodyTree, give_up, read_out, StatementTree}
+use Rattle.ick_bits.specs.declared.faults.FaultKind.TheVariants.{MeshTooLarge, NameRange, LabelRange, SameLabel, NoNextLabel, NoAbstainLabel, Impolite, Fawning}
+use Rattle.ick_source.specs.declared.labels.LabelUse.{LabelUse}
+use Rattle.ick_source.specs.declared.labels.LabelUse.TheVariants.{Next, Abstain}
+use Rattle.ick_source.specs.Trees.{StatementTree, polite_in}
+use Rattle.ick_source.specs.BodyTree.{BodyTree, next, abstain_label, reinstate_label}
+use Rattle.ick_source.specs.StatementFaults.{faults_of_statement}
 use Rattle.ick_source.specs.Cut.{Cut}
 
--- A mesh above 65535.
-abbrev pub IsLargeMesh : Tree → Type 0
-IsLargeMesh (mesh n) = 65535 < n
+-- The statement with this number, counted from 1, is such.
+abbrev pub At : (StatementTree → Type 0) → List StatementTree → ℕ → Type 0
+At P trees zero = ⊥
+At P trees (suc k) = IsSomeAnd (slice_get trees k) P
 
-abbrev pub HasLargeMesh : BodyTree → Type 0
-HasLargeMesh give_up = ⊥
-HasLargeMesh (read_out trees) = Any IsLargeMesh trees
+abbrev pub HasLabel : ℕ → StatementTree → Type 0
+HasLabel label tree = tree.label ≡ Some label
 
--- A statement has a fault that refuses the source.
-abbrev pub HasFault : FaultKind → StatementTree → Type 0
-HasFault MeshTooLarge tree = IsSomeAnd tree.body HasLargeMesh
-HasFault _ tree = ⊥
+-- The statement with this number has a label that an earlier one has.
+pub record SameLabelAt (trees : List StatementTree) (n : ℕ) : Type 0 where
+  pub label : ℕ
+  pub earlier : ℕ
+  pub before : earlier < n
+  pub first : At (HasLabel label) trees earlier
+  pub again : At (HasLabel label) trees n
 
--- The statement with this number, counted from 1, has a fault of this kind.
+-- The label of a statement that a body goes on to, or that it abstains from or reinstates.
+abbrev pub used_label : LabelUse → BodyTree → Option ℕ
+used_label Next (next n) = Some n
+used_label Abstain (abstain_label n) = Some n
+used_label Abstain (reinstate_label n) = Some n
+used_label _ _ = None
+
+-- The statement with this number uses a label that no statement has.
+pub record LostAt (how : LabelUse) (trees : List StatementTree) (n : ℕ) : Type 0 where
+  pub label : ℕ
+  pub uses : At (λ t. option_and_then (used_label how) t.body ≡ Some label) trees n
+  pub nowhere : (m : ℕ) → At (HasLabel label) trees m → ⊥
+
+-- This is the number of the last of at least three statements, and too few of them are polite.
+pub record ImpoliteAt (trees : List StatementTree) (n : ℕ) : Type 0 where
+  pub last : n ≡ length trees
+  pub enough : 3 ≤ n
+  pub few : polite_in trees < n / 5
+
+-- This is the number of the last of at least three statements, and too many of them are polite.
+pub record FawningAt (trees : List StatementTree) (n : ℕ) : Type 0 where
+  pub last : n ≡ length trees
+  pub enough : 3 ≤ n
+  pub many : n / 3 < polite_in trees
+
+-- The statement with this number has a fault of this kind, of those that refuse a source.
 abbrev pub FaultAt : FaultKind → List StatementTree → ℕ → Type 0
-FaultAt kind trees zero = ⊥
-FaultAt kind trees (suc k) = IsSomeAnd (slice_get trees k) (HasFault kind)
+FaultAt MeshTooLarge trees n = At (λ t. IsTrue (faults_of_statement t).mesh) trees n
+FaultAt NameRange trees n = At (λ t. IsTrue (faults_of_statement t).name) trees n
+FaultAt LabelRange trees n = At (λ t. IsTrue (faults_of_statement t).label) trees n
+FaultAt SameLabel trees n = SameLabelAt trees n
+FaultAt NoNextLabel trees n = LostAt Next trees n
+FaultAt NoAbstainLabel trees n = LostAt Abstain trees n
+FaultAt Impolite trees n = ImpoliteAt trees n
+FaultAt Fawning trees n = FawningAt trees n
+FaultAt _ trees n = ⊥
 
 -- The order in which faults are looked for: a kind with a lower rank comes first.
 abbrev pub rank : FaultKind → ℕ
 rank MeshTooLarge = 0
-rank _ = 1
+rank NameRange = 1
+rank LabelRange = 2
+rank SameLabel = 3
+rank NoNextLabel = 4
+rank NoAbstainLabel = 5
+rank Impolite = 6
+rank Fawning = 7
+rank _ = 8
+
+-- No fault of a kind of lower rank stands in these statements.
+pub record IsSoundBelow (limit : ℕ) (trees : List StatementTree) : Type 0 where
+  pub none : (kind : FaultKind) (n : ℕ) → rank kind < limit → FaultAt kind trees n → ⊥
+
+-- No fault that refuses a source stands in these statements.
+abbrev pub IsSound : List StatementTree → Type 0
+IsSound trees = (kind : FaultKind) (n : ℕ) → FaultAt kind trees n → ⊥
+
+-- This is the first kind of fault that any of these statements has, at the first that has it.
+pub record IsFirstFault (trees : List StatementTree) (kind : FaultKind) (n : ℕ) : Type 0 where
+  pub fault : FaultAt kind trees n
+  pub first : (m : ℕ) → m < n → FaultAt kind trees m → ⊥
+  pub least : IsSoundBelow (rank kind) trees
 
 -- A source may have this many bytes.
 abbrev pub longest : ℕ
@@ -36,13 +96,11 @@ longest = 1048576
 pub record Compiles (text : List ℕ) (trees : List StatementTree) : Type 0 where
   pub cut : Cut text trees
   pub fits : length text ≤ longest
-  pub sound : (kind : FaultKind) (n : ℕ) → FaultAt kind trees n → ⊥
+  pub sound : IsSound trees
 
--- The text is refused with the first kind that any statement has, at the first statement that has it.
+-- The text is refused with this kind of fault, of the statement with this number.
 pub record Refused (text : List ℕ) (kind : FaultKind) (n : ℕ) : Type 0 where
   pub trees : List StatementTree
   pub cut : Cut text trees
   pub fits : length text ≤ longest
-  pub fault : FaultAt kind trees n
-  pub first : (m : ℕ) → m < n → FaultAt kind trees m → ⊥
-  pub least : (other : FaultKind) (m : ℕ) → rank other < rank kind → FaultAt other trees m → ⊥
+  pub first_fault : IsFirstFault trees kind n

@@ -3,15 +3,15 @@ use Rattle.std.specs.Prelude.{◌≡◌, ℕ, ◌+◌, ◌<◌, ◌≤◌, List,
 use Rattle.ick_source.specs.Bytes.{byte, IsWhite, Gap}
 use Rattle.ick_source.specs.Boundaries.{Opening, IsBoundary, NextBoundary}
 use Rattle.ick_source.specs.Qualifiers.{Qualifiers}
-use Rattle.ick_source.specs.Bodies.{IsBody}
-use Rattle.ick_source.specs.Trees.{BodyTree, StatementTree}
+use Rattle.ick_source.specs.BodyPlaces.{IsBody}
+use Rattle.ick_source.specs.BodyTree.{BodyTree}
+use Rattle.ick_source.specs.Trees.{StatementTree}
 
 -- The head of a statement: its opening, with a label or without, and its qualifiers.
 pub record Head (text : List ℕ) (from to : ℕ) (tree : StatementTree) : Type 0 where
   pub after : ℕ
-  pub label : Option ℕ
   pub percentage : Option ℕ
-  pub opening : Opening text from after label tree.polite
+  pub opening : Opening text from after tree.label tree.polite
   pub qualifiers : Qualifiers text after to tree.abstained percentage
   pub chance : tree.chance ≡ unwrap_or percentage 100
 

@@ -1,10 +1,11 @@
 //! Bytes, gaps, words and numbers at places of a text.
 
 ghost use Rattle.std.specs.Prelude.{◌≡◌, ◌+◌, ◌-◌, ◌<◌, ◌≤◌, ◌≢◌, ◌↔◌};
-ghost use Rattle.std.specs.Prelude.{length, slice_index, IsTrue, MatchOption, IfSome};
-ghost use Rattle.ick_source.specs.Bytes.{byte, IsDigit, Gap, Number, Word};
+ghost use Rattle.std.specs.Prelude.{length, slice_index, IsTrue, IfSome};
+ghost use Rattle.ick_source.specs.Bytes.{byte, Gap, Number, Word};
 ghost use Rattle.ick_source.specs.Reading.{IsCapped, Parsed};
 
+use crate::token::{is_digit_byte, with_digit};
 use ick_bits::is_white;
 
 /// The byte at a place, and 0 past the end.
@@ -43,28 +44,16 @@ pub fn stands(text: &[u8], at: usize, word: &[u8]) -> bool
     true
 }
 
-/// The worth of the digit here.
-fn digit_at(text: &[u8], at: usize) -> Option<u32>
-    ensures { MatchOption result (IsDigit (byte text.now at) → ⊥) (λ d.
-        IsDigit (byte text.now at) × (d + 48 ≡ byte text.now at) × (at < length text.now)) }
-{
-    let byte = byte_at(text, at);
-    if byte.is_ascii_digit() {
-        Some(u32::from(byte - b'0'))
-    } else {
-        None
-    }
-}
-
-/// The number here, with all its digits, and the place after it. For each number above 65,535 it is 65,536.
+/// The number here, with all its digits, and the place after it. For each number above 65,535 it is
+/// 65,536.
 pub fn number_at(text: &[u8], at: usize) -> Option<(u32, usize)>
     ensures number { Parsed (Number text.now at) IsCapped result }
     ensures within { IfSome result (λ r. r.1 ≤ length text.now) }
 {
     let mut end = at;
     let mut value = 0u32;
-    while let Some(digit) = digit_at(text, end) {
-        value = (value * 10 + digit).min(65_536);
+    'digits: while is_digit_byte(byte_at(text, end)) {
+        value = with_digit(value, byte_at(text, end));
         end += 1;
     }
     if end == at { None } else { Some((value, end)) }

@@ -1,6 +1,16 @@
-//! What holds of each text.
+//! What holds of each text: each function does nothing, and its contract is the law.
 
-ghost use Rattle.ick_source.specs.Laws.{OneCut, OneRefusal};
+ghost use Rattle.ick_source.specs.Laws.{OneBody, OneCut, OneReading, OneRefusal};
+
+/// From one place, under one mark, at most one expression stands.
+pub fn one_reading()
+    ensures { OneReading }
+{}
+
+/// From one byte at most one body stands.
+pub fn one_body()
+    ensures { OneBody }
+{}
 
 /// Each text has exactly one cut.
 pub fn one_cut()

@@ -1,31 +1,67 @@
 //! The reader of a source text: which statements it is cut into, or why it is refused.
 //!
-//! - `statements`: what a statement of a program is
-//! - `programs`: the statements of a source, in their order
-//! - `refusals`: why a source is refused
-//! - `bytes`, `boundaries`, `qualifiers`, `bodies`: what stands at a place of a text
-//! - `pieces`: one statement of a text
+//! What a program is:
+//!
+//! - `tree`, `body`: expressions, and what a statement does
+//! - `statements`, `programs`: a statement, and the statements of a source in their order
+//! - `kinds`, `listing`: the kinds of statements, and their lines
+//!
+//! What stands at a place of a text:
+//!
+//! - `bytes`, `boundaries`, `qualifiers`: bytes, where statements may start and end, and their heads
+//! - `lead`, `place`, `token`: symbols, numbers and words, with `!` as two marks
+//! - `expression`: expressions and elements
+//! - `found`, `part`, `list`: what readers find, the parts of bodies, and lists of them
+//! - `verb`, `form`, `recognise`, `draft`: bodies
+//! - `pieces`: a statement
 //! - `source`: the whole of a text
-//! - `laws`: what holds of each text
+//!
+//! What refuses a text:
+//!
+//! - `refusals`: the answers
+//! - `faults`, `ranges`, `labels`, `politeness`: numbers out of range, labels, and good manners
+//!
+//! `laws` says what holds of each text.
 #![tactic(auto)]
 
-mod bodies;
+mod body;
 mod boundaries;
 mod bytes;
+mod draft;
+mod expression;
+mod faults;
+mod form;
+mod found;
+mod kinds;
+mod labels;
 mod laws;
+mod lead;
+mod list;
+mod listing;
+mod part;
 mod pieces;
+mod place;
+mod politeness;
 mod programs;
 mod qualifiers;
+mod ranges;
+mod recognise;
 mod refusals;
 mod source;
 mod statements;
+mod token;
+mod tree;
+mod verb;
 
-pub use bodies::{Body, Item};
-pub use laws::{one_cut, one_refusal};
+pub use body::{Body, Gerund, Item, Target};
+pub use kinds::Kind;
+pub use laws::{one_body, one_cut, one_reading, one_refusal};
+pub use listing::append_listing;
 pub use programs::Program;
 pub use refusals::Refusal;
 pub use source::read_source;
 pub use statements::Statement;
+pub use tree::{BinaryOp, Element, Expr, Name, NameKind, UnaryOp};
 
 #[cfg(test)]
 mod tests;

@@ -1,17 +1,19 @@
 //! One statement of a text.
 
-ghost use Rattle.std.specs.Prelude.{◌≡◌, ◌<◌, ◌≤◌, length, Some, IfOk, MatchOption};
+ghost use Rattle.std.specs.Prelude.{◌≡◌, ℕ, ◌<◌, ◌≤◌, length, Option, Some, IfOk, MatchOption};
 ghost use Rattle.ick_source.specs.Bytes.{byte, IsWhite};
 ghost use Rattle.ick_source.specs.Boundaries.{IsStart};
 ghost use Rattle.ick_source.specs.Trees.{StatementTree};
-ghost use Rattle.ick_source.specs.Statements.{Trimmed, Recognised, IsStatement};
-ghost use Rattle.ick_source.specs.Reading.{Parsed};
-ghost use Rattle.ick_source.specs.ReadBodies.{ReadsBody};
-ghost use Rattle.ick_source.specs.ReadStatements.{EndsAt, ReadsStatement};
+ghost use Rattle.ick_source.specs.Statements.{Trimmed, IsStatement};
+ghost use Rattle.ick_source.specs.Reading.{ReadsLabel};
+ghost use Rattle.ick_source.specs.ReadStatements.{AnswersRecognised, EndsAt, KeepsLabel, ReadsStatement};
 
-use crate::bodies::{Body, Draft, Faults, body_at};
+use crate::body::Body;
 use crate::boundaries::{is_boundary, next_boundary, opening_at};
 use crate::bytes::{after_white, byte_at};
+use crate::draft::{Draft, body_at};
+use crate::expression::kept_number;
+use crate::faults::Faults;
 use crate::qualifiers::qualifiers_at;
 use crate::statements::Statement;
 use ick_bits::is_white;
@@ -22,6 +24,29 @@ use std::alloc::{AllocError, Global};
 pub struct Candidate<'a> {
     pub statement: Statement<'a>,
     pub faults: Faults,
+}
+
+/// A label as far as it can be kept.
+#[derive(Clone, Copy)]
+struct KeptLabel {
+    label: Option<u16>,
+    faults: Faults,
+}
+
+/// What is kept of a label.
+fn kept_label(label: Option<u32>) -> KeptLabel
+    ensures { (read : Option ℕ) → ReadsLabel label read → KeepsLabel result read }
+{
+    match label {
+        Some(number) => KeptLabel {
+            label: Some(kept_number(number)),
+            faults: Faults::of_label(number),
+        },
+        None => KeptLabel {
+            label: None,
+            faults: Faults::NONE,
+        },
+    }
 }
 
 /// The text from a place up to another, without white bytes at its end.
@@ -38,44 +63,34 @@ pub fn trimmed(text: &[u8], from: usize, to: usize) -> &[u8]
     &text[from..last + 1]
 }
 
-/// The body here, where it goes up to a boundary, and that boundary.
-fn recognised_at(
-    alloc: Global,
-    text: &[u8],
-    at: usize,
-) -> Result<Option<(Draft, usize)>, AllocError>
+/// The body here, where it goes up to a boundary, with that boundary as its end.
+fn recognised_at(alloc: Global, text: &[u8], at: usize) -> Result<Option<Draft>, AllocError>
     requires { at ≤ length text.now }
-    ensures recognised { IfOk result (λ r.
-        Parsed (Recognised text.now at) (λ x t. ReadsBody x (Some t)) r) }
+    ensures { IfOk result (AnswersRecognised text.now at) }
 {
-    match body_at(alloc, text, at)? {
-        Some((draft, last)) => {
-            let end = after_white(text, last);
-            if is_boundary(text, end) {
-                Ok(Some((draft, end)))
-            } else {
-                Ok(None)
-            }
-        }
-        None => Ok(None),
+    let Some(mut draft) = body_at(alloc, text, at)? else {
+        return Ok(None);
+    };
+    draft.end = after_white(text, draft.end);
+    if !is_boundary(text, draft.end) {
+        return Ok(None);
     }
+    Ok(Some(draft))
 }
 
-/// What stands after a head, and where it ends.
-fn ending_at(alloc: Global, text: &[u8], head: usize) -> Result<(Draft, usize), AllocError>
+/// What stands after a head, up to the end of its statement.
+fn ending_at(alloc: Global, text: &[u8], head: usize) -> Result<Draft, AllocError>
     requires { head ≤ length text.now }
-    ensures { IfOk result (λ r. EndsAt text.now head r.1 r.0) }
+    ensures { IfOk result (EndsAt text.now head) }
 {
     let begin = after_white(text, head);
     match recognised_at(alloc, text, begin)? {
-        Some((draft, end)) => Ok((draft, end)),
-        None => {
-            let draft = Draft {
-                body: Body::Unrecognised,
-                faults: Faults { mesh: false },
-            };
-            Ok((draft, next_boundary(text, head)))
-        }
+        Some(draft) => Ok(draft),
+        None => Ok(Draft {
+            body: Body::Unrecognised,
+            end: next_boundary(text, head),
+            faults: Faults::NONE,
+        }),
     }
 }
 
@@ -95,8 +110,11 @@ pub fn statement_at<'a>(
         return Ok(None);
     };
     let (qualifiers, head) = qualifiers_at(text, after);
-    let (draft, end) = ending_at(alloc, text, head)?;
+    let draft = ending_at(alloc, text, head)?;
+    let end = draft.end;
+    let label = kept_label(start.label);
     let statement = Statement {
+        label: label.label,
         polite: start.polite,
         abstained: qualifiers.abstained,
         chance: qualifiers.chance,
@@ -106,7 +124,7 @@ pub fn statement_at<'a>(
     };
     let candidate = Candidate {
         statement,
-        faults: draft.faults,
+        faults: label.faults.and(draft.faults),
     };
     Ok(Some((candidate, end)))
 }

@@ -1,34 +1,36 @@
 //! A source text as a program.
 
 ghost use Rattle.std.specs.Prelude.{◌≡◌, ℕ, ◌+◌, ◌-◌, ◌*◌, ◌^◌, ◌<◌, ◌≤◌, List, [], ◌∷◌, ◌++◌, ◌↔◌};
-ghost use Rattle.std.specs.Prelude.{length, IfOk, IfErr, OnOk, IsTrue, IfNone, IsErrOf, false};
+ghost use Rattle.std.specs.Prelude.{length, IfOk, IfErr, OnOk, IsErrOf};
 ghost use Rattle.ick_bits.specs.declared.faults.FaultKind.{FaultKind};
 ghost use Rattle.ick_source.specs.Trees.{StatementTree};
-ghost use Rattle.ick_source.specs.Refusals.{HasFault, Compiles, Refused, longest};
+ghost use Rattle.ick_source.specs.Cut.{Cut};
+ghost use Rattle.ick_source.specs.Refusals.{Compiles, Refused, longest};
 ghost use Rattle.ick_source.specs.Programs.{trees_of};
-ghost use Rattle.ick_source.specs.Answers.{Refuses};
+ghost use Rattle.ick_source.specs.ReadRefusals.{Refuses, RefusesFitting};
 ghost use Rattle.ick_source.specs.ReadStatements.{ReadsStatement};
-ghost use Rattle.ick_source.specs.ReadSources.{IsFirst, HasRead, ReadSoFar};
+ghost use Rattle.ick_source.specs.ReadSources.{HasRead, ReadSoFar, ReadWhole};
 
-use crate::bodies::{Body, Faults};
+use crate::body::Body;
 use crate::boundaries::next_boundary;
 use crate::bytes::after_white;
+use crate::faults::Faults;
 use crate::pieces::{Candidate, statement_at, trimmed};
 use crate::programs::Program;
+use crate::ranges::OutOfRange;
 use crate::refusals::Refusal;
 use crate::statements::Statement;
-use ick_bits::FaultKind;
 use std::alloc::{AllocError, Global};
 
 const MOST_BYTES: usize = 1_048_576;
 
-/// The statements read so far, with the first that has a fault.
+/// The statements read so far, with the first whose numbers are out of range.
 #[derive(Drop)]
 struct Reader<'a> {
     statements: Vec<Statement<'a>>,
     count: u32,
     polite: u32,
-    mesh: Option<u32>,
+    out_of_range: OutOfRange,
 }
 
 impl<'a> Reader<'a> {
@@ -39,7 +41,7 @@ impl<'a> Reader<'a> {
             statements: Vec::new(alloc),
             count: 0,
             polite: 0,
-            mesh: None,
+            out_of_range: OutOfRange::new(),
         }
     }
 
@@ -56,23 +58,8 @@ impl<'a> Reader<'a> {
         self.statements.push(candidate.statement)?;
         self.count += 1;
         self.polite += u32::from(polite);
-        self.mesh = first_of(self.mesh, self.count, candidate.faults.mesh);
+        self.out_of_range = self.out_of_range.and(self.count, candidate.faults);
         Ok(())
-    }
-}
-
-/// The number of the first statement that has a fault: the earlier one, or else this one where it
-/// has the fault.
-fn first_of(earlier: Option<u32>, number: u32, has: bool) -> Option<u32>
-    ensures first { (kind : FaultKind) (trees : List StatementTree) (tree : StatementTree) →
-        number ≡ length trees + 1 → IsFirst kind trees earlier → (IsTrue has ↔ HasFault kind tree) →
-        IsFirst kind (trees ++ tree ∷ []) result }
-    ensures none { IfNone result ((earlier ≡ None) × (has ≡ false)) }
-{
-    match earlier {
-        Some(number) => Some(number),
-        None if has => Some(number),
-        None => None,
     }
 }
 
@@ -89,6 +76,7 @@ fn front_of(alloc: Global, text: &[u8]) -> Result<(Reader<'_>, usize), AllocErro
         return Ok((reader, start));
     }
     let statement = Statement {
+        label: None,
         polite: false,
         abstained: false,
         chance: 100,
@@ -98,19 +86,58 @@ fn front_of(alloc: Global, text: &[u8]) -> Result<(Reader<'_>, usize), AllocErro
     };
     reader.add(Candidate {
         statement,
-        faults: Faults { mesh: false },
+        faults: Faults::NONE,
     })?;
     Ok((reader, start))
+}
+
+/// A reader that has read the whole text.
+fn whole_of(alloc: Global, text: &[u8]) -> Result<Reader<'_>, AllocError>
+    requires { length text.now ≤ longest }
+    ensures read { IfOk result (ReadWhole text.now) }
+    ensures count { IfOk result (λ r. 2 * r.count ≤ length text.now + 1) }
+{
+    let (mut reader, mut at) = front_of(alloc, text)?;
+    while let Some((candidate, end)) = statement_at(alloc, text, at, reader.count + 1)? {
+        reader.add(candidate)?;
+        at = end;
+    }
+    Ok(reader)
+}
+
+/// The program of a source that is not too long, unless a fault stands in it.
+fn program_of(alloc: Global, text: &[u8]) -> Result<Program<'_>, Refusal>
+    requires { length text.now ≤ longest }
+    ensures ok { IfOk result (λ p. Cut text.now (trees_of p)) }
+    ensures err { IfErr result (RefusesFitting text.now) }
+{
+    let Reader {
+        statements,
+        count: _,
+        polite,
+        out_of_range,
+    } = whole_of(alloc, text)?;
+    out_of_range.check()?;
+    Program::checked(alloc, statements, polite)
 }
 
 /// The one program of a source text, or why it is refused.
 ///
 /// The text is cut at its labels and identifiers into statements, of which some may be unrecognised
 /// (Revised Manual, 4.1, 4.3 and 4.5, after INTERCAL-72). It is refused as `TooLong` exactly where it
-/// has more than 1,048,576 bytes, before anything else is looked for (this profile); as `Fault` where
-/// a mesh of a recognised body is above 65,535 (Revised Manual, 3.2, after INTERCAL-72), with the
-/// number of the first such statement; and as `NoMemory` where a growth was refused, which may be
-/// found before a fault. The work grows with the length of the text alone.
+/// has more than 1,048,576 bytes, before anything else is looked for (this profile). It is refused as
+/// `Fault` where one of these stands in it, with the number of the first statement that has it; they
+/// are looked for in this order, each in the whole text:
+///
+/// - a mesh above 65,535 (Revised Manual, 3.2), a variable's number outside 1 to 65,535 (3.1), a label
+///   outside 1 to 65,535 (4.2), in a recognised body or, for a label, before a statement;
+/// - a label that an earlier statement has (4.2);
+/// - a NEXT to a label that no statement has (4.4.2), an ABSTAIN or REINSTATE of one (4.4.9, 4.4.10);
+/// - of three statements or more, less than a fifth polite, or more than a third, by whole division
+///   (10.2); the number is then that of the last statement.
+///
+/// It is refused as `NoMemory` where a growth was refused, which may be found before a fault. The work
+/// grows with the length of the text alone, but for the order of the labels.
 pub fn read_source<'a>(alloc: Global, text: &'a [u8]) -> Result<Program<'a>, Refusal>
     ensures compiles { IfOk result (λ p. Compiles text.now (trees_of p)) }
     ensures only { IfOk result (λ p.
@@ -125,13 +152,5 @@ pub fn read_source<'a>(alloc: Global, text: &'a [u8]) -> Result<Program<'a>, Ref
     if text.len() > MOST_BYTES {
         return Err(Refusal::TooLong);
     }
-    let (mut reader, mut at) = front_of(alloc, text)?;
-    while let Some((candidate, end)) = statement_at(alloc, text, at, reader.count + 1)? {
-        reader.add(candidate)?;
-        at = end;
-    }
-    if let Some(number) = reader.mesh {
-        return Err(Refusal::Fault(FaultKind::MeshTooLarge, number));
-    }
-    Ok(Program::new(reader.statements, reader.polite))
+    program_of(alloc, text)
 }

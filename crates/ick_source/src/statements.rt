@@ -2,11 +2,13 @@
 
 ghost use Rattle.std.specs.Prelude.{◌≤◌};
 
-use crate::bodies::Body;
+use crate::body::Body;
 
 /// A statement of a program (Revised Manual, 4.1 and 4.3, after INTERCAL-72).
 #[derive(Debug, PartialEq, Eq, Drop)]
 pub struct Statement<'a> {
+    /// Its label, from 1 to 65,535 (Revised Manual, 4.2).
+    pub label: Option<u16>,
     /// Whether it says PLEASE.
     pub polite: bool,
     /// Whether it is abstained from at the start.

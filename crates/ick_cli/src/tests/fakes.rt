@@ -5,6 +5,9 @@ ghost use Rattle.std.specs.Str.{bytes_eq};
 
 use crate::{ByteSink, ByteSource, DeviceFault, Files};
 
+/// More calls than any test makes.
+pub const ALWAYS: u32 = 1_000_000;
+
 /// A source that hands out its bytes one a call, and fails once `good` calls were made.
 #[derive(Drop)]
 pub struct WornSource<'a> {

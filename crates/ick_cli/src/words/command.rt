@@ -1,11 +1,29 @@
 //! The command `ick`, with its commands.
 ghost use Rattle.std.specs.Prelude.{IfOk};
 ghost use Rattle.ick_cli.specs.Built.{Reads};
-ghost use Rattle.ick_cli.specs.Words.{run_app, ick_app};
+ghost use Rattle.ick_cli.specs.Words.{check_app, list_app, run_app, ick_app};
 
 use crate::words::arguments;
 use clap::Command;
 use std::alloc::{AllocError, Global};
+
+/// The command `check`.
+fn check_command<'a>(alloc: Global) -> Result<Command<'a>, AllocError>
+    ensures { IfOk result (λ c. Reads c check_app) }
+{
+    Command::new(alloc, "check")
+        .about("Counts the statements of a program")
+        .arg(arguments::file_argument(alloc))
+}
+
+/// The command `list`.
+fn list_command<'a>(alloc: Global) -> Result<Command<'a>, AllocError>
+    ensures { IfOk result (λ c. Reads c list_app) }
+{
+    Command::new(alloc, "list")
+        .about("Lists the statements of a program")
+        .arg(arguments::file_argument(alloc))
+}
 
 /// The command `run`.
 fn run_command<'a>(alloc: Global) -> Result<Command<'a>, AllocError>
@@ -21,8 +39,10 @@ pub fn ick_command<'a>(alloc: Global) -> Result<Command<'a>, AllocError>
     ensures { IfOk result (λ c. Reads c ick_app) }
 {
     Command::new(alloc, "ick")
-        .about("Runs programs of INTERCAL")
+        .about("Checks, lists and runs programs of INTERCAL")
         .bin_name("ick")?
         .no_binary_name(true)
+        .subcommand(check_command(alloc)?)?
+        .subcommand(list_command(alloc)?)?
         .subcommand(run_command(alloc)?)
 }

@@ -4,15 +4,28 @@ ghost use Rattle.clap.specs.Words.{fault_of, first_of, found_of, rows_of, subcom
 ghost use Rattle.clap.specs.Kinds.{FailsBy};
 ghost use Rattle.clap.specs.Walk.{texts};
 ghost use Rattle.ick_cli.specs.Words.{ick_app};
-ghost use Rattle.ick_cli.specs.Job.{asked, asked_in, asked_of, job_of};
+ghost use Rattle.ick_cli.specs.Job.{asked, asked_in, asked_of, job_of, verb_of};
 
 use crate::words::command::ick_command;
 use clap::{ArgMatches, Error};
 use std::alloc::Global;
 
-/// What the words ask for: a run of the source in a file, or in what is read where none is named.
+/// What is to be done with a program.
+#[derive(Clone, Copy, Debug, PartialEq, Eq)]
+pub enum Verb {
+    /// Its statements are counted.
+    Check,
+    /// Its statements are listed.
+    List,
+    /// It is run.
+    Run,
+}
+
+/// What the words ask for: what is to be done with the source in a file, or in what is read where
+/// none is named.
 #[derive(Clone, Copy, Debug)]
 pub struct Job<'a> {
+    pub verb: Verb,
     pub file: Option<&'a str>,
 }
 
@@ -33,17 +46,34 @@ fn job_in<'a>(matches: &ArgMatches<'a>) -> Job<'a>
     ensures { asked result ≡ asked_in (subcommand_rows_of matches.now) }
 {
     match matches.subcommand() {
-        Some((_, inner)) => run_job(inner),
-        None => Job { file: None },
+        Some((name, inner)) => job_by(named_verb(name), inner),
+        None => Job {
+            verb: Verb::Run,
+            file: None,
+        },
     }
 }
 
-/// The job of the matches of `run`.
-fn run_job<'a>(matches: &ArgMatches<'a>) -> Job<'a>
-    ensures { asked result ≡ asked_of (rows_of (found_of matches.now)) }
+/// The job of the matches of a command.
+fn job_by<'a>(verb: Verb, matches: &ArgMatches<'a>) -> Job<'a>
+    ensures { asked result ≡ asked_of verb (rows_of (found_of matches.now)) }
 {
     Job {
+        verb,
         file: text(matches, "file"),
+    }
+}
+
+/// The command of a name.
+fn named_verb(name: &str) -> Verb
+    ensures { result ≡ verb_of name.now }
+{
+    if name == "check" {
+        Verb::Check
+    } else if name == "list" {
+        Verb::List
+    } else {
+        Verb::Run
     }
 }
 

@@ -27,7 +27,7 @@ memory_ran_out error kinds none (inr h) = absurd (subst (λ (ks : Kinds). IsAmon
 
 pub returns-in-Ok-clause-job : goal.returns-in-Ok-clause-job
 returns-in-Ok-clause-job g c = λ has_job files_told reader_told writer_told errors_told answer is.
-    let asks = subst (λ (job : Asked). IsToolAnswer (source_of job.file (g.F.Files.named c.args.files.now)
+    let asks = subst (λ (job : Asked). IsToolAnswer job.verb (source_of job.file (g.F.Files.named c.args.files.now)
     (g.F.ByteSource.failed c.args.files.now) (g.F.ByteSource.failed c.perform-ending.new.files) (g.R.ByteSource.left c.args.reader.now)) answer)
     (sym c.in-Ok.ensures.job) is in
     served_told answer c.perform-ending.result _ _ _ _ _ _ _ _ _ _ _ _ c.perform-ending.ensures.reads c.perform-ending.ensures.writes

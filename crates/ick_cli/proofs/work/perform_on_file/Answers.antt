@@ -23,7 +23,7 @@ returns-in-Ok-clause-answer g c = λ files_told writer_told answer is.
     let steady : g.F.ByteSource.failed c.read_first.new.source ≡ g.F.ByteSource.failed files =
     omega (arith, c.in-Ok.ensures.count, c.open_named.ensures.count) in
     c.answer_source.ensures.answer writer_told answer
-    (subst (λ (source : List ℕ). IsSourceAnswer source answer) (sym (c.as_slice.ensures.value ∙ c.in-Ok.ensures.front files_told))
-    (subst (λ (left : List ℕ). IsSourceAnswer (take MOST_READ left) answer) (sym opened)
-    (answer_of_front MOST_READ (g.F.Files.named files c.args.name.now) (omega arith) answer
-    (read_source_of (g.F.Files.named files c.args.name.now) _ _ steady answer is))))
+    (subst (λ (source : List ℕ). IsSourceAnswer c.args.verb source answer) (sym (c.as_slice.ensures.value ∙ c.in-Ok.ensures.front files_told))
+    (subst (λ (left : List ℕ). IsSourceAnswer c.args.verb (take MOST_READ left) answer) (sym opened)
+    (answer_of_front c.args.verb MOST_READ (g.F.Files.named files c.args.name.now) (omega arith) answer
+    (read_source_of c.args.verb (g.F.Files.named files c.args.name.now) _ _ steady answer is))))

@@ -7,5 +7,5 @@ use Rattle.ick_cli.proofs.work.perform_on_reader.Goals as goal
 pub returns-in-Ok-clause-answer : goal.returns-in-Ok-clause-answer
 returns-in-Ok-clause-answer g c = λ reader_told writer_told answer is.
     c.answer_source.ensures.answer writer_told answer
-    (subst (λ (source : List ℕ). IsSourceAnswer source answer) (sym (c.as_slice.ensures.value ∙ c.in-Ok.ensures.front reader_told))
-    (answer_of_front MOST_READ (g.R.ByteSource.left c.args.reader.now) (omega arith) answer is))
+    (subst (λ (source : List ℕ). IsSourceAnswer c.args.verb source answer) (sym (c.as_slice.ensures.value ∙ c.in-Ok.ensures.front reader_told))
+    (answer_of_front c.args.verb MOST_READ (g.R.ByteSource.left c.args.reader.now) (omega arith) answer is))

@@ -1,8 +1,9 @@
-use Rattle.std.proofs.Common.{refl, arith}
+use Rattle.std.proofs.Common.{refl, sym, ◌∙◌, arith}
 use Rattle.ick_source.specs.Trees.{StatementTree}
 use Rattle.ick_source.proofs.BoundaryLemmas.{opening_longer, opening_solid}
+use Rattle.ick_source.proofs.KeptWhole.{left_fine, right_fine}
 use Rattle.ick_source.proofs.QualifierLemmas.{qualifiers_order}
-use Rattle.ick_source.proofs.StatementLemmas.{same_tree, ends_order, ends_inside}
+use Rattle.ick_source.proofs.StatementLemmas.{both_same, ends_inside, ends_order, same_tree}
 use Rattle.ick_source.proofs.pieces.statement_at.Goals as goal
 
 pub returns-in_default : goal.returns-in_default
@@ -24,7 +25,9 @@ returns c =
     let opening = c.in-Some.ensures.opening in
     let qualifiers = c.qualifiers_at-head.ensures.qualifiers in
     let ends = c.in_ok-draft.ensures in
+    let label = c.kept_label-label.ensures opening.0.0 opening.2.0 in
     let t : StatementTree = record {
+      label = opening.0.0;
       polite = opening.0.1;
       abstained = c.qualifiers_at-head.result.0.abstained;
       chance = c.qualifiers_at-head.result.0.chance;
@@ -36,15 +39,17 @@ returns c =
         record {
           head = c.qualifiers_at-head.result.1;
           begin = ends.begin;
-          says = record { after = c.in-Some.after; label = opening.0.0; percentage = qualifiers.percentage; opening = opening.1; qualifiers = qualifiers.stand; chance = qualifiers.chance };
+          says = record { after = c.in-Some.after; percentage = qualifiers.percentage; opening = opening.1; qualifiers = qualifiers.stand; chance = qualifiers.chance };
           gap = ends.gap;
           ends = ends.ends;
           trimmed = c.trimmed.ensures;
         },
         record {
-          mesh = ends.reads.mesh;
+          faults = c.and.ensures ∙ both_same label.faults ends.reads.faults;
           polite = opening.2.1;
-          same = λ f. same_tree _ _ opening.2.1 refl refl (ends.reads.same f) refl;
+          same = λ f.
+              let both = sym c.and.ensures ∙ f in
+              same_tree _ _ (label.same (left_fine _ _ both)) opening.2.1 refl refl (ends.reads.same (right_fine _ _ both)) refl;
         },
       ),
       refl,

@@ -1,5 +1,4 @@
 use Rattle.std.proofs.Common.{[], refl}
-use Rattle.std.proofs.lemmas.Bool.{false≢true}
 use Rattle.ick_source.specs.Cut.{plain}
 use Rattle.ick_source.proofs.BoundaryLemmas.{boundary_inside}
 use Rattle.ick_source.proofs.SourceLemmas.{read_nothing, read_something}
@@ -16,4 +15,4 @@ pub returns-clause-read : goal.returns-clause-read
 returns-clause-read c =
     read_something c.after_white-begin.ensures.gap c.next_boundary-start.ensures c.if-begin-start.false c.trimmed.ensures
     (c.in_ok-add.ensures.added [] (plain c.trimmed.result.now) c.new-reader.ensures
-    (record { mesh = (λ f. absurd (false≢true f), λ h. absurd h); polite = refl; same = λ _. refl }))
+    (record { faults = refl; polite = refl; same = λ _. refl }))

@@ -1,0 +1,102 @@
+//! Programs that are checked.
+use super::table::{Row, assert_row};
+
+#[test]
+fn checks_sources(rt: HostRuntime) {
+    for row in [
+        Row {
+            source: b"PLEASE GIVE UP\nPLEASE GIVE UP\n",
+            output: b"2 STATEMENTS, 2 POLITE\n",
+            error_text: b"",
+            code: 0,
+        },
+        Row {
+            source: b"",
+            output: b"0 STATEMENTS, 0 POLITE\n",
+            error_text: b"",
+            code: 0,
+        },
+        Row {
+            source: b"DO GIVE UP\nDO GIVE UP\nDO GIVE UP\nDO GIVE UP\n",
+            output: b"4 STATEMENTS, 0 POLITE\n",
+            error_text: b"",
+            code: 0,
+        },
+        Row {
+            source: b"DO READ OUT #1\nPLEASE GIVE UP\n",
+            output: b"2 STATEMENTS, 1 POLITE\n",
+            error_text: b"",
+            code: 0,
+        },
+        Row {
+            source: b"HELLO\n",
+            output: b"1 STATEMENTS, 0 POLITE\n",
+            error_text: b"",
+            code: 0,
+        },
+        Row {
+            source: b"PLEASE NOTE THAT THIS WOULD DO NOTHING\nDO GIVE UP\n",
+            output: b"3 STATEMENTS, 1 POLITE\n",
+            error_text: b"",
+            code: 0,
+        },
+        Row {
+            source: b"DO GIVE UP\nDO GIVE UP\nDO GIVE UP\nDO GIVE UP\nPLEASE GIVE UP\n",
+            output: b"5 STATEMENTS, 1 POLITE\n",
+            error_text: b"",
+            code: 0,
+        },
+        Row {
+            source: b"DO GIVE UP\nDO GIVE UP\nDO GIVE UP\nDO GIVE UP\nPLEASE GIVE UP\nPLEASE GIVE UP\n",
+            output: b"6 STATEMENTS, 2 POLITE\n",
+            error_text: b"",
+            code: 0,
+        },
+        Row {
+            source: b"DO GIVE UP\nDO GIVE UP\nDO GIVE UP\nDO GIVE UP\nDO GIVE UP\n",
+            output: b"",
+            error_text: b"ICL079I PROGRAMMER IS INSUFFICIENTLY POLITE\n        ON THE WAY TO 6\n        CORRECT SOURCE AND RESUBNIT\n",
+            code: 2,
+        },
+        Row {
+            source: b"PLEASE GIVE UP\nPLEASE GIVE UP\nDO GIVE UP\nDO GIVE UP\nDO GIVE UP\n",
+            output: b"",
+            error_text: b"ICL099I PROGRAMMER IS OVERLY POLITE\n        ON THE WAY TO 6\n        CORRECT SOURCE AND RESUBNIT\n",
+            code: 2,
+        },
+        Row {
+            source: b"PLEASE GIVE UP\nPLEASE GIVE UP\nDO GIVE UP\n",
+            output: b"",
+            error_text: b"ICL099I PROGRAMMER IS OVERLY POLITE\n        ON THE WAY TO 4\n        CORRECT SOURCE AND RESUBNIT\n",
+            code: 2,
+        },
+        Row {
+            source: b"DO .70000 <- #1\nPLEASE READ OUT #70000\n",
+            output: b"",
+            error_text: b"ICL017I DO YOU EXPECT ME TO FIGURE THIS OUT?\n        ON THE WAY TO 3\n        CORRECT SOURCE AND RESUBNIT\n",
+            code: 2,
+        },
+        Row {
+            source: b"(7) DO GIVE UP\n(007) PLEASE GIVE UP\n",
+            output: b"",
+            error_text: b"ICL182I YOU MUST LIKE THIS LABEL A LOT!\n        ON THE WAY TO 3\n        CORRECT SOURCE AND RESUBNIT\n",
+            code: 2,
+        },
+        Row {
+            source: b"(1) DO (9) NEXT\n(1) DO ABSTAIN FROM (8)\n",
+            output: b"",
+            error_text: b"ICL182I YOU MUST LIKE THIS LABEL A LOT!\n        ON THE WAY TO 3\n        CORRECT SOURCE AND RESUBNIT\n",
+            code: 2,
+        },
+        Row {
+            source: b"(99999999999999999999999) DO GIVE UP\n",
+            output: b"",
+            error_text: b"ICL197I SO! 65535 LABELS AREN'T ENOUGH FOR YOU?\n        ON THE WAY TO 2\n        CORRECT SOURCE AND RESUBNIT\n",
+            code: 2,
+        },
+    ] {
+        assert_row(&rt, rt.alloc(), &["check"], &row);
+        assert_row(&rt, rt.alloc(), &["check", "f"], &row);
+        assert_row(&rt, rt.alloc(), &["check", "--", "f"], &row);
+    }
+}

@@ -1,0 +1,96 @@
+//! Sources at the limits, and of strange bytes.
+use super::table::{Row, assert_row};
+use std::alloc::{AllocError, Global};
+use std::test::Fail;
+
+// A piece, so many times.
+fn repeated(alloc: Global, piece: &[u8], count: usize) -> Result<Vec<u8>, AllocError> {
+    let mut text = Vec::new(alloc);
+    for _ in 0..count {
+        text.extend_from_slice(piece)?;
+    }
+    Ok(text)
+}
+
+#[test]
+fn sources_have_a_longest(rt: HostRuntime) -> Result<(), Fail> {
+    let longest = repeated(rt.alloc(), b" ", 1_048_576)?;
+    for (verb, output, error_text, code) in [
+        (
+            "check",
+            b"0 STATEMENTS, 0 POLITE\n".as_slice(),
+            b"".as_slice(),
+            0,
+        ),
+        ("list", b"", b"", 0),
+        (
+            "run",
+            b"",
+            b"ICL633I PROGRAM FELL OFF THE EDGE ON THE WAY TO THE NEW WORLD.\n        ON THE WAY TO 1\n        CORRECT SOURCE AND RESUBNIT\n",
+            1,
+        ),
+    ] {
+        let row = Row {
+            source: longest.as_slice(),
+            output,
+            error_text,
+            code,
+        };
+        assert_row(&rt, rt.alloc(), &[verb], &row);
+    }
+    let longer = repeated(rt.alloc(), b" ", 1_048_577)?;
+    let row = Row {
+        source: longer.as_slice(),
+        output: b"",
+        error_text: b"SOURCE TOO LONG\n",
+        code: 2,
+    };
+    for verb in ["check", "list", "run"] {
+        assert_row(&rt, rt.alloc(), &[verb], &row);
+        assert_row(&rt, rt.alloc(), &[verb, "f"], &row);
+    }
+    Ok(())
+}
+
+#[test]
+fn statements_are_many(rt: HostRuntime) -> Result<(), Fail> {
+    let source = repeated(rt.alloc(), b"DO", 524_288)?;
+    let row = Row {
+        source: source.as_slice(),
+        output: b"",
+        error_text: b"ICL079I PROGRAMMER IS INSUFFICIENTLY POLITE\n        ON THE WAY TO 524289\n        CORRECT SOURCE AND RESUBNIT\n",
+        code: 2,
+    };
+    assert_row(&rt, rt.alloc(), &["check"], &row);
+    Ok(())
+}
+
+#[test]
+fn bytes_are_strange(rt: HostRuntime) -> Result<(), Fail> {
+    let mut bytes = Vec::new(rt.alloc());
+    for byte in 0..=255 {
+        bytes.push(byte)?;
+    }
+    let mut source = Vec::new(rt.alloc());
+    source.extend_from_slice(&bytes)?;
+    source.extend_from_slice(b"DO GIVE UP\n")?;
+    let row = Row {
+        source: source.as_slice(),
+        output: b"2 STATEMENTS, 0 POLITE\n",
+        error_text: b"",
+        code: 0,
+    };
+    assert_row(&rt, rt.alloc(), &["check"], &row);
+    let mut message = Vec::new(rt.alloc());
+    message.extend_from_slice(b"ICL000I ")?;
+    message.extend_from_slice(&bytes)?;
+    message.extend_from_slice(b"\n        ON THE WAY TO 2\n        CORRECT SOURCE AND RESUBNIT\n")?;
+    let row = Row {
+        source: source.as_slice(),
+        output: b"",
+        error_text: message.as_slice(),
+        code: 1,
+    };
+    assert_row(&rt, rt.alloc(), &["run"], &row);
+    Ok(())
+}

@@ -1,0 +1,142 @@
+-- What is seen of a compiled program.
+use Rattle.std.proofs.Common.{◌≡◌, ℕ, zero, suc, ◌≤◌, ◌<◌, Bool, true, false, not, ◌&&◌, List, [], take, length, Option, Some, None, refl, sym, ap, ◌∙◌, subst, le_trans, arith, if◌then◌else◌, ◌∷◌, ◌-◌, get_or}
+use Rattle.std.specs.Prelude.{filter, slice_get, slice_range, option_map}
+use Rattle.std.specs.List.{IsDistinct, AllPass, list_all}
+use Rattle.std.proofs.lemmas.List.Sums.{AllPass-from_list_all}
+use Rattle.std.proofs.lemmas.Option.{slice_get_within, slice_get-get_or}
+use Rattle.ick_source.specs.declared.tree.Name.{Name}
+use Rattle.ick_source.specs.Trees.{StatementTree}
+use Rattle.ick_source.specs.Kinds.{kind_of}
+use Rattle.ick_code.specs.declared.op.Op.{Op}
+use Rattle.ick_code.specs.declared.code.Line.{Line}
+use Rattle.ick_code.specs.declared.code.Code.{Code}
+use Rattle.ick_code.specs.State.{same_name}
+use Rattle.ick_code.specs.Abstain.{statement_at}
+use Rattle.ick_code.specs.Names.{is_scalar_name, is_array_name, each_once, names_of, slots_of}
+use Rattle.ick_code.specs.Counts.{count_after, peak}
+use Rattle.ick_code.specs.Code.{Means, IsLine, IsCode}
+use Rattle.ick_code.specs.Codes.{code_program, code_slots, line_at, line_ops, code_ops, Shows, IsCompiled}
+use Rattle.ick_code.proofs.SlotLemmas.{each_once-distinct}
+use Rattle.ick_code.proofs.SameNames.{both_left, both_right}
+use Rattle.ick_code.proofs.Slotted.{slots_is}
+use Rattle.ick_code.proofs.CountLemmas.{prefix-le, peak_reached}
+
+passing_filtered : (p q : Name → Bool) (names : List Name) → list_all p names ≡ true → list_all p (filter q names) ≡ true
+passing_filtered p q [] h = refl
+passing_filtered p q (name ∷ names) h = cases (q name) (both_left (p name) (list_all p names) h) (passing_filtered p q names (both_right (p name) (list_all p names) h))
+  where
+    cases : (b : Bool) → p name ≡ true → list_all p (filter q names) ≡ true → list_all p (if b then name ∷ filter q names else filter q names) ≡ true
+    cases true own rest = ap (λ b. b && list_all p (filter q names)) own ∙ rest
+    cases false own rest = rest
+
+passing_once : (p : Name → Bool) (names : List Name) → list_all p names ≡ true → list_all p (each_once names) ≡ true
+passing_once p [] h = refl
+passing_once p (name ∷ names) h =
+    let rest = passing_filtered p (λ other. not (same_name name other)) (each_once names) (passing_once p names (both_right (p name) (list_all p names) h)) in
+    ap (λ b. b && list_all p (filter (λ other. not (same_name name other)) (each_once names))) (both_left (p name) (list_all p names) h) ∙ rest
+
+passing_own : (p : Name → Bool) (names : List Name) → list_all p (filter p names) ≡ true
+passing_own p [] = refl
+passing_own p (name ∷ names) = cases (p name) refl (passing_own p names)
+  where
+    cases : (b : Bool) → p name ≡ b → list_all p (filter p names) ≡ true → list_all p (if b then name ∷ filter p names else filter p names) ≡ true
+    cases true own rest = ap (λ b. b && list_all p (filter p names)) own ∙ rest
+    cases false own rest = rest
+
+kept_names : (p : Name → Bool) (names : List Name) → AllPass p (each_once (filter p names))
+kept_names p names = AllPass-from_list_all p (each_once (filter p names)) (passing_once p (filter p names) (passing_own p names))
+
+some_line : (lines : List Line) (n : ℕ) → n < length lines → (line : Line) × (slice_get lines n ≡ Some line)
+some_line [] n h = absurd (omega arith)
+some_line (line ∷ lines) zero h = (line, refl)
+some_line (line ∷ lines) (suc n) h = some_line lines n (omega arith)
+
+-- the line of a statement
+pub line_of : (program : List StatementTree) (code : Code) → IsCode program code.scalars.items code.arrays.items code.operands code.ops.items code.lines.items → (n : ℕ) (statement : StatementTree) →
+    statement_at program n ≡ Some statement → (line : Line) × (line_at code.lines.items n ≡ Some line) × IsLine program (slots_of program) code.operands code.ops.items line statement
+line_of program code h zero statement at = absurd (cc)
+line_of program code h (suc k) statement at =
+    let low = slice_get_within program k statement at in
+    let here = some_line code.lines.items k (omega (arith, h.count)) in
+    (here.0, here.1, h.each k here.0 statement here.1 at)
+
+some_statement : (program : List StatementTree) (n : ℕ) → n < length program → (statement : StatementTree) × (slice_get program n ≡ Some statement)
+some_statement [] n h = absurd (omega arith)
+some_statement (statement ∷ rest) zero h = (statement, refl)
+some_statement (statement ∷ rest) (suc n) h = some_statement rest n (omega arith)
+
+-- what is so of the operations of each line is so of those of each statement
+each_ops : (program : List StatementTree) (code : Code) → IsCode program code.scalars.items code.arrays.items code.operands code.ops.items code.lines.items →
+    (n : ℕ) → peak (code_ops code n) 0 ≤ code.operands
+each_ops program code h zero = omega arith
+each_ops program code h (suc k) = cases (slice_get code.lines.items k) refl
+  where
+    at : (line : Line) → slice_get code.lines.items k ≡ Some line → (statement : StatementTree) × (slice_get program k ≡ Some statement)
+    at line e = some_statement program k (omega (arith, h.count, slice_get_within code.lines.items k line e))
+
+    cases : (o : Option Line) → slice_get code.lines.items k ≡ o → peak (line_ops code.ops.items o) 0 ≤ code.operands
+    cases None e = omega arith
+    cases (Some line) e = let there = at line e in (h.each k line there.0 e there.1).low
+
+pub compiled : (program : List StatementTree) (code : Code) → code_program code ≡ program → IsCode program code.scalars.items code.arrays.items code.operands code.ops.items code.lines.items → IsCompiled program code
+compiled program code are h =
+    let slots : code_slots code ≡ slots_of program = slots_is (code_slots code) (slots_of program) h.scalars_are h.arrays_are in
+    record {
+      program_is = are;
+      means = λ n statement at.
+          let line = line_of program code h n statement at in
+          subst (λ sl. Means program sl (code_ops code n) statement code.operands) (sym slots)
+          (subst (λ o. Means program (slots_of program) (line_ops code.ops.items o) statement code.operands) (sym line.1) line.2.means);
+      least = λ most all.
+          h.least most (λ n line e.
+          let reached = peak_reached (slice_range code.ops.items line.from line.to) 0 in
+          let here : code_ops code (suc n) ≡ slice_range code.ops.items line.from line.to = ap (line_ops code.ops.items) e in
+          let fits = all (suc n) reached.0 in
+          omega (arith, fits, ap (λ o. count_after (take reached.0 o) 0) here, reached.1));
+      enough = λ n k. le_trans (prefix-le (code_ops code n) k 0) (each_ops program code h n);
+      slots_are = slots;
+      scalars_once = subst (IsDistinct same_name) (sym h.scalars_are) (each_once-distinct (filter is_scalar_name (names_of program)));
+      arrays_once = subst (IsDistinct same_name) (sym h.arrays_are) (each_once-distinct (filter is_array_name (names_of program)));
+      scalars_named = subst (AllPass is_scalar_name) (sym h.scalars_are) (kept_names is_scalar_name (names_of program));
+      arrays_named = subst (AllPass is_array_name) (sym h.arrays_are) (kept_names is_array_name (names_of program));
+    }
+
+-- code by the names of its slots
+pub named_code : (program : List StatementTree) (scalars scalars' arrays arrays' : List Name) (most : ℕ) (ops : List Op) (lines : List Line) → scalars' ≡ scalars → arrays' ≡ arrays → IsCode program scalars arrays most ops lines → IsCode program scalars' arrays' most ops lines
+named_code program scalars scalars' arrays arrays' most ops lines e f h =
+    subst (λ xs. IsCode program xs arrays' most ops lines) (sym e) (subst (λ ys. IsCode program scalars ys most ops lines) (sym f) h)
+
+-- the line that a reader takes
+pub record Taken (code : Code) (n : ℕ) (line : Line) : Type 0 where
+  pub at : line_at code.lines.items n ≡ Some line
+  pub order : line.from ≤ line.to
+  pub within : line.to ≤ length code.ops.items
+  pub shows : Shows (statement_at (code_program code) n) line
+
+taken_line : (code : Code) (k : ℕ) (line : Line) → slice_get code.lines.items k ≡ Some line → IsCode (code_program code) code.scalars.items code.arrays.items code.operands code.ops.items code.lines.items → Taken code (suc k) line
+taken_line code k line at h =
+    let there = some_statement (code_program code) k (omega (arith, h.count, slice_get_within code.lines.items k line at)) in
+    let is = h.each k line there.0 at there.1 in
+    record {
+      at = at;
+      order = is.order;
+      within = is.within;
+      shows = record {
+        chance = ap (option_map (λ s. s.chance)) there.1 ∙ ap (λ x. Some x) (sym is.chance);
+        abstained = ap (option_map (λ s. s.abstained)) there.1 ∙ ap (λ x. Some x) (sym is.abstained);
+        kind = ap (option_map (λ s. kind_of s.body)) there.1 ∙ ap (λ x. Some x) (sym is.kind);
+        text = ap (option_map (λ s. s.text)) there.1 ∙ ap (λ x. Some x) (sym is.text);
+      };
+    }
+
+pub line_taken : (code : Code) (n : ℕ) (line : Line) → 1 ≤ n → n ≤ length (code_program code) → line ≡ get_or code.lines.items (n - 1) line → Taken code n line
+line_taken code zero line first last is = absurd (omega arith)
+line_taken code (suc k) line first last is =
+    let h = code.compiled in
+    let low : k < length code.lines.items = omega (arith, h.count) in
+    let one : suc k - 1 ≡ k = omega arith in
+    taken_line code k line (slice_get-get_or code.lines.items k line low ∙ ap (λ x. Some x) (sym (is ∙ ap (λ i. get_or code.lines.items i line) one))) h
+
+-- of any code
+pub code_compiled : (code : Code) → IsCompiled (code_program code) code
+code_compiled code = compiled (code_program code) code refl code.compiled

@@ -1,0 +1,172 @@
+//! A compiled program.
+
+ghost use Rattle.std.specs.Prelude.{◌≡◌, ◌≤◌, ◌<◌, length};
+ghost use Rattle.std.proofs.Props.{props};
+ghost use Rattle.ick_source.specs.Programs.{trees_of};
+ghost use Rattle.ick_code.specs.Code.{IsCode};
+
+use crate::op::Op;
+use crate::table::Table;
+use ick_source::{Kind, Name, Program};
+use std::snapshot::Snapshot;
+
+/// Where the operations of a statement stand, and what a run has to know of it beside them.
+#[derive(Drop)]
+pub struct Line<'a> {
+    pub from: usize,
+    pub to: usize,
+    pub chance: u8,
+    pub abstained: bool,
+    pub kind: Kind,
+    pub text: &'a [u8],
+}
+
+/// A compiled program: all operations in one list, and for each statement where its own stand.
+///
+/// It keeps, for contracts alone, the program that it was compiled from, and its type keeps that it is the code of that program.
+#[derive(Drop)]
+pub struct Code<'a> {
+    program: Snapshot<Program<'a>>,
+    ops: Vec<Op>,
+    lines: Vec<Line<'a>>,
+    scalars: Vec<Name>,
+    arrays: Vec<Name>,
+    operands: usize,
+    pub ghost compiled: { IsCode (trees_of program.value) scalars.items arrays.items operands ops.items lines.items } by { Prim.hlevel props },
+    pub ghost few: { length lines.items ≤ 524288 },
+    pub ghost few_scalars: { length scalars.items ≤ 262144 },
+    pub ghost few_arrays: { length arrays.items ≤ 262144 },
+}
+
+impl<'a> Code<'a> {
+    ghost use Rattle.std.specs.Prelude.{Some, IfSome, slice_get, option_map};
+    ghost use Rattle.ick_source.specs.Kinds.{kind_of};
+    ghost use Rattle.ick_code.specs.Abstain.{statement_at};
+    ghost use Rattle.ick_code.specs.Code.{Means};
+    ghost use Rattle.ick_code.specs.Codes.{code_program, code_slots, line_at, code_ops, code_operands, Shows, IsCompiled};
+
+    /// Puts together what was compiled from a program.
+    pub(crate) fn new(
+        program: &Program<'a>,
+        ops: Vec<Op>,
+        lines: Vec<Line<'a>>,
+        table: Table,
+        operands: usize,
+    ) -> Code<'a>
+        requires { IsCode (trees_of program.now) table.scalars.list.items table.arrays.list.items operands ops.items lines.items }
+        ensures { IsCompiled (trees_of program.now) result }
+    {
+        Code {
+            program: Snapshot::of(program),
+            ops,
+            lines,
+            scalars: table.scalars.into_list(),
+            arrays: table.arrays.into_list(),
+            operands,
+        }
+    }
+
+    /// The number of statements.
+    pub fn count(&self) -> u32
+        ensures { result ≡ length (code_program self.now) }
+    {
+        self.lines.len() as u32
+    }
+
+    /// The operations of statement `n`, from 1 to `count()`. Worked one after another, from no operands on and up to the first fault,
+    /// they do what the statement does.
+    pub fn ops(&self, n: u32) -> &[Op]
+        requires first { 1 ≤ n }
+        requires last { n ≤ length (code_program self.now) }
+        ensures ops { result.now ≡ code_ops self.now n }
+        ensures means { IfSome (statement_at (code_program self.now) n) (λ statement. Means (code_program self.now) (code_slots self.now) result.now statement (code_operands self.now)) }
+    {
+        let line = self.line(n);
+        &self.ops[line.from..line.to]
+    }
+
+    /// The chance of statement `n`, from 1 to `count()`, of being done each time that it is met, in percent (Revised Manual, 4.3).
+    pub fn chance(&self, n: u32) -> u8
+        requires first { 1 ≤ n }
+        requires last { n ≤ length (code_program self.now) }
+        ensures { option_map (λ statement. statement.chance) (statement_at (code_program self.now) n) ≡ Some result }
+    {
+        self.line(n).chance
+    }
+
+    /// Whether statement `n`, from 1 to `count()`, is abstained from at the start (Revised Manual, 4.3).
+    pub fn abstained(&self, n: u32) -> bool
+        requires first { 1 ≤ n }
+        requires last { n ≤ length (code_program self.now) }
+        ensures { option_map (λ statement. statement.abstained) (statement_at (code_program self.now) n) ≡ Some result }
+    {
+        self.line(n).abstained
+    }
+
+    /// The kind of statement `n`, from 1 to `count()`.
+    pub fn kind(&self, n: u32) -> Kind
+        requires first { 1 ≤ n }
+        requires last { n ≤ length (code_program self.now) }
+        ensures { option_map (λ statement. kind_of statement.body) (statement_at (code_program self.now) n) ≡ Some result }
+    {
+        self.line(n).kind
+    }
+
+    /// The text of statement `n`, from 1 to `count()`: its bytes in the source.
+    pub fn text(&self, n: u32) -> &'a [u8]
+        requires first { 1 ≤ n }
+        requires last { n ≤ length (code_program self.now) }
+        ensures { option_map (λ statement. statement.text) (statement_at (code_program self.now) n) ≡ Some result.now }
+    {
+        self.line(n).text
+    }
+
+    /// The number of slots of scalars, which are counted from 0.
+    pub fn scalars(&self) -> u32
+        ensures { result ≡ length (code_slots self.now).scalars }
+    {
+        self.scalars.len() as u32
+    }
+
+    /// The number of slots of arrays, which are counted from 0.
+    pub fn arrays(&self) -> u32
+        ensures { result ≡ length (code_slots self.now).arrays }
+    {
+        self.arrays.len() as u32
+    }
+
+    /// The scalar of a slot below `scalars()`.
+    pub fn scalar(&self, slot: u32) -> Name
+        requires { slot < length (code_slots self.now).scalars }
+        ensures { slice_get (code_slots self.now).scalars slot ≡ Some result }
+    {
+        self.scalars[slot as usize]
+    }
+
+    /// The array of a slot below `arrays()`.
+    pub fn array(&self, slot: u32) -> Name
+        requires { slot < length (code_slots self.now).arrays }
+        ensures { slice_get (code_slots self.now).arrays slot ≡ Some result }
+    {
+        self.arrays[slot as usize]
+    }
+
+    /// The greatest number of operands that the operations of any statement keep.
+    pub fn operands(&self) -> usize
+        ensures { result ≡ code_operands self.now }
+    {
+        self.operands
+    }
+
+    /// The line of a statement.
+    fn line(&self, n: u32) -> &Line<'a>
+        requires first { 1 ≤ n }
+        requires last { n ≤ length (code_program self.now) }
+        ensures at { line_at self.now.lines.items n ≡ Some result.now }
+        ensures order { result.now.from ≤ result.now.to }
+        ensures within { result.now.to ≤ length self.now.ops.items }
+        ensures shows { Shows (statement_at (code_program self.now) n) result.now }
+    {
+        &self.lines[n as usize - 1]
+    }
+}

@@ -1,0 +1,271 @@
+//! From trees to operations: operands first, then what takes them.
+
+ghost use Rattle.std.specs.Prelude.{◌≡◌, ◌++◌, true, OnOk, IfOk};
+ghost use Rattle.std.specs.List.{flat_map, list_all};
+ghost use Rattle.ick_source.specs.Tree.{tree_of, trees_in};
+ghost use Rattle.ick_source.specs.NameKinds.{count_in, are_few, is_kinded, are_kinded, is_body_kinded};
+ghost use Rattle.ick_source.specs.BodyTree.{target_tree, item_tree, body_tree_of};
+ghost use Rattle.ick_code.specs.Names.{slot_in};
+ghost use Rattle.ick_code.specs.Tables.{table_slots};
+ghost use Rattle.ick_code.specs.Labels.{place_in};
+ghost use Rattle.ick_code.specs.Operations.{unary_op_of, binary_op_of, ops_of_tree, ops_of_trees, ops_at, store_ops, read_ops, print_ops, name_ops, gerund_ops, ops_of_body};
+ghost use Rattle.ick_code.specs.Forms.{on_name_of, on_gerund_of};
+
+use crate::labels::Labels;
+use crate::op::{Op, SlotName};
+use crate::table::Table;
+use ick_bits::NoMemory;
+use ick_source::{BinaryOp, Body, Element, Expr, Gerund, Item, Name, Target, UnaryOp};
+
+/// What is done for each name of a list.
+#[derive(Clone, Copy)]
+pub enum NameForm {
+    Save,
+    Restore,
+    Hide,
+    Show,
+}
+
+impl NameForm {
+    fn on(self, name: SlotName) -> Op
+        ensures { result ≡ on_name_of self name }
+    {
+        match self {
+            NameForm::Save => Op::Save(name),
+            NameForm::Restore => Op::Restore(name),
+            NameForm::Hide => Op::Hide(name),
+            NameForm::Show => Op::Show(name),
+        }
+    }
+}
+
+/// What is done to statements.
+#[derive(Clone, Copy)]
+pub enum Switch {
+    Abstain,
+    Reinstate,
+}
+
+impl Switch {
+    fn on_kind(self, gerund: Gerund) -> Op
+        ensures { result ≡ on_gerund_of self gerund }
+    {
+        match self {
+            Switch::Abstain => Op::AbstainKind(gerund),
+            Switch::Reinstate => Op::ReinstateKind(gerund),
+        }
+    }
+}
+
+fn unary_op(op: UnaryOp) -> Op
+    ensures { result ≡ unary_op_of op }
+{
+    match op {
+        UnaryOp::And => Op::And,
+        UnaryOp::Or => Op::Or,
+        UnaryOp::Xor => Op::Xor,
+    }
+}
+
+fn binary_op(op: BinaryOp) -> Op
+    ensures { result ≡ binary_op_of op }
+{
+    match op {
+        BinaryOp::Mingle => Op::Mingle,
+        BinaryOp::Select => Op::Select,
+    }
+}
+
+/// Appends the operations of a body.
+pub fn emit_body(
+    ops: &mut Vec<Op>,
+    table: &Table,
+    labels: &Labels,
+    body: &Body,
+) -> Result<(), NoMemory>
+    requires { is_body_kinded (body_tree_of body.now) ≡ true }
+    ensures { OnOk result (ops.new.items ≡ ops.old.items ++ ops_of_body (place_in labels.now) (table_slots table.now) body.now) }
+{
+    match body {
+        Body::Calculate(target, e) => {
+            emit_expr(ops, table, e)?;
+            emit_store(ops, table, target)?;
+        }
+        Body::Dimension(array, dimensions) => {
+            let count = emit_exprs(ops, table, dimensions)?;
+            ops.push(Op::Resize(table.arrays.slot(*array), count))?;
+        }
+        Body::Next(label) => ops.push(Op::Call(labels.place(*label)))?,
+        Body::Forget(e) => {
+            emit_expr(ops, table, e)?;
+            ops.push(Op::Forget)?;
+        }
+        Body::Resume(e) => {
+            emit_expr(ops, table, e)?;
+            ops.push(Op::Resume)?;
+        }
+        Body::Stash(names) => emit_names(ops, table, NameForm::Save, names)?,
+        Body::Retrieve(names) => emit_names(ops, table, NameForm::Restore, names)?,
+        Body::Ignore(names) => emit_names(ops, table, NameForm::Hide, names)?,
+        Body::Remember(names) => emit_names(ops, table, NameForm::Show, names)?,
+        Body::AbstainLabel(label) => ops.push(Op::AbstainOne(labels.place(*label)))?,
+        Body::AbstainKinds(gerunds) => emit_gerunds(ops, Switch::Abstain, gerunds)?,
+        Body::ReinstateLabel(label) => ops.push(Op::ReinstateOne(labels.place(*label)))?,
+        Body::ReinstateKinds(gerunds) => emit_gerunds(ops, Switch::Reinstate, gerunds)?,
+        Body::GiveUp => ops.push(Op::Stop)?,
+        Body::WriteIn(targets) => emit_targets(ops, table, targets)?,
+        Body::ReadOut(items) => emit_items(ops, table, items)?,
+        Body::Unrecognised => ops.push(Op::Fail)?,
+    }
+    Ok(())
+}
+
+/// Appends one operation for each name.
+fn emit_names(
+    ops: &mut Vec<Op>,
+    table: &Table,
+    form: NameForm,
+    names: &[Name],
+) -> Result<(), NoMemory>
+    ensures { OnOk result (ops.new.items ≡ ops.old.items ++ name_ops (table_slots table.now) (on_name_of form) names.now) }
+{
+    for name in names {
+        ops.push(form.on(table.slot(*name)))?;
+    }
+    Ok(())
+}
+
+/// Appends one operation for each gerund.
+fn emit_gerunds(ops: &mut Vec<Op>, switch: Switch, gerunds: &[Gerund]) -> Result<(), NoMemory>
+    ensures { OnOk result (ops.new.items ≡ ops.old.items ++ gerund_ops (on_gerund_of switch) gerunds.now) }
+{
+    for gerund in gerunds {
+        ops.push(switch.on_kind(*gerund))?;
+    }
+    Ok(())
+}
+
+/// Appends the operations that read a line for each target.
+fn emit_targets(ops: &mut Vec<Op>, table: &Table, targets: &[Target]) -> Result<(), NoMemory>
+    requires { list_all (λ target. is_kinded (target_tree target)) targets.now ≡ true }
+    ensures { OnOk result (ops.new.items ≡ ops.old.items ++ flat_map (read_ops (table_slots table.now)) targets.now) }
+{
+    for target in targets {
+        emit_read(ops, table, target)?;
+    }
+    Ok(())
+}
+
+/// Appends the operations that print each item.
+fn emit_items(ops: &mut Vec<Op>, table: &Table, items: &[Item]) -> Result<(), NoMemory>
+    requires { list_all (λ item. is_kinded (item_tree item)) items.now ≡ true }
+    ensures { OnOk result (ops.new.items ≡ ops.old.items ++ flat_map (print_ops (table_slots table.now)) items.now) }
+{
+    for item in items {
+        emit_print(ops, table, item)?;
+    }
+    Ok(())
+}
+
+/// Appends the operations that store a value in a target.
+fn emit_store(ops: &mut Vec<Op>, table: &Table, target: &Target) -> Result<(), NoMemory>
+    requires { is_kinded (target_tree target.now) ≡ true }
+    ensures { OnOk result (ops.new.items ≡ ops.old.items ++ store_ops (table_slots table.now) target.now) }
+{
+    match target {
+        Target::Scalar(name) => ops.push(Op::Store(table.scalars.slot(*name)))?,
+        Target::Element(element) => {
+            let count = emit_exprs(ops, table, &element.subs)?;
+            ops.push(Op::StoreAt(table.arrays.slot(element.array), count))?;
+        }
+    }
+    Ok(())
+}
+
+/// Appends the operations that read a line for a target.
+fn emit_read(ops: &mut Vec<Op>, table: &Table, target: &Target) -> Result<(), NoMemory>
+    requires { is_kinded (target_tree target.now) ≡ true }
+    ensures { OnOk result (ops.new.items ≡ ops.old.items ++ read_ops (table_slots table.now) target.now) }
+{
+    match target {
+        Target::Scalar(name) => ops.push(Op::ReadTo(table.scalars.slot(*name)))?,
+        Target::Element(element) => {
+            let count = emit_exprs(ops, table, &element.subs)?;
+            ops.push(Op::ReadAt(table.arrays.slot(element.array), count))?;
+        }
+    }
+    Ok(())
+}
+
+/// Appends the operations that print an item.
+fn emit_print(ops: &mut Vec<Op>, table: &Table, item: &Item) -> Result<(), NoMemory>
+    requires { is_kinded (item_tree item.now) ≡ true }
+    ensures { OnOk result (ops.new.items ≡ ops.old.items ++ print_ops (table_slots table.now) item.now) }
+{
+    emit_item(ops, table, item)?;
+    ops.push(Op::Print)?;
+    Ok(())
+}
+
+/// Appends the operations of an item's value.
+fn emit_item(ops: &mut Vec<Op>, table: &Table, item: &Item) -> Result<(), NoMemory>
+    requires { is_kinded (item_tree item.now) ≡ true }
+    ensures { OnOk result (ops.new.items ≡ ops.old.items ++ ops_of_tree (table_slots table.now) (item_tree item.now)) }
+{
+    match item {
+        Item::Scalar(name) => ops.push(Op::Load(table.scalars.slot(*name)))?,
+        Item::Element(element) => emit_fetch(ops, table, element)?,
+        Item::Mesh(number) => ops.push(Op::Constant(*number))?,
+    }
+    Ok(())
+}
+
+/// Appends the operations of an element.
+#[cycle(expression)]
+fn emit_fetch(ops: &mut Vec<Op>, table: &Table, element: &Element) -> Result<(), NoMemory>
+    requires few { are_few (trees_in element.now.subs.items) ≡ true }
+    requires kinded { are_kinded (trees_in element.now.subs.items) ≡ true }
+    ensures { OnOk result (ops.new.items ≡ ops.old.items ++ ops_at (table_slots table.now) (trees_in element.now.subs.items) (Op.Fetch (slot_in table.now.arrays.list.items element.now.array))) }
+{
+    let count = emit_exprs(ops, table, &element.subs)?;
+    ops.push(Op::Fetch(table.arrays.slot(element.array), count))?;
+    Ok(())
+}
+
+/// Appends the operations of an expression.
+#[cycle(expression)]
+fn emit_expr(ops: &mut Vec<Op>, table: &Table, e: &Expr) -> Result<(), NoMemory>
+    requires { is_kinded (tree_of e.now) ≡ true }
+    ensures { OnOk result (ops.new.items ≡ ops.old.items ++ ops_of_tree (table_slots table.now) (tree_of e.now)) }
+{
+    match e {
+        Expr::Mesh(number) => ops.push(Op::Constant(*number))?,
+        Expr::Scalar(name) => ops.push(Op::Load(table.scalars.slot(*name)))?,
+        Expr::Element(element) => emit_fetch(ops, table, element)?,
+        Expr::Unary(op, inner) => {
+            emit_expr(ops, table, inner)?;
+            ops.push(unary_op(*op))?;
+        }
+        Expr::Binary(op, left, right) => {
+            emit_expr(ops, table, left)?;
+            emit_expr(ops, table, right)?;
+            ops.push(binary_op(*op))?;
+        }
+    }
+    Ok(())
+}
+
+/// Appends the operations of expressions, one after another, and answers how many expressions they are.
+#[cycle(expression)]
+fn emit_exprs(ops: &mut Vec<Op>, table: &Table, list: &Vec<Expr>) -> Result<u32, NoMemory>
+    requires few { are_few (trees_in list.now.items) ≡ true }
+    requires kinded { are_kinded (trees_in list.now.items) ≡ true }
+    ensures count { IfOk result (λ count. count ≡ count_in (trees_in list.now.items)) }
+    ensures ops { OnOk result (ops.new.items ≡ ops.old.items ++ ops_of_trees (table_slots table.now) (trees_in list.now.items)) }
+{
+    let count = list.len() as u32;
+    for e in list {
+        emit_expr(ops, table, e)?;
+    }
+    Ok(count)
+}

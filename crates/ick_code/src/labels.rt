@@ -1,0 +1,58 @@
+//! Which statement a label stands before.
+
+ghost use Rattle.std.specs.Prelude.{◌≡◌, ℕ, ◌≤◌, length, map, OnOk, IfOk};
+ghost use Rattle.std.specs.BTreeMap.{get};
+ghost use Rattle.std.specs.Ordering.{nat_cmp};
+ghost use Rattle.ick_source.specs.Trees.{statement_tree_of};
+ghost use Rattle.ick_code.specs.Control.{is_label, place_of};
+ghost use Rattle.ick_code.specs.Labels.{with_place, place_in};
+
+use ick_bits::NoMemory;
+use ick_source::Statement;
+use std::alloc::Global;
+use std::collections::BTreeMap;
+
+/// The numbers of the statements that have labels.
+#[derive(Drop)]
+pub struct Labels {
+    pub places: BTreeMap<u16, u32>,
+    /// One more than there are statements.
+    pub past: u32,
+}
+
+impl Labels {
+    /// The labels of statements.
+    pub fn new(alloc: Global, statements: &[Statement]) -> Result<Labels, NoMemory>
+        requires { length statements.now ≤ 524288 }
+        ensures { IfOk result (λ labels. (label : ℕ) → place_in labels label ≡ place_of label (map statement_tree_of statements.now)) }
+    {
+        let mut places = BTreeMap::new(alloc);
+        let mut past = 1;
+        for statement in statements {
+            note(&mut places, statement.label, past)?;
+            past += 1;
+        }
+        Ok(Labels { places, past })
+    }
+
+    /// The number of the first statement with a label, or one more than there are statements.
+    pub fn place(&self, label: u16) -> u32
+        ensures { result ≡ place_in self.now label }
+    {
+        self.places.get(&label).copied().unwrap_or(self.past)
+    }
+}
+
+/// Keeps the place of a label, unless it has one.
+fn note(places: &mut BTreeMap<u16, u32>, label: Option<u16>, place: u32) -> Result<(), NoMemory>
+    ensures { OnOk result ((q : ℕ) → get nat_cmp places.new q ≡ with_place (get nat_cmp places.old q) (is_label q label) place) }
+{
+    let Some(label) = label else {
+        return Ok(());
+    };
+    if places.contains_key(&label) {
+        return Ok(());
+    }
+    places.insert(label, place)?;
+    Ok(())
+}

@@ -1,0 +1,26 @@
+//! Code: the flat operations of a program's statements, which do what the statements do.
+//!
+//! - `op`: operations over a list of operands
+//! - `names`, `table`: slots for the names of variables
+//! - `labels`: which statement a label stands before
+//! - `emit`: from trees to operations
+//! - `counts`: how many operands they keep
+//! - `code`: a compiled program
+//! - `compiler`: from programs to code
+#![tactic(auto)]
+
+mod code;
+mod compiler;
+mod counts;
+mod emit;
+mod labels;
+mod names;
+mod op;
+mod table;
+#[cfg(test)]
+mod tests;
+
+pub use code::Code;
+pub use compiler::compile;
+pub use ick_source::Kind;
+pub use op::{Op, SlotName};

@@ -1,0 +1,83 @@
+//! Names by their slots.
+
+ghost use Rattle.std.specs.Prelude.{◌≡◌, ◌≤◌, true, List, [], length, OnOk};
+ghost use Rattle.std.specs.List.{list_all, IsDistinct};
+ghost use Rattle.std.specs.BTreeMap.{get};
+ghost use Rattle.std.specs.Ordering.{nat_cmp};
+ghost use Rattle.std.proofs.lemmas.Map.Keys.{IsDistinct-prop};
+ghost use Rattle.ick_source.specs.declared.tree.Name.{Name as Named};
+ghost use Rattle.ick_code.specs.State.{same_name};
+ghost use Rattle.ick_code.specs.Names.{found, slot_in, with_name, rank_of, kind_rank, is_short};
+
+use ick_bits::NoMemory;
+use ick_source::{Name, NameKind};
+use std::alloc::Global;
+use std::collections::BTreeMap;
+
+/// Names in the order in which they came, each once, and where each of them stands.
+#[derive(Drop)]
+pub struct Names {
+    pub list: Vec<Name>,
+    slots: BTreeMap<u32, u32>,
+    ghost index: { (name : Named) → get nat_cmp slots (rank_of name) ≡ found list.items name },
+    ghost once: { IsDistinct same_name list.items } by { IsDistinct-prop same_name list.items },
+    ghost short: { list_all is_short list.items ≡ true },
+}
+
+impl Names {
+    /// No names.
+    pub fn new(alloc: Global) -> Names
+        ensures { result.list.items ≡ [] }
+    {
+        Names {
+            list: Vec::new(alloc),
+            slots: BTreeMap::new(alloc),
+        }
+    }
+
+    /// Gives the name a slot, where it has none.
+    pub fn add(&mut self, name: Name) -> Result<(), NoMemory>
+        ensures { OnOk result (self.new.list.items ≡ with_name self.old.list.items name) }
+    {
+        let rank = rank(name);
+        if self.slots.contains_key(&rank) {
+            return Ok(());
+        }
+        self.list.reserve(1)?;
+        let slot = self.list.len() as u32;
+        self.slots.insert(rank, slot)?;
+        match self.list.push(name) {
+            Ok(()) => Ok(()),
+            Err(_) => unreachable!(),
+        }
+    }
+
+    /// The names by their slots.
+    pub fn into_list(self) -> Vec<Name>
+        ensures names { result.items ≡ self.list.items }
+        ensures few { length result.items ≤ 262144 }
+    {
+        let Names { list, slots: _ } = self;
+        list
+    }
+
+    /// The slot of a name, or 0 where it has none.
+    pub fn slot(&self, name: Name) -> u32
+        ensures { result ≡ slot_in self.now.list.items name }
+    {
+        self.slots.get(&rank(name)).copied().unwrap_or(0)
+    }
+}
+
+/// Where a name stands among all names, number by number.
+fn rank(name: Name) -> u32
+    ensures { result ≡ rank_of name }
+{
+    let kind = match name.kind {
+        NameKind::Onespot => 0,
+        NameKind::Twospot => 1,
+        NameKind::Tail => 2,
+        NameKind::Hybrid => 3,
+    };
+    4 * u32::from(name.number) + kind
+}

@@ -1,0 +1,5 @@
+use Rattle.ick_source.proofs.KeptLemmas.{tree_of-element}
+use Rattle.ick_source.proofs.expression.indexed.Goals as goal
+
+pub returns : goal.returns
+returns c = tree_of-element (record { array = c.args.array; subs = c.args.subs })

@@ -1,0 +1,106 @@
+-- Bodies over numbers of any size, the one that a body of the program stands for, and what the program keeps of one.
+use Rattle.std.specs.Prelude.{ℕ, Option, Some, None, List, [], ◌∷◌, map}
+use Rattle.ick_source.specs.declared.tree.Name.{Name}
+use Rattle.ick_source.specs.declared.faults.Faults.{Faults}
+use Rattle.ick_source.specs.declared.body.Gerund.{Gerund}
+use Rattle.ick_source.specs.declared.body.Target.{Target}
+use Rattle.ick_source.specs.declared.body.Target.TheVariants.{Scalar as TargetScalar, Element as TargetElement}
+use Rattle.ick_source.specs.declared.body.Item.{Item}
+use Rattle.ick_source.specs.declared.body.Item.TheVariants.{Scalar as ItemScalar, Element as ItemElement, Mesh as ItemMesh}
+use Rattle.ick_source.specs.declared.body.Body.{Body}
+use Rattle.ick_source.specs.declared.body.Body.TheVariants.{Calculate, Dimension, Next, Forget, Resume, Stash, Retrieve, Ignore, Remember, AbstainLabel, AbstainKinds, ReinstateLabel, ReinstateKinds, GiveUp, WriteIn, ReadOut, Unrecognised}
+use Rattle.ick_source.specs.Tree.{Tree, mesh, scalar, element, tree_of, trees_in}
+use Rattle.ick_source.specs.Kept.{kept, kept_name, kept_tree, no_faults, both_faults, name_faults, label_faults, faults_of}
+
+-- Targets and items are trees: a scalar, an element, or as an item a mesh.
+pub data BodyTree : Type 0 where
+  calculate : Tree → Tree → BodyTree
+  dimension : Name → List Tree → BodyTree
+  next : ℕ → BodyTree
+  forget : Tree → BodyTree
+  resume : Tree → BodyTree
+  stash : List Name → BodyTree
+  retrieve : List Name → BodyTree
+  ignore : List Name → BodyTree
+  remember : List Name → BodyTree
+  abstain_label : ℕ → BodyTree
+  abstain_kinds : List Gerund → BodyTree
+  reinstate_label : ℕ → BodyTree
+  reinstate_kinds : List Gerund → BodyTree
+  give_up : BodyTree
+  write_in : List Tree → BodyTree
+  read_out : List Tree → BodyTree
+
+abbrev pub target_tree : Target → Tree
+target_tree (TargetScalar x) = scalar x
+target_tree (TargetElement e) = element e.array (trees_in e.subs.items)
+
+abbrev pub item_tree : Item → Tree
+item_tree (ItemScalar x) = scalar x
+item_tree (ItemElement e) = element e.array (trees_in e.subs.items)
+item_tree (ItemMesh n) = mesh n
+
+-- the tree of a body that was recognised
+abbrev pub body_tree_of : Body → Option BodyTree
+body_tree_of (Calculate t e) = Some (calculate (target_tree t) (tree_of e))
+body_tree_of (Dimension x es) = Some (dimension x (map tree_of es.items))
+body_tree_of (Next n) = Some (next n)
+body_tree_of (Forget e) = Some (forget (tree_of e))
+body_tree_of (Resume e) = Some (resume (tree_of e))
+body_tree_of (Stash xs) = Some (stash xs.items)
+body_tree_of (Retrieve xs) = Some (retrieve xs.items)
+body_tree_of (Ignore xs) = Some (ignore xs.items)
+body_tree_of (Remember xs) = Some (remember xs.items)
+body_tree_of (AbstainLabel n) = Some (abstain_label n)
+body_tree_of (AbstainKinds gs) = Some (abstain_kinds gs.items)
+body_tree_of (ReinstateLabel n) = Some (reinstate_label n)
+body_tree_of (ReinstateKinds gs) = Some (reinstate_kinds gs.items)
+body_tree_of GiveUp = Some give_up
+body_tree_of (WriteIn ts) = Some (write_in (map target_tree ts.items))
+body_tree_of (ReadOut ts) = Some (read_out (map item_tree ts.items))
+body_tree_of Unrecognised = None
+
+-- the body with 65535 for each number above it
+abbrev pub kept_body : BodyTree → BodyTree
+kept_body (calculate t e) = calculate (kept_tree t) (kept_tree e)
+kept_body (dimension x es) = dimension (kept_name x) (map kept_tree es)
+kept_body (next n) = next (kept n)
+kept_body (forget e) = forget (kept_tree e)
+kept_body (resume e) = resume (kept_tree e)
+kept_body (stash xs) = stash (map kept_name xs)
+kept_body (retrieve xs) = retrieve (map kept_name xs)
+kept_body (ignore xs) = ignore (map kept_name xs)
+kept_body (remember xs) = remember (map kept_name xs)
+kept_body (abstain_label n) = abstain_label (kept n)
+kept_body (abstain_kinds gs) = abstain_kinds gs
+kept_body (reinstate_label n) = reinstate_label (kept n)
+kept_body (reinstate_kinds gs) = reinstate_kinds gs
+kept_body give_up = give_up
+kept_body (write_in ts) = write_in (map kept_tree ts)
+kept_body (read_out ts) = read_out (map kept_tree ts)
+
+-- the faults of all members of a list
+abbrev pub faults_along : {A : Type 0} → (A → Faults) → List A → Faults
+faults_along f [] = no_faults
+faults_along f (x ∷ xs) = both_faults (f x) (faults_along f xs)
+
+abbrev pub faults_of_name : Name → Faults
+faults_of_name x = name_faults x.number
+
+abbrev pub faults_of_body : BodyTree → Faults
+faults_of_body (calculate t e) = both_faults (faults_of t) (faults_of e)
+faults_of_body (dimension x es) = both_faults (faults_of_name x) (faults_along faults_of es)
+faults_of_body (next n) = label_faults n
+faults_of_body (forget e) = faults_of e
+faults_of_body (resume e) = faults_of e
+faults_of_body (stash xs) = faults_along faults_of_name xs
+faults_of_body (retrieve xs) = faults_along faults_of_name xs
+faults_of_body (ignore xs) = faults_along faults_of_name xs
+faults_of_body (remember xs) = faults_along faults_of_name xs
+faults_of_body (abstain_label n) = label_faults n
+faults_of_body (abstain_kinds gs) = no_faults
+faults_of_body (reinstate_label n) = label_faults n
+faults_of_body (reinstate_kinds gs) = no_faults
+faults_of_body give_up = no_faults
+faults_of_body (write_in ts) = faults_along faults_of ts
+faults_of_body (read_out ts) = faults_along faults_of ts

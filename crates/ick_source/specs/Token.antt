@@ -1,0 +1,48 @@
+-- Numbers, words and the mark of a unary operator, each after any white bytes.
+use Rattle.std.specs.Prelude.{ℕ, min, ◌≡◌, ◌+◌, ◌-◌, ◌*◌, ◌^◌, ◌<◌, Bool, true, false, ◌&&◌, nat_le, List, [], ◌∷◌, ◌++◌, length, Option, Some, None}
+use Rattle.std.specs.List.{list_all}
+use Rattle.ick_source.specs.declared.tree.UnaryOp.{UnaryOp}
+use Rattle.ick_source.specs.declared.lead.Lead.{Lead}
+use Rattle.ick_source.specs.declared.lead.Lead.TheVariants.{Unary}
+use Rattle.ick_source.specs.Place.{past_white, next_of, past_next}
+
+unfoldable pub is_digit : ℕ → Bool
+is_digit b = nat_le 48 b && nat_le b 57
+
+abbrev pub begins_number : List ℕ → Bool
+begins_number [] = false
+begins_number (b ∷ bs) = is_digit b
+
+-- each digit counts its power of ten
+unfoldable pub value_of_digits : List ℕ → ℕ
+value_of_digits [] = 0
+value_of_digits (d ∷ ds) = (d - 48) * 10 ^ length ds + value_of_digits ds
+
+-- a number: one or more digits without white bytes between them, and all that stand there
+pub data IsNumber (from : List ℕ) : List ℕ → ℕ → Type 0 where
+  digits : {to : List ℕ} (ds : List ℕ) → past_white from ≡ ds ++ to → 0 < length ds → list_all is_digit ds ≡ true → begins_number to ≡ false → IsNumber from to (value_of_digits ds)
+
+-- a word, without white bytes inside
+pub record IsWord (word from to : List ℕ) : Type 0 where
+  pub spelled : past_white from ≡ word ++ to
+
+abbrev pub unary_mark : Lead → Option UnaryOp
+unary_mark (Unary o) = Some o
+unary_mark _ = None
+
+-- the unary operator that stands there, if one does, and what is left after it
+abbrev pub unary_at : List ℕ → Option UnaryOp
+unary_at from = unary_mark (next_of from)
+
+abbrev pub past_mark : Option UnaryOp → List ℕ → List ℕ
+past_mark None from = from
+past_mark (Some o) from = past_next from
+
+abbrev pub past_unary : List ℕ → List ℕ
+past_unary from = past_mark (unary_at from) from
+
+-- a number, of which 65536 is kept where it is greater
+pub record CappedNumber (from to : List ℕ) (value : ℕ) : Type 0 where
+  pub number : ℕ
+  pub is : IsNumber from to number
+  pub capped : value ≡ min number 65536

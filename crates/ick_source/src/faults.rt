@@ -1,0 +1,63 @@
+//! Numbers out of range, which are noted while a text is read.
+
+ghost use Rattle.std.specs.Prelude.{◌≡◌};
+
+/// Which numbers out of range were read: a mesh above 65535, a variable's number outside 1 to 65535, a label outside 1 to 65535.
+#[derive(Clone, Copy, Debug, PartialEq, Eq)]
+pub struct Faults {
+    pub mesh: bool,
+    pub name: bool,
+    pub label: bool,
+}
+
+impl Faults {
+    ghost use Rattle.ick_source.specs.Kept.{both_faults, mesh_faults, name_faults, label_faults};
+
+    /// No number out of range.
+    pub const NONE: Faults = Faults {
+        mesh: false,
+        name: false,
+        label: false,
+    };
+
+    /// What stands in either of two parts.
+    pub fn and(self, other: Faults) -> Faults
+        ensures { result ≡ both_faults self other }
+    {
+        Faults {
+            mesh: self.mesh || other.mesh,
+            name: self.name || other.name,
+            label: self.label || other.label,
+        }
+    }
+
+    /// Of a mesh with this number, where 65536 stands for every greater one.
+    pub fn of_mesh(number: u32) -> Faults
+        ensures { result ≡ mesh_faults number }
+    {
+        Faults {
+            mesh: number > 65535,
+            ..Faults::NONE
+        }
+    }
+
+    /// Of a variable with this number, where 65536 stands for every greater one.
+    pub fn of_name(number: u32) -> Faults
+        ensures { result ≡ name_faults number }
+    {
+        Faults {
+            name: number == 0 || number > 65535,
+            ..Faults::NONE
+        }
+    }
+
+    /// Of a label with this number, where 65536 stands for every greater one.
+    pub fn of_label(number: u32) -> Faults
+        ensures { result ≡ label_faults number }
+    {
+        Faults {
+            label: number == 0 || number > 65535,
+            ..Faults::NONE
+        }
+    }
+}

@@ -1,0 +1,57 @@
+//! The forms of bodies, told by what stands at their front.
+
+ghost use Rattle.std.specs.Prelude.{◌≡◌, ◌↔◌, ℕ, List, IsTrue};
+ghost use Rattle.ick_source.specs.BodyGrammar.{HasSubscripts, IsBodyOf};
+ghost use Rattle.ick_source.specs.BodyTree.{BodyTree};
+ghost use Rattle.ick_source.specs.Place.{left_at};
+
+use crate::lead::Lead;
+use crate::part::name_at;
+use crate::place::{Place, next_at};
+use crate::token::word_at;
+
+/// The form of a body.
+#[derive(Clone, Copy, Debug, PartialEq, Eq)]
+pub enum Form {
+    /// A value for a variable or an element.
+    Calculation,
+    /// Dimensions for an array.
+    Dimensioning,
+    /// A label and NEXT.
+    Call,
+    /// A verb and what follows it.
+    Action,
+}
+
+/// The only form that a body at the place can have.
+pub fn form_at(text: &[u8], from: Place) -> Form
+    ensures { (form : Form) (to : List ℕ) (b : BodyTree) → IsBodyOf form (left_at text.now from) to b → form ≡ result }
+{
+    match next_at(text, from).begins {
+        Lead::Spot(_) => Form::Calculation,
+        Lead::Array(_) => {
+            if has_subscripts(text, from) {
+                Form::Calculation
+            } else {
+                Form::Dimensioning
+            }
+        }
+        _ => {
+            if word_at(text, from, b"(").is_some() {
+                Form::Call
+            } else {
+                Form::Action
+            }
+        }
+    }
+}
+
+/// Whether a name with SUB stands at the place.
+fn has_subscripts(text: &[u8], from: Place) -> bool
+    ensures { IsTrue result ↔ HasSubscripts (left_at text.now from) }
+{
+    let Some(name) = name_at(text, from) else {
+        return false;
+    };
+    word_at(text, name.to, b"SUB").is_some()
+}

@@ -1,0 +1,100 @@
+//! The kinds of statements.
+
+ghost use Rattle.std.specs.Prelude.{◌≡◌};
+ghost use Rattle.ick_source.specs.BodyTree.{body_tree_of};
+ghost use Rattle.ick_source.specs.Kinds.{kind_of, kind_word, named_kind};
+
+use crate::body::{Body, Gerund};
+
+/// The kind of a statement, by its body.
+#[derive(Clone, Copy, Debug, PartialEq, Eq)]
+pub enum Kind {
+    /// Dimensions too.
+    Calculate,
+    Next,
+    Forget,
+    Resume,
+    Stash,
+    Retrieve,
+    Ignore,
+    Remember,
+    Abstain,
+    Reinstate,
+    GiveUp,
+    WriteIn,
+    ReadOut,
+    Unrecognised,
+}
+
+impl Kind {
+    /// The word for it in a listing.
+    pub fn word(self) -> &'static [u8]
+        ensures { result.now ≡ kind_word self }
+    {
+        match self {
+            Kind::Calculate => b"CALCULATE",
+            Kind::Next => b"NEXT",
+            Kind::Forget => b"FORGET",
+            Kind::Resume => b"RESUME",
+            Kind::Stash => b"STASH",
+            Kind::Retrieve => b"RETRIEVE",
+            Kind::Ignore => b"IGNORE",
+            Kind::Remember => b"REMEMBER",
+            Kind::Abstain => b"ABSTAIN",
+            Kind::Reinstate => b"REINSTATE",
+            Kind::GiveUp => b"GIVE-UP",
+            Kind::WriteIn => b"WRITE-IN",
+            Kind::ReadOut => b"READ-OUT",
+            Kind::Unrecognised => b"UNRECOGNISED",
+        }
+    }
+}
+
+impl Body {
+    /// Its kind.
+    pub fn kind(&self) -> Kind
+        ensures { result ≡ kind_of (body_tree_of self.now) }
+    {
+        match self {
+            Body::Calculate(_, _) => Kind::Calculate,
+            Body::Dimension(_, _) => Kind::Calculate,
+            Body::Next(_) => Kind::Next,
+            Body::Forget(_) => Kind::Forget,
+            Body::Resume(_) => Kind::Resume,
+            Body::Stash(_) => Kind::Stash,
+            Body::Retrieve(_) => Kind::Retrieve,
+            Body::Ignore(_) => Kind::Ignore,
+            Body::Remember(_) => Kind::Remember,
+            Body::AbstainLabel(_) => Kind::Abstain,
+            Body::AbstainKinds(_) => Kind::Abstain,
+            Body::ReinstateLabel(_) => Kind::Reinstate,
+            Body::ReinstateKinds(_) => Kind::Reinstate,
+            Body::GiveUp => Kind::GiveUp,
+            Body::WriteIn(_) => Kind::WriteIn,
+            Body::ReadOut(_) => Kind::ReadOut,
+            Body::Unrecognised => Kind::Unrecognised,
+        }
+    }
+}
+
+impl Gerund {
+    /// The kind of the statements that it names.
+    pub fn kind(self) -> Kind
+        ensures { result ≡ named_kind self }
+    {
+        match self {
+            Gerund::Calculating => Kind::Calculate,
+            Gerund::Nexting => Kind::Next,
+            Gerund::Forgetting => Kind::Forget,
+            Gerund::Resuming => Kind::Resume,
+            Gerund::Stashing => Kind::Stash,
+            Gerund::Retrieving => Kind::Retrieve,
+            Gerund::Ignoring => Kind::Ignore,
+            Gerund::Remembering => Kind::Remember,
+            Gerund::Abstaining => Kind::Abstain,
+            Gerund::Reinstating => Kind::Reinstate,
+            Gerund::WritingIn => Kind::WriteIn,
+            Gerund::ReadingOut => Kind::ReadOut,
+        }
+    }
+}

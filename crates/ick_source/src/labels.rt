@@ -1,0 +1,94 @@
+//! The labels of statements: each of one statement only, and each one that is used there.
+
+ghost use Rattle.std.specs.Prelude.{◌≡◌, ◌+◌, length, Option, option_and_then, IfOk, IfErr, OnOk};
+ghost use Rattle.ick_source.specs.BodyTree.{body_tree_of};
+ghost use Rattle.ick_source.specs.Trees.{statement_trees, AreNumbered};
+ghost use Rattle.ick_source.specs.Refusals.{IsSoundBelow, rank, used_label};
+ghost use Rattle.ick_source.specs.ReadRefusals.{RefusesTrees};
+ghost use Rattle.ick_source.specs.Labels.{HasLabels, fault_of_use};
+
+use crate::body::Body;
+use crate::refusals::Refusal;
+use crate::statements::Statement;
+use ick_bits::FaultKind;
+use std::alloc::Global;
+use std::collections::BTreeSet;
+
+/// What a body uses a label for.
+#[derive(Clone, Copy)]
+pub enum LabelUse {
+    /// The run goes on there.
+    Next,
+    /// The statement is abstained from or reinstated.
+    Abstain,
+}
+
+impl LabelUse {
+    /// The fault of a label that no statement has.
+    fn fault(self) -> FaultKind
+        ensures { result ≡ fault_of_use self }
+    {
+        match self {
+            LabelUse::Next => FaultKind::NoNextLabel,
+            LabelUse::Abstain => FaultKind::NoAbstainLabel,
+        }
+    }
+
+    /// The label that a body uses so.
+    fn label(self, body: &Body) -> Option<u16>
+        ensures { result ≡ option_and_then (used_label self) (body_tree_of body.now) }
+    {
+        match (self, body) {
+            (LabelUse::Next, Body::Next(label)) => Some(*label),
+            (LabelUse::Abstain, Body::AbstainLabel(label)) => Some(*label),
+            (LabelUse::Abstain, Body::ReinstateLabel(label)) => Some(*label),
+            _ => None,
+        }
+    }
+}
+
+/// The labels of the statements. Refuses the first statement with a label that an earlier one has.
+pub fn labels_of(alloc: Global, statements: &[Statement<'_>]) -> Result<BTreeSet<u16>, Refusal>
+    requires numbered { AreNumbered statements.now }
+    requires earlier { IsSoundBelow (rank FaultKind.SameLabel) (statement_trees statements.now) }
+    ensures labels { IfOk result
+        (HasLabels (statement_trees statements.now) (length statements.now)) }
+    ensures ok { OnOk result
+        (IsSoundBelow (rank FaultKind.NoNextLabel) (statement_trees statements.now)) }
+    ensures err { IfErr result (RefusesTrees (statement_trees statements.now)) }
+{
+    let mut labels = BTreeSet::new(alloc);
+    for statement in statements {
+        let Some(label) = statement.label else {
+            continue;
+        };
+        if !labels.insert(label)? {
+            return Err(Refusal::Fault(FaultKind::SameLabel, statement.number));
+        }
+    }
+    Ok(labels)
+}
+
+/// Refuses the first statement that uses a label which no statement has.
+pub fn check_use(
+    how: LabelUse,
+    statements: &[Statement<'_>],
+    labels: &BTreeSet<u16>,
+) -> Result<(), Refusal>
+    requires numbered { AreNumbered statements.now }
+    requires labels { HasLabels (statement_trees statements.now) (length statements.now) labels.now }
+    requires earlier { IsSoundBelow (rank (fault_of_use how)) (statement_trees statements.now) }
+    ensures ok { OnOk result
+        (IsSoundBelow (rank (fault_of_use how) + 1) (statement_trees statements.now)) }
+    ensures err { IfErr result (RefusesTrees (statement_trees statements.now)) }
+{
+    for statement in statements {
+        let Some(label) = how.label(&statement.body) else {
+            continue;
+        };
+        if !labels.contains(&label) {
+            return Err(Refusal::Fault(how.fault(), statement.number));
+        }
+    }
+    Ok(())
+}

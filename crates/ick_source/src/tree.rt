@@ -1,0 +1,80 @@
+//! Expressions as trees.
+
+ghost use Rattle.std.specs.Prelude.{◌≡◌, MatchOption};
+
+/// The four kinds of variables (Revised Manual, 3.1 and 3.3).
+#[derive(Clone, Copy, Debug, PartialEq, Eq)]
+pub enum NameKind {
+    /// `.n`, of 16 bits.
+    Onespot,
+    /// `:n`, of 32 bits.
+    Twospot,
+    /// `,n`, an array of 16-bit values.
+    Tail,
+    /// `;n`, an array of 32-bit values.
+    Hybrid,
+}
+
+/// A variable: its kind, and its number from 1 to 65535 (Revised Manual, 3.1 and 3.3, after INTERCAL-72).
+#[derive(Clone, Copy, Debug, PartialEq, Eq)]
+pub struct Name {
+    pub kind: NameKind,
+    pub number: u16,
+}
+
+/// The unary operators (Revised Manual, 3.4.2).
+#[derive(Clone, Copy, Debug, PartialEq, Eq)]
+pub enum UnaryOp {
+    /// `&`
+    And,
+    /// `V`
+    Or,
+    /// `?`
+    Xor,
+}
+
+/// The binary operators (Revised Manual, 3.4.1).
+#[derive(Clone, Copy, Debug, PartialEq, Eq)]
+pub enum BinaryOp {
+    /// `$`
+    Mingle,
+    /// `~`
+    Select,
+}
+
+/// An expression. Groups leave no node of their own, and a chain of operators groups from the right (Revised Manual, 3.4.3).
+#[cycle(ast)]
+#[derive(Debug, PartialEq, Eq, Drop)]
+pub enum Expr {
+    /// A constant from 0 to 65535 (Revised Manual, 3.2).
+    Mesh(u16),
+    Scalar(Name),
+    Element(Element),
+    Unary(UnaryOp, Box<Expr>),
+    Binary(BinaryOp, Box<Expr>, Box<Expr>),
+}
+
+/// An element of an array, by its subscripts (Revised Manual, 3.3).
+#[cycle(ast)]
+#[derive(Debug, PartialEq, Eq, Drop)]
+pub struct Element {
+    pub array: Name,
+    pub subs: Vec<Expr>,
+}
+
+impl Expr {
+    ghost use Rattle.ick_source.specs.Tree.{Trees, element, tree_of, trees_in};
+
+    /// The element that the expression is, if it is one.
+    pub fn into_element(self) -> Option<Element>
+        ensures { MatchOption result ((x : Name) (ts : Trees) → tree_of self ≡ element x ts → ⊥) (λ e. tree_of self ≡ element e.array (trees_in e.subs.items)) }
+    {
+        match self {
+            Expr::Element(element) => Some(element),
+            Expr::Mesh(_) => None,
+            Expr::Scalar(_) => None,
+            Expr::Unary(_, _) => None,
+            Expr::Binary(_, _, _) => None,
+        }
+    }
+}

@@ -1,0 +1,73 @@
+//! The words that bodies begin with.
+
+ghost use Rattle.std.specs.Prelude.{◌≡◌, List, ℕ, MatchOption};
+ghost use Rattle.ick_source.specs.Place.{left_at};
+ghost use Rattle.ick_source.specs.Token.{IsWord};
+ghost use Rattle.ick_source.specs.Verb.{verb_word};
+
+use crate::place::Place;
+use crate::token::word_at;
+
+/// The first word of a body.
+#[derive(Clone, Copy, Debug, PartialEq, Eq)]
+pub enum Verb {
+    Forget,
+    Resume,
+    Stash,
+    Retrieve,
+    Ignore,
+    Remember,
+    Abstain,
+    Reinstate,
+    Give,
+    Write,
+    Read,
+}
+
+impl Verb {
+    /// All verbs.
+    pub const ALL: [Verb; 11] = [
+        Verb::Forget,
+        Verb::Resume,
+        Verb::Stash,
+        Verb::Retrieve,
+        Verb::Ignore,
+        Verb::Remember,
+        Verb::Abstain,
+        Verb::Reinstate,
+        Verb::Give,
+        Verb::Write,
+        Verb::Read,
+    ];
+
+    /// The word itself.
+    pub fn word(self) -> &'static [u8]
+        ensures { result.now ≡ verb_word self }
+    {
+        match self {
+            Verb::Forget => b"FORGET",
+            Verb::Resume => b"RESUME",
+            Verb::Stash => b"STASH",
+            Verb::Retrieve => b"RETRIEVE",
+            Verb::Ignore => b"IGNORE",
+            Verb::Remember => b"REMEMBER",
+            Verb::Abstain => b"ABSTAIN",
+            Verb::Reinstate => b"REINSTATE",
+            Verb::Give => b"GIVE",
+            Verb::Write => b"WRITE",
+            Verb::Read => b"READ",
+        }
+    }
+}
+
+/// The verb at the place, and the place after it.
+pub fn verb_at(text: &[u8], from: Place) -> Option<(Verb, Place)>
+    ensures { MatchOption result ((v : Verb) (to : List ℕ) → IsWord (verb_word v) (left_at text.now from) to → ⊥) (λ r. IsWord (verb_word r.0) (left_at text.now from) (left_at text.now r.1)) }
+{
+    for verb in Verb::ALL {
+        if let Some(to) = word_at(text, from, verb.word()) {
+            return Some((verb, to));
+        }
+    }
+    None
+}
