@@ -58,6 +58,12 @@ def statements():
         yield f"{label}{polite}{qualifier} {body}\n"
 
 
+def names():
+    """A label and four names that no statement before had, as far as they go."""
+    for n in range(1, 65_536):
+        yield f"({n}){'PLEASE' if n % 4 == 0 else 'DO'}.{n}<-:{n}~,{n}SUB;{n}SUB#1"
+
+
 def deep_groups():
     while True:
         for depth in (255, 256, 1):
@@ -71,6 +77,7 @@ def long_chains():
 
 SOURCES = {
     "statements": lambda: filled(statements()),
+    "names": lambda: filled(names()),
     "deep-groups": lambda: filled(deep_groups()),
     "long-chains": lambda: filled(long_chains()),
     "one-long-list": lambda: b"DO READ OUT #1" + filled(forever("+#1"), size=SIZE - 14),

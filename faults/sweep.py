@@ -33,6 +33,8 @@ LINES = {"alloc": [b"OUT OF MEMORY\n"], "open": [b"FILE NOT READ\n"], "read": [b
 PRINTS = b"DO READ OUT #1\nPLEASE READ OUT #4000 + #65535\nDO GIVE UP\n"
 FAULTS = b"DO READ OUT #1\nPLEASE READ OUT LOUD\nDO GIVE UP\n"
 REFUSED = b"DO READ OUT #70000\nPLEASE GIVE UP\n"
+LISTED = b"(1) DO .1 <- ,1SUB'#1$.2'#3\nDO STASH .1 + ,1\nPLEASE ABSTAIN FROM (1)\nDO \xff"
+LOST = b"(1) DO (2) NEXT\nPLEASE GIVE UP\n"
 
 # A name, the words (FILE stands for a file with the source), the source, and what is on standard input.
 RUNS = [
@@ -42,6 +44,9 @@ RUNS = [
     ("faults from FILE", ["run", "FILE"], FAULTS, b""),
     ("refused", ["run"], REFUSED, None),
     ("refused from FILE", ["run", "FILE"], REFUSED, b""),
+    ("check", ["check"], PRINTS, None),
+    ("list from FILE", ["list", "FILE"], LISTED, b""),
+    ("refused by its labels", ["check"], LOST, None),
     ("no file", ["run", "no-such-file"], b"", b""),
     ("help", ["--help"], b"", b""),
     ("help of run", ["run", "--help"], b"", b""),
