@@ -4,8 +4,8 @@ use Rattle.std.specs.List.{flat_map, list_all}
 use Rattle.ick_bits.specs.Numeral.{numeral_of, printed}
 use Rattle.ick_bits.specs.declared.faults.FaultKind.{FaultKind}
 use Rattle.ick_bits.specs.declared.faults.FaultKind.TheVariants as kind
-use Rattle.ick_source.specs.Tree.{Tree, mesh}
 use Rattle.ick_source.specs.BodyTree.{BodyTree, give_up, read_out}
+use Rattle.ick_source.specs.Tree.{Tree, mesh}
 use Rattle.ick_source.specs.Trees.{StatementTree}
 
 -- the end that a run comes to: it gave up, or a fault of this kind, statement and subject

@@ -94,6 +94,48 @@ fn checks_sources(rt: HostRuntime) {
             error_text: b"ICL197I SO! 65535 LABELS AREN'T ENOUGH FOR YOU?\n        ON THE WAY TO 2\n        CORRECT SOURCE AND RESUBNIT\n",
             code: 2,
         },
+        Row {
+            source: b"DO (7) NEXT\n",
+            output: b"",
+            error_text: b"ICL129I PROGRAM HAS GOTTEN LOST\n        ON THE WAY TO 2\n        CORRECT SOURCE AND RESUBNIT\n",
+            code: 2,
+        },
+        Row {
+            source: b"DO ABSTAIN FROM (8)\nDO (9) NEXT\n",
+            output: b"",
+            error_text: b"ICL129I PROGRAM HAS GOTTEN LOST\n        ON THE WAY TO 3\n        CORRECT SOURCE AND RESUBNIT\n",
+            code: 2,
+        },
+        Row {
+            source: b"DO ABSTAIN FROM (8)\nPLEASE GIVE UP\n",
+            output: b"",
+            error_text: b"ICL139I I WASN'T PLANNING TO GO THERE ANYWAY\n        ON THE WAY TO 2\n        CORRECT SOURCE AND RESUBNIT\n",
+            code: 2,
+        },
+        Row {
+            source: b"DO REINSTATE (8)\n",
+            output: b"",
+            error_text: b"ICL139I I WASN'T PLANNING TO GO THERE ANYWAY\n        ON THE WAY TO 2\n        CORRECT SOURCE AND RESUBNIT\n",
+            code: 2,
+        },
+        Row {
+            source: b"DO .0 <- #70000\n",
+            output: b"",
+            error_text: b"ICL017I DO YOU EXPECT ME TO FIGURE THIS OUT?\n        ON THE WAY TO 2\n        CORRECT SOURCE AND RESUBNIT\n",
+            code: 2,
+        },
+        Row {
+            source: b"(70000) DO .0 <- #1\n",
+            output: b"",
+            error_text: b"ICL200I NOTHING VENTURED, NOTHING GAINED\n        ON THE WAY TO 2\n        CORRECT SOURCE AND RESUBNIT\n",
+            code: 2,
+        },
+        Row {
+            source: b"DO (0) NEXT\n",
+            output: b"",
+            error_text: b"ICL197I SO! 65535 LABELS AREN'T ENOUGH FOR YOU?\n        ON THE WAY TO 2\n        CORRECT SOURCE AND RESUBNIT\n",
+            code: 2,
+        },
     ] {
         assert_row(&rt, rt.alloc(), &["check"], &row);
         assert_row(&rt, rt.alloc(), &["check", "f"], &row);

@@ -1,12 +1,22 @@
 //! Sources at the limits, and of strange bytes.
 use super::table::{Row, assert_row};
 use std::alloc::{AllocError, Global};
+use std::process::Abort;
 use std::test::Fail;
 
 // A piece, so many times.
 fn repeated(alloc: Global, piece: &[u8], count: usize) -> Result<Vec<u8>, AllocError> {
     let mut text = Vec::new(alloc);
     for _ in 0..count {
+        text.extend_from_slice(piece)?;
+    }
+    Ok(text)
+}
+
+// Pieces, one after another.
+fn joined(alloc: Global, pieces: &[&[u8]]) -> Result<Vec<u8>, AllocError> {
+    let mut text = Vec::new(alloc);
+    for piece in pieces {
         text.extend_from_slice(piece)?;
     }
     Ok(text)
@@ -52,6 +62,33 @@ fn sources_have_a_longest(rt: HostRuntime) -> Result<(), Fail> {
     Ok(())
 }
 
+// A mesh in so many pairs of sparks is listed as of this kind.
+fn assert_kind(
+    rt: &impl Abort,
+    alloc: Global,
+    sparks: usize,
+    kind: &[u8],
+) -> Result<(), AllocError> {
+    let group = repeated(alloc, b"'", sparks)?;
+    let text = joined(alloc, &[b"DO .1 <- ", &group, b"#1", &group])?;
+    let line = joined(alloc, &[b"1 - DO - 100 ", kind, b" \"", &text, b"\"\n"])?;
+    let row = Row {
+        source: text.as_slice(),
+        output: line.as_slice(),
+        error_text: b"",
+        code: 0,
+    };
+    assert_row(rt, alloc, &["list"], &row);
+    Ok(())
+}
+
+#[test]
+fn expressions_have_a_greatest_height(rt: HostRuntime) -> Result<(), Fail> {
+    assert_kind(&rt, rt.alloc(), 255, b"CALCULATE")?;
+    assert_kind(&rt, rt.alloc(), 256, b"UNRECOGNISED")?;
+    Ok(())
+}
+
 #[test]
 fn statements_are_many(rt: HostRuntime) -> Result<(), Fail> {
     let source = repeated(rt.alloc(), b"DO", 524_288)?;
@@ -71,9 +108,7 @@ fn bytes_are_strange(rt: HostRuntime) -> Result<(), Fail> {
     for byte in 0..=255 {
         bytes.push(byte)?;
     }
-    let mut source = Vec::new(rt.alloc());
-    source.extend_from_slice(&bytes)?;
-    source.extend_from_slice(b"DO GIVE UP\n")?;
+    let source = joined(rt.alloc(), &[&bytes, b"DO GIVE UP\n"])?;
     let row = Row {
         source: source.as_slice(),
         output: b"2 STATEMENTS, 0 POLITE\n",
@@ -81,10 +116,14 @@ fn bytes_are_strange(rt: HostRuntime) -> Result<(), Fail> {
         code: 0,
     };
     assert_row(&rt, rt.alloc(), &["check"], &row);
-    let mut message = Vec::new(rt.alloc());
-    message.extend_from_slice(b"ICL000I ")?;
-    message.extend_from_slice(&bytes)?;
-    message.extend_from_slice(b"\n        ON THE WAY TO 2\n        CORRECT SOURCE AND RESUBNIT\n")?;
+    let message = joined(
+        rt.alloc(),
+        &[
+            b"ICL000I ",
+            &bytes,
+            b"\n        ON THE WAY TO 2\n        CORRECT SOURCE AND RESUBNIT\n",
+        ],
+    )?;
     let row = Row {
         source: source.as_slice(),
         output: b"",

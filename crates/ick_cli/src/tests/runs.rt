@@ -88,6 +88,18 @@ fn runs_sources(rt: HostRuntime) {
             error_text: b"CHOICE WANTED AFTER 1 STEPS\n",
             code: 3,
         },
+        Row {
+            source: b"DO READ OUT #1\nDO READ OUT #2+.1\nPLEASE GIVE UP\n",
+            output: b"\nI\n",
+            error_text: b"ICL000I DO READ OUT #2+.1\n        ON THE WAY TO 3\n        CORRECT SOURCE AND RESUBNIT\n",
+            code: 1,
+        },
+        Row {
+            source: b"DO READ OUT #1+#2\nDO (5) NEXT\n(5) PLEASE GIVE UP\n",
+            output: b"\nI\n\nII\n",
+            error_text: b"ICL000I DO (5) NEXT\n        ON THE WAY TO 3\n        CORRECT SOURCE AND RESUBNIT\n",
+            code: 1,
+        },
     ] {
         assert_row(&rt, rt.alloc(), &[], &row);
         assert_row(&rt, rt.alloc(), &["--"], &row);
