@@ -12,4 +12,5 @@ pub mod Slotted
 pub mod Runs
 pub mod LineLemmas
 pub mod CodeLemmas
+mod ProgramRows
 pub mod Rows
