@@ -13,6 +13,7 @@
 //! | `digits` | lines of digit names |
 //! | `faults` | the kinds of faults and their messages |
 //! | `quoted` | texts in double quotes |
+//! | `tape` | bytes as arrays hold them |
 //! | `appending` | bytes at the end of a text, all or none |
 //! | `white` | the bytes that separate words |
 //! | `memory` | want of memory |
@@ -27,6 +28,7 @@ mod operators;
 mod printing;
 mod quoted;
 mod tables;
+mod tape;
 mod values;
 mod white;
 
@@ -38,6 +40,7 @@ pub use numerals::{Symbol, numeral};
 pub use operators::{mingle, select, unary_and, unary_or, unary_xor};
 pub use printing::append_numeral;
 pub use quoted::append_quoted;
+pub use tape::{tape_in, tape_out};
 pub use values::{Value, Width};
 pub use white::is_white;
 

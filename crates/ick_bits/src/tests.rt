@@ -58,6 +58,23 @@ fn operators_have_known_values(rt: HostRuntime) {
 }
 
 #[test]
+fn bytes_go_by_the_tape(rt: HostRuntime) {
+    let written = [
+        ((0, 238), (18, 72)),
+        ((18, 124), (150, 105)),
+        ((5, 0), (5, 160)),
+        ((0, 65535), (1, 128)),
+    ];
+    for ((last, number), answer) in written {
+        assert_eq!(rt; tape_out(last, number), answer, "{number} at {last}");
+    }
+    let read = [((65, 66), 1), ((66, 65), 255), ((0, 65), 65), ((7, 7), 0)];
+    for ((lastin, byte), answer) in read {
+        assert_eq!(rt; tape_in(lastin, byte), answer, "{byte} after {lastin}");
+    }
+}
+
+#[test]
 fn numerals_are_printed(rt: HostRuntime) -> Result<(), Fail> {
     let rows: [(u32, &[u8]); 14] = [
         (0, b"_\n\n"),
