@@ -6,4 +6,5 @@ pub mod OperatorLemmas
 pub mod OperatorSteps
 pub mod PrintingLemmas
 pub mod TableLemmas
+pub mod TapeLemmas
 pub mod ValueLemmas

@@ -17,6 +17,7 @@ pub fn tape_out(last: u8, number: u16) -> (u8, u8)
 }
 
 /// The eight bits of a byte in reverse order.
+#[tactic(auto, using(crate::proofs::TapeLemmas::reversed_is, crate::proofs::TapeLemmas::reversed_again))]
 fn reversed(byte: u8) -> u8
     ensures value { result ≡ reversed_byte byte }
     ensures again { reversed_byte result ≡ byte }
