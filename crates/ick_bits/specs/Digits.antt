@@ -1,7 +1,6 @@
 -- A line of digit names, and the number that it writes.
-use Rattle.std.specs.Prelude.{ℕ, ◌+◌, ◌-◌, Bool, ◌&&◌, ◌||◌, not, nat_le, ◌==◌, List, map, length, drop, slice_index, if◌then◌else◌, Option, Some, None, is_none, unwrap_or, Result, Ok, Err}
+use Rattle.std.specs.Prelude.{ℕ, ◌+◌, ◌-◌, Bool, ◌&&◌, ◌||◌, not, nat_le, ◌==◌, List, [], ◌∷◌, map, length, codes, drop, slice_index, if◌then◌else◌, Option, Some, None, is_none, unwrap_or, Result, Ok, Err}
 use Rattle.std.specs.Option.{option_map}
-use Rattle.ick_bits.specs.declared.digits.TheConstants.{NAMES}
 use Rattle.std.specs.List.{filter, find, before_first, range_with_len}
 use Rattle.std.specs.Int.Digits.{number_from_digits}
 use Rattle.std.specs.Str.{str_eq_ignore_ascii_case}
@@ -22,7 +21,19 @@ word_at line i = before_first is_white_byte (drop i line)
 
 -- the table of names: words and their digits
 abbrev pub names : List (List ℕ × ℕ)
-names = map (λ row. (row.0.now, row.1)) NAMES
+names =
+    (codes "OH", 0) ∷
+    (codes "ZERO", 0) ∷
+    (codes "ONE", 1) ∷
+    (codes "TWO", 2) ∷
+    (codes "THREE", 3) ∷
+    (codes "FOUR", 4) ∷
+    (codes "FIVE", 5) ∷
+    (codes "SIX", 6) ∷
+    (codes "SEVEN", 7) ∷
+    (codes "EIGHT", 8) ∷
+    (codes "NINE", 9) ∷
+    (codes "NINER", 9) ∷ []
 
 -- the digit of the first row with this word, in either letter case
 abbrev pub digit_in : List ℕ → List (List ℕ × ℕ) → Option ℕ

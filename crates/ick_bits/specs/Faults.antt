@@ -1,38 +1,33 @@
 -- The faults, their numbers and their messages.
-use Rattle.std.specs.Prelude.{ℕ, ◌+◌, ◌/◌, ◌%◌, List, [], ◌∷◌, ◌++◌, decimal, codes, map, slice_index_or}
-use Rattle.ick_bits.specs.declared.faults.TheConstants.{FAULTS}
+use Rattle.std.specs.Prelude.{ℕ, ◌+◌, ◌/◌, ◌%◌, List, [], ◌∷◌, ◌++◌, decimal, codes}
 use Rattle.ick_bits.specs.declared.faults.FaultKind.{FaultKind}
 use Rattle.ick_bits.specs.declared.faults.FaultKind.TheVariants.{Unrecognised, MeshTooLarge, Impolite, Fawning, NextDepth, NoNextLabel, NoAbstainLabel, SameLabel, LabelRange, NameRange, ZeroDimension, Hyperspace, TooWide, NothingStashed, SixtyFour, NoInput, NoDigit, ResumeZero, Rupture, OffTheEdge}
 
--- the row of a kind in the table
-abbrev pub row_of : FaultKind → ℕ
-row_of Unrecognised = 0
-row_of MeshTooLarge = 1
-row_of Impolite = 2
-row_of Fawning = 3
-row_of NextDepth = 4
-row_of NoNextLabel = 5
-row_of NoAbstainLabel = 6
-row_of SameLabel = 7
-row_of LabelRange = 8
-row_of NameRange = 9
-row_of ZeroDimension = 10
-row_of Hyperspace = 11
-row_of TooWide = 12
-row_of NothingStashed = 13
-row_of SixtyFour = 14
-row_of NoInput = 15
-row_of NoDigit = 16
-row_of ResumeZero = 17
-row_of Rupture = 18
-row_of OffTheEdge = 19
-
--- what stands in that row: a number and a text
+-- the table: a kind's number, and its text up to the place where a subject is shown
 abbrev pub entry_of : FaultKind → ℕ × List ℕ
-entry_of kind = slice_index_or (map (λ row. (row.0, row.1.now)) FAULTS) (row_of kind) (0, [])
+entry_of Unrecognised = (0, [])
+entry_of MeshTooLarge = (17, codes "DO YOU EXPECT ME TO FIGURE THIS OUT?")
+entry_of Impolite = (79, codes "PROGRAMMER IS INSUFFICIENTLY POLITE")
+entry_of Fawning = (99, codes "PROGRAMMER IS OVERLY POLITE")
+entry_of NextDepth = (123, codes "PROGRAM HAS DISAPPEARED INTO THE BLACK LAGOON")
+entry_of NoNextLabel = (129, codes "PROGRAM HAS GOTTEN LOST")
+entry_of NoAbstainLabel = (139, codes "I WASN'T PLANNING TO GO THERE ANYWAY")
+entry_of SameLabel = (182, codes "YOU MUST LIKE THIS LABEL A LOT!")
+entry_of LabelRange = (197, codes "SO! 65535 LABELS AREN'T ENOUGH FOR YOU?")
+entry_of NameRange = (200, codes "NOTHING VENTURED, NOTHING GAINED")
+entry_of ZeroDimension = (240, codes "ERROR HANDLER PRINTED SNIDE REMARK")
+entry_of Hyperspace = (241, codes "VARIABLES MAY NOT BE STORED IN WEST HYPERSPACE")
+entry_of TooWide = (275, codes "DON'T BYTE OFF MORE THAN YOU CAN CHEW")
+entry_of NothingStashed = (436, codes "THROW STICK BEFORE RETRIEVING!")
+entry_of SixtyFour = (533, codes "YOU WANT MAYBE WE SHOULD IMPLEMENT 64-BIT VARIABLES?")
+entry_of NoInput = (562, codes "I DO NOT COMPUTE")
+entry_of NoDigit = (579, codes "WHAT BASE AND/OR LANGUAGE INCLUDES ")
+entry_of ResumeZero = (621, codes "ERROR TYPE 621 ENCOUNTERED")
+entry_of Rupture = (632, codes "THE NEXT STACK RUPTURES.  ALL DIE.  OH, THE EMBARRASSMENT!")
+entry_of OffTheEdge = (633, codes "PROGRAM FELL OFF THE EDGE ON THE WAY TO THE NEW WORLD.")
 
-abbrev pub number_of : FaultKind → ℕ
-number_of kind = (entry_of kind).0
+abbrev pub fault_number : FaultKind → ℕ
+fault_number kind = (entry_of kind).0
 
 abbrev pub table_text : FaultKind → List ℕ
 table_text kind = (entry_of kind).1
@@ -52,6 +47,6 @@ three_digits n = (48 + n / 100) ∷ (48 + n / 10 % 10) ∷ (48 + n % 10) ∷ []
 -- the three lines of a fault of a statement
 unfoldable pub message_of : FaultKind → ℕ → List ℕ → List ℕ
 message_of kind statement subject =
-    codes "ICL" ++ three_digits (number_of kind) ++ codes "I " ++ text_of kind subject
+    codes "ICL" ++ three_digits (fault_number kind) ++ codes "I " ++ text_of kind subject
     ++ codes "\n        ON THE WAY TO " ++ decimal (statement + 1)
     ++ codes "\n        CORRECT SOURCE AND RESUBNIT\n"

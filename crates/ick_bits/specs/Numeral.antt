@@ -1,10 +1,9 @@
 -- The numeral of a number, its printed form, and what a list of symbols is worth.
-use Rattle.std.specs.Prelude.{ℕ, ◌*◌, ◌-◌, Bool, false, nat_lt, ◌==◌, List, [], ◌∷◌, ◌++◌, map, length, if◌then◌else◌, decimal, slice_index_or, ℤ, pos, neg_ℤ, ◌+ℤ◌, codes}
+use Rattle.std.specs.Prelude.{ℕ, ◌*◌, ◌-◌, Bool, true, false, nat_lt, ◌==◌, List, [], ◌∷◌, ◌++◌, map, length, if◌then◌else◌, decimal, slice_index_or, ℤ, pos, neg_ℤ, ◌+ℤ◌, codes}
 use Rattle.std.specs.List.{list_any}
 use Rattle.std.specs.Char.{digit_value}
 use Rattle.ick_bits.specs.declared.numerals.Symbol.{Symbol}
 use Rattle.ick_bits.specs.declared.numerals.Place.{Place}
-use Rattle.ick_bits.specs.declared.numerals.TheConstants.{PLACES}
 
 -- a letter, with a bar or without
 abbrev pub symbol : ℕ × Bool → Symbol
@@ -14,9 +13,34 @@ symbol m = record { letter = m.0; barred = m.1 }
 abbrev pub place_in : (ℕ × Bool) × (ℕ × Bool) × (ℕ × Bool) → Place
 place_in row = record { one = symbol row.0; five = symbol row.1; ten = symbol row.2 }
 
+-- the table of letters: for one, five and ten of each decimal place, from the units up; `~` stands for a bar.
+-- The last letter of the last row is never used, since a number below 2 ^ 32 has a digit of at most 4 there
+abbrev pub places : List ((ℕ × Bool) × (ℕ × Bool) × (ℕ × Bool))
+places =
+    -- I V X
+    ((73, false), (86, false), (88, false)) ∷
+    -- X L C
+    ((88, false), (76, false), (67, false)) ∷
+    -- C D M
+    ((67, false), (68, false), (77, false)) ∷
+    -- M ~V ~X
+    ((77, false), (86, true), (88, true)) ∷
+    -- ~X ~L ~C
+    ((88, true), (76, true), (67, true)) ∷
+    -- ~C ~D ~M
+    ((67, true), (68, true), (77, true)) ∷
+    -- ~M v x
+    ((77, true), (118, false), (120, false)) ∷
+    -- x l c
+    ((120, false), (108, false), (99, false)) ∷
+    -- c d m
+    ((99, false), (100, false), (109, false)) ∷
+    -- m ~v ~x
+    ((109, false), (118, true), (120, true)) ∷ []
+
 -- the place that has k digits to its right
 abbrev pub place_of : ℕ → Place
-place_of k = place_in (slice_index_or PLACES k ((0, false), (0, false), (0, false)))
+place_of k = place_in (slice_index_or places k ((0, false), (0, false), (0, false)))
 
 -- a digit at a place: 0 nothing, 1 a, 2 aa, 3 aaa, 4 ab, 5 b, 6 ba, 7 baa, 8 baaa, 9 ac
 abbrev pub patterns : Place → List (List Symbol)

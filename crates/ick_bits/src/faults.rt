@@ -1,7 +1,7 @@
 //! Faults and their messages.
 
 ghost use Rattle.std.specs.Prelude.{◌≤◌, ◌≡◌, ◌<◌, ◌+◌, ◌++◌, OnOk, OnErr, vec_len, vec_capacity, length};
-ghost use Rattle.ick_bits.specs.Faults.{row_of, number_of, text_of, message_of, three_digits};
+ghost use Rattle.ick_bits.specs.Faults.{fault_number, table_text, text_of, message_of, three_digits};
 
 use crate::appending::append_all;
 use crate::memory::NoMemory;
@@ -54,51 +54,50 @@ pub enum FaultKind {
     OffTheEdge,
 }
 
-/// The table of faults, in the order of the kinds: the number, and the text up to the place where a
-/// subject is shown.
-pub(crate) static FAULTS: [(u16, &[u8]); 20] = [
-    (0, b""),
-    (17, b"DO YOU EXPECT ME TO FIGURE THIS OUT?"),
-    (79, b"PROGRAMMER IS INSUFFICIENTLY POLITE"),
-    (99, b"PROGRAMMER IS OVERLY POLITE"),
-    (123, b"PROGRAM HAS DISAPPEARED INTO THE BLACK LAGOON"),
-    (129, b"PROGRAM HAS GOTTEN LOST"),
-    (139, b"I WASN'T PLANNING TO GO THERE ANYWAY"),
-    (182, b"YOU MUST LIKE THIS LABEL A LOT!"),
-    (197, b"SO! 65535 LABELS AREN'T ENOUGH FOR YOU?"),
-    (200, b"NOTHING VENTURED, NOTHING GAINED"),
-    (240, b"ERROR HANDLER PRINTED SNIDE REMARK"),
-    (241, b"VARIABLES MAY NOT BE STORED IN WEST HYPERSPACE"),
-    (275, b"DON'T BYTE OFF MORE THAN YOU CAN CHEW"),
-    (436, b"THROW STICK BEFORE RETRIEVING!"),
-    (533, b"YOU WANT MAYBE WE SHOULD IMPLEMENT 64-BIT VARIABLES?"),
-    (562, b"I DO NOT COMPUTE"),
-    (579, b"WHAT BASE AND/OR LANGUAGE INCLUDES "),
-    (621, b"ERROR TYPE 621 ENCOUNTERED"),
-    (
-        632,
-        b"THE NEXT STACK RUPTURES.  ALL DIE.  OH, THE EMBARRASSMENT!",
-    ),
-    (
-        633,
-        b"PROGRAM FELL OFF THE EDGE ON THE WAY TO THE NEW WORLD.",
-    ),
-];
-
 impl FaultKind {
-    /// The kind's row in the table.
-    fn row(self) -> usize
-        ensures { result ≡ row_of self }
-    {
-        self as usize
-    }
-
     /// The number that the message prints with three digits.
     pub fn number(self) -> u16
-        ensures value { result ≡ number_of self }
+        ensures value { result ≡ fault_number self }
         ensures short { result < 1000 }
     {
-        FAULTS[self.row()].0
+        self.entry().0
+    }
+
+    /// The kind's row in the table of faults: its number, and its text up to the place where a
+    /// subject is shown.
+    fn entry(self) -> (u16, &'static [u8])
+        ensures number { result.0 ≡ fault_number self }
+        ensures short { result.0 < 1000 }
+        ensures text { result.1.now ≡ table_text self }
+    {
+        match self {
+            FaultKind::Unrecognised => (0, b""),
+            FaultKind::MeshTooLarge => (17, b"DO YOU EXPECT ME TO FIGURE THIS OUT?"),
+            FaultKind::Impolite => (79, b"PROGRAMMER IS INSUFFICIENTLY POLITE"),
+            FaultKind::Fawning => (99, b"PROGRAMMER IS OVERLY POLITE"),
+            FaultKind::NextDepth => (123, b"PROGRAM HAS DISAPPEARED INTO THE BLACK LAGOON"),
+            FaultKind::NoNextLabel => (129, b"PROGRAM HAS GOTTEN LOST"),
+            FaultKind::NoAbstainLabel => (139, b"I WASN'T PLANNING TO GO THERE ANYWAY"),
+            FaultKind::SameLabel => (182, b"YOU MUST LIKE THIS LABEL A LOT!"),
+            FaultKind::LabelRange => (197, b"SO! 65535 LABELS AREN'T ENOUGH FOR YOU?"),
+            FaultKind::NameRange => (200, b"NOTHING VENTURED, NOTHING GAINED"),
+            FaultKind::ZeroDimension => (240, b"ERROR HANDLER PRINTED SNIDE REMARK"),
+            FaultKind::Hyperspace => (241, b"VARIABLES MAY NOT BE STORED IN WEST HYPERSPACE"),
+            FaultKind::TooWide => (275, b"DON'T BYTE OFF MORE THAN YOU CAN CHEW"),
+            FaultKind::NothingStashed => (436, b"THROW STICK BEFORE RETRIEVING!"),
+            FaultKind::SixtyFour => (533, b"YOU WANT MAYBE WE SHOULD IMPLEMENT 64-BIT VARIABLES?"),
+            FaultKind::NoInput => (562, b"I DO NOT COMPUTE"),
+            FaultKind::NoDigit => (579, b"WHAT BASE AND/OR LANGUAGE INCLUDES "),
+            FaultKind::ResumeZero => (621, b"ERROR TYPE 621 ENCOUNTERED"),
+            FaultKind::Rupture => (
+                632,
+                b"THE NEXT STACK RUPTURES.  ALL DIE.  OH, THE EMBARRASSMENT!",
+            ),
+            FaultKind::OffTheEdge => (
+                633,
+                b"PROGRAM FELL OFF THE EDGE ON THE WAY TO THE NEW WORLD.",
+            ),
+        }
     }
 
     /// The text, in pieces: the subject is shown by two kinds alone.
@@ -106,7 +105,7 @@ impl FaultKind {
     fn text<'a>(self, subject: &'a [u8]) -> Text<'a>
         ensures { result.before.now ++ result.subject.now ++ result.after.now ≡ text_of self subject.now }
     {
-        let before = FAULTS[self.row()].1;
+        let before = self.entry().1;
         match self {
             FaultKind::Unrecognised => Text {
                 before,

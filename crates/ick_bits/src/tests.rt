@@ -76,14 +76,19 @@ fn bytes_go_by_the_tape(rt: HostRuntime) {
 
 #[test]
 fn numerals_are_printed(rt: HostRuntime) -> Result<(), Fail> {
-    let rows: [(u32, &[u8]); 14] = [
+    let rows: [(u32, &[u8]); 19] = [
         (0, b"_\n\n"),
         (1, b"\nI\n"),
         (4, b"\nIV\n"),
         (5, b"\nV\n"),
         (9, b"\nIX\n"),
         (17, b"\nXVII\n"),
+        (900, b"\nCM\n"),
         (4000, b" _\nMV\n"),
+        (9000, b" _\nMX\n"),
+        (90000, b"__\nXC\n"),
+        (9000000, b"_\nMx\n"),
+        (900000000, b"\ncm\n"),
         (32767, b"___\nXXXMMDCCLXVII\n"),
         (32769, b"___\nXXXMMDCCLXIX\n"),
         (32875, b"___\nXXXMMDCCCLXXV\n"),
