@@ -2,6 +2,7 @@
 use Rattle.std.proofs.Common.{◌≡◌, ℕ, zero, suc, ◌+◌, ◌*◌, ◌^◌, ◌<◌, ◌≤◌, List, [], ◌∷◌, ◌++◌, length, refl, ap, arith, true, false, length-append, ◌∙◌, ◌⊎◌, inl, inr}
 use Rattle.std.specs.Prelude.{pos, neg_ℤ, ◌+ℤ◌, nat_lt}
 use Rattle.std.proofs.lemmas.Int.{ints}
+use Rattle.std.proofs.lemmas.Bool.{cases_lt}
 use Rattle.std.proofs.lemmas.Bool.Decides.{nat_tests}
 use Rattle.ick_bits.specs.declared.numerals.Symbol.{Symbol}
 use Rattle.ick_bits.specs.declared.numerals.Place.{Place}
@@ -130,9 +131,6 @@ length-low p (suc (suc (suc zero))) h = omega arith
 length-low p (suc (suc (suc (suc zero)))) h = omega arith
 length-low p (suc (suc (suc (suc (suc d))))) h = absurd (omega arith)
 
-le-or-lt : (m n : ℕ) → (m ≤ n) ⊎ (n < m)
-le-or-lt m n = grind arith
-
 length-symbols : (ds : List ℕ) → length (symbols_of ds) ≤ 4 * length ds
 unfolding symbols_of
 length-symbols [] = omega arith
@@ -144,7 +142,7 @@ unfolding symbols_of
 length-symbols-le [] l v = omega arith
 length-symbols-le (d ∷ ds) l v =
     let lens = length-append (digit_symbols (place_of (length ds)) d) (symbols_of ds) in
-    elim (le-or-lt (length ds) 8) [
+    elim (cases_lt (length ds) 9) [
       | inl short ↦ omega (arith, lens, length-digit (place_of (length ds)) d, length-symbols ds)
       | inr long ↦
           let nine : length ds ≡ 9 = omega arith in

@@ -1,28 +1,22 @@
 -- The line of bars, one symbol longer.
 use Rattle.std.proofs.Common.{◌≡◌, ℕ, ◌+◌, ◌<◌, List, [], ◌∷◌, ◌++◌, length, map, refl, ap, true, false, Bool, ◌∙◌, ◌||◌, get_or, take}
 use Rattle.std.proofs.lemmas.List.{take_more}
+use Rattle.std.proofs.lemmas.List.Folds.{list_any-append}
+use Rattle.std.proofs.lemmas.Bool.{or_right}
 use Rattle.std.specs.List.{list_any}
 use Rattle.ick_bits.specs.declared.numerals.Symbol.{Symbol}
 use Rattle.ick_bits.specs.Numeral.{bar_line, bar_byte}
 
-or-true : (b : Bool) → (b || true) ≡ true
-or-true true = refl
-or-true false = refl
-
 or-false : (b : Bool) → (b || false) ≡ b
 or-false true = refl
 or-false false = refl
-
-any-snoc : (ss : List Symbol) (s : Symbol) → list_any (λ t. t.barred) (ss ++ s ∷ []) ≡ (list_any (λ t. t.barred) ss || s.barred)
-any-snoc [] s = elim s.barred as (λ b. (b || false) ≡ b) [ true ↦ refl | false ↦ refl ]
-any-snoc (x ∷ ss) s = let h = any-snoc ss s in elim x.barred as (λ b. (b || list_any (λ t. t.barred) (ss ++ s ∷ [])) ≡ ((b || list_any (λ t. t.barred) ss) || s.barred)) [ true ↦ refl | false ↦ h ]
 
 -- one more symbol with a bar: all the marks up to it
 pub bar_line-barred : (ss : List Symbol) (s : Symbol) → s.barred ≡ true → bar_line (ss ++ s ∷ []) ≡ map bar_byte (ss ++ s ∷ [])
 unfolding bar_line
 bar_line-barred [] s h = rw h refl
 bar_line-barred (x ∷ ss) s h =
-    let any : list_any (λ t. t.barred) ((x ∷ ss) ++ s ∷ []) ≡ true = any-snoc (x ∷ ss) s ∙ rw h (or-true (list_any (λ t. t.barred) (x ∷ ss))) in
+    let any : list_any (λ t. t.barred) ((x ∷ ss) ++ s ∷ []) ≡ true = list_any-append (λ t. t.barred) (x ∷ ss) (s ∷ []) ∙ or_right (list_any (λ t. t.barred) (x ∷ ss)) (list_any (λ t. t.barred) (s ∷ [])) (rw h refl) in
     rw any (ap (λ ys. bar_byte x ∷ ys) (bar_line-barred ss s h))
 
 -- and one without
@@ -30,7 +24,7 @@ pub bar_line-plain : (ss : List Symbol) (s : Symbol) → s.barred ≡ false → 
 unfolding bar_line
 bar_line-plain [] s h = rw h refl
 bar_line-plain (x ∷ ss) s h =
-    let any : list_any (λ t. t.barred) ((x ∷ ss) ++ s ∷ []) ≡ list_any (λ t. t.barred) (x ∷ ss) = any-snoc (x ∷ ss) s ∙ rw h (or-false (list_any (λ t. t.barred) (x ∷ ss))) in
+    let any : list_any (λ t. t.barred) ((x ∷ ss) ++ s ∷ []) ≡ list_any (λ t. t.barred) (x ∷ ss) = list_any-append (λ t. t.barred) (x ∷ ss) (s ∷ []) ∙ rw h (or-false (list_any (λ t. t.barred) (x ∷ ss))) in
     rw (any, bar_line-plain ss s h) refl
 
 -- the same by the place in a list
