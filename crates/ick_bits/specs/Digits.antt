@@ -1,12 +1,14 @@
 -- A line of digit names, and the number that it writes.
-use Rattle.std.specs.Prelude.{ℕ, ◌+◌, ◌-◌, Bool, ◌&&◌, ◌||◌, not, nat_le, ◌==◌, List, [], ◌∷◌, map, length, codes, drop, slice_index, if◌then◌else◌, Option, Some, None, is_none, unwrap_or, Result, Ok, Err}
+use Rattle.std.specs.Prelude.{ℕ, ◌+◌, ◌-◌, ◌<◌, ◌≤◌, ⊤, Bool, ◌&&◌, ◌||◌, not, nat_lt, ◌==◌, List, [], ◌∷◌, map, length, codes, drop, slice_index, if◌then◌else◌, Option, Some, None, is_none, unwrap_or, Result, Ok, Err}
 use Rattle.std.specs.Option.{option_map}
 use Rattle.std.specs.List.{filter, find, before_first, range_with_len}
 use Rattle.std.specs.Int.Digits.{number_from_digits}
 use Rattle.std.specs.Str.{str_eq_ignore_ascii_case}
+use Rattle.ick_bits.specs.Values.{limit_of}
 use Rattle.ick_bits.specs.White.{is_white_byte}
 use Rattle.ick_bits.specs.declared.digits.DigitFault.{DigitFault}
 use Rattle.ick_bits.specs.declared.digits.DigitFault.TheVariants.{Word, TooLarge}
+use Rattle.ick_bits.specs.declared.values.Width.TheVariants.{ThirtyTwo}
 
 abbrev pub is_ink : ℕ → Bool
 is_ink b = not (is_white_byte b)
@@ -46,22 +48,27 @@ digit_of word = digit_in word names
 abbrev pub digit_at : List ℕ → ℕ → Option ℕ
 digit_at line i = digit_of (word_at line i)
 
--- the places below n at which a word begins
-unfoldable pub beginnings : List ℕ → ℕ → List ℕ
-beginnings line n = filter (begins_word line) (range_with_len 0 n)
+-- the places at which a word begins
+unfoldable pub beginnings : List ℕ → List ℕ
+beginnings line = filter (begins_word line) (range_with_len 0 (length line))
 
 -- the first of them whose word names no digit
-unfoldable pub first_unknown : List ℕ → ℕ → Option ℕ
-first_unknown line n = find (λ i. is_none (digit_at line i)) (beginnings line n)
+unfoldable pub first_unknown : List ℕ → Option ℕ
+first_unknown line = find (λ i. is_none (digit_at line i)) (beginnings line)
 
 -- the number that their words write, the most significant first
-unfoldable pub number_of_words : List ℕ → ℕ → ℕ
-number_of_words line n = number_from_digits 10 (map (λ i. unwrap_or (digit_at line i) 0) (beginnings line n))
+unfoldable pub number_of_words : List ℕ → ℕ
+number_of_words line = number_from_digits 10 (map (λ i. unwrap_or (digit_at line i) 0) (beginnings line))
 
 abbrev pub answer_of : List ℕ → Option ℕ → ℕ → Result ℕ DigitFault
 answer_of line (Some i) v = Err (Word i (i + length (word_at line i)))
-answer_of line None v = if nat_le v 4294967295 then Ok v else Err TooLarge
+answer_of line None v = if nat_lt v (limit_of ThirtyTwo) then Ok v else Err TooLarge
 
 -- the first unknown word; else too large; else the number
 unfoldable pub line_answer : List ℕ → Result ℕ DigitFault
-line_answer line = answer_of line (first_unknown line (length line)) (number_of_words line (length line))
+line_answer line = answer_of line (first_unknown line) (number_of_words line)
+
+-- a word has a byte at least, and ends within the line
+abbrev pub IsWithinLine : List ℕ → DigitFault → Type 0
+IsWithinLine line (Word from to) = (from < to) × (to ≤ length line)
+IsWithinLine line TooLarge = ⊤

@@ -1,9 +1,10 @@
 -- The bit operators by positions.
-use Rattle.std.specs.Prelude.{ℕ, zero, suc, ◌+◌, ◌*◌, ◌/◌, ◌%◌, ◌^◌, min, max, nat_lt, nat_le, ◌==◌, ◌&&◌, if◌then◌else◌, Result, Ok, Err}
+use Rattle.std.specs.Prelude.{ℕ, zero, suc, ◌+◌, ◌*◌, ◌/◌, ◌%◌, ◌^◌, min, max, nat_lt, ◌==◌, ◌&&◌, if◌then◌else◌, Result, Ok, Err}
 use Rattle.std.specs.Int.{bit_at}
-use Rattle.ick_bits.specs.Values.{Bits, Narrow, Wide, number_of}
+use Rattle.ick_bits.specs.Values.{Bits, Narrow, Wide, number_of, limit_of}
 use Rattle.ick_bits.specs.declared.faults.FaultKind.{FaultKind}
 use Rattle.ick_bits.specs.declared.faults.FaultKind.TheVariants.{SixtyFour}
+use Rattle.ick_bits.specs.declared.values.Width.TheVariants.{Sixteen}
 
 -- the sum of f over the positions below n
 unfoldable pub sum_below : ℕ → (ℕ → ℕ) → ℕ
@@ -20,7 +21,7 @@ mingled_bit a b i = if i % 2 == 1 then bit_at a (i / 2) else bit_at b (i / 2)
 
 unfoldable pub mingled : Bits → Bits → Result Bits FaultKind
 mingled a b =
-    if nat_le (number_of a) 65535 && nat_le (number_of b) 65535
+    if nat_lt (number_of a) (limit_of Sixteen) && nat_lt (number_of b) (limit_of Sixteen)
     then Ok (Wide (with_bits 32 (mingled_bit (number_of a) (number_of b))))
     else Err SixtyFour
 

@@ -1,10 +1,10 @@
 //! Numbers as lines of digit names.
 
-ghost use Rattle.std.specs.Prelude.{◌≡◌, ◌<◌, ◌≤◌, length, slice_range, IfSome};
+ghost use Rattle.std.specs.Prelude.{◌≡◌, ◌<◌, ◌≤◌, length, slice_range, IfSome, IfErr, true};
 ghost use Rattle.std.specs.List.{position_or_len};
 ghost use Rattle.std.specs.Str.{str_eq_ignore_ascii_case};
 ghost use Rattle.ick_bits.specs.White.{is_white_byte};
-ghost use Rattle.ick_bits.specs.Digits.{begins_word, word_at, digit_of, line_answer};
+ghost use Rattle.ick_bits.specs.Digits.{begins_word, word_at, digit_of, line_answer, IsWithinLine};
 
 use crate::white::is_white;
 
@@ -40,10 +40,12 @@ const LIMIT: u64 = 4294967296;
 /// (Revised Manual, 4.4.12, after INTERCAL-72). White bytes separate the names, whose letters are
 /// capitals or small. A line without a word is 0 (this profile).
 ///
-/// `DigitFault::Word` is the first word anywhere in the line that names no digit; where each does,
-/// `DigitFault::TooLarge` is a number above 4294967295.
+/// `DigitFault::Word` is the first word anywhere in the line that names no digit; it has a byte at
+/// least and ends within the line, so that the line can be cut at its bounds. Where each word names
+/// a digit, `DigitFault::TooLarge` is a number above 4294967295.
 pub fn digits_value(line: &[u8]) -> Result<u32, DigitFault>
-    ensures { result ≡ line_answer line.now }
+    ensures answer { result ≡ line_answer line.now }
+    ensures within { IfErr result (λ fault. IsWithinLine line.now fault) }
 {
     let mut value: u64 = 0;
     for from in 0..line.len() {
@@ -73,9 +75,10 @@ fn begins(line: &[u8], place: usize) -> bool
 /// The end of the word that begins here.
 #[tactic(auto, using(crate::proofs::DigitLemmas::ink_at_most), unfolding(crate::specs::Digits::word_at))]
 fn word_end(line: &[u8], from: usize) -> usize
-    requires { from < length line.now }
+    requires place { from < length line.now }
+    requires begins { begins_word line.now from ≡ true }
     ensures within { result ≤ length line.now }
-    ensures after { from ≤ result }
+    ensures after { from < result }
     ensures word { slice_range line.now from result ≡ word_at line.now from }
 {
     from + ink_length(&line[from..])

@@ -2,6 +2,8 @@
 
 ghost use Rattle.std.specs.Prelude.{◌≡◌, ◌*◌, ◌<◌, ◌^◌};
 ghost use Rattle.ick_bits.specs.Operators.{with_bits, mingled_bit, mingled, selected, unary, and_bit, or_bit, xor_bit};
+ghost use Rattle.ick_bits.specs.Values.{limit_of};
+ghost use Rattle.ick_bits.specs.declared.values.Width.TheVariants.{Sixteen};
 
 use crate::faults::FaultKind;
 use crate::tables::{ones_of_four, packed_four, spread_byte};
@@ -25,8 +27,8 @@ pub fn mingle(left: Value, right: Value) -> Result<Value, FaultKind>
 
 /// The bits of both in turn, the lowest from `low`.
 fn alternated(high: u32, low: u32) -> u32
-    requires high { high < 65536 }
-    requires low { low < 65536 }
+    requires high { high < limit_of Sixteen }
+    requires low { low < limit_of Sixteen }
     ensures { result ≡ with_bits 32 (mingled_bit high low) }
 {
     2 * spread(high) + spread(low)
@@ -34,7 +36,7 @@ fn alternated(high: u32, low: u32) -> u32
 
 /// A zero above each of 16 bits.
 fn spread(number: u32) -> u32
-    requires { number < 65536 }
+    requires { number < limit_of Sixteen }
     ensures value { result ≡ with_bits 32 (mingled_bit 0 number) }
     ensures half { 2 * result < 2 ^ 32 }
 {
