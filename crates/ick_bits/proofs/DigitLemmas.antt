@@ -21,7 +21,7 @@ ink_first line i l h =
     let ink : is_white_byte (get_or line i 0) ≡ false = not-true (is_white_byte (get_or line i 0)) (and_parts (not (is_white_byte (get_or line i 0))) _ h).0 in
     rw (drop-cons line i 0 l, ink) (omega arith)
 
--- what a loop has seen of the places below n
+-- what a loop has seen of the positions below n
 unfoldable pub beginnings_below : List ℕ → ℕ → List ℕ
 beginnings_below line n = filter (begins_word line) (range_with_len 0 n)
 
@@ -40,8 +40,8 @@ at-most : (p : ℕ → Bool) (xs : List ℕ) → position_or_len p xs ≤ length
 at-most p [] = omega arith
 at-most p (x ∷ xs) = let ih = at-most p xs in elim (p x) as (λ b. cond (not b) (1 + position_or_len p xs) 0 ≤ suc (length xs)) [ true ↦ omega arith | false ↦ omega arith ]
 
-pub ink_at_most : (xs : List ℕ) → position_or_len is_white_byte xs ≤ length xs
-ink_at_most xs = at-most is_white_byte xs
+pub ink_le : (xs : List ℕ) → position_or_len is_white_byte xs ≤ length xs
+ink_le xs = at-most is_white_byte xs
 
 pub begins-yes : (line : List ℕ) (n : ℕ) → begins_word line n ≡ true → beginnings_below line (n + 1) ≡ beginnings_below line n ++ n ∷ []
 unfolding beginnings_below

@@ -5,8 +5,8 @@ use Rattle.std.proofs.lemmas.Int.{ints}
 use Rattle.std.proofs.lemmas.Bool.{cases_lt}
 use Rattle.std.proofs.lemmas.Bool.Decides.{nat_tests}
 use Rattle.ick_bits.specs.declared.numerals.Symbol.{Symbol}
-use Rattle.ick_bits.specs.declared.numerals.Place.{Place}
-use Rattle.ick_bits.specs.Numeral.{place_of, digit_symbols, symbols_of, numeral_of, decimal_digits, symbol_value, first_value, worth}
+use Rattle.ick_bits.specs.declared.numerals.Letters.{Letters}
+use Rattle.ick_bits.specs.Numeral.{letters_of, digit_symbols, symbols_of, numeral_of, decimal_digits, symbol_value, first_value, worth}
 use Rattle.std.proofs.lemmas.List.{length-map}
 use Rattle.std.specs.Fmt.{decimal}
 use Rattle.std.specs.Char.{digit_value}
@@ -25,13 +25,13 @@ unfolding worth
 worth-minus s ss h = let e : nat_lt (symbol_value s) (first_value ss) ≡ true = grind (arith, nat_tests) in rw e refl
 
 -- the letters of a place are worth one, five and ten times w
-pub record IsWorth (p : Place) (w : ℕ) : Type 0 where
+pub record IsWorth (p : Letters) (w : ℕ) : Type 0 where
   pub one : symbol_value p.one ≡ w
   pub five : symbol_value p.five ≡ 5 * w
   pub ten : symbol_value p.ten ≡ 10 * w
 
 -- a digit at a place, before symbols that are worth no more than one of that place
-pub worth-digit : (p : Place) (w d : ℕ) (ss : List Symbol) → IsWorth p w → 0 < w → d < 10 → first_value ss ≤ w → worth (digit_symbols p d ++ ss) ≡ pos (d * w) +ℤ worth ss
+pub worth-digit : (p : Letters) (w d : ℕ) (ss : List Symbol) → IsWorth p w → 0 < w → d < 10 → first_value ss ≤ w → worth (digit_symbols p d ++ ss) ≡ pos (d * w) +ℤ worth ss
 unfolding digit_symbols
 worth-digit p w zero ss i h l f = omega (arith, ints)
 worth-digit p w (suc zero) ss i h l f = omega (arith, ints, worth-plus p.one ss (omega (arith, i.one)), i.one)
@@ -45,23 +45,23 @@ worth-digit p w (suc (suc (suc (suc (suc (suc (suc (suc zero)))))))) ss i h l f 
 worth-digit p w (suc (suc (suc (suc (suc (suc (suc (suc (suc zero))))))))) ss i h l f = omega (arith, ints, worth-minus p.one (p.ten ∷ ss) (omega (arith, i.one, i.ten)), worth-plus p.ten ss (omega (arith, i.ten)), i.one, i.ten)
 worth-digit p w (suc (suc (suc (suc (suc (suc (suc (suc (suc (suc d)))))))))) ss i h l f = absurd (omega arith)
 
--- the table's places
-pub place-worth : (k : ℕ) → k < 10 → IsWorth (place_of k) (10 ^ k)
+-- the table's letters
+pub letters-worth : (k : ℕ) → k < 10 → IsWorth (letters_of k) (10 ^ k)
 unfolding symbol_value
-place-worth zero h = record { one = refl; five = refl; ten = refl }
-place-worth (suc zero) h = record { one = refl; five = refl; ten = refl }
-place-worth (suc (suc zero)) h = record { one = refl; five = refl; ten = refl }
-place-worth (suc (suc (suc zero))) h = record { one = refl; five = refl; ten = refl }
-place-worth (suc (suc (suc (suc zero)))) h = record { one = refl; five = refl; ten = refl }
-place-worth (suc (suc (suc (suc (suc zero))))) h = record { one = refl; five = refl; ten = refl }
-place-worth (suc (suc (suc (suc (suc (suc zero)))))) h = record { one = refl; five = refl; ten = refl }
-place-worth (suc (suc (suc (suc (suc (suc (suc zero))))))) h = record { one = refl; five = refl; ten = refl }
-place-worth (suc (suc (suc (suc (suc (suc (suc (suc zero)))))))) h = record { one = refl; five = refl; ten = refl }
-place-worth (suc (suc (suc (suc (suc (suc (suc (suc (suc zero))))))))) h = record { one = refl; five = refl; ten = refl }
-place-worth (suc (suc (suc (suc (suc (suc (suc (suc (suc (suc k)))))))))) h = absurd (omega arith)
+letters-worth zero h = record { one = refl; five = refl; ten = refl }
+letters-worth (suc zero) h = record { one = refl; five = refl; ten = refl }
+letters-worth (suc (suc zero)) h = record { one = refl; five = refl; ten = refl }
+letters-worth (suc (suc (suc zero))) h = record { one = refl; five = refl; ten = refl }
+letters-worth (suc (suc (suc (suc zero)))) h = record { one = refl; five = refl; ten = refl }
+letters-worth (suc (suc (suc (suc (suc zero))))) h = record { one = refl; five = refl; ten = refl }
+letters-worth (suc (suc (suc (suc (suc (suc zero)))))) h = record { one = refl; five = refl; ten = refl }
+letters-worth (suc (suc (suc (suc (suc (suc (suc zero))))))) h = record { one = refl; five = refl; ten = refl }
+letters-worth (suc (suc (suc (suc (suc (suc (suc (suc zero)))))))) h = record { one = refl; five = refl; ten = refl }
+letters-worth (suc (suc (suc (suc (suc (suc (suc (suc (suc zero))))))))) h = record { one = refl; five = refl; ten = refl }
+letters-worth (suc (suc (suc (suc (suc (suc (suc (suc (suc (suc k)))))))))) h = absurd (omega arith)
 
 -- the first symbol from a digit on
-first-digit : (p : Place) (w d : ℕ) (ss : List Symbol) → IsWorth p w → d < 10 → first_value ss ≤ w → first_value (digit_symbols p d ++ ss) ≤ 10 * w
+first-digit : (p : Letters) (w d : ℕ) (ss : List Symbol) → IsWorth p w → d < 10 → first_value ss ≤ w → first_value (digit_symbols p d ++ ss) ≤ 10 * w
 unfolding digit_symbols
 first-digit p w zero ss i l f = omega arith
 first-digit p w (suc zero) ss i l f = omega (arith, i.one)
@@ -95,7 +95,7 @@ unfolding symbols_of
 first-symbols [] a l = omega arith
 first-symbols (d ∷ ds) a l =
     let k : length ds < 10 = omega arith in
-    let f : first_value (symbols_of (d ∷ ds)) ≤ 10 * 10 ^ length ds = first-digit (place_of (length ds)) (10 ^ length ds) d (symbols_of ds) (place-worth (length ds) k) a.0 (first-symbols ds a.1 (omega arith)) in
+    let f : first_value (symbols_of (d ∷ ds)) ≤ 10 * 10 ^ length ds = first-digit (letters_of (length ds)) (10 ^ length ds) d (symbols_of ds) (letters-worth (length ds) k) a.0 (first-symbols ds a.1 (omega arith)) in
     omega (arith, ten-more d ds)
 
 pub worth-symbols : (ds : List ℕ) → AllBelowBase 10 ds → length ds ≤ 10 → worth (symbols_of ds) ≡ pos (value_of ds)
@@ -103,12 +103,12 @@ unfolding symbols_of worth
 worth-symbols [] a l = refl
 worth-symbols (d ∷ ds) a l =
     let k : length ds < 10 = omega arith in
-    let f = worth-digit (place_of (length ds)) (10 ^ length ds) d (symbols_of ds) (place-worth (length ds) k) (ten-pos (length ds)) a.0 (first-symbols ds a.1 (omega arith)) in
+    let f = worth-digit (letters_of (length ds)) (10 ^ length ds) d (symbols_of ds) (letters-worth (length ds) k) (ten-pos (length ds)) a.0 (first-symbols ds a.1 (omega arith)) in
     let g = worth-symbols ds a.1 (omega arith) in
     omega (arith, ints, f, g)
 
 -- how many symbols a digit has
-length-digit : (p : Place) (d : ℕ) → length (digit_symbols p d) ≤ 4
+length-digit : (p : Letters) (d : ℕ) → length (digit_symbols p d) ≤ 4
 unfolding digit_symbols
 length-digit p zero = omega arith
 length-digit p (suc zero) = omega arith
@@ -122,7 +122,7 @@ length-digit p (suc (suc (suc (suc (suc (suc (suc (suc zero)))))))) = omega arit
 length-digit p (suc (suc (suc (suc (suc (suc (suc (suc (suc zero))))))))) = omega arith
 length-digit p (suc (suc (suc (suc (suc (suc (suc (suc (suc (suc d)))))))))) = omega arith
 
-length-low : (p : Place) (d : ℕ) → d ≤ 4 → length (digit_symbols p d) ≤ 3
+length-low : (p : Letters) (d : ℕ) → d ≤ 4 → length (digit_symbols p d) ≤ 3
 unfolding digit_symbols
 length-low p zero h = omega arith
 length-low p (suc zero) h = omega arith
@@ -134,22 +134,22 @@ length-low p (suc (suc (suc (suc (suc d))))) h = absurd (omega arith)
 length-symbols : (ds : List ℕ) → length (symbols_of ds) ≤ 4 * length ds
 unfolding symbols_of
 length-symbols [] = omega arith
-length-symbols (d ∷ ds) = omega (arith, length-append (digit_symbols (place_of (length ds)) d) (symbols_of ds), length-digit (place_of (length ds)) d, length-symbols ds)
+length-symbols (d ∷ ds) = omega (arith, length-append (digit_symbols (letters_of (length ds)) d) (symbols_of ds), length-digit (letters_of (length ds)) d, length-symbols ds)
 
 -- at most 39 for digits that write a number below 2 ^ 32
 pub length-symbols-le : (ds : List ℕ) → length ds ≤ 10 → value_of ds < 2 ^ 32 → length (symbols_of ds) ≤ 39
 unfolding symbols_of
 length-symbols-le [] l v = omega arith
 length-symbols-le (d ∷ ds) l v =
-    let lens = length-append (digit_symbols (place_of (length ds)) d) (symbols_of ds) in
+    let lens = length-append (digit_symbols (letters_of (length ds)) d) (symbols_of ds) in
     elim (cases_lt (length ds) 9) [
-      | inl short ↦ omega (arith, lens, length-digit (place_of (length ds)) d, length-symbols ds)
+      | inl short ↦ omega (arith, lens, length-digit (letters_of (length ds)) d, length-symbols ds)
       | inr long ↦
           let nine : length ds ≡ 9 = omega arith in
           let e : 10 ^ length ds ≡ 1000000000 = rw nine refl in
           let top : d * 10 ^ length ds + value_of ds < 2 ^ 32 = v in
           let low : d ≤ 4 = omega (arith, rw e at top) in
-          omega (arith, lens, length-low (place_of (length ds)) d low, length-symbols ds)
+          omega (arith, lens, length-low (letters_of (length ds)) d low, length-symbols ds)
     ]
 
 value-after : (n : ℕ) (ds : List ℕ) → number_from_digits_after 10 n ds ≡ n * 10 ^ length ds + value_of ds

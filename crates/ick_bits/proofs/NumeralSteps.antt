@@ -8,7 +8,7 @@ use Rattle.std.specs.Fmt.{decimal}
 use Rattle.std.specs.Char.{digit_value}
 use Rattle.std.specs.Str.Parse.{AllDigits}
 use Rattle.ick_bits.specs.declared.numerals.Symbol.{Symbol}
-use Rattle.ick_bits.specs.Numeral.{place_of, digit_symbols, symbols_of, numeral_of}
+use Rattle.ick_bits.specs.Numeral.{letters_of, digit_symbols, symbols_of, numeral_of}
 use Rattle.ick_bits.proofs.NumeralLemmas.{length-numeral}
 
 -- a byte that is a decimal digit
@@ -33,7 +33,7 @@ unfoldable pub symbols_from : List ℕ → ℕ → List Symbol
 symbols_from t i = symbols_of (map digit_value (drop i t))
 
 pub symbols-step : (v : ℕ) (t : List ℕ) → IsText v t → (i : ℕ) → i < length t →
-    symbols_from t i ≡ digit_symbols (place_of (length t - 1 - i)) (get_or t i 0 - 48) ++ symbols_from t (i + 1)
+    symbols_from t i ≡ digit_symbols (letters_of (length t - 1 - i)) (get_or t i 0 - 48) ++ symbols_from t (i + 1)
 unfolding symbols_from symbols_of
 symbols-step v t e i h =
     let n : length (map digit_value (drop (suc i) t)) ≡ length t - 1 - i = omega (arith, length-map (drop (suc i) t) digit_value, length-drop (suc i) t) in
@@ -55,7 +55,7 @@ room v f xs ys zs e =
 
 -- one digit more
 pub one-more : (v : ℕ) (t : List ℕ) → IsText v t → (i : ℕ) → i < length t → (xs : List Symbol) → xs ++ symbols_from t i ≡ numeral_of v →
-    xs ++ (digit_symbols (place_of (length t - 1 - i)) (get_or t i 0 - 48) ++ symbols_from t (i + 1)) ≡ numeral_of v
+    xs ++ (digit_symbols (letters_of (length t - 1 - i)) (get_or t i 0 - 48) ++ symbols_from t (i + 1)) ≡ numeral_of v
 one-more v t e i h xs inv = ap (λ ys. xs ++ ys) (sym (symbols-step v t e i h)) ∙ inv
 
 pub all-digits : (t : List ℕ) (i : ℕ) → i ≡ length t → (xs n : List Symbol) → xs ++ symbols_from t i ≡ n → xs ≡ n

@@ -6,11 +6,11 @@ use Rattle.ick_bits.specs.Tape.{reversed_byte}
 use Rattle.ick_bits.proofs.TableLemmas.{agree_below, agree_at}
 
 -- std's form is the one by positions
-pub reversed_is : (b : ℕ) → b < 256 → reverse_bits w8 b ≡ reversed_byte b
+pub reverses : (b : ℕ) → b < 256 → reverse_bits w8 b ≡ reversed_byte b
 unfolding agree_below reversed_byte with_bits sum_below reverse_bits_onto
-reversed_is = agree_at (reverse_bits w8) reversed_byte 256 refl
+reverses = agree_at (reverse_bits w8) reversed_byte 256 refl
 
 -- twice gives the byte back
-pub reversed_again : (b : ℕ) → b < 256 → reversed_byte (reversed_byte b) ≡ b
+pub twice : (b : ℕ) → b < 256 → reversed_byte (reversed_byte b) ≡ b
 unfolding agree_below reversed_byte with_bits sum_below
-reversed_again = agree_at (λ b. reversed_byte (reversed_byte b)) (λ b. b) 256 refl
+twice = agree_at (λ b. reversed_byte (reversed_byte b)) (λ b. b) 256 refl

@@ -1,5 +1,7 @@
 -- A line of digit names, and the number that it writes.
-use Rattle.std.specs.Prelude.{ℕ, ◌+◌, ◌-◌, ◌<◌, ◌≤◌, ⊤, Bool, ◌&&◌, ◌||◌, not, nat_lt, ◌==◌, List, [], ◌∷◌, map, length, codes, drop, slice_index, if◌then◌else◌, Option, Some, None, is_none, unwrap_or, Result, Ok, Err}
+use Rattle.std.specs.Prelude.{ℕ, ◌+◌, ◌-◌, ◌<◌, ◌≤◌, ⊤, Bool, ◌&&◌, ◌||◌, not, nat_lt, ◌==◌, if◌then◌else◌}
+use Rattle.std.specs.Prelude.{List, [], ◌∷◌, map, length, codes, drop, slice_index}
+use Rattle.std.specs.Prelude.{Option, Some, None, is_none, unwrap_or, Result, Ok, Err}
 use Rattle.std.specs.Option.{option_map}
 use Rattle.std.specs.List.{filter, find, before_first, range_with_len}
 use Rattle.std.specs.Int.Digits.{number_from_digits}
@@ -13,7 +15,7 @@ use Rattle.ick_bits.specs.declared.values.Width.TheVariants.{ThirtyTwo}
 abbrev pub is_ink : ℕ → Bool
 is_ink b = not (is_white_byte b)
 
--- a word begins at a place with ink, at the front or after a white byte
+-- a word begins at a position with ink, at the front or after a white byte
 unfoldable pub begins_word : List ℕ → ℕ → Bool
 begins_word line i = is_ink (slice_index line i) && (i == 0 || is_white_byte (slice_index line (i - 1)))
 
@@ -48,7 +50,7 @@ digit_of word = digit_in word names
 abbrev pub digit_at : List ℕ → ℕ → Option ℕ
 digit_at line i = digit_of (word_at line i)
 
--- the places at which a word begins
+-- the positions at which a word begins
 unfoldable pub beginnings : List ℕ → List ℕ
 beginnings line = filter (begins_word line) (range_with_len 0 (length line))
 

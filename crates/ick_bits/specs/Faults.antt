@@ -1,7 +1,11 @@
 -- The faults, their numbers and their messages.
 use Rattle.std.specs.Prelude.{ℕ, ◌+◌, ◌/◌, ◌%◌, List, [], ◌∷◌, ◌++◌, decimal, codes}
 use Rattle.ick_bits.specs.declared.faults.FaultKind.{FaultKind}
-use Rattle.ick_bits.specs.declared.faults.FaultKind.TheVariants.{Unrecognised, MeshTooLarge, Impolite, Fawning, NextDepth, NoNextLabel, NoAbstainLabel, SameLabel, LabelRange, NameRange, ZeroDimension, Hyperspace, TooWide, NothingStashed, SixtyFour, NoInput, NoDigit, ResumeZero, Rupture, OffTheEdge}
+use Rattle.ick_bits.specs.declared.faults.FaultKind.TheVariants.{Unrecognised, MeshTooLarge, Impolite, Fawning}
+use Rattle.ick_bits.specs.declared.faults.FaultKind.TheVariants.{NextDepth, NoNextLabel, NoAbstainLabel, SameLabel}
+use Rattle.ick_bits.specs.declared.faults.FaultKind.TheVariants.{LabelRange, NameRange, ZeroDimension, Hyperspace}
+use Rattle.ick_bits.specs.declared.faults.FaultKind.TheVariants.{TooWide, NothingStashed, SixtyFour, NoInput}
+use Rattle.ick_bits.specs.declared.faults.FaultKind.TheVariants.{NoDigit, ResumeZero, Rupture, OffTheEdge}
 
 -- the table: a kind's number, and its text up to the place where a subject is shown
 abbrev pub entry_of : FaultKind → ℕ × List ℕ

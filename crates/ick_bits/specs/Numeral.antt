@@ -1,22 +1,23 @@
 -- The numeral of a number, its printed form, and what a list of symbols is worth.
-use Rattle.std.specs.Prelude.{ℕ, ◌*◌, ◌-◌, Bool, true, false, nat_lt, ◌==◌, List, [], ◌∷◌, ◌++◌, map, length, if◌then◌else◌, decimal, slice_index_or, ℤ, pos, neg_ℤ, ◌+ℤ◌, codes}
+use Rattle.std.specs.Prelude.{ℕ, ◌*◌, ◌-◌, ℤ, pos, neg_ℤ, ◌+ℤ◌, Bool, true, false, nat_lt, ◌==◌, if◌then◌else◌}
+use Rattle.std.specs.Prelude.{List, [], ◌∷◌, ◌++◌, map, length, slice_index_or, decimal, codes}
 use Rattle.std.specs.List.{list_any}
 use Rattle.std.specs.Char.{digit_value}
 use Rattle.ick_bits.specs.declared.numerals.Symbol.{Symbol}
-use Rattle.ick_bits.specs.declared.numerals.Place.{Place}
+use Rattle.ick_bits.specs.declared.numerals.Letters.{Letters}
 
 -- a letter, with a bar or without
 abbrev pub symbol : ℕ × Bool → Symbol
 symbol m = record { letter = m.0; barred = m.1 }
 
--- a row of the table: the letters for one, five and ten
-abbrev pub place_in : (ℕ × Bool) × (ℕ × Bool) × (ℕ × Bool) → Place
-place_in row = record { one = symbol row.0; five = symbol row.1; ten = symbol row.2 }
+-- a row of the table below: the letters for one, five and ten
+abbrev pub letters_in : (ℕ × Bool) × (ℕ × Bool) × (ℕ × Bool) → Letters
+letters_in row = record { one = symbol row.0; five = symbol row.1; ten = symbol row.2 }
 
 -- the table of letters: for one, five and ten of each decimal place, from the units up; `~` stands for a bar.
 -- The last letter of the last row is never used, since a number below 2 ^ 32 has a digit of at most 4 there
-abbrev pub places : List ((ℕ × Bool) × (ℕ × Bool) × (ℕ × Bool))
-places =
+abbrev pub letter_table : List ((ℕ × Bool) × (ℕ × Bool) × (ℕ × Bool))
+letter_table =
     -- I V X
     ((73, false), (86, false), (88, false)) ∷
     -- X L C
@@ -38,12 +39,12 @@ places =
     -- m ~v ~x
     ((109, false), (118, true), (120, true)) ∷ []
 
--- the place that has k digits to its right
-abbrev pub place_of : ℕ → Place
-place_of k = place_in (slice_index_or places k ((0, false), (0, false), (0, false)))
+-- the letters of the place that has k digits to its right
+abbrev pub letters_of : ℕ → Letters
+letters_of k = letters_in (slice_index_or letter_table k ((0, false), (0, false), (0, false)))
 
 -- a digit at a place: 0 nothing, 1 a, 2 aa, 3 aaa, 4 ab, 5 b, 6 ba, 7 baa, 8 baaa, 9 ac
-abbrev pub patterns : Place → List (List Symbol)
+abbrev pub patterns : Letters → List (List Symbol)
 patterns p =
     let a = p.one in
     let b = p.five in
@@ -51,13 +52,13 @@ patterns p =
     [] ∷ (a ∷ []) ∷ (a ∷ a ∷ []) ∷ (a ∷ a ∷ a ∷ []) ∷ (a ∷ b ∷ [])
     ∷ (b ∷ []) ∷ (b ∷ a ∷ []) ∷ (b ∷ a ∷ a ∷ []) ∷ (b ∷ a ∷ a ∷ a ∷ []) ∷ (a ∷ c ∷ []) ∷ []
 
-unfoldable pub digit_symbols : Place → ℕ → List Symbol
+unfoldable pub digit_symbols : Letters → ℕ → List Symbol
 digit_symbols p d = slice_index_or (patterns p) d []
 
 -- each digit at its place, from the left
 unfoldable pub symbols_of : List ℕ → List Symbol
 symbols_of [] = []
-symbols_of (d ∷ ds) = digit_symbols (place_of (length ds)) d ++ symbols_of ds
+symbols_of (d ∷ ds) = digit_symbols (letters_of (length ds)) d ++ symbols_of ds
 
 -- the decimal digits of a number, from the left
 abbrev pub decimal_digits : ℕ → List ℕ
@@ -88,7 +89,8 @@ first_value (s ∷ ss) = symbol_value s
 unfoldable pub worth : List Symbol → ℤ
 worth [] = pos 0
 worth (s ∷ ss) =
-    (if nat_lt (symbol_value s) (first_value ss) then neg_ℤ (pos (symbol_value s)) else pos (symbol_value s)) +ℤ worth ss
+    (if nat_lt (symbol_value s) (first_value ss) then neg_ℤ (pos (symbol_value s)) else pos (symbol_value s))
+    +ℤ worth ss
 
 -- a `_` (95) over a barred letter and a space (32) over another
 abbrev pub bar_byte : Symbol → ℕ

@@ -1,5 +1,6 @@
 -- The bit operators by positions.
-use Rattle.std.specs.Prelude.{ℕ, zero, suc, ◌+◌, ◌*◌, ◌/◌, ◌%◌, ◌^◌, min, max, nat_lt, ◌==◌, ◌&&◌, if◌then◌else◌, Result, Ok, Err}
+use Rattle.std.specs.Prelude.{ℕ, zero, suc, ◌+◌, ◌*◌, ◌/◌, ◌%◌, ◌^◌, min, max}
+use Rattle.std.specs.Prelude.{nat_lt, ◌==◌, ◌&&◌, if◌then◌else◌, Result, Ok, Err}
 use Rattle.std.specs.Int.{bit_at}
 use Rattle.ick_bits.specs.Values.{Bits, Narrow, Wide, number_of, limit_of}
 use Rattle.ick_bits.specs.declared.faults.FaultKind.{FaultKind}

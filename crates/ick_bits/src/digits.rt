@@ -65,17 +65,17 @@ pub fn digits_value(line: &[u8]) -> Result<u32, DigitFault>
 
 /// Whether a word begins here.
 #[tactic(auto, unfolding(crate::specs::Digits::begins_word))]
-fn begins(line: &[u8], place: usize) -> bool
-    requires { place < length line.now }
-    ensures { result ≡ begins_word line.now place }
+fn begins(line: &[u8], position: usize) -> bool
+    requires { position < length line.now }
+    ensures { result ≡ begins_word line.now position }
 {
-    !is_white(line[place]) && (place == 0 || is_white(line[place - 1]))
+    !is_white(line[position]) && (position == 0 || is_white(line[position - 1]))
 }
 
 /// The end of the word that begins here.
-#[tactic(auto, using(crate::proofs::DigitLemmas::ink_at_most), unfolding(crate::specs::Digits::word_at))]
+#[tactic(auto, using(crate::proofs::DigitLemmas::ink_le), unfolding(crate::specs::Digits::word_at))]
 fn word_end(line: &[u8], from: usize) -> usize
-    requires place { from < length line.now }
+    requires position { from < length line.now }
     requires begins { begins_word line.now from ≡ true }
     ensures within { result ≤ length line.now }
     ensures after { from < result }

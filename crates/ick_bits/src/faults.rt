@@ -1,7 +1,9 @@
 //! Faults and their messages.
 
-ghost use Rattle.std.specs.Prelude.{◌≤◌, ◌≡◌, ◌<◌, ◌+◌, ◌++◌, OnOk, OnErr, vec_len, vec_capacity, length};
-ghost use Rattle.ick_bits.specs.Faults.{fault_number, table_text, text_of, message_of, three_digits};
+ghost use Rattle.std.specs.Prelude.{◌≤◌, ◌≡◌, ◌<◌, ◌+◌, ◌++◌, length};
+ghost use Rattle.std.specs.Prelude.{OnOk, OnErr, vec_len, vec_capacity};
+ghost use Rattle.ick_bits.specs.Faults.{fault_number, table_text, text_of};
+ghost use Rattle.ick_bits.specs.Faults.{message_of, three_digits};
 
 use crate::appending::append_all;
 use crate::memory::NoMemory;
@@ -103,7 +105,8 @@ impl FaultKind {
     /// The text, in pieces: the subject is shown by two kinds alone.
     #[tactic(auto, unfolding(crate::specs::Faults::text_of))]
     fn text<'a>(self, subject: &'a [u8]) -> Text<'a>
-        ensures { result.before.now ++ result.subject.now ++ result.after.now ≡ text_of self subject.now }
+        ensures { let pieces = result.before.now ++ result.subject.now ++ result.after.now in
+            pieces ≡ text_of self subject.now }
     {
         let before = self.entry().1;
         match self {

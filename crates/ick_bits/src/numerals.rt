@@ -2,7 +2,7 @@
 
 ghost use Rattle.std.specs.Prelude.{◌≡◌, ◌≤◌, ◌<◌, ◌++◌, ◌+◌, pos, length};
 ghost use Rattle.arrayvec.specs.ArrayVec.{array_vec_len};
-ghost use Rattle.ick_bits.specs.Numeral.{numeral_of, worth, digit_symbols, place_of, symbol};
+ghost use Rattle.ick_bits.specs.Numeral.{numeral_of, worth, digit_symbols, letters_of, symbol};
 
 use arrayvec::ArrayVec;
 use itoa::Buffer;
@@ -19,18 +19,18 @@ pub struct Symbol {
 
 /// The letters of one decimal place: for one, five and ten of it.
 #[derive(Clone, Copy)]
-pub(crate) struct Place {
+pub(crate) struct Letters {
     pub(crate) one: Symbol,
     pub(crate) five: Symbol,
     pub(crate) ten: Symbol,
 }
 
 /// A letter, and whether it has a bar.
-type Mark = (u8, bool);
+type Letter = (u8, bool);
 
 /// The letters for one, five and ten of each decimal place, from the units up. That for ten of the
 /// last place is never used, since the digit there is at most 4.
-pub(crate) static PLACES: [(Mark, Mark, Mark); 10] = [
+pub(crate) static PLACES: [(Letter, Letter, Letter); 10] = [
     ((b'I', false), (b'V', false), (b'X', false)),
     ((b'X', false), (b'L', false), (b'C', false)),
     ((b'C', false), (b'D', false), (b'M', false)),
@@ -43,26 +43,26 @@ pub(crate) static PLACES: [(Mark, Mark, Mark); 10] = [
     ((b'm', false), (b'v', true), (b'x', true)),
 ];
 
-/// The symbol of a letter.
-fn marked(mark: Mark) -> Symbol
-    ensures { result ≡ symbol mark }
+/// The letter as a symbol.
+fn symbol_of(letter: Letter) -> Symbol
+    ensures { result ≡ symbol letter }
 {
     Symbol {
-        letter: mark.0,
-        barred: mark.1,
+        letter: letter.0,
+        barred: letter.1,
     }
 }
 
 /// The letters of the place that has `digits_after` digits to its right.
-fn letters_at(digits_after: usize) -> Place
+fn letters_at(digits_after: usize) -> Letters
     requires { digits_after < 10 }
-    ensures { result ≡ place_of digits_after }
+    ensures { result ≡ letters_of digits_after }
 {
     let (one, five, ten) = PLACES[digits_after];
-    Place {
-        one: marked(one),
-        five: marked(five),
-        ten: marked(ten),
+    Letters {
+        one: symbol_of(one),
+        five: symbol_of(five),
+        ten: symbol_of(ten),
     }
 }
 
@@ -91,12 +91,12 @@ pub fn numeral(number: u32) -> ArrayVec<Symbol, 39>
 
 /// Adds the symbols of one digit.
 #[tactic(auto, unfolding(crate::specs::Numeral::digit_symbols))]
-fn push_digit(symbols: &mut ArrayVec<Symbol, 39>, letters: Place, digit: u8)
+fn push_digit(symbols: &mut ArrayVec<Symbol, 39>, letters: Letters, digit: u8)
     requires digit { digit < 10 }
     requires room { array_vec_len symbols.old + length (digit_symbols letters digit) ≤ 39 }
     ensures { symbols.new.items ≡ symbols.old.items ++ digit_symbols letters digit }
 {
-    let Place { one, five, ten } = letters;
+    let Letters { one, five, ten } = letters;
     match digit {
         0 => {}
         1 => push_all(symbols, &[one]),

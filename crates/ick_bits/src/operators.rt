@@ -1,7 +1,8 @@
 //! The operators on the bits of values.
 
 ghost use Rattle.std.specs.Prelude.{◌≡◌, ◌*◌, ◌<◌, ◌^◌};
-ghost use Rattle.ick_bits.specs.Operators.{with_bits, mingled_bit, mingled, selected, unary, and_bit, or_bit, xor_bit};
+ghost use Rattle.ick_bits.specs.Operators.{with_bits, mingled_bit, mingled, selected};
+ghost use Rattle.ick_bits.specs.Operators.{unary, and_bit, or_bit, xor_bit};
 ghost use Rattle.ick_bits.specs.Values.{limit_of};
 ghost use Rattle.ick_bits.specs.declared.values.Width.TheVariants.{Sixteen};
 

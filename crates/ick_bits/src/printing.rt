@@ -1,6 +1,7 @@
 //! The printed form of a numeral: a line of bars and a line of letters.
 
-ghost use Rattle.std.specs.Prelude.{◌≡◌, ◌≤◌, ◌<◌, ◌++◌, ◌+◌, length, map, take, OnOk, OnErr, vec_len, vec_capacity};
+ghost use Rattle.std.specs.Prelude.{◌≡◌, ◌≤◌, ◌<◌, ◌++◌, ◌+◌, length, map, take};
+ghost use Rattle.std.specs.Prelude.{OnOk, OnErr, vec_len, vec_capacity};
 ghost use Rattle.ick_bits.specs.Numeral.{numeral_of, printed, bar_line, bar_byte};
 
 use crate::memory::NoMemory;
@@ -50,7 +51,7 @@ fn printed_lines(symbols: &[Symbol]) -> ArrayVec<u8, 80>
 }
 
 /// How many symbols there are up to the last that has a bar.
-#[tactic(auto, using(crate::proofs::PrintingLemmas::bars_barred, crate::proofs::PrintingLemmas::bars_plain, crate::proofs::PrintingLemmas::bars_none))]
+#[tactic(auto, using(crate::proofs::PrintingLemmas::bars_none))]
 fn barred_length(symbols: &[Symbol]) -> usize
     ensures within { result ≤ length symbols.now }
     ensures bars { bar_line symbols.now ≡ map bar_byte (take result symbols.now) }

@@ -1,6 +1,7 @@
 //! Texts in double quotes.
 
-ghost use Rattle.std.specs.Prelude.{◌≡◌, ◌<◌, ◌≤◌, ◌+◌, ◌++◌, length, take, OnOk, OnErr, vec_len, vec_capacity};
+ghost use Rattle.std.specs.Prelude.{◌≡◌, ◌<◌, ◌≤◌, ◌+◌, ◌++◌, length, take};
+ghost use Rattle.std.specs.Prelude.{OnOk, OnErr, vec_len, vec_capacity};
 ghost use Rattle.ick_bits.specs.Quoted.{quoted, escaped, hex_glyph};
 
 use crate::memory::NoMemory;
@@ -15,7 +16,8 @@ use std::alloc::AllocError;
 pub fn append_quoted(out: &mut Vec<u8>, text: &[u8]) -> Result<(), NoMemory>
     ensures ok { OnOk result (out.new.items ≡ out.old.items ++ quoted text.now) }
     ensures err { OnErr result (out.new.items ≡ out.old.items) }
-    ensures full { OnErr result (vec_capacity out.old < vec_len out.old + length (quoted text.now)) }
+    ensures full { let whole = quoted text.now in
+        OnErr result (vec_capacity out.old < vec_len out.old + length whole) }
     ensures capacity { vec_capacity out.old ≤ vec_capacity out.new }
 {
     let start = out.len();
@@ -31,7 +33,8 @@ pub fn append_quoted(out: &mut Vec<u8>, text: &[u8]) -> Result<(), NoMemory>
 fn push_quoted(out: &mut Vec<u8>, text: &[u8]) -> Result<(), NoMemory>
     ensures ok { OnOk result (out.new.items ≡ out.old.items ++ quoted text.now) }
     ensures err { OnErr result (take (vec_len out.old) out.new.items ≡ out.old.items) }
-    ensures full { OnErr result (vec_capacity out.old < vec_len out.old + length (quoted text.now)) }
+    ensures full { let whole = quoted text.now in
+        OnErr result (vec_capacity out.old < vec_len out.old + length whole) }
     ensures capacity { vec_capacity out.old ≤ vec_capacity out.new }
 {
     out.push(b'"').map_err(AllocError::from)?;

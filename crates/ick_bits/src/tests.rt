@@ -313,7 +313,8 @@ fn texts_are_appended(rt: HostRuntime) -> Result<(), Fail> {
     Ok(())
 }
 
-// Meant for an allocator that refuses one growth: the text stays as it was, and the same call succeeds later.
+// Meant for an allocator that refuses one growth: the text stays as it was, and the same call
+// succeeds later.
 #[test]
 fn refused_growth_changes_nothing(rt: HostRuntime) {
     let mut out = Vec::new(rt.alloc());
