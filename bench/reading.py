@@ -14,9 +14,6 @@ import subprocess
 import sys
 import tempfile
 
-sys.dont_write_bytecode = True
-import sources
-
 HERE = os.path.dirname(os.path.realpath(__file__))
 RUNS = 5
 COMMANDS = ["check", "list", "run"]
@@ -50,7 +47,8 @@ def main():
     if not os.access(program, os.X_OK) or os.path.isdir(program):
         sys.exit(f"reading.py: {program} is no program that can be run: a call of ./ick builds ick")
     with tempfile.TemporaryDirectory() as folder:
-        sources.write_all(folder)
+        if subprocess.run([sys.executable, os.path.join(HERE, "sources.py"), folder]).returncode:
+            sys.exit("reading.py: there are no sources to measure")
         table(program, folder)
 
 
