@@ -2,6 +2,8 @@
 """Writes the sources that are measured, 1 MiB each, to a folder.
 
   sources.py FOLDER
+
+It needs a folder that can be written, or made, 20 MiB and Python 3.8.
 """
 import os
 import random
@@ -98,16 +100,25 @@ SOURCES = {
 }
 
 
-def main():
-    if len(sys.argv) != 2:
-        sys.exit(__doc__)
-    os.makedirs(sys.argv[1], exist_ok=True)
+def write_all(folder):
+    os.makedirs(folder, exist_ok=True)
     for name, make in SOURCES.items():
         source = make()
         assert len(source) <= SIZE, name
-        with open(os.path.join(sys.argv[1], name + ".i"), "wb") as file:
+        with open(os.path.join(folder, name + ".i"), "wb") as file:
             file.write(source)
 
 
+def main():
+    if len(sys.argv) != 2 or sys.argv[1].startswith("-"):
+        sys.exit(__doc__)
+    write_all(sys.argv[1])
+
+
 if __name__ == "__main__":
-    main()
+    try:
+        main()
+    except OSError as error:
+        sys.exit(f"sources.py: {error}")
+    except KeyboardInterrupt:
+        sys.exit(130)
