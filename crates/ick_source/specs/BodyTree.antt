@@ -6,15 +6,18 @@ use Rattle.ick_source.specs.declared.body.Gerund.{Gerund}
 use Rattle.ick_source.specs.declared.body.Target.{Target}
 use Rattle.ick_source.specs.declared.body.Target.TheVariants.{Scalar as TargetScalar, Element as TargetElement}
 use Rattle.ick_source.specs.declared.body.Place.{Place}
-use Rattle.ick_source.specs.declared.body.Place.TheVariants.{Scalar as PlaceScalar, Element as PlaceElement, Array as PlaceArray}
+use Rattle.ick_source.specs.declared.body.Place.TheVariants.{Scalar as PlaceScalar, Element as PlaceElement}
+use Rattle.ick_source.specs.declared.body.Place.TheVariants.{Array as PlaceArray}
 use Rattle.ick_source.specs.declared.body.Item.{Item}
-use Rattle.ick_source.specs.declared.body.Item.TheVariants.{Scalar as ItemScalar, Element as ItemElement, Mesh as ItemMesh, Array as ItemArray}
+use Rattle.ick_source.specs.declared.body.Item.TheVariants.{Scalar as ItemScalar, Element as ItemElement}
+use Rattle.ick_source.specs.declared.body.Item.TheVariants.{Mesh as ItemMesh, Array as ItemArray}
 use Rattle.ick_source.specs.declared.body.Body.{Body}
 use Rattle.ick_source.specs.declared.body.Body.TheVariants.{Calculate, Dimension, Next, Forget, Resume, Stash, Retrieve, Ignore, Remember, AbstainLabel, AbstainKinds, ReinstateLabel, ReinstateKinds, GiveUp, WriteIn, ReadOut, Unrecognised}
 use Rattle.ick_source.specs.Tree.{Tree, mesh, scalar, element, tree_of, trees_in}
 use Rattle.ick_source.specs.Kept.{kept, kept_name, kept_tree, no_faults, both_faults, name_faults, label_faults, faults_of}
 
--- What WRITE IN stores into and READ OUT prints: a scalar, an element or, as an item, a mesh, by its tree; or a whole array.
+-- What WRITE IN stores into and READ OUT prints: a scalar, an element or, for READ OUT alone, a mesh, each as a tree; or
+-- a whole array, by its name.
 pub data ItemTree : Type 0 where
   single : Tree → ItemTree
   whole : Name → ItemTree

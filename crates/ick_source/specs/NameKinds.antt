@@ -6,7 +6,9 @@ use Rattle.std.specs.List.{list_all}
 use Rattle.ick_source.specs.declared.tree.NameKind.{NameKind}
 use Rattle.ick_source.specs.declared.tree.NameKind.TheVariants.{Onespot, Twospot, Tail, Hybrid}
 use Rattle.ick_source.specs.Tree.{Tree, mesh, scalar, element, unary, binary, Trees, none, more}
-use Rattle.ick_source.specs.BodyTree.{ItemTree, single, whole, BodyTree, calculate, dimension, next, forget, resume, stash, retrieve, ignore, remember, abstain_label, abstain_kinds, reinstate_label, reinstate_kinds, give_up, write_in, read_out}
+use Rattle.ick_source.specs.BodyTree.{ItemTree, single, whole, BodyTree, calculate, dimension, next, forget, resume, stash}
+use Rattle.ick_source.specs.BodyTree.{retrieve, ignore, remember, abstain_label, abstain_kinds, reinstate_label, reinstate_kinds}
+use Rattle.ick_source.specs.BodyTree.{give_up, write_in, read_out}
 use Rattle.ick_source.specs.Trees.{StatementTree}
 
 abbrev pub is_array : NameKind → Bool

@@ -12,8 +12,8 @@ pub enum Target {
     Element(Element),
 }
 
-/// What WRITE IN stores into: a variable, an element of an array (Revised Manual, 4.4.12) or a whole
-/// array, whose name is a tail's (5.2).
+/// What WRITE IN stores into: a variable, an element of an array (Revised Manual, 4.4.12), or a
+/// whole array, whose name is a tail's (5.2).
 #[derive(Debug, PartialEq, Eq, Drop)]
 pub enum Place {
     Scalar(Name),
@@ -21,8 +21,8 @@ pub enum Place {
     Array(Name),
 }
 
-/// What READ OUT prints: a variable, an element of an array, a mesh (Revised Manual, 4.4.13) or a whole
-/// array, whose name is a tail's (5.2).
+/// What READ OUT prints: a variable, an element of an array, a mesh (Revised Manual, 4.4.13), or a
+/// whole array, whose name is a tail's (5.2).
 #[derive(Debug, PartialEq, Eq, Drop)]
 pub enum Item {
     Scalar(Name),

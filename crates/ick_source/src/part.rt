@@ -1,4 +1,5 @@
-//! The readers of the parts of bodies: names, targets, places, items, gerunds, labels, and expressions outside groups.
+//! The readers of the parts of bodies: names, targets, places, items, gerunds, labels, and
+//! expressions outside groups.
 
 ghost use Rattle.std.specs.Prelude.{◌≡◌, ℕ, List, IfOk, MatchOption};
 ghost use Rattle.ick_source.specs.Answers.{Answers};
@@ -126,7 +127,7 @@ fn tail_at(text: &[u8], from: Place) -> Option<Found<Name>>
     }
 }
 
-/// The place of a value or of an array's values, as WRITE IN names it: a variable, an element or a whole array.
+/// What WRITE IN stores into, at the place: a variable, an element or a whole array.
 pub fn place_at(
     alloc: Global,
     text: &[u8],
@@ -151,7 +152,7 @@ pub fn place_at(
     }))
 }
 
-/// The target as a place.
+/// The target, as WRITE IN stores into it.
 fn stored(target: Target) -> body::Place
     ensures { place_tree result ≡ single (target_tree target) }
 {
@@ -191,7 +192,7 @@ fn mesh_item_at(text: &[u8], past: Place) -> Option<Found<Item>>
     })
 }
 
-/// The place as an item.
+/// What WRITE IN stores into, as READ OUT prints it.
 fn printed(place: body::Place) -> Item
     ensures { item_tree result ≡ place_tree place }
 {
