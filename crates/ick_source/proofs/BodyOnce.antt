@@ -13,7 +13,7 @@ use Rattle.ick_source.specs.BodyGrammar.{IsNamed, an_array, to_spot, to_element,
 use Rattle.ick_source.specs.Nonterminal.{StandsOnce, TakesSymbols, wholes, names, places, items, gerunds, labels, after, formed, bodies}
 use Rattle.ick_source.proofs.ExpressionShorter.{word-shorter}
 use Rattle.ick_source.proofs.WordOnce.{same_word, words_differ, same_verb, verb_leads, no_verb_in_brackets}
-use Rattle.ick_source.proofs.PartOnce.{again, list_once, list-shorter, one_whole, whole-shorter, one_name, name-shorter, one_array, array-shorter, one_target, target-shorter, one_place, place-shorter, one_item, item-shorter, one_gerund, gerund-shorter, one_label, label-shorter, verb-shorter, word-takes, element_leads}
+use Rattle.ick_source.proofs.PartOnce.{again, list_once, list-shorter, one_whole, whole-shorter, one_name, name-shorter, one_array, array-shorter, one_target, target-shorter, place_unique, place-shorter, one_item, item-shorter, one_gerund, gerund-shorter, one_label, label-shorter, verb-shorter, word-takes, element_leads}
 use Rattle.ick_source.proofs.FormOnce.{form_of_spot, form_of_element, form_of_array, form_of_bracket, form_of_verb, element_has, arrow_is_no_sub}
 use Rattle.ick_source.proofs.BodyReadings.{gerunds_in_brackets}
 
@@ -39,7 +39,7 @@ one_after v from to to' b b' (reinstates_kinds q) (reinstates_label p) = absurd 
 one_after v from to to' b b' (reinstates_kinds p) (reinstates_kinds q) = let s = list_once gerunds (codes "+") one_gerund refl p q in record { to = s.to; value = ap reinstate_kinds s.value }
 one_after v from to to' b b' (gives_up u) (gives_up w) = record { to = same_word (codes "UP") refl u w; value = refl }
 one_after v from to to' b b' (writes_in u p) (writes_in w q) =
-    let s = list_once places (codes "+") one_place (same_word (codes "IN") refl u w) p q in record { to = s.to; value = ap write_in s.value }
+    let s = list_once places (codes "+") place_unique (same_word (codes "IN") refl u w) p q in record { to = s.to; value = ap write_in s.value }
 one_after v from to to' b b' (reads_out u p) (reads_out w q) =
     let s = list_once items (codes "+") one_item (same_word (codes "OUT") refl u w) p q in record { to = s.to; value = ap read_out s.value }
 

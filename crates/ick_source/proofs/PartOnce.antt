@@ -114,11 +114,11 @@ pub target_is_no_tail : {from to to' : List ℕ} {t : Tree} {x : Name} → IsTar
 target_is_no_tail (to_spot p) q = spot_is_no_array p q.array.begins
 target_is_no_tail (to_element p) q = element_is_no_tail p.is_element q
 
-pub one_place : StandsOnce places
-one_place from to to' x x' (to_target p) (to_target q) = let s = one_target _ _ _ _ _ p q in record { to = s.to; value = ap single s.value }
-one_place from to to' x x' (to_target p) (to_array q) = absurd (target_is_no_tail p q)
-one_place from to to' x x' (to_array q) (to_target p) = absurd (target_is_no_tail p q)
-one_place from to to' x x' (to_array p) (to_array q) = let s = one_array _ _ _ _ _ p.array q.array in record { to = s.to; value = ap whole s.value }
+pub place_unique : StandsOnce places
+place_unique from to to' x x' (to_target p) (to_target q) = let s = one_target _ _ _ _ _ p q in record { to = s.to; value = ap single s.value }
+place_unique from to to' x x' (to_target p) (to_array q) = absurd (target_is_no_tail p q)
+place_unique from to to' x x' (to_array q) (to_target p) = absurd (target_is_no_tail p q)
+place_unique from to to' x x' (to_array p) (to_array q) = let s = one_array _ _ _ _ _ p.array q.array in record { to = s.to; value = ap whole s.value }
 
 pub place-shorter : TakesSymbols places
 place-shorter from to x (to_target p) = target-shorter _ _ _ p
@@ -129,7 +129,7 @@ place_is_no_mesh (to_target p) f = target_is_no_mesh p f
 place_is_no_mesh (to_array p) f = let e = p.array.begins in cc
 
 pub one_item : StandsOnce items
-one_item from to to' x x' (of_place p) (of_place q) = one_place _ _ _ _ _ p q
+one_item from to to' x x' (of_place p) (of_place q) = place_unique _ _ _ _ _ p q
 one_item from to to' x x' (of_place p) (of_mesh f n) = absurd (place_is_no_mesh p f)
 one_item from to to' x x' (of_mesh f n) (of_place p) = absurd (place_is_no_mesh p f)
 one_item from to to' x x' (of_mesh e n) (of_mesh f n') = let s = one_number n n' in record { to = s.0; value = ap (λ m. single (mesh m)) s.1 }
