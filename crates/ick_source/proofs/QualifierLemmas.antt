@@ -1,8 +1,9 @@
 -- Negations and percentages.
 use Rattle.std.proofs.Common.{Bool, List, None, Option, Some, ap, arith, codes, false, inl, inr, length, refl, subst, sym, true, ℕ, ◌+◌, ◌≡◌, ◌≤◌, ◌⊎◌}
+use Rattle.std.proofs.lemmas.Bool.{false≢true}
 use Rattle.ick_source.specs.Bytes.{byte}
-use Rattle.ick_source.specs.Qualifiers.{Chance, Negated, NegatedAfter, Negation, Percentage, Qualifiers, affirmed, already, certain, given, negated, not_yet}
-use Rattle.ick_source.proofs.ByteLemmas.{Finds, gap_is, gap_one, inside, le_or, number_along, number_inside, number_is, number_one, same_or, word_or}
+use Rattle.ick_source.specs.Qualifiers.{Chance, Negated, Negation, Percentage, Qualifiers, affirmed, certain, given, negated, negation_first, neither, percentage_first}
+use Rattle.ick_source.proofs.ByteLemmas.{Finds, differ, gap_is, gap_one, inside, le_or, number_along, number_inside, number_is, number_one, same_or, word_or}
 
 negation_along : (s : List ℕ) {i k : ℕ} → i ≡ k → Negation s i → Negation s k
 negation_along s e d = subst (λ x. Negation s x) e d
@@ -25,18 +26,27 @@ chance_one (given g p) (certain h n) e = absurd (n _ _ (percentage_along (gap_on
 chance_one (certain h n) (given g p) e = absurd (n _ _ (percentage_along (gap_one g h (sym e)) p))
 chance_one (certain g n) (certain h m) e = (e, refl)
 
-negated_after_one : {s : List ℕ} {i j k l : ℕ} {f g a b : Bool} → NegatedAfter s f i j a → NegatedAfter s g k l b → f ≡ g → i ≡ k → (j ≡ l) × (a ≡ b)
-negated_after_one already already f e = (e, refl)
-negated_after_one already (not_yet d) f e = absurd cc
-negated_after_one (not_yet d) already f e = absurd cc
-negated_after_one (not_yet c) (not_yet d) f e = negated_one c d e
+-- N is no %.
+negation_or_percentage : {A : Type 0} {s : List ℕ} {i j k l n : ℕ} → Negated s i j true → Chance s k l (Some n) → i ≡ k → A
+negation_or_percentage {s = s} (negated g (inl w)) (given h p) e = differ s 78 37 w.0 p.mark (omega arith) (gap_one g h e)
+negation_or_percentage {s = s} (negated g (inr w)) (given h p) e = differ s 78 37 w.0 p.mark (omega arith) (gap_one g h e)
 
 pub qualifiers_one : {s : List ℕ} {i j k l : ℕ} {a b : Bool} {m n : Option ℕ} → Qualifiers s i j a m → Qualifiers s k l b n → i ≡ k → (j ≡ l) × (a ≡ b) × (m ≡ n)
-qualifiers_one g h e =
-    let first = negated_one g.first h.first e in
-    let second = chance_one g.second h.second first.0 in
-    let third = negated_after_one g.third h.third first.1 second.0 in
-    (third.0, third.1, second.1)
+qualifiers_one (negation_first d c) (negation_first d' c') e =
+    let first = negated_one d d' e in
+    let second = chance_one c c' first.0 in
+    (second.0, refl, second.1)
+qualifiers_one (negation_first d c) (percentage_first c' d') e = negation_or_percentage d c' e
+qualifiers_one (negation_first d c) (neither d' c') e = let first = negated_one d d' e in absurd (false≢true (sym first.1))
+qualifiers_one (percentage_first c d) (negation_first d' c') e = negation_or_percentage d' c (sym e)
+qualifiers_one (percentage_first c d) (percentage_first c' d') e =
+    let first = chance_one c c' e in
+    let second = negated_one d d' first.0 in
+    (second.0, second.1, first.1)
+qualifiers_one (percentage_first c d) (neither d' c') e = let first = chance_one c c' e in let m = first.1 in absurd (cc)
+qualifiers_one (neither d c) (negation_first d' c') e = let first = negated_one d d' e in absurd (false≢true first.1)
+qualifiers_one (neither d c) (percentage_first c' d') e = let first = chance_one c c' e in let m = first.1 in absurd (cc)
+qualifiers_one (neither d c) (neither d' c') e = (e, refl, refl)
 
 negated_order : {s : List ℕ} {i j : ℕ} {d : Bool} → Negated s i j d → i ≤ j
 negated_order (negated g x) = omega (arith, g.order)
@@ -46,12 +56,10 @@ chance_order : {s : List ℕ} {i j : ℕ} {d : Option ℕ} → Chance s i j d �
 chance_order (given g x) = omega (arith, g.order, x.gap.order, x.digits.some)
 chance_order (certain g x) = omega arith
 
-after_order : {s : List ℕ} {f : Bool} {i j : ℕ} {d : Bool} → NegatedAfter s f i j d → i ≤ j
-after_order already = omega arith
-after_order (not_yet d) = negated_order d
-
 pub qualifiers_order : {s : List ℕ} {i j : ℕ} {d : Bool} {n : Option ℕ} → Qualifiers s i j d n → i ≤ j
-qualifiers_order m = omega (arith, negated_order m.first, chance_order m.second, after_order m.third)
+qualifiers_order (negation_first d c) = omega (arith, negated_order d, chance_order c)
+qualifiers_order (percentage_first c d) = omega (arith, chance_order c, negated_order d)
+qualifiers_order (neither d c) = omega arith
 
 negation_or : (s : List ℕ) (i : ℕ) → Negation s i ⊎ (Negation s i → ⊥)
 negation_or s i = elim (word_or s i (codes "NOT")) [
@@ -83,32 +91,35 @@ chance_is s i = let g = gap_is s i in elim (percentage_is s g.0) [
   | inr n ↦ (i, None, certain g.1 n)
 ]
 
-after_is : (s : List ℕ) (f : Bool) (i : ℕ) → (j : ℕ) × (d : Bool) × NegatedAfter s f i j d
-after_is s true i = (i, true, already)
-after_is s false i = let d = negated_is s i in (d.0, d.1, not_yet d.2)
+-- Where no negation stands, the qualifiers are a percentage and a negation after it, or none.
+qualifiers_after : {s : List ℕ} {i j k l : ℕ} {d : Bool} {c : Option ℕ} → Negated s i j false → Chance s j k c → Negated s k l d → Qualifiers s i l d c
+qualifiers_after (affirmed g n) (given h p) d = percentage_first (given h p) d
+qualifiers_after (affirmed g n) (certain h m) (affirmed k x) = neither (affirmed g n) (certain h m)
+qualifiers_after {s} (affirmed g n) (certain h m) (negated k x) = absurd (n (negation_along s (gap_one k g refl) x))
 
 pub qualifiers_is : (s : List ℕ) (i : ℕ) → (j : ℕ) × (d : Bool) × (c : Option ℕ) × Qualifiers s i j d c
-qualifiers_is s i =
-    let a = negated_is s i in
-    let b = chance_is s a.0 in
-    let c = after_is s a.1 b.0 in
-    (c.0, c.1, b.1, record { before = a.1; middle = a.0; last = b.0; first = a.2; second = b.2; third = c.2 })
+qualifiers_is s i = let a = negated_is s i in qualifiers_by a.1 a.2
+  where
+    qualifiers_by : {j : ℕ} (d : Bool) → Negated s i j d → (k : ℕ) × (e : Bool) × (c : Option ℕ) × Qualifiers s i k e c
+    qualifiers_by {j} true a = let b = chance_is s j in (b.0, true, b.1, negation_first a b.2)
+    qualifiers_by {j} false a = let b = chance_is s j in let c = negated_is s b.0 in (c.0, c.1, b.1, qualifiers_after a b.2 c.2)
 
-pub negated_inside : {s : List ℕ} {i j : ℕ} {d : Bool} → Negated s i j d → i ≤ length s → j ≤ length s
+negated_inside : {s : List ℕ} {i j : ℕ} {d : Bool} → Negated s i j d → i ≤ length s → j ≤ length s
 negated_inside {s} (negated {next} g (inl w)) l = let k = inside s (next + 1 + 1) (λ z. let e = w.1.1.0 in omega (arith, e, z)) in omega arith
 negated_inside {s} (negated {next} g (inr w)) l = let k = inside s (next + 1 + 1) (λ z. let e = w.1.1.0 in omega (arith, e, z)) in omega arith
 negated_inside (affirmed g n) l = l
 
-pub chance_inside : {s : List ℕ} {i j : ℕ} {c : Option ℕ} → Chance s i j c → i ≤ length s → j ≤ length s
+chance_inside : {s : List ℕ} {i j : ℕ} {c : Option ℕ} → Chance s i j c → i ≤ length s → j ≤ length s
 chance_inside (given g p) l = number_inside p.digits
 chance_inside (certain g n) l = l
 
-pub after_inside : {s : List ℕ} {f : Bool} {i j : ℕ} {d : Bool} → NegatedAfter s f i j d → i ≤ length s → j ≤ length s
-after_inside already l = l
-after_inside (not_yet d) l = negated_inside d l
+pub qualifiers_inside : {s : List ℕ} {i j : ℕ} {d : Bool} {c : Option ℕ} → Qualifiers s i j d c → i ≤ length s → j ≤ length s
+qualifiers_inside (negation_first d c) l = chance_inside c (negated_inside d l)
+qualifiers_inside (percentage_first c d) l = negated_inside d (chance_inside c l)
+qualifiers_inside (neither d c) l = l
 
-pub negated_already : (s : List ℕ) (i : ℕ) (f : Bool) (x : Bool × ℕ) → f ≡ true → x ≡ (true, i) → NegatedAfter s f i x.1 x.0
-negated_already s i f x e h = rw (e, h) already
+pub negation_read : {s : List ℕ} {i j k : ℕ} {d : Bool} {c : Option ℕ} (x : Bool × ℕ) → d ≡ true → Negated s i j d → Chance s j k c → x ≡ (true, k) → Qualifiers s i x.1 x.0 c
+negation_read {s} {i} {j} x first a b e = rw e (negation_first (subst (λ d. Negated s i j d) first a) b)
 
-pub negated_fresh : (s : List ℕ) (i : ℕ) (f : Bool) (x r : Bool × ℕ) → f ≡ false → x ≡ r → Negated s i r.1 r.0 → NegatedAfter s f i x.1 x.0
-negated_fresh s i f x r e h d = rw (e, h) (not_yet d)
+pub percentage_read : {s : List ℕ} {i j k : ℕ} {d : Bool} {c : Option ℕ} (x r : Bool × ℕ) → d ≡ false → Negated s i j d → Chance s j k c → Negated s k r.1 r.0 → x ≡ r → Qualifiers s i x.1 x.0 c
+percentage_read {s} {i} {j} x r first a b d e = rw e (qualifiers_after (subst (λ d. Negated s i j d) first a) b d)

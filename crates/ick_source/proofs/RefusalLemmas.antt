@@ -4,10 +4,10 @@ use Rattle.ick_bits.specs.declared.faults.FaultKind.{FaultKind}
 use Rattle.ick_bits.specs.declared.faults.FaultKind.TheVariants.{Fawning, Impolite, LabelRange, MeshTooLarge, NameRange, NoAbstainLabel, NoNextLabel, SameLabel, Unrecognised}
 use Rattle.ick_source.specs.ReadRefusals.{OnlyRefused}
 use Rattle.ick_source.specs.Ranges.{IsFirst}
-use Rattle.ick_source.specs.Refusals.{At, Compiles, FaultAt, FawningAt, ImpoliteAt, IsFirstFault, IsSound, IsSoundBelow, Refused, rank}
+use Rattle.ick_source.specs.Refusals.{At, longest, Compiles, FaultAt, FawningAt, ImpoliteAt, IsFirstFault, IsSound, IsSoundBelow, Refused, rank}
 use Rattle.ick_source.specs.Trees.{StatementTree}
 use Rattle.ick_source.proofs.ByteLemmas.{less_or}
-use Rattle.ick_source.proofs.CutLemmas.{cut_one}
+use Rattle.ick_source.proofs.CutLemmas.{cut_is, cut_one}
 
 pub At-inside : (P : StatementTree → Type 0) (all : List StatementTree) (m : ℕ) → At P all m → m ≤ length all
 At-inside P all zero h = omega arith
@@ -140,3 +140,27 @@ refused_only r = record { refused = r; only = λ other m h. refused_one r h; no_
 -- Statements whose manners were looked at last.
 pub judged : {all : List StatementTree} → IsSoundBelow (rank Impolite) all → ((n : ℕ) → ImpoliteAt all n → ⊥) → ((n : ℕ) → FawningAt all n → ⊥) → IsSound all
 judged {all} below a b = sound_all (sound_more Fawning refl (omega arith) (sound_more Impolite refl (omega arith) below a) b)
+
+never_before : {all : List StatementTree} {kind : FaultKind} → ((n : ℕ) → IsFirstFault all kind n → ⊥) → IsSoundBelow (rank kind) all → (k m : ℕ) → m < k → FaultAt kind all m → ⊥
+never_before never below zero m lt f = absurd (omega arith)
+never_before never below (suc k) m lt f = never m (record { fault = f; first = λ j l g. never_before never below k j (omega arith) g; least = below })
+
+-- Statements without a first fault have no fault.
+none_below : {all : List StatementTree} → ((kind : FaultKind) (n : ℕ) → IsFirstFault all kind n → ⊥) → (limit : ℕ) → IsSoundBelow limit all
+none_below {all} never zero = sound_below_none all
+none_below {all} never (suc limit) = record {
+  none = λ kind n lt f. elim (less_or (rank kind) limit) [
+    | inl (inl less) ↦ (none_below never limit).none kind n less f
+    | inl (inr more) ↦ absurd (omega arith)
+    | inr same ↦ never_before (never kind) (subst (λ r. IsSoundBelow r all) (sym same) (none_below never limit)) (suc n) n (omega arith) f
+  ];
+}
+
+pub answered : (text : List ℕ) → length text ≤ longest → ((trees : List StatementTree) → Compiles text trees → ⊥) → ((kind : FaultKind) (n : ℕ) → Refused text kind n → ⊥) → ⊥
+answered text fits no_program no_refusal =
+    let cut = cut_is text in
+    no_program cut.0 (record {
+      cut = cut.1;
+      fits = fits;
+      sound = sound_all (none_below (λ kind n first. no_refusal kind n (record { trees = cut.0; cut = cut.1; fits = fits; first_fault = first })) 8);
+    })

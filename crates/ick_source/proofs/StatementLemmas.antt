@@ -12,7 +12,7 @@ use Rattle.ick_source.specs.declared.faults.Faults.{Faults}
 use Rattle.ick_source.proofs.BodyPlaceLemmas.{body_is, body_longer, body_one}
 use Rattle.ick_source.proofs.BoundaryLemmas.{boundary_along, boundary_inside, boundary_is, next_boundary_is, next_boundary_one, opening_ends_inside, opening_inside, opening_longer, opening_one, opening_solid}
 use Rattle.ick_source.proofs.ByteLemmas.{Finds, gap_is, gap_one, less_or, white_or}
-use Rattle.ick_source.proofs.QualifierLemmas.{after_inside, chance_inside, negated_inside, qualifiers_is, qualifiers_one, qualifiers_order}
+use Rattle.ick_source.proofs.QualifierLemmas.{qualifiers_inside, qualifiers_is, qualifiers_one, qualifiers_order}
 
 recognised_one : {s : List ℕ} {b e f : ℕ} {t u : BodyTree} → Recognised s b e t → Recognised s b f u → (e ≡ f) × (t ≡ u)
 recognised_one g h = let one = body_one g.body h.body in (gap_one g.gap h.gap one.0, one.1)
@@ -100,7 +100,7 @@ pub trim : (s : List ℕ) (i e : ℕ) → (IsWhite (byte s i) → ⊥) → i < e
 trim s i e solid lt = trimmed_is s i e (e - i - 1) solid (omega arith) (λ k a b. absurd (omega arith))
 
 head_inside : {s : List ℕ} {i j : ℕ} {d : Bool} {c : Option ℕ} (x : IsStart s i) → Qualifiers s x.end j d c → j ≤ length s
-head_inside x m = after_inside m.third (chance_inside m.second (negated_inside m.first (opening_ends_inside x.opening)))
+head_inside x m = qualifiers_inside m (opening_ends_inside x.opening)
 
 pub statement_is : (s : List ℕ) (i : ℕ) → IsStart s i → (e : ℕ) × (p : StatementTree) × IsStatement s i e p
 statement_is s i x =

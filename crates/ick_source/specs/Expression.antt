@@ -34,46 +34,71 @@ mutual
   -- an operand; or an operand, an operator and an expression
   pub data IsExpr : Option Mark → List ℕ → List ℕ → Tree → ℕ → Type 0 where
     alone : {m : Option Mark} {from to : List ℕ} {t : Tree} {h : ℕ} →
-        IsOperand m from to t h → ((o : BinaryOp) → next_of to ≢ Binary o) →
+        IsOperand m from to t h →
+        ((o : BinaryOp) → next_of to ≢ Binary o) →
         IsExpr m from to t h
     joined : {m : Option Mark} {from mid to : List ℕ} {a b : Tree} {o : BinaryOp} {j k : ℕ} →
-        IsOperand m from mid a j → next_of mid ≡ Binary o → IsExpr m (past_next mid) to b k →
+        IsOperand m from mid a j →
+        next_of mid ≡ Binary o →
+        IsExpr m (past_next mid) to b k →
         IsExpr m from to (binary o a b) (suc (max j k))
 
   pub data IsOperand : Option Mark → List ℕ → List ℕ → Tree → ℕ → Type 0 where
-    of_simple : {m : Option Mark} {from to : List ℕ} {t : Tree} {h : ℕ} → IsSimple from to t h → IsOperand m from to t h
-    of_element : {m : Option Mark} {from to : List ℕ} {t : Tree} {h : ℕ} → IsElement m from to t h → IsOperand m from to t h
+    of_simple : {m : Option Mark} {from to : List ℕ} {t : Tree} {h : ℕ} →
+        IsSimple from to t h →
+        IsOperand m from to t h
+    of_element : {m : Option Mark} {from to : List ℕ} {t : Tree} {h : ℕ} →
+        IsElement m from to t h →
+        IsOperand m from to t h
 
   -- a spot or a mesh with its number, or a group; each may have a unary operator after its first mark
   pub data IsSimple : List ℕ → List ℕ → Tree → ℕ → Type 0 where
     spot : {from to : List ℕ} {kind : NameKind} {n : ℕ} →
-        next_of from ≡ Spot kind → IsNumber (past_unary (past_next from)) to n →
+        next_of from ≡ Spot kind →
+        IsNumber (past_unary (past_next from)) to n →
         IsSimple from to (under (unary_at (past_next from)) (scalar (record { kind = kind; number = n }))) 1
     constant : {from to : List ℕ} {n : ℕ} →
-        next_of from ≡ Hash → IsNumber (past_unary (past_next from)) to n →
+        next_of from ≡ Hash →
+        IsNumber (past_unary (past_next from)) to n →
         IsSimple from to (under (unary_at (past_next from)) (mesh n)) 1
     group : {from mid : List ℕ} {q : Mark} {t : Tree} {h : ℕ} →
-        next_of from ≡ Group q → IsExpr (Some q) (past_unary (past_next from)) mid t h → next_of mid ≡ Group q →
+        next_of from ≡ Group q →
+        IsExpr (Some q) (past_unary (past_next from)) mid t h →
+        next_of mid ≡ Group q →
         IsSimple from (past_next mid) (under (unary_at (past_next from)) t) (suc h)
 
   -- an array, SUB and its subscripts
   pub data IsElement : Option Mark → List ℕ → List ℕ → Tree → ℕ → Type 0 where
     indexed : {m : Option Mark} {from mid sub to : List ℕ} {kind : NameKind} {n : ℕ} {ts : Trees} {h : ℕ} →
-        next_of from ≡ Array kind → IsNumber (past_next from) mid n → IsWord (codes "SUB") mid sub → IsSubs m sub to ts h →
+        next_of from ≡ Array kind →
+        IsNumber (past_next from) mid n →
+        IsWord (codes "SUB") mid sub →
+        IsSubs m sub to ts h →
         IsElement m from to (element (record { kind = kind; number = n }) ts) (suc h)
 
   -- an element, which takes all that follows; or a simple and the rest
   pub data IsSubs : Option Mark → List ℕ → List ℕ → Trees → ℕ → Type 0 where
-    nested : {m : Option Mark} {from to : List ℕ} {t : Tree} {h : ℕ} → IsElement m from to t h → IsSubs m from to (more t none) h
+    nested : {m : Option Mark} {from to : List ℕ} {t : Tree} {h : ℕ} →
+        IsElement m from to t h →
+        IsSubs m from to (more t none) h
     first : {m : Option Mark} {from mid to : List ℕ} {t : Tree} {ts : Trees} {j k : ℕ} →
-        IsSimple from mid t j → IsRest m mid to ts k → IsSubs m from to (more t ts) (max j k)
+        IsSimple from mid t j →
+        IsRest m mid to ts k →
+        IsSubs m from to (more t ts) (max j k)
 
   -- nothing, or an element, or a further simple that doesn't begin with the mark m, and the rest
   pub data IsRest : Option Mark → List ℕ → List ℕ → Trees → ℕ → Type 0 where
-    nothing : {m : Option Mark} {from : List ℕ} → begins_sub m (next_of from) ≡ false → IsRest m from from none 0
-    last : {m : Option Mark} {from to : List ℕ} {t : Tree} {h : ℕ} → IsElement m from to t h → IsRest m from to (more t none) h
+    nothing : {m : Option Mark} {from : List ℕ} →
+        begins_sub m (next_of from) ≡ false →
+        IsRest m from from none 0
+    last : {m : Option Mark} {from to : List ℕ} {t : Tree} {h : ℕ} →
+        IsElement m from to t h →
+        IsRest m from to (more t none) h
     further : {m : Option Mark} {from mid to : List ℕ} {t : Tree} {ts : Trees} {j k : ℕ} →
-        begins_sub m (next_of from) ≡ true → IsSimple from mid t j → IsRest m mid to ts k → IsRest m from to (more t ts) (max j k)
+        begins_sub m (next_of from) ≡ true →
+        IsSimple from mid t j →
+        IsRest m mid to ts k →
+        IsRest m from to (more t ts) (max j k)
 
 -- two readings from one place are one
 pub record Same (A : Type 0) (e e' : List ℕ) (x x' : A) (h h' : ℕ) : Type 0 where

@@ -1,5 +1,5 @@
 -- What holds of each text.
-use Rattle.std.specs.Prelude.{◌≡◌, ℕ, List, Option}
+use Rattle.std.specs.Prelude.{◌≡◌, ℕ, ◌≤◌, List, length, Option}
 use Rattle.ick_bits.specs.declared.faults.FaultKind.{FaultKind}
 use Rattle.ick_source.specs.declared.lead.Mark.{Mark}
 use Rattle.ick_source.specs.Tree.{Tree}
@@ -8,7 +8,7 @@ use Rattle.ick_source.specs.BodyTree.{BodyTree}
 use Rattle.ick_source.specs.BodyPlaces.{IsBody}
 use Rattle.ick_source.specs.Trees.{StatementTree}
 use Rattle.ick_source.specs.Cut.{Cut}
-use Rattle.ick_source.specs.Refusals.{Compiles, Refused}
+use Rattle.ick_source.specs.Refusals.{Compiles, Refused, longest}
 
 -- From one place, under one mark, at most one expression stands: one end, one tree, one height.
 abbrev pub OneReading : Type 0
@@ -25,7 +25,8 @@ abbrev pub OneCut : Type 0
 OneCut = (text : List ℕ) →
     (trees : List StatementTree) × Cut text trees × ((others : List StatementTree) → Cut text others → others ≡ trees)
 
--- Two programs of a text are the same, two refusals are the same, and there is no program beside a refusal.
+-- Two programs of a text are the same, two refusals are the same, there is no program beside a refusal, and a text that
+-- is not too long is not without both: it compiles or is refused.
 pub record HasOneAnswer (text : List ℕ) : Type 0 where
   pub compiles : (trees others : List StatementTree) →
       Compiles text trees → Compiles text others → others ≡ trees
@@ -33,6 +34,9 @@ pub record HasOneAnswer (text : List ℕ) : Type 0 where
       Refused text kind n → Refused text other m → (other ≡ kind) × (m ≡ n)
   pub never_both : (trees : List StatementTree) (kind : FaultKind) (n : ℕ) →
       Compiles text trees → Refused text kind n → ⊥
+  pub answered : length text ≤ longest →
+      ((trees : List StatementTree) → Compiles text trees → ⊥) →
+      ((kind : FaultKind) (n : ℕ) → Refused text kind n → ⊥) → ⊥
 
 abbrev pub OneRefusal : Type 0
 OneRefusal = (text : List ℕ) → HasOneAnswer text

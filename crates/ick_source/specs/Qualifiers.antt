@@ -25,17 +25,17 @@ pub data Chance (text : List ℕ) : ℕ → ℕ → Option ℕ → Type 0 where
   certain : {from next : ℕ} → Gap text from next →
       ((to number : ℕ) → Percentage text next to number → ⊥) → Chance text from from None
 
--- After a negation there is no second one.
-pub data NegatedAfter (text : List ℕ) : Bool → ℕ → ℕ → Bool → Type 0 where
-  already : {from : ℕ} → NegatedAfter text true from from true
-  not_yet : {from to : ℕ} {negative : Bool} → Negated text from to negative →
-      NegatedAfter text false from to negative
-
 -- A negation and a percentage, each at most once and in either order.
-pub record Qualifiers (text : List ℕ) (from to : ℕ) (negative : Bool) (percentage : Option ℕ) : Type 0 where
-  pub before : Bool
-  pub middle : ℕ
-  pub last : ℕ
-  pub first : Negated text from middle before
-  pub second : Chance text middle last percentage
-  pub third : NegatedAfter text before last to negative
+pub data Qualifiers (text : List ℕ) : ℕ → ℕ → Bool → Option ℕ → Type 0 where
+  negation_first : {from middle to : ℕ} {percentage : Option ℕ} →
+      Negated text from middle true →
+      Chance text middle to percentage →
+      Qualifiers text from to true percentage
+  percentage_first : {from middle to number : ℕ} {negative : Bool} →
+      Chance text from middle (Some number) →
+      Negated text middle to negative →
+      Qualifiers text from to negative (Some number)
+  neither : {from : ℕ} →
+      Negated text from from false →
+      Chance text from from None →
+      Qualifiers text from from false None

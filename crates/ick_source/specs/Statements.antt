@@ -15,7 +15,8 @@ pub record Head (text : List ℕ) (from to : ℕ) (tree : StatementTree) : Type 
   pub qualifiers : Qualifiers text after to tree.abstained percentage
   pub chance : tree.chance ≡ unwrap_or percentage 100
 
--- A body and white bytes, up to a boundary.
+-- A body and white bytes, up to a boundary. The body is one of its own bytes too: what follows a part of a body only
+-- says that the part goes no further, and at the end of the bytes none does.
 pub record Recognised (text : List ℕ) (from to : ℕ) (tree : BodyTree) : Type 0 where
   pub last : ℕ
   pub body : IsBody text from last tree

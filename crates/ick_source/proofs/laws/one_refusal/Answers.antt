@@ -1,4 +1,4 @@
-use Rattle.ick_source.proofs.RefusalLemmas.{compiles_one, refused_one, refused_not}
+use Rattle.ick_source.proofs.RefusalLemmas.{answered, compiles_one, refused_one, refused_not}
 use Rattle.ick_source.proofs.laws.one_refusal.Goals as goal
 
 pub returns : goal.returns
@@ -6,4 +6,5 @@ returns c = λ text. record {
   compiles = λ trees others x y. compiles_one y x;
   refused = λ kind other n m x y. refused_one x y;
   never_both = λ trees kind n x y. refused_not y trees x;
+  answered = answered text;
 }
