@@ -4,6 +4,7 @@ pub mod Memory
 pub mod Numeral
 pub mod Operators
 pub mod Quoted
+pub mod Tape
 pub mod ValueFields
 pub mod Values
 pub mod White

@@ -10,12 +10,12 @@ use Rattle.ick_source.specs.Kinds.{kind_of}
 use Rattle.ick_code.specs.declared.op.Op.{Op}
 use Rattle.ick_code.specs.declared.code.Line.{Line}
 use Rattle.ick_code.specs.declared.code.Code.{Code}
-use Rattle.ick_code.specs.State.{same_name}
-use Rattle.ick_code.specs.Abstain.{statement_at}
+use Rattle.ick_code.specs.meaning.State.{same_name}
+use Rattle.ick_code.specs.meaning.Abstain.{statement_at}
 use Rattle.ick_code.specs.Names.{is_scalar_name, is_array_name, each_once, names_of, slots_of}
 use Rattle.ick_code.specs.Counts.{count_after, peak}
 use Rattle.ick_code.specs.Code.{Means, IsLine, IsCode}
-use Rattle.ick_code.specs.Codes.{code_program, code_slots, line_at, line_ops, code_ops, Shows, IsCompiled}
+use Rattle.ick_code.specs.Compiled.{code_program, code_slots, line_at, line_ops, code_ops, Shows, IsCompiled}
 use Rattle.ick_code.proofs.SlotLemmas.{each_once-distinct}
 use Rattle.ick_code.proofs.SameNames.{both_left, both_right}
 use Rattle.ick_code.proofs.Slotted.{slots_is}

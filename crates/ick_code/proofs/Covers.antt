@@ -4,7 +4,7 @@ use Rattle.std.proofs.lemmas.List.Folds.{list_any-append}
 use Rattle.ick_source.specs.declared.tree.Name.{Name}
 use Rattle.ick_source.specs.NameKinds.{is_array}
 use Rattle.ick_code.specs.declared.op.SlotName.TheVariants.{Scalar, Array}
-use Rattle.ick_code.specs.State.{same_name}
+use Rattle.ick_code.specs.meaning.State.{same_name}
 use Rattle.ick_code.proofs.SameNames.{same_name-refl}
 use Rattle.ick_code.specs.Effects.{Slots, name_at}
 use Rattle.ick_code.specs.Names.{is_among, slot_in, slot_name}

@@ -14,3 +14,4 @@ pub mod LineLemmas
 pub mod CodeLemmas
 mod ProgramRows
 pub mod Rows
+mod CornerRows

@@ -14,7 +14,7 @@ use Rattle.ick_source.specs.Trees.{statement_tree_of}
 use Rattle.ick_code.specs.declared.op.Op.{Op}
 use Rattle.ick_code.specs.declared.op.Op.TheVariants.{Call, AbstainOne, ReinstateOne}
 use Rattle.ick_code.specs.declared.code.Line.{Line}
-use Rattle.ick_code.specs.Control.{place_of}
+use Rattle.ick_code.specs.meaning.Control.{place_of}
 use Rattle.ick_code.specs.Effects.{Slots, effects}
 use Rattle.ick_code.specs.Names.{slots_of}
 use Rattle.ick_code.specs.Counts.{peak}

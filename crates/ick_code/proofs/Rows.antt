@@ -12,15 +12,15 @@ use Rattle.ick_source.specs.declared.tree.BinaryOp.TheVariants.{Mingle, Select}
 use Rattle.ick_source.specs.Tree.{mesh, scalar, element, unary, binary, none, more}
 use Rattle.ick_source.specs.Trees.{StatementTree}
 use Rattle.ick_source.specs.BodyTree.{give_up, write_in, calculate}
-use Rattle.ick_code.specs.State.{State, with_entry}
-use Rattle.ick_code.specs.Value.{value_of}
-use Rattle.ick_code.specs.Outcome.{done, faults}
-use Rattle.ick_code.specs.Store.{store, resize}
-use Rattle.ick_code.specs.Control.{call, resume, forget}
-use Rattle.ick_code.specs.Stash.{stash, retrieve, ignore}
-use Rattle.ick_code.specs.Abstain.{set_abstained}
-use Rattle.ick_code.specs.Do.{do_body}
-use Rattle.ick_code.specs.Move.{first_state}
+use Rattle.ick_code.specs.meaning.State.{State, with_entry}
+use Rattle.ick_code.specs.meaning.Value.{value_of}
+use Rattle.ick_code.specs.meaning.Outcome.{done, faults}
+use Rattle.ick_code.specs.meaning.Store.{store, resize}
+use Rattle.ick_code.specs.meaning.Control.{call, resume, forget}
+use Rattle.ick_code.specs.meaning.Stash.{stash, retrieve, ignore}
+use Rattle.ick_code.specs.meaning.Abstain.{set_abstained}
+use Rattle.ick_code.specs.meaning.Do.{do_body}
+use Rattle.ick_code.specs.meaning.Move.{first_state}
 
 spot : Name
 spot = record { kind = Onespot; number = 1 }
@@ -75,23 +75,23 @@ too_many_elements : (s : State) → resize tail (256 ∷ 257 ∷ []) s ≡ fault
 too_many_elements s = refl
 
 -- NEXT with 78 entries and with 79
-last_entry : (s : State) → call 5 (record s { entries = replicate 78 1 }) ≡ done (record s { place = 5; entries = s.place ∷ replicate 78 1 })
+last_entry : (s : State) → call 5 (record s { returns = replicate 78 1 }) ≡ done (record s { place = 5; returns = s.place ∷ replicate 78 1 })
 last_entry s = refl
 
-no_entry_left : (s : State) → call 5 (record s { entries = replicate 79 1 }) ≡ faults NextDepth [] (record s { entries = replicate 79 1 })
+no_entry_left : (s : State) → call 5 (record s { returns = replicate 79 1 }) ≡ faults NextDepth [] (record s { returns = replicate 79 1 })
 no_entry_left s = refl
 
 -- RESUME goes to the last entry taken
-resumes : (s : State) → resume 2 (record s { entries = 7 ∷ 5 ∷ 3 ∷ [] }) ≡ done (record s { place = 5; entries = 3 ∷ [] })
+resumes : (s : State) → resume 2 (record s { returns = 7 ∷ 5 ∷ 3 ∷ [] }) ≡ done (record s { place = 5; returns = 3 ∷ [] })
 resumes s = refl
 
 resumes_none : (s : State) → resume 0 s ≡ faults ResumeZero [] s
 resumes_none s = refl
 
-resumes_too_many : (s : State) → resume 3 (record s { entries = 7 ∷ 5 ∷ [] }) ≡ faults Rupture [] (record s { entries = 7 ∷ 5 ∷ [] })
+resumes_too_many : (s : State) → resume 3 (record s { returns = 7 ∷ 5 ∷ [] }) ≡ faults Rupture [] (record s { returns = 7 ∷ 5 ∷ [] })
 resumes_too_many s = refl
 
-forgets_all : (s : State) → forget 9 (record s { entries = 7 ∷ 5 ∷ [] }) ≡ record s { entries = [] }
+forgets_all : (s : State) → forget 9 (record s { returns = 7 ∷ 5 ∷ [] }) ≡ record s { returns = [] }
 forgets_all s = refl
 
 -- an ignored variable's stash is popped, and its value stays

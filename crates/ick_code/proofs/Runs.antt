@@ -27,15 +27,15 @@ use Rattle.ick_code.specs.declared.op.Op.{Op}
 use Rattle.ick_code.specs.declared.op.Op.TheVariants.{Fetch, StoreAt, Resize, Forget, Resume, Save, Restore, Hide, Show, AbstainKind, ReinstateKind, Print, ReadAt}
 use Rattle.ick_code.specs.declared.op.SlotName.{SlotName}
 use Rattle.ick_code.specs.declared.op.SlotName.TheVariants.{Array}
-use Rattle.ick_code.specs.State.{State}
-use Rattle.ick_code.specs.Value.{value_of, values_of, and_then, element_value, unary_value, binary_value}
-use Rattle.ick_code.specs.Outcome.{Outcome, done, faults, then_do, with_value, in_turn}
-use Rattle.ick_code.specs.Store.{store_at, resize}
-use Rattle.ick_code.specs.Control.{place_of, call, forget, resume}
-use Rattle.ick_code.specs.Stash.{stash, retrieve, ignore}
-use Rattle.ick_code.specs.Abstain.{set_kind_abstained}
-use Rattle.ick_code.specs.InputOutput.{read_at, print}
-use Rattle.ick_code.specs.Do.{store_to, write_to, print_item, do_body}
+use Rattle.ick_code.specs.meaning.State.{State}
+use Rattle.ick_code.specs.meaning.Value.{value_of, values_of, and_then, element_value, unary_value, binary_value}
+use Rattle.ick_code.specs.meaning.Outcome.{Outcome, done, faults, then_do, with_value, in_turn}
+use Rattle.ick_code.specs.meaning.Store.{store_at, resize}
+use Rattle.ick_code.specs.meaning.Control.{place_of, call, forget, resume}
+use Rattle.ick_code.specs.meaning.Stash.{stash, retrieve, ignore}
+use Rattle.ick_code.specs.meaning.Abstain.{set_kind_abstained}
+use Rattle.ick_code.specs.meaning.InputOutput.{read_at, print}
+use Rattle.ick_code.specs.meaning.Do.{store_to, write_to, print_item, do_body}
 use Rattle.ick_code.specs.Effects.{Slots, name_at, Flow, going, broken, stuck, flow_of, gives, on_one, on_last, at_name, effect, effects, then_flow}
 use Rattle.ick_code.specs.Names.{names_of_tree, names_of_trees, names_of_body, slot_in, slot_name}
 use Rattle.ick_code.specs.Operations.{unary_op_of, binary_op_of, ops_of_tree, ops_of_trees, store_ops, read_ops, print_ops, name_ops, gerund_ops, ops_of_body}

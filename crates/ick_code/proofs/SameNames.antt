@@ -4,7 +4,7 @@ use Rattle.std.proofs.lemmas.Bool.{eqb-true}
 use Rattle.ick_source.specs.declared.tree.Name.{Name}
 use Rattle.ick_source.specs.declared.tree.NameKind.{NameKind}
 use Rattle.ick_source.specs.declared.tree.NameKind.TheVariants.{Onespot, Twospot, Tail, Hybrid}
-use Rattle.ick_code.specs.State.{same_kind, same_name}
+use Rattle.ick_code.specs.meaning.State.{same_kind, same_name}
 use Rattle.ick_code.specs.Names.{kind_rank, rank_of}
 
 same_kind-refl : (k : NameKind) → same_kind k k ≡ true

@@ -13,7 +13,7 @@ use Rattle.std.specs.Ordering.{nat_cmp, is_eq}
 use Rattle.std.proofs.lemmas.List.Folds.{list_any-append, list_all-append}
 use Rattle.std.proofs.lemmas.Map.Steps.{length-le_from_distinct_below}
 use Rattle.ick_source.specs.declared.tree.Name.{Name}
-use Rattle.ick_code.specs.State.{same_name}
+use Rattle.ick_code.specs.meaning.State.{same_name}
 use Rattle.ick_code.specs.Names.{is_among, each_once, found, slot_in, with_name, rank_of, is_short}
 use Rattle.ick_code.proofs.SameNames.{same_name-refl, same_name_is, rank_is, kind_rank-below, both_left, both_right}
 

@@ -6,7 +6,7 @@ use Rattle.ick_source.specs.declared.tree.Name.{Name}
 use Rattle.ick_source.specs.Trees.{StatementTree}
 use Rattle.ick_source.specs.NameKinds.{is_array, is_body_kinded, is_statement_kinded}
 use Rattle.ick_code.specs.declared.op.SlotName.TheVariants.{Scalar, Array}
-use Rattle.ick_code.specs.State.{same_name}
+use Rattle.ick_code.specs.meaning.State.{same_name}
 use Rattle.ick_code.specs.Effects.{Slots, name_at}
 use Rattle.ick_code.specs.Names.{names_of_body, names_of, is_scalar_name, is_array_name, is_among, each_once, slots_of, slot_in, with_name}
 use Rattle.ick_code.specs.Tables.{with_slot, with_names, no_slots}

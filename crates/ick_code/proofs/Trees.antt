@@ -14,7 +14,7 @@ use Rattle.ick_source.specs.declared.statements.Statement.{Statement}
 use Rattle.ick_source.specs.BodyTree.{target_tree, item_tree, body_tree_of}
 use Rattle.ick_source.specs.Trees.{statement_tree_of}
 use Rattle.ick_source.specs.NameKinds.{is_array, count_in, are_few, is_kinded, are_kinded, is_body_kinded, is_statement_kinded}
-use Rattle.ick_code.specs.Do.{trees_from}
+use Rattle.ick_code.specs.meaning.Do.{trees_from}
 use Rattle.ick_code.specs.Names.{names_of_tree, names_of_trees}
 use Rattle.ick_code.proofs.SameNames.{both_left, both_right, second_of, third_of}
 use Rattle.ick_source.specs.Tree.{element, more, tree_of, trees_of, trees_in}

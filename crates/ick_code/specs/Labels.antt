@@ -4,7 +4,7 @@ use Rattle.std.specs.BTreeMap.{get}
 use Rattle.std.specs.Ordering.{nat_cmp}
 use Rattle.ick_source.specs.Trees.{StatementTree}
 use Rattle.ick_code.specs.declared.labels.Labels.{Labels}
-use Rattle.ick_code.specs.Control.{is_label}
+use Rattle.ick_code.specs.meaning.Control.{is_label}
 
 -- the number of the first statement with a label, where there is one
 abbrev pub first_place : ℕ → List StatementTree → Option ℕ

@@ -10,7 +10,7 @@ use Rattle.ick_source.specs.Trees.{StatementTree}
 use Rattle.ick_source.specs.NameKinds.{is_array}
 use Rattle.ick_code.specs.declared.op.SlotName.{SlotName}
 use Rattle.ick_code.specs.declared.op.SlotName.TheVariants.{Scalar, Array}
-use Rattle.ick_code.specs.State.{same_name}
+use Rattle.ick_code.specs.meaning.State.{same_name}
 use Rattle.ick_code.specs.Effects.{Slots}
 
 abbrev mutual

@@ -39,11 +39,11 @@ pub struct Code<'a> {
 }
 
 impl<'a> Code<'a> {
-    ghost use Rattle.std.specs.Prelude.{Some, IfSome, slice_get, option_map};
+    ghost use Rattle.std.specs.Prelude.{Some, IsSomeAnd, slice_get, option_map};
     ghost use Rattle.ick_source.specs.Kinds.{kind_of};
-    ghost use Rattle.ick_code.specs.Abstain.{statement_at};
+    ghost use Rattle.ick_code.specs.meaning.Abstain.{statement_at};
     ghost use Rattle.ick_code.specs.Code.{Means};
-    ghost use Rattle.ick_code.specs.Codes.{code_program, code_slots, line_at, code_ops, code_operands, Shows, IsCompiled};
+    ghost use Rattle.ick_code.specs.Compiled.{code_program, code_slots, line_at, code_ops, code_operands, Shows, IsCompiled};
 
     /// Puts together what was compiled from a program.
     pub(crate) fn new(
@@ -66,6 +66,11 @@ impl<'a> Code<'a> {
         }
     }
 
+    /// Its operations do what the statements do that it was compiled from.
+    pub fn law(&self)
+        ensures { IsCompiled (code_program self.now) self.now }
+    {}
+
     /// The number of statements.
     pub fn count(&self) -> u32
         ensures { result ≡ length (code_program self.now) }
@@ -79,7 +84,7 @@ impl<'a> Code<'a> {
         requires first { 1 ≤ n }
         requires last { n ≤ length (code_program self.now) }
         ensures ops { result.now ≡ code_ops self.now n }
-        ensures means { IfSome (statement_at (code_program self.now) n) (λ statement. Means (code_program self.now) (code_slots self.now) result.now statement (code_operands self.now)) }
+        ensures means { IsSomeAnd (statement_at (code_program self.now) n) (λ statement. Means (code_program self.now) (code_slots self.now) result.now statement (code_operands self.now)) }
     {
         let line = self.line(n);
         &self.ops[line.from..line.to]

@@ -8,7 +8,7 @@ ghost use Rattle.ick_code.specs.Tables.{table_slots};
 ghost use Rattle.ick_code.specs.Labels.{place_in};
 ghost use Rattle.ick_code.specs.Operations.{ops_of_body};
 ghost use Rattle.ick_code.specs.Lines.{IsLineOf};
-ghost use Rattle.ick_code.specs.Codes.{IsCompiled};
+ghost use Rattle.ick_code.specs.Compiled.{IsCompiled};
 
 use crate::code::{Code, Line};
 use crate::counts::most_operands;

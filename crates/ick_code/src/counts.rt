@@ -31,7 +31,8 @@ fn taken(op: Op) -> usize
         Op::Mingle | Op::Select => 2,
         Op::Save(_) | Op::Restore(_) | Op::Hide(_) | Op::Show(_) => 0,
         Op::AbstainOne(_) | Op::ReinstateOne(_) | Op::AbstainKind(_) | Op::ReinstateKind(_) => 0,
-        Op::ReadTo(_) | Op::Stop | Op::Fail => 0,
+        Op::ReadTo(_) | Op::PrintArray(_) | Op::ReadArray(_) => 0,
+        Op::Stop | Op::Fail => 0,
     }
 }
 
@@ -47,6 +48,7 @@ fn given(op: Op) -> usize
         Op::Call(_) | Op::Forget | Op::Resume => 0,
         Op::Save(_) | Op::Restore(_) | Op::Hide(_) | Op::Show(_) => 0,
         Op::AbstainOne(_) | Op::ReinstateOne(_) | Op::AbstainKind(_) | Op::ReinstateKind(_) => 0,
-        Op::Print | Op::ReadTo(_) | Op::ReadAt(_, _) | Op::Stop | Op::Fail => 0,
+        Op::Print | Op::ReadTo(_) | Op::ReadAt(_, _) => 0,
+        Op::PrintArray(_) | Op::ReadArray(_) | Op::Stop | Op::Fail => 0,
     }
 }

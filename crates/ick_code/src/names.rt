@@ -6,7 +6,7 @@ ghost use Rattle.std.specs.BTreeMap.{get};
 ghost use Rattle.std.specs.Ordering.{nat_cmp};
 ghost use Rattle.std.proofs.lemmas.Map.Keys.{IsDistinct-prop};
 ghost use Rattle.ick_source.specs.declared.tree.Name.{Name as Named};
-ghost use Rattle.ick_code.specs.State.{same_name};
+ghost use Rattle.ick_code.specs.meaning.State.{same_name};
 ghost use Rattle.ick_code.specs.Names.{found, slot_in, with_name, rank_of, kind_rank, is_short};
 
 use ick_bits::NoMemory;

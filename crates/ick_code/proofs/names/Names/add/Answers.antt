@@ -2,7 +2,7 @@ use Rattle.std.proofs.Common.{◌≡◌, ◌<◌, true, false, List, [], ◌∷�
 use Rattle.std.specs.BTreeMap.{get, Updates}
 use Rattle.std.specs.List.{IsDistinct, list_all}
 use Rattle.ick_source.specs.declared.tree.Name.{Name}
-use Rattle.ick_code.specs.State.{same_name}
+use Rattle.ick_code.specs.meaning.State.{same_name}
 use Rattle.ick_code.specs.Names.{found, rank_of, is_short}
 use Rattle.ick_code.proofs.SlotLemmas.{few_names, once_more, short_more, indexed_more, among_indexed, with_present, with_absent}
 use Rattle.ick_code.proofs.names.Names.add.Goals as goal
