@@ -10,7 +10,7 @@ pub mod CountLemmas
 pub mod Covers
 pub mod Slotted
 pub mod Runs
-pub mod LineLemmas
+pub mod CompiledStatements
 pub mod CodeLemmas
 mod ProgramRows
 pub mod Rows

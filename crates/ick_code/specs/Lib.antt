@@ -6,6 +6,6 @@ pub mod Tables
 pub mod Labels
 pub mod Forms
 pub mod Operations
-pub mod Lines
+pub mod Emitted
 pub mod Code
 pub mod Compiled

@@ -12,7 +12,7 @@ use std::snapshot::Snapshot;
 
 /// Where the operations of a statement stand, and what a run has to know of it beside them.
 #[derive(Drop)]
-pub struct Line<'a> {
+pub struct CompiledStatement<'a> {
     pub from: usize,
     pub to: usize,
     pub chance: u8,
@@ -28,12 +28,12 @@ pub struct Line<'a> {
 pub struct Code<'a> {
     program: Snapshot<Program<'a>>,
     ops: Vec<Op>,
-    lines: Vec<Line<'a>>,
+    statements: Vec<CompiledStatement<'a>>,
     scalars: Vec<Name>,
     arrays: Vec<Name>,
     operands: usize,
-    pub ghost compiled: { IsCode (trees_of program.value) scalars.items arrays.items operands ops.items lines.items } by { Prim.hlevel props },
-    pub ghost few: { length lines.items ≤ 524288 },
+    pub ghost compiled: { IsCode (trees_of program.value) scalars.items arrays.items operands ops.items statements.items } by { Prim.hlevel props },
+    pub ghost few: { length statements.items ≤ 524288 },
     pub ghost few_scalars: { length scalars.items ≤ 262144 },
     pub ghost few_arrays: { length arrays.items ≤ 262144 },
 }
@@ -41,25 +41,25 @@ pub struct Code<'a> {
 impl<'a> Code<'a> {
     ghost use Rattle.std.specs.Prelude.{Some, IsSomeAnd, slice_get, option_map};
     ghost use Rattle.ick_source.specs.Kinds.{kind_of};
-    ghost use Rattle.ick_code.specs.meaning.Abstain.{statement_at};
+    ghost use Rattle.ick_code.specs.meaning.State.{statement_at};
     ghost use Rattle.ick_code.specs.Code.{Means};
-    ghost use Rattle.ick_code.specs.Compiled.{code_program, code_slots, line_at, code_ops, code_operands, Shows, IsCompiled};
+    ghost use Rattle.ick_code.specs.Compiled.{code_program, code_slots, compiled_at, code_ops, code_operands, Shows, IsCompiled};
 
     /// Puts together what was compiled from a program.
     pub(crate) fn new(
         program: &Program<'a>,
         ops: Vec<Op>,
-        lines: Vec<Line<'a>>,
+        statements: Vec<CompiledStatement<'a>>,
         table: Table,
         operands: usize,
     ) -> Code<'a>
-        requires { IsCode (trees_of program.now) table.scalars.list.items table.arrays.list.items operands ops.items lines.items }
+        requires { IsCode (trees_of program.now) table.scalars.list.items table.arrays.list.items operands ops.items statements.items }
         ensures { IsCompiled (trees_of program.now) result }
     {
         Code {
             program: Snapshot::of(program),
             ops,
-            lines,
+            statements,
             scalars: table.scalars.into_list(),
             arrays: table.arrays.into_list(),
             operands,
@@ -75,7 +75,7 @@ impl<'a> Code<'a> {
     pub fn count(&self) -> u32
         ensures { result ≡ length (code_program self.now) }
     {
-        self.lines.len() as u32
+        self.statements.len() as u32
     }
 
     /// The operations of statement `n`, from 1 to `count()`. Worked one after another, from no operands on and up to the first fault,
@@ -86,8 +86,8 @@ impl<'a> Code<'a> {
         ensures ops { result.now ≡ code_ops self.now n }
         ensures means { IsSomeAnd (statement_at (code_program self.now) n) (λ statement. Means (code_program self.now) (code_slots self.now) result.now statement (code_operands self.now)) }
     {
-        let line = self.line(n);
-        &self.ops[line.from..line.to]
+        let compiled = self.statement(n);
+        &self.ops[compiled.from..compiled.to]
     }
 
     /// The chance of statement `n`, from 1 to `count()`, of being done each time that it is met, in percent (Revised Manual, 4.3).
@@ -96,7 +96,7 @@ impl<'a> Code<'a> {
         requires last { n ≤ length (code_program self.now) }
         ensures { option_map (λ statement. statement.chance) (statement_at (code_program self.now) n) ≡ Some result }
     {
-        self.line(n).chance
+        self.statement(n).chance
     }
 
     /// Whether statement `n`, from 1 to `count()`, is abstained from at the start (Revised Manual, 4.3).
@@ -105,7 +105,7 @@ impl<'a> Code<'a> {
         requires last { n ≤ length (code_program self.now) }
         ensures { option_map (λ statement. statement.abstained) (statement_at (code_program self.now) n) ≡ Some result }
     {
-        self.line(n).abstained
+        self.statement(n).abstained
     }
 
     /// The kind of statement `n`, from 1 to `count()`.
@@ -114,7 +114,7 @@ impl<'a> Code<'a> {
         requires last { n ≤ length (code_program self.now) }
         ensures { option_map (λ statement. kind_of statement.body) (statement_at (code_program self.now) n) ≡ Some result }
     {
-        self.line(n).kind
+        self.statement(n).kind
     }
 
     /// The text of statement `n`, from 1 to `count()`: its bytes in the source.
@@ -123,7 +123,7 @@ impl<'a> Code<'a> {
         requires last { n ≤ length (code_program self.now) }
         ensures { option_map (λ statement. statement.text) (statement_at (code_program self.now) n) ≡ Some result.now }
     {
-        self.line(n).text
+        self.statement(n).text
     }
 
     /// The number of slots of scalars, which are counted from 0.
@@ -163,15 +163,15 @@ impl<'a> Code<'a> {
         self.operands
     }
 
-    /// The line of a statement.
-    fn line(&self, n: u32) -> &Line<'a>
+    /// What is kept of a statement.
+    fn statement(&self, n: u32) -> &CompiledStatement<'a>
         requires first { 1 ≤ n }
         requires last { n ≤ length (code_program self.now) }
-        ensures at { line_at self.now.lines.items n ≡ Some result.now }
+        ensures at { compiled_at self.now.statements.items n ≡ Some result.now }
         ensures order { result.now.from ≤ result.now.to }
         ensures within { result.now.to ≤ length self.now.ops.items }
         ensures shows { Shows (statement_at (code_program self.now) n) result.now }
     {
-        &self.lines[n as usize - 1]
+        &self.statements[n as usize - 1]
     }
 }

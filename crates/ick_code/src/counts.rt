@@ -1,7 +1,7 @@
 //! How many operands operations take, give and keep.
 
 ghost use Rattle.std.specs.Prelude.{◌≡◌, ◌≤◌};
-ghost use Rattle.ick_code.specs.Counts.{taken_by, given_by, peak};
+ghost use Rattle.ick_code.specs.Counts.{popped_by, pushed_by, peak};
 
 use crate::op::Op;
 
@@ -20,7 +20,7 @@ pub fn most_operands(ops: &[Op]) -> usize
 
 /// How many operands an operation takes.
 fn taken(op: Op) -> usize
-    ensures { result ≡ taken_by op }
+    ensures { result ≡ popped_by op }
 {
     match op {
         Op::Constant(_) | Op::Load(_) | Op::Call(_) => 0,
@@ -38,7 +38,7 @@ fn taken(op: Op) -> usize
 
 /// How many operands an operation gives.
 fn given(op: Op) -> usize
-    ensures count { result ≡ given_by op }
+    ensures count { result ≡ pushed_by op }
     ensures few { result ≤ 1 }
 {
     match op {
