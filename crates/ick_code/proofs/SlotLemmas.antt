@@ -14,7 +14,7 @@ use Rattle.std.proofs.lemmas.List.Folds.{list_any-append, list_all-append}
 use Rattle.std.proofs.lemmas.Map.Steps.{length-le_from_distinct_below}
 use Rattle.ick_source.specs.declared.tree.Name.{Name}
 use Rattle.ick_code.specs.meaning.State.{same_name}
-use Rattle.ick_code.specs.Names.{is_among, each_once, found, slot_in, with_name, rank_of, is_short}
+use Rattle.ick_code.specs.Names.{is_among, each_once, found, slot_in, with_name, rank_of, numbers_of_a_kind, most_names, is_short}
 use Rattle.ick_code.proofs.SameNames.{same_name-refl, same_name_is, rank_is, kind_rank-below, both_left, both_right}
 
 some_mapped : (o : Option ℕ) → is_some (option_map suc o) ≡ is_some o
@@ -185,22 +185,22 @@ unfolding IsDistinct
 ranks_distinct [] h = tt
 ranks_distinct (name ∷ names) h = (ranks_apart name names h.0, ranks_distinct names h.1)
 
-ranks_below : (names : List Name) → list_all is_short names ≡ true → (q : ℕ) → list_any (nat_eq q) (map rank_of names) ≡ true → q < 262144
+ranks_below : (names : List Name) → list_all is_short names ≡ true → (q : ℕ) → list_any (nat_eq q) (map rank_of names) ≡ true → q < most_names
 ranks_below [] short q h = absurd (cc)
 ranks_below (name ∷ names) short q h = cases (nat_eq q (rank_of name)) refl h (λ e. ranks_below names (both_right (is_short name) (list_all is_short names) short) q e)
   where
-    cases : (b : Bool) → nat_eq q (rank_of name) ≡ b → (b || list_any (nat_eq q) (map rank_of names)) ≡ true → (list_any (nat_eq q) (map rank_of names) ≡ true → q < 262144) → q < 262144
+    cases : (b : Bool) → nat_eq q (rank_of name) ≡ b → (b || list_any (nat_eq q) (map rank_of names)) ≡ true → (list_any (nat_eq q) (map rank_of names) ≡ true → q < most_names) → q < most_names
     cases true e h rest =
         let is = eqb-true q (rank_of name) e in
-        let low = ltb-true name.number 65536 (both_left (is_short name) (list_all is_short names) short) in
+        let low = ltb-true name.number numbers_of_a_kind (both_left (is_short name) (list_all is_short names) short) in
         let kind = kind_rank-below name.kind in
         omega arith
     cases false e h rest = rest h
 
 -- there are no more names than numbers of 18 bits
-pub few_names : (names : List Name) → IsDistinct same_name names → list_all is_short names ≡ true → length names ≤ 262144
+pub few_names : (names : List Name) → IsDistinct same_name names → list_all is_short names ≡ true → length names ≤ most_names
 few_names names once short =
-    subst (λ n. n ≤ 262144) (length-map names rank_of) (length-le_from_distinct_below (map rank_of names) 262144 (ranks_distinct names once) (ranks_below names short))
+    subst (λ n. n ≤ most_names) (length-map names rank_of) (length-le_from_distinct_below (map rank_of names) most_names (ranks_distinct names once) (ranks_below names short))
 
 congr_name : (x y z : Name) → same_name x y ≡ true → same_name x z ≡ same_name y z
 congr_name x y z h = ap (λ n. same_name n z) (same_name_is x y h)
@@ -211,9 +211,9 @@ names_laws = record { refl = same_name-refl; symm = same_name-comm; congr = cong
 pub once_more : (names : List Name) (name : Name) → IsDistinct same_name names → is_among name names ≡ false → IsDistinct same_name (names ++ name ∷ [])
 once_more names name once new = IsDistinct-push names_laws names name once new
 
-pub short_more : (names : List Name) (name : Name) → list_all is_short names ≡ true → name.number < 65536 → list_all is_short (names ++ name ∷ []) ≡ true
+pub short_more : (names : List Name) (name : Name) → list_all is_short names ≡ true → name.number < numbers_of_a_kind → list_all is_short (names ++ name ∷ []) ≡ true
 short_more names name short low =
-    list_all-append is_short names (name ∷ []) ∙ ap (λ b. b && (is_short name && true)) short ∙ ap (λ b. b && true) (lt-ltb name.number 65536 low)
+    list_all-append is_short names (name ∷ []) ∙ ap (λ b. b && (is_short name && true)) short ∙ ap (λ b. b && true) (lt-ltb name.number numbers_of_a_kind low)
 
 nat_cmp-apart : (a b : ℕ) → (a ≡ b → ⊥) → is_eq (nat_cmp a b) ≡ false
 nat_cmp-apart a b ne = grind (arith, ne, nat_tests)

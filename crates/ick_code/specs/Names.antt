@@ -97,6 +97,13 @@ kind_rank Hybrid = 3
 abbrev pub rank_of : Name → ℕ
 rank_of name = 4 * name.number + kind_rank name.kind
 
+-- how many numbers names of one kind have, those of 16 bits, and how many names there are of all kinds
+abbrev pub numbers_of_a_kind : ℕ
+numbers_of_a_kind = 65536
+
+abbrev pub most_names : ℕ
+most_names = 4 * numbers_of_a_kind
+
 -- names whose numbers are of 16 bits
 abbrev pub is_short : Name → Bool
-is_short name = nat_lt name.number 65536
+is_short name = nat_lt name.number numbers_of_a_kind

@@ -3,7 +3,8 @@
 ghost use Rattle.std.specs.Prelude.{◌≡◌, ◌≤◌, ◌<◌, length};
 ghost use Rattle.std.proofs.Props.{props};
 ghost use Rattle.ick_source.specs.Programs.{trees_of};
-ghost use Rattle.ick_code.specs.Code.{IsCode};
+ghost use Rattle.ick_code.specs.Names.{most_names};
+ghost use Rattle.ick_code.specs.Code.{most_statements, IsCode};
 
 use crate::op::Op;
 use crate::table::Table;
@@ -33,9 +34,9 @@ pub struct Code<'a> {
     arrays: Vec<Name>,
     operands: usize,
     pub ghost compiled: { IsCode (trees_of program.value) scalars.items arrays.items operands ops.items statements.items } by { Prim.hlevel props },
-    pub ghost few: { length statements.items ≤ 524288 },
-    pub ghost few_scalars: { length scalars.items ≤ 262144 },
-    pub ghost few_arrays: { length arrays.items ≤ 262144 },
+    pub ghost few: { length statements.items ≤ most_statements },
+    pub ghost few_scalars: { length scalars.items ≤ most_names },
+    pub ghost few_arrays: { length arrays.items ≤ most_names },
 }
 
 impl<'a> Code<'a> {

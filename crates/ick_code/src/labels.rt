@@ -6,6 +6,7 @@ ghost use Rattle.std.specs.Ordering.{nat_cmp};
 ghost use Rattle.ick_source.specs.Trees.{statement_tree_of};
 ghost use Rattle.ick_code.specs.meaning.Control.{is_label, place_of};
 ghost use Rattle.ick_code.specs.Labels.{with_place, place_in};
+ghost use Rattle.ick_code.specs.Code.{most_statements};
 
 use ick_bits::NoMemory;
 use ick_source::Statement;
@@ -23,7 +24,7 @@ pub struct Labels {
 impl Labels {
     /// The labels of statements.
     pub fn new(alloc: Global, statements: &[Statement]) -> Result<Labels, NoMemory>
-        requires { length statements.now ≤ 524288 }
+        requires { length statements.now ≤ most_statements }
         ensures { IfOk result (λ labels. (label : ℕ) → place_in labels label ≡ place_of label (map statement_tree_of statements.now)) }
     {
         let mut places = BTreeMap::new(alloc);
