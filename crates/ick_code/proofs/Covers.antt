@@ -2,7 +2,9 @@
 use Rattle.std.proofs.Common.{◌≡◌, Bool, true, false, not, ◌||◌, List, ◌∷◌, ◌++◌, Some, refl, sym, ap, ◌∙◌, if◌then◌else◌}
 use Rattle.std.proofs.lemmas.List.Folds.{list_any-append}
 use Rattle.ick_source.specs.declared.tree.Name.{Name}
-use Rattle.ick_source.specs.NameKinds.{is_array}
+use Rattle.ick_source.specs.declared.tree.NameKind.{NameKind}
+use Rattle.ick_source.specs.declared.tree.NameKind.TheVariants.{Onespot, Twospot, Tail, Hybrid}
+use Rattle.ick_source.specs.NameKinds.{is_array, is_tail}
 use Rattle.ick_code.specs.declared.op.SlotName.TheVariants.{Scalar, Array}
 use Rattle.ick_code.specs.meaning.State.{same_name}
 use Rattle.ick_code.proofs.SameNames.{same_name-refl}
@@ -47,3 +49,9 @@ scalar_slot slots name kinded has =
 pub array_slot : (slots : Slots) (name : Name) → is_array name.kind ≡ true → HasSlot slots name → name_at slots (Array (slot_in slots.arrays name)) ≡ Some name
 array_slot slots name kinded has =
     ap (λ b. name_at slots (if b then Array (slot_in slots.arrays name) else Scalar (slot_in slots.scalars name))) (sym kinded) ∙ has
+
+pub tail_is_array : (kind : NameKind) → is_tail kind ≡ true → is_array kind ≡ true
+tail_is_array Onespot h = absurd (cc)
+tail_is_array Twospot h = absurd (cc)
+tail_is_array Tail h = refl
+tail_is_array Hybrid h = absurd (cc)

@@ -10,8 +10,13 @@ pub mod CountLemmas
 pub mod Covers
 pub mod Slotted
 pub mod Runs
+pub mod Frames
+pub mod AskLaws
+pub mod Leads
 pub mod CompiledStatements
 pub mod CodeLemmas
+pub mod RowWords
 mod ProgramRows
-pub mod Rows
+mod Rows
 mod CornerRows
+mod TapeRows

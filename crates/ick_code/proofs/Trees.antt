@@ -6,14 +6,14 @@ use Rattle.ick_source.specs.declared.tree.Expr.{Expr, Row_of-Expr, end_of-Expr, 
 use Rattle.ick_source.specs.declared.tree.Expr.TheVariants.{Element, Element'}
 use Rattle.std.proofs.lemmas.List.Folds.{list_all-map}
 use Rattle.ick_source.specs.declared.tree.Name.{Name}
-use Rattle.ick_source.specs.declared.body.Target.{Target}
+use Rattle.ick_source.specs.declared.body.Place.{Place}
 use Rattle.ick_source.specs.declared.body.Item.{Item}
 use Rattle.ick_source.specs.declared.body.Body.{Body}
 use Rattle.ick_source.specs.declared.body.Body.TheVariants.{Dimension, WriteIn, ReadOut}
 use Rattle.ick_source.specs.declared.statements.Statement.{Statement}
-use Rattle.ick_source.specs.BodyTree.{target_tree, item_tree, body_tree_of}
+use Rattle.ick_source.specs.BodyTree.{place_tree, item_tree, body_tree_of}
 use Rattle.ick_source.specs.Trees.{statement_tree_of}
-use Rattle.ick_source.specs.NameKinds.{is_array, count_in, are_few, is_kinded, are_kinded, is_body_kinded, is_statement_kinded}
+use Rattle.ick_source.specs.NameKinds.{is_array, count_in, are_few, is_kinded, are_kinded, is_item_kinded, is_body_kinded, is_statement_kinded}
 use Rattle.ick_code.specs.meaning.Do.{trees_from}
 use Rattle.ick_code.specs.Names.{names_of_tree, names_of_trees}
 use Rattle.ick_code.proofs.SameNames.{both_left, both_right, second_of, third_of}
@@ -88,11 +88,19 @@ kinded_dimensions array es b is h =
       kinded-listed es.items (third_of (is_array array.kind) few all whole),
     )
 
-pub kinded_targets : (targets : Vec Target Global) (b : Body) → b ≡ WriteIn targets → is_body_kinded (body_tree_of b) ≡ true → list_all (λ target. is_kinded (target_tree target)) targets.items ≡ true
-kinded_targets targets b is h = sym (list_all-map is_kinded target_tree targets.items) ∙ ap (λ b. is_body_kinded (body_tree_of b)) (sym is) ∙ h
+pub kinded_places : (places : Vec Place Global) (b : Body) →
+    b ≡ WriteIn places →
+    is_body_kinded (body_tree_of b) ≡ true →
+    list_all (λ place. is_item_kinded (place_tree place)) places.items ≡ true
+kinded_places places b is h =
+    sym (list_all-map is_item_kinded place_tree places.items) ∙ ap (λ b. is_body_kinded (body_tree_of b)) (sym is) ∙ h
 
-pub kinded_items : (items : Vec Item Global) (b : Body) → b ≡ ReadOut items → is_body_kinded (body_tree_of b) ≡ true → list_all (λ item. is_kinded (item_tree item)) items.items ≡ true
-kinded_items items b is h = sym (list_all-map is_kinded item_tree items.items) ∙ ap (λ b. is_body_kinded (body_tree_of b)) (sym is) ∙ h
+pub kinded_items : (items : Vec Item Global) (b : Body) →
+    b ≡ ReadOut items →
+    is_body_kinded (body_tree_of b) ≡ true →
+    list_all (λ item. is_item_kinded (item_tree item)) items.items ≡ true
+kinded_items items b is h =
+    sym (list_all-map is_item_kinded item_tree items.items) ∙ ap (λ b. is_body_kinded (body_tree_of b)) (sym is) ∙ h
 
 kinded_body : (statements : List Statement) (i : ℕ) (s d : Statement) → list_all is_statement_kinded (map statement_tree_of statements) ≡ true → i < length statements → s ≡ get_or statements i d → is_body_kinded (body_tree_of s.body) ≡ true
 kinded_body [] i s d h within is = absurd (omega arith)

@@ -9,3 +9,4 @@ pub mod Operations
 pub mod Emitted
 pub mod Code
 pub mod Compiled
+pub mod Laws

@@ -5,7 +5,7 @@ use Rattle.ick_source.specs.declared.tree.Name.{Name}
 use Rattle.ick_source.specs.declared.tree.NameKind.{NameKind}
 use Rattle.ick_source.specs.declared.tree.NameKind.TheVariants.{Onespot, Twospot, Tail, Hybrid}
 use Rattle.ick_source.specs.Tree.{Tree, mesh, scalar, element, unary, binary, Trees, none, more}
-use Rattle.ick_source.specs.BodyTree.{BodyTree, calculate, dimension, next, forget, resume, stash, retrieve, ignore, remember, abstain_label, abstain_kinds, reinstate_label, reinstate_kinds, give_up, write_in, read_out}
+use Rattle.ick_source.specs.BodyTree.{ItemTree, single, whole, BodyTree, calculate, dimension, next, forget, resume, stash, retrieve, ignore, remember, abstain_label, abstain_kinds, reinstate_label, reinstate_kinds, give_up, write_in, read_out}
 use Rattle.ick_source.specs.Trees.{StatementTree}
 use Rattle.ick_source.specs.NameKinds.{is_array}
 use Rattle.ick_code.specs.declared.op.SlotName.{SlotName}
@@ -25,6 +25,10 @@ abbrev mutual
   names_of_trees none = []
   names_of_trees (more t ts) = names_of_tree t ++ names_of_trees ts
 
+abbrev pub names_of_item : ItemTree → List Name
+names_of_item (single t) = names_of_tree t
+names_of_item (whole array) = array ∷ []
+
 -- the names of a body; one that isn't recognised has none
 abbrev pub names_of_body : Option BodyTree → List Name
 names_of_body None = []
@@ -42,8 +46,8 @@ names_of_body (Some (abstain_kinds gerunds)) = []
 names_of_body (Some (reinstate_label label)) = []
 names_of_body (Some (reinstate_kinds gerunds)) = []
 names_of_body (Some give_up) = []
-names_of_body (Some (write_in targets)) = flat_map names_of_tree targets
-names_of_body (Some (read_out items)) = flat_map names_of_tree items
+names_of_body (Some (write_in places)) = flat_map names_of_item places
+names_of_body (Some (read_out items)) = flat_map names_of_item items
 
 -- all names of a program, as often as they stand in it
 abbrev pub names_of : List StatementTree → List Name

@@ -3,8 +3,8 @@
 ghost use Rattle.std.specs.Prelude.{◌≡◌, ◌++◌, true, OnOk, IfOk};
 ghost use Rattle.std.specs.List.{flat_map, list_all};
 ghost use Rattle.ick_source.specs.Tree.{tree_of, trees_in};
-ghost use Rattle.ick_source.specs.NameKinds.{count_in, are_few, is_kinded, are_kinded, is_body_kinded};
-ghost use Rattle.ick_source.specs.BodyTree.{target_tree, item_tree, body_tree_of};
+ghost use Rattle.ick_source.specs.NameKinds.{count_in, are_few, is_kinded, are_kinded, is_item_kinded, is_body_kinded};
+ghost use Rattle.ick_source.specs.BodyTree.{target_tree, place_tree, item_tree, body_tree_of};
 ghost use Rattle.ick_code.specs.Names.{slot_in};
 ghost use Rattle.ick_code.specs.Tables.{table_slots};
 ghost use Rattle.ick_code.specs.Labels.{place_in};
@@ -15,7 +15,7 @@ use crate::labels::Labels;
 use crate::op::{Op, SlotName};
 use crate::table::Table;
 use ick_bits::NoMemory;
-use ick_source::{BinaryOp, Body, Element, Expr, Gerund, Item, Name, Target, UnaryOp};
+use ick_source::{BinaryOp, Body, Element, Expr, Gerund, Item, Name, Place, Target, UnaryOp};
 
 /// What is done for each name of a list.
 #[derive(Clone, Copy)]
@@ -113,7 +113,7 @@ pub fn emit_body(
         Body::ReinstateLabel(label) => ops.push(Op::ReinstateOne(labels.place(*label)))?,
         Body::ReinstateKinds(gerunds) => emit_gerunds(ops, Switch::Reinstate, gerunds)?,
         Body::GiveUp => ops.push(Op::Stop)?,
-        Body::WriteIn(targets) => emit_targets(ops, table, targets)?,
+        Body::WriteIn(places) => emit_places(ops, table, places)?,
         Body::ReadOut(items) => emit_items(ops, table, items)?,
         Body::Unrecognised => ops.push(Op::Fail)?,
     }
@@ -145,20 +145,20 @@ fn emit_gerunds(ops: &mut Vec<Op>, switch: Switch, gerunds: &[Gerund]) -> Result
     Ok(())
 }
 
-/// Appends the operations that read a line for each target.
-fn emit_targets(ops: &mut Vec<Op>, table: &Table, targets: &[Target]) -> Result<(), NoMemory>
-    requires { list_all (λ target. is_kinded (target_tree target)) targets.now ≡ true }
-    ensures { OnOk result (ops.new.items ≡ ops.old.items ++ flat_map (read_ops (table_slots table.now)) targets.now) }
+/// Appends the operations that read input for each place.
+fn emit_places(ops: &mut Vec<Op>, table: &Table, places: &[Place]) -> Result<(), NoMemory>
+    requires { list_all (λ place. is_item_kinded (place_tree place)) places.now ≡ true }
+    ensures { OnOk result (ops.new.items ≡ ops.old.items ++ flat_map (read_ops (table_slots table.now)) places.now) }
 {
-    for target in targets {
-        emit_read(ops, table, target)?;
+    for place in places {
+        emit_read(ops, table, place)?;
     }
     Ok(())
 }
 
 /// Appends the operations that print each item.
 fn emit_items(ops: &mut Vec<Op>, table: &Table, items: &[Item]) -> Result<(), NoMemory>
-    requires { list_all (λ item. is_kinded (item_tree item)) items.now ≡ true }
+    requires { list_all (λ item. is_item_kinded (item_tree item)) items.now ≡ true }
     ensures { OnOk result (ops.new.items ≡ ops.old.items ++ flat_map (print_ops (table_slots table.now)) items.now) }
 {
     for item in items {
@@ -182,41 +182,37 @@ fn emit_store(ops: &mut Vec<Op>, table: &Table, target: &Target) -> Result<(), N
     Ok(())
 }
 
-/// Appends the operations that read a line for a target.
-fn emit_read(ops: &mut Vec<Op>, table: &Table, target: &Target) -> Result<(), NoMemory>
-    requires { is_kinded (target_tree target.now) ≡ true }
-    ensures { OnOk result (ops.new.items ≡ ops.old.items ++ read_ops (table_slots table.now) target.now) }
+/// Appends the operations that read input for a place.
+fn emit_read(ops: &mut Vec<Op>, table: &Table, place: &Place) -> Result<(), NoMemory>
+    requires { is_item_kinded (place_tree place.now) ≡ true }
+    ensures { OnOk result (ops.new.items ≡ ops.old.items ++ read_ops (table_slots table.now) place.now) }
 {
-    match target {
-        Target::Scalar(name) => ops.push(Op::ReadTo(table.scalars.slot(*name)))?,
-        Target::Element(element) => {
+    match place {
+        Place::Scalar(name) => ops.push(Op::ReadTo(table.scalars.slot(*name)))?,
+        Place::Element(element) => {
             let count = emit_exprs(ops, table, &element.subs)?;
             ops.push(Op::ReadAt(table.arrays.slot(element.array), count))?;
         }
+        Place::Array(name) => ops.push(Op::ReadArray(table.arrays.slot(*name)))?,
     }
     Ok(())
 }
 
 /// Appends the operations that print an item.
 fn emit_print(ops: &mut Vec<Op>, table: &Table, item: &Item) -> Result<(), NoMemory>
-    requires { is_kinded (item_tree item.now) ≡ true }
+    requires { is_item_kinded (item_tree item.now) ≡ true }
     ensures { OnOk result (ops.new.items ≡ ops.old.items ++ print_ops (table_slots table.now) item.now) }
-{
-    emit_item(ops, table, item)?;
-    ops.push(Op::Print)?;
-    Ok(())
-}
-
-/// Appends the operations of an item's value.
-fn emit_item(ops: &mut Vec<Op>, table: &Table, item: &Item) -> Result<(), NoMemory>
-    requires { is_kinded (item_tree item.now) ≡ true }
-    ensures { OnOk result (ops.new.items ≡ ops.old.items ++ ops_of_tree (table_slots table.now) (item_tree item.now)) }
 {
     match item {
         Item::Scalar(name) => ops.push(Op::Load(table.scalars.slot(*name)))?,
         Item::Element(element) => emit_fetch(ops, table, element)?,
         Item::Mesh(number) => ops.push(Op::Constant(*number))?,
+        Item::Array(name) => {
+            ops.push(Op::PrintArray(table.arrays.slot(*name)))?;
+            return Ok(());
+        }
     }
+    ops.push(Op::Print)?;
     Ok(())
 }
 

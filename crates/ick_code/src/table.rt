@@ -3,15 +3,15 @@
 ghost use Rattle.std.specs.Prelude.{◌≡◌, [], ◌∷◌, map, OnOk, IfOk};
 ghost use Rattle.std.specs.List.{flat_map};
 ghost use Rattle.ick_source.specs.Tree.{tree_of, trees_in};
-ghost use Rattle.ick_source.specs.BodyTree.{target_tree, item_tree, body_tree_of};
+ghost use Rattle.ick_source.specs.BodyTree.{target_tree, place_tree, item_tree, body_tree_of};
 ghost use Rattle.ick_source.specs.Trees.{statement_tree_of};
-ghost use Rattle.ick_code.specs.Names.{names_of_tree, names_of_trees, names_of_body, names_of, slot_name};
+ghost use Rattle.ick_code.specs.Names.{names_of_tree, names_of_trees, names_of_item, names_of_body, names_of, slot_name};
 ghost use Rattle.ick_code.specs.Tables.{table_slots, with_names, no_slots};
 
 use crate::names::Names;
 use crate::op::SlotName;
 use ick_bits::NoMemory;
-use ick_source::{Body, Element, Expr, Item, Name, NameKind, Statement, Target};
+use ick_source::{Body, Element, Expr, Item, Name, NameKind, Place, Statement, Target};
 use std::alloc::Global;
 
 /// The names of the slots, of scalars and of arrays.
@@ -125,22 +125,34 @@ impl Table {
     /// Gives slots to the names of an item.
     #[tactic(auto, using(crate::proofs::TableLemmas::names_none, crate::proofs::TableLemmas::names_append, crate::proofs::TableLemmas::names_cons))]
     fn add_item(&mut self, item: &Item) -> Result<(), NoMemory>
-        ensures { OnOk result (table_slots self.new ≡ with_names (table_slots self.old) (names_of_tree (item_tree item.now))) }
+        ensures { OnOk result (table_slots self.new ≡ with_names (table_slots self.old) (names_of_item (item_tree item.now))) }
     {
         match item {
             Item::Scalar(name) => self.add(*name),
             Item::Element(element) => self.add_element(element),
             Item::Mesh(_) => Ok(()),
+            Item::Array(name) => self.add(*name),
         }
     }
 
-    /// Gives slots to the names of targets, one after another.
-    #[tactic(auto, using(crate::proofs::TableLemmas::names_none))]
-    fn add_targets(&mut self, targets: &[Target]) -> Result<(), NoMemory>
-        ensures { OnOk result (table_slots self.new ≡ with_names (table_slots self.old) (flat_map names_of_tree (map target_tree targets.now))) }
+    /// Gives slots to the names of a place.
+    #[tactic(auto, using(crate::proofs::TableLemmas::names_none, crate::proofs::TableLemmas::names_append, crate::proofs::TableLemmas::names_cons))]
+    fn add_place(&mut self, place: &Place) -> Result<(), NoMemory>
+        ensures { OnOk result (table_slots self.new ≡ with_names (table_slots self.old) (names_of_item (place_tree place.now))) }
     {
-        for target in targets {
-            self.add_target(target)?;
+        match place {
+            Place::Scalar(name) | Place::Array(name) => self.add(*name),
+            Place::Element(element) => self.add_element(element),
+        }
+    }
+
+    /// Gives slots to the names of places, one after another.
+    #[tactic(auto, using(crate::proofs::TableLemmas::names_none))]
+    fn add_places(&mut self, places: &[Place]) -> Result<(), NoMemory>
+        ensures { OnOk result (table_slots self.new ≡ with_names (table_slots self.old) (flat_map names_of_item (map place_tree places.now))) }
+    {
+        for place in places {
+            self.add_place(place)?;
         }
         Ok(())
     }
@@ -148,7 +160,7 @@ impl Table {
     /// Gives slots to the names of items, one after another.
     #[tactic(auto, using(crate::proofs::TableLemmas::names_none))]
     fn add_items(&mut self, items: &[Item]) -> Result<(), NoMemory>
-        ensures { OnOk result (table_slots self.new ≡ with_names (table_slots self.old) (flat_map names_of_tree (map item_tree items.now))) }
+        ensures { OnOk result (table_slots self.new ≡ with_names (table_slots self.old) (flat_map names_of_item (map item_tree items.now))) }
     {
         for item in items {
             self.add_item(item)?;
@@ -173,7 +185,7 @@ impl Table {
             Body::Forget(e) | Body::Resume(e) => self.add_expr(e),
             Body::Stash(names) | Body::Retrieve(names) => self.add_all(names),
             Body::Ignore(names) | Body::Remember(names) => self.add_all(names),
-            Body::WriteIn(targets) => self.add_targets(targets),
+            Body::WriteIn(places) => self.add_places(places),
             Body::ReadOut(items) => self.add_items(items),
             Body::Next(_) | Body::AbstainLabel(_) | Body::AbstainKinds(_) => Ok(()),
             Body::ReinstateLabel(_) | Body::ReinstateKinds(_) => Ok(()),

@@ -3,6 +3,7 @@ use Rattle.std.proofs.Common.{◌≡◌, ℕ, suc, zero, ◌<◌, inl, inr, List
 use Rattle.std.specs.Prelude.{codes}
 use Rattle.std.proofs.lemmas.Bool.{cases_lt}
 use Rattle.ick_source.specs.declared.tree.NameKind.{NameKind}
+use Rattle.ick_source.specs.declared.tree.NameKind.TheVariants.{Tail}
 use Rattle.ick_source.specs.declared.tree.Name.{Name}
 use Rattle.ick_source.specs.declared.lead.Lead.{Lead}
 use Rattle.ick_source.specs.declared.lead.Lead.TheVariants.{Spot, Array, Hash, Group, Unary, Binary, Other}
@@ -19,15 +20,15 @@ use Rattle.ick_source.specs.Gerund.{gerund_word, second_word}
 use Rattle.ick_source.specs.Verb.{verb_word}
 use Rattle.ick_source.specs.BodyTree.{BodyTree, calculate, dimension, next, give_up}
 use Rattle.ick_source.specs.BodyGrammar.{only, and_more, IsWhole, IsName, a_spot, an_array, IsGerund, one_word, two_words, AreDimensions, IsAfter, abstains_label, abstains_kinds, gives_up, writes_in, reads_out, IsBodyOf, calculates, dimensions, nexts, does}
-use Rattle.ick_source.specs.Nonterminal.{Nonterminal, StandsOnce, TakesSymbols, listed, wholes, elements, names, targets, items, numbers, gerunds, labels, after, formed, bodies}
+use Rattle.ick_source.specs.Nonterminal.{Nonterminal, StandsOnce, TakesSymbols, listed, wholes, elements, names, targets, tails, places, items, numbers, gerunds, labels, after, formed, bodies}
 use Rattle.ick_source.proofs.ExpressionOnce.{one_number, one_expr, one_element}
 use Rattle.ick_source.proofs.ExpressionShorter.{word-shorter}
 use Rattle.ick_source.proofs.WordOnce.{same_word, same_gerund, all_gerunds, all_verbs, each_gerund, each_verb}
-use Rattle.ick_source.proofs.PartOnce.{one_whole, whole-shorter, one_name, name-shorter, one_target, target-shorter, one_item, item-shorter, one_gerund, gerund-shorter, one_label}
-use Rattle.ick_source.proofs.PartReadings.{Makes, targets_by_elements, targets_by_names, items_by_targets, items_by_numbers}
+use Rattle.ick_source.proofs.PartOnce.{one_whole, whole-shorter, one_name, name-shorter, one_place, place-shorter, one_item, item-shorter, one_gerund, gerund-shorter, one_label}
+use Rattle.ick_source.proofs.PartReadings.{Makes, targets_by_elements, targets_by_names, other_kind, subscripted, tail_named, places_by_tails, places_by_targets, items_by_places, items_by_numbers}
 use Rattle.ick_source.proofs.BodyReadings.{assigned, sized, array_named, label_of, forget_made, resume_made, stash_made, retrieve_made, ignore_made, remember_made, abstain_label_made, abstain_kinds_made, reinstate_label_made, reinstate_kinds_made, write_in_made, read_out_made, action_made}
 use Rattle.ick_source.proofs.ListReadings.{after_part, begins_with_a_part}
-use Rattle.ick_source.proofs.Decisions.{Decided, decided_as, NumberAt, number_or_not, WordAt, word_or_not, OneOf, one_of_or_none, array_or_not, hash_or_not}
+use Rattle.ick_source.proofs.Decisions.{Decided, decided_as, NumberAt, number_or_not, WordAt, word_or_not, OneOf, one_of_or_none, array_or_not, tail_or_not, hash_or_not}
 use Rattle.ick_source.proofs.ExpressionDecided.{Here, expression_or_not, whole_element_or_not}
 
 -- something stands there for N
@@ -92,13 +93,34 @@ target_or_not from = elim (array_or_not (next_of from)) [
   | inr no_array ↦ made_or_not (targets_by_names from (λ k e. no_array (k, e))) (name_or_not from)
 ]
 
+whole_array_by : (from : List ℕ) → next_of from ≡ Array Tail → StandsAt names from → Decided (StandsAt tails from)
+whole_array_by from e s = elim (word_or_not (codes "SUB") s.to) [
+  | inl w ↦ inr (λ t. (subscripted s.stands w.stands).nothing t.to t.value t.stands)
+  | inr no_sub ↦ inl (record { to = s.to; value = s.value; stands = tail_named e s.stands (λ later w. no_sub (record { to = later; stands = w })) })
+]
+
+whole_array_or_not : (from : List ℕ) → Decided (StandsAt tails from)
+whole_array_or_not from = elim (tail_or_not (next_of from)) [
+  | inr other ↦ inr (λ t. (other_kind from other).nothing t.to t.value t.stands)
+  | inl e ↦ elim (name_or_not from) [
+    | inr none_there ↦ inr (λ t. none_there (record { to = t.to; value = t.value; stands = an_array t.stands.array }))
+    | inl s ↦ whole_array_by from e s
+  ]
+]
+
+place_or_not : (from : List ℕ) → Decided (StandsAt places from)
+place_or_not from = elim (whole_array_or_not from) [
+  | inl t ↦ made_or_not (places_by_tails t.stands) (inl t)
+  | inr none_there ↦ made_or_not (places_by_targets (record { nothing = λ to x p. none_there (record { to = to; value = x; stands = p }) })) (target_or_not from)
+]
+
 number_at : {from : List ℕ} → Decided (NumberAt from) → Decided (StandsAt numbers from)
 number_at d = decided_as (λ n. record { to = n.to; value = n.value; stands = n.stands }) (λ s. record { to = s.to; value = s.value; stands = s.stands }) d
 
 item_or_not : (from : List ℕ) → Decided (StandsAt items from)
 item_or_not from = elim (hash_or_not (next_of from)) [
   | inl e ↦ made_or_not (items_by_numbers from (past_next from) e refl) (number_at (number_or_not (past_next from)))
-  | inr no_mesh ↦ made_or_not (items_by_targets from no_mesh) (target_or_not from)
+  | inr no_mesh ↦ made_or_not (items_by_places from no_mesh) (place_or_not from)
 ]
 
 gerund_begins : {from to : List ℕ} {g : Gerund} → IsGerund from to g → WordAt (gerund_word g) from
@@ -201,7 +223,7 @@ after_or_not Reinstate from = elim (word_or_not (codes "(") from) [
 after_or_not Give from = decided_as (λ w. record { to = w.to; value = give_up; stands = gives_up w.stands }) (λ s. word_after_give s.stands) (word_or_not (codes "UP") from)
 after_or_not Write from = elim (word_or_not (codes "IN") from) [
   | inr none_there ↦ inr (λ s. none_there (word_after_write s.stands))
-  | inl w ↦ made_or_not (write_in_made from w.to w.stands) (list_or_not targets (codes "+") one_target target-shorter target_or_not w.to)
+  | inl w ↦ made_or_not (write_in_made from w.to w.stands) (list_or_not places (codes "+") one_place place-shorter place_or_not w.to)
 ]
 after_or_not Read from = elim (word_or_not (codes "OUT") from) [
   | inr none_there ↦ inr (λ s. none_there (word_after_read s.stands))

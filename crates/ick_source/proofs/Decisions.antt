@@ -2,6 +2,7 @@
 use Rattle.std.proofs.Common.{◌≡◌, ◌≢◌, ℕ, suc, zero, ◌<◌, ◌⊎◌, inl, inr, Bool, true, false, List, [], ◌∷◌, ◌++◌, length, get_or, refl, ap, arith}
 use Rattle.std.proofs.lemmas.Bool.{cases_order}
 use Rattle.ick_source.specs.declared.tree.NameKind.{NameKind}
+use Rattle.ick_source.specs.declared.tree.NameKind.TheVariants.{Onespot, Twospot, Tail, Hybrid}
 use Rattle.ick_source.specs.declared.tree.BinaryOp.{BinaryOp}
 use Rattle.ick_source.specs.declared.lead.Mark.{Mark}
 use Rattle.ick_source.specs.declared.lead.Mark.TheVariants.{Spark, Ears}
@@ -84,6 +85,18 @@ array_or_not (Group q) = inr (λ p. let e = p.1 in cc)
 array_or_not (Unary o) = inr (λ p. let e = p.1 in cc)
 array_or_not (Binary o) = inr (λ p. let e = p.1 in cc)
 array_or_not Other = inr (λ p. let e = p.1 in cc)
+
+pub tail_or_not : (l : Lead) → Decided (l ≡ Array Tail)
+tail_or_not (Array Onespot) = inr (λ e. cc)
+tail_or_not (Array Twospot) = inr (λ e. cc)
+tail_or_not (Array Tail) = inl refl
+tail_or_not (Array Hybrid) = inr (λ e. cc)
+tail_or_not (Spot k) = inr (λ e. cc)
+tail_or_not Hash = inr (λ e. cc)
+tail_or_not (Group q) = inr (λ e. cc)
+tail_or_not (Unary o) = inr (λ e. cc)
+tail_or_not (Binary o) = inr (λ e. cc)
+tail_or_not Other = inr (λ e. cc)
 
 pub binary_or_not : (l : Lead) → Decided ((o : BinaryOp) × (l ≡ Binary o))
 binary_or_not (Binary o) = inl (o, refl)

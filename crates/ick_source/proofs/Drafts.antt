@@ -4,7 +4,7 @@ use Rattle.ick_source.specs.declared.faults.Faults.{Faults}
 use Rattle.ick_source.specs.declared.body.Body.{Body}
 use Rattle.ick_source.specs.Place.{symbols, left_at}
 use Rattle.ick_source.specs.Kept.{kept, kept_name, kept_tree, no_faults, label_faults, faults_of}
-use Rattle.ick_source.specs.BodyTree.{BodyTree, calculate, dimension, next, forget, resume, stash, retrieve, ignore, remember, abstain_label, abstain_kinds, reinstate_label, reinstate_kinds, give_up, write_in, read_out, body_tree_of, kept_body, faults_along, faults_of_name, faults_of_body}
+use Rattle.ick_source.specs.BodyTree.{ItemTree, single, whole, clamped_item, faults_of_item, BodyTree, calculate, dimension, next, forget, resume, stash, retrieve, ignore, remember, abstain_label, abstain_kinds, reinstate_label, reinstate_kinds, give_up, write_in, read_out, body_tree_of, kept_body, faults_along, faults_of_name, faults_of_body}
 use Rattle.ick_source.specs.BodyGrammar.{IsAnyBody}
 use Rattle.ick_source.specs.BodyPlaces.{NoBody}
 use Rattle.ick_source.specs.BodyAnswers.{IsDraft}
@@ -22,6 +22,10 @@ all_kept change faults each (x ∷ xs) e =
 
 label_kept : (n : ℕ) → label_faults n ≡ no_faults → kept n ≡ n
 label_kept n e = low_kept n (or_right (nat_eq n 0) (nat_lt 65535 n) (ap (λ f. f.label) e))
+
+item_kept : (x : ItemTree) → faults_of_item x ≡ no_faults → clamped_item x ≡ x
+item_kept (single t) f = ap single (tree_kept t f)
+item_kept (whole x) f = ap whole (name_kept x f)
 
 -- a body with no number out of range is kept as it is
 pub body_kept : (b : BodyTree) → faults_of_body b ≡ no_faults → kept_body b ≡ b
@@ -45,8 +49,8 @@ body_kept (abstain_kinds gs) f = refl
 body_kept (reinstate_label n) f = ap reinstate_label (label_kept n f)
 body_kept (reinstate_kinds gs) f = refl
 body_kept give_up f = refl
-body_kept (write_in ts) f = ap write_in (all_kept kept_tree faults_of tree_kept ts f)
-body_kept (read_out ts) f = ap read_out (all_kept kept_tree faults_of tree_kept ts f)
+body_kept (write_in xs) f = ap write_in (all_kept clamped_item faults_of_item item_kept xs f)
+body_kept (read_out xs) f = ap read_out (all_kept clamped_item faults_of_item item_kept xs f)
 
 pub no_body : {s from : List ℕ} {i : ℕ} → from ≡ symbols (drop i s) → IsAbsent bodies from → NoBody s i
 no_body {s} e absent = record { nothing = λ j b p. absent.nothing _ b (subst (λ l. IsAnyBody l (symbols (drop j s)) b) (sym e) p.stands) }

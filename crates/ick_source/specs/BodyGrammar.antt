@@ -1,6 +1,7 @@
 -- The grammar of bodies. As in the grammar of expressions, `from` and `to` are places, each as the symbols that are left there.
 use Rattle.std.specs.Prelude.{ℕ, ◌≡◌, ◌≤◌, List, [], ◌∷◌, Some, None, codes}
 use Rattle.ick_source.specs.declared.tree.NameKind.{NameKind}
+use Rattle.ick_source.specs.declared.tree.NameKind.TheVariants.{Tail}
 use Rattle.ick_source.specs.declared.tree.Name.{Name}
 use Rattle.ick_source.specs.declared.lead.Lead.{Lead}
 use Rattle.ick_source.specs.declared.lead.Lead.TheVariants.{Spot, Array, Hash}
@@ -15,7 +16,7 @@ use Rattle.ick_source.specs.Tree.{Tree, mesh, scalar}
 use Rattle.ick_source.specs.Expression.{IsExpr, IsElement}
 use Rattle.ick_source.specs.Gerund.{gerund_word, second_word}
 use Rattle.ick_source.specs.Verb.{verb_word}
-use Rattle.ick_source.specs.BodyTree.{BodyTree, calculate, dimension, next, forget, resume, stash, retrieve, ignore, remember, abstain_label, abstain_kinds, reinstate_label, reinstate_kinds, give_up, write_in, read_out}
+use Rattle.ick_source.specs.BodyTree.{ItemTree, single, whole, BodyTree, calculate, dimension, next, forget, resume, stash, retrieve, ignore, remember, abstain_label, abstain_kinds, reinstate_label, reinstate_kinds, give_up, write_in, read_out}
 
 abbrev pub Part : Type 0 → Type 1
 Part A = List ℕ → List ℕ → A → Type 0
@@ -52,9 +53,21 @@ pub data IsTarget : List ℕ → List ℕ → Tree → Type 0 where
   to_spot : {from to : List ℕ} {x : Name} → IsNamed Spot from to x → IsTarget from to (scalar x)
   to_element : {from to : List ℕ} {t : Tree} → IsWholeElement from to t → IsTarget from to t
 
-pub data IsItem : List ℕ → List ℕ → Tree → Type 0 where
-  of_target : {from to : List ℕ} {t : Tree} → IsTarget from to t → IsItem from to t
-  of_mesh : {from to : List ℕ} {n : ℕ} → next_of from ≡ Hash → IsNumber (past_next from) to n → IsItem from to (mesh n)
+-- a whole array: the name of a tail with no SUB after it
+pub record IsTail (from to : List ℕ) (x : Name) : Type 0 where
+  pub array : IsNamed Array from to x
+  pub tail : x.kind ≡ Tail
+  pub no_sub : (later : List ℕ) → IsWord (codes "SUB") to later → ⊥
+
+-- what WRITE IN stores into
+pub data IsPlace : List ℕ → List ℕ → ItemTree → Type 0 where
+  to_target : {from to : List ℕ} {t : Tree} → IsTarget from to t → IsPlace from to (single t)
+  to_array : {from to : List ℕ} {x : Name} → IsTail from to x → IsPlace from to (whole x)
+
+-- what READ OUT prints
+pub data IsItem : List ℕ → List ℕ → ItemTree → Type 0 where
+  of_place : {from to : List ℕ} {x : ItemTree} → IsPlace from to x → IsItem from to x
+  of_mesh : {from to : List ℕ} {n : ℕ} → next_of from ≡ Hash → IsNumber (past_next from) to n → IsItem from to (single (mesh n))
 
 pub data IsGerund : List ℕ → List ℕ → Gerund → Type 0 where
   one_word : {from to : List ℕ} {g : Gerund} → IsWord (gerund_word g) from to → second_word g ≡ None → IsGerund from to g
@@ -74,11 +87,11 @@ AreNames = IsSeparated Name IsName (codes "+")
 abbrev pub AreGerunds : Part (List Gerund)
 AreGerunds = IsSeparated Gerund IsGerund (codes "+")
 
-abbrev pub AreTargets : Part (List Tree)
-AreTargets = IsSeparated Tree IsTarget (codes "+")
+abbrev pub ArePlaces : Part (List ItemTree)
+ArePlaces = IsSeparated ItemTree IsPlace (codes "+")
 
-abbrev pub AreItems : Part (List Tree)
-AreItems = IsSeparated Tree IsItem (codes "+")
+abbrev pub AreItems : Part (List ItemTree)
+AreItems = IsSeparated ItemTree IsItem (codes "+")
 
 abbrev pub AreDimensions : Part (List Tree)
 AreDimensions = IsSeparated Tree IsWhole (codes "BY")
@@ -96,8 +109,8 @@ pub data IsAfter : Verb → List ℕ → List ℕ → BodyTree → Type 0 where
   reinstates_label : {from to : List ℕ} {n : ℕ} → IsLabel from to n → IsAfter Reinstate from to (reinstate_label n)
   reinstates_kinds : {from to : List ℕ} {gs : List Gerund} → AreGerunds from to gs → IsAfter Reinstate from to (reinstate_kinds gs)
   gives_up : {from to : List ℕ} → IsWord (codes "UP") from to → IsAfter Give from to give_up
-  writes_in : {from mid to : List ℕ} {ts : List Tree} → IsWord (codes "IN") from mid → AreTargets mid to ts → IsAfter Write from to (write_in ts)
-  reads_out : {from mid to : List ℕ} {ts : List Tree} → IsWord (codes "OUT") from mid → AreItems mid to ts → IsAfter Read from to (read_out ts)
+  writes_in : {from mid to : List ℕ} {xs : List ItemTree} → IsWord (codes "IN") from mid → ArePlaces mid to xs → IsAfter Write from to (write_in xs)
+  reads_out : {from mid to : List ℕ} {xs : List ItemTree} → IsWord (codes "OUT") from mid → AreItems mid to xs → IsAfter Read from to (read_out xs)
 
 -- a body of each form
 pub data IsBodyOf : Form → List ℕ → List ℕ → BodyTree → Type 0 where

@@ -9,8 +9,8 @@ use Rattle.ick_source.specs.declared.verb.Verb.{Verb}
 use Rattle.ick_source.specs.Token.{IsNumber}
 use Rattle.ick_source.specs.Tree.{Tree, mesh}
 use Rattle.ick_source.specs.Kept.{kept, kept_name, kept_tree, no_faults, mesh_faults, label_faults, faults_of}
-use Rattle.ick_source.specs.BodyTree.{BodyTree, kept_body, faults_along, faults_of_name, faults_of_body}
-use Rattle.ick_source.specs.BodyGrammar.{IsSeparated, IsWhole, IsWholeElement, IsNamed, IsName, IsTarget, IsItem, IsGerund, IsLabel, IsAfter, IsBodyOf, IsAnyBody}
+use Rattle.ick_source.specs.BodyTree.{ItemTree, single, clamped_item, BodyTree, kept_body, faults_along, faults_of_name, faults_of_item, faults_of_body}
+use Rattle.ick_source.specs.BodyGrammar.{IsSeparated, IsWhole, IsWholeElement, IsNamed, IsName, IsTarget, IsTail, IsPlace, IsItem, IsGerund, IsLabel, IsAfter, IsBodyOf, IsAnyBody}
 
 pub record Nonterminal : Type 1 where
   pub Value : Type 0
@@ -44,12 +44,18 @@ arrays = record { Value = Name; stands = IsNamed Array; Kept = Name; kept = kept
 abbrev pub targets : Nonterminal
 targets = record { Value = Tree; stands = IsTarget; Kept = Tree; kept = kept_tree; faults = faults_of }
 
-abbrev pub items : Nonterminal
-items = record { Value = Tree; stands = IsItem; Kept = Tree; kept = kept_tree; faults = faults_of }
+abbrev pub tails : Nonterminal
+tails = record { Value = Name; stands = IsTail; Kept = Name; kept = kept_name; faults = faults_of_name }
 
--- the number of a mesh, after its mark
+abbrev pub places : Nonterminal
+places = record { Value = ItemTree; stands = IsPlace; Kept = ItemTree; kept = clamped_item; faults = faults_of_item }
+
+abbrev pub items : Nonterminal
+items = record { Value = ItemTree; stands = IsItem; Kept = ItemTree; kept = clamped_item; faults = faults_of_item }
+
+-- the number of a mesh among items, after its mark
 abbrev pub numbers : Nonterminal
-numbers = record { Value = ℕ; stands = IsNumber; Kept = Tree; kept = λ n. mesh (kept n); faults = mesh_faults }
+numbers = record { Value = ℕ; stands = IsNumber; Kept = ItemTree; kept = λ n. single (mesh (kept n)); faults = mesh_faults }
 
 abbrev pub gerunds : Nonterminal
 gerunds = record { Value = Gerund; stands = IsGerund; Kept = Gerund; kept = λ g. g; faults = λ g. no_faults }

@@ -53,7 +53,7 @@ mod token;
 mod tree;
 mod verb;
 
-pub use body::{Body, Gerund, Item, Target};
+pub use body::{Body, Gerund, Item, Place, Target};
 pub use kinds::Kind;
 pub use laws::{one_body, one_cut, one_reading, one_refusal};
 pub use listing::append_listing;

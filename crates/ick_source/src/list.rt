@@ -2,12 +2,12 @@
 
 ghost use Rattle.std.specs.Prelude.{IfOk, codes, map};
 ghost use Rattle.ick_source.specs.Answers.{Answers};
-ghost use Rattle.ick_source.specs.BodyTree.{item_tree, target_tree};
-ghost use Rattle.ick_source.specs.Nonterminal.{StandsOnce, TakesSymbols, gerunds, items, listed, names, targets, wholes};
+ghost use Rattle.ick_source.specs.BodyTree.{item_tree, place_tree};
+ghost use Rattle.ick_source.specs.Nonterminal.{StandsOnce, TakesSymbols, gerunds, items, listed, names, places, wholes};
 ghost use Rattle.ick_source.specs.Place.{left_at};
 ghost use Rattle.ick_source.specs.Tree.{tree_of};
 
-use crate::body::{Gerund, Item, Target};
+use crate::body::{self, Gerund, Item};
 use crate::faults::Faults;
 use crate::found::Found;
 use crate::part::Part;
@@ -69,13 +69,13 @@ pub fn gerunds_at(
     list_at(alloc, text, b"+", from)
 }
 
-/// The targets at the place, with `+` between them.
-pub fn targets_at(
+/// What WRITE IN stores into, from the place on, with `+` between them.
+pub fn places_at(
     alloc: Global,
     text: &[u8],
     from: Place,
-) -> Result<Option<Found<Vec<Target>>>, AllocError>
-    ensures { IfOk result (Answers (listed targets (codes "+")) (λ list. map target_tree list.items) text.now (left_at text.now from)) }
+) -> Result<Option<Found<Vec<body::Place>>>, AllocError>
+    ensures { IfOk result (Answers (listed places (codes "+")) (λ list. map place_tree list.items) text.now (left_at text.now from)) }
 {
     list_at(alloc, text, b"+", from)
 }

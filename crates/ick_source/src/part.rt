@@ -1,22 +1,22 @@
-//! The readers of the parts of bodies: names, targets, items, gerunds, labels, and expressions outside groups.
+//! The readers of the parts of bodies: names, targets, places, items, gerunds, labels, and expressions outside groups.
 
 ghost use Rattle.std.specs.Prelude.{◌≡◌, ℕ, List, IfOk, MatchOption};
 ghost use Rattle.ick_source.specs.Answers.{Answers};
-ghost use Rattle.ick_source.specs.BodyTree.{item_tree, target_tree};
+ghost use Rattle.ick_source.specs.BodyTree.{item_tree, place_tree, single, target_tree};
 ghost use Rattle.ick_source.specs.Gerund.{gerund_word};
-ghost use Rattle.ick_source.specs.Nonterminal.{Nonterminal, elements, gerunds, items, labels, names, numbers, targets, wholes};
+ghost use Rattle.ick_source.specs.Nonterminal.{Nonterminal, elements, gerunds, items, labels, names, numbers, places, tails, targets, wholes};
 ghost use Rattle.ick_source.specs.Place.{left_at};
 ghost use Rattle.ick_source.specs.Token.{IsWord};
 ghost use Rattle.ick_source.specs.Tree.{tree_of};
 
-use crate::body::{Gerund, Item, Target};
+use crate::body::{self, Gerund, Item, Target};
 use crate::expression::{element_at, expr_at, kept_number};
 use crate::faults::Faults;
 use crate::found::Found;
 use crate::lead::Lead;
 use crate::place::{Place, next_at};
 use crate::token::{number_at, word_at};
-use crate::tree::{Expr, Name};
+use crate::tree::{Expr, Name, NameKind};
 use std::alloc::{AllocError, Global};
 
 /// The greatest height of an expression, and of an element (this profile).
@@ -110,7 +110,58 @@ pub fn target_at(
     }))
 }
 
-/// The item at the place: a variable, an element or a mesh.
+/// The whole array at the place: a tail's name with no SUB after it (Revised Manual, 5.2).
+fn tail_at(text: &[u8], from: Place) -> Option<Found<Name>>
+    ensures { Answers tails (λ name. name) text.now (left_at text.now from) result }
+{
+    if next_at(text, from).begins != Lead::Array(NameKind::Tail) {
+        return None;
+    }
+    let Some(found) = name_at(text, from) else {
+        return None;
+    };
+    match word_at(text, found.to, b"SUB") {
+        None => Some(found),
+        Some(_) => None,
+    }
+}
+
+/// The place of a value or of an array's values, as WRITE IN names it: a variable, an element or a whole array.
+pub fn place_at(
+    alloc: Global,
+    text: &[u8],
+    from: Place,
+) -> Result<Option<Found<body::Place>>, AllocError>
+    ensures { IfOk result (Answers places place_tree text.now (left_at text.now from)) }
+{
+    if let Some(found) = tail_at(text, from) {
+        return Ok(Some(Found {
+            value: body::Place::Array(found.value),
+            to: found.to,
+            faults: found.faults,
+        }));
+    }
+    let Some(found) = target_at(alloc, text, from)? else {
+        return Ok(None);
+    };
+    Ok(Some(Found {
+        value: stored(found.value),
+        to: found.to,
+        faults: found.faults,
+    }))
+}
+
+/// The target as a place.
+fn stored(target: Target) -> body::Place
+    ensures { place_tree result ≡ single (target_tree target) }
+{
+    match target {
+        Target::Scalar(name) => body::Place::Scalar(name),
+        Target::Element(element) => body::Place::Element(element),
+    }
+}
+
+/// The item at the place: a variable, an element, a whole array or a mesh.
 pub fn item_at(alloc: Global, text: &[u8], from: Place) -> Result<Option<Found<Item>>, AllocError>
     ensures { IfOk result (Answers items item_tree text.now (left_at text.now from)) }
 {
@@ -118,7 +169,7 @@ pub fn item_at(alloc: Global, text: &[u8], from: Place) -> Result<Option<Found<I
     if let Lead::Hash = next.begins {
         return Ok(mesh_item_at(text, next.past));
     }
-    let Some(found) = target_at(alloc, text, from)? else {
+    let Some(found) = place_at(alloc, text, from)? else {
         return Ok(None);
     };
     Ok(Some(Found {
@@ -140,13 +191,14 @@ fn mesh_item_at(text: &[u8], past: Place) -> Option<Found<Item>>
     })
 }
 
-/// The target as an item.
-fn printed(target: Target) -> Item
-    ensures { item_tree result ≡ target_tree target }
+/// The place as an item.
+fn printed(place: body::Place) -> Item
+    ensures { item_tree result ≡ place_tree place }
 {
-    match target {
-        Target::Scalar(name) => Item::Scalar(name),
-        Target::Element(element) => Item::Element(element),
+    match place {
+        body::Place::Scalar(name) => Item::Scalar(name),
+        body::Place::Element(element) => Item::Element(element),
+        body::Place::Array(name) => Item::Array(name),
     }
 }
 
@@ -218,13 +270,13 @@ impl Part for Name {
     }
 }
 
-impl Part for Target {
-    ghost nonterminal = { targets };
+impl Part for body::Place {
+    ghost nonterminal = { places };
 
-    ghost seen = { target_tree };
+    ghost seen = { place_tree };
 
     fn read_at(alloc: Global, text: &[u8], from: Place) -> Result<Option<Found<Self>>, AllocError> {
-        target_at(alloc, text, from)
+        place_at(alloc, text, from)
     }
 }
 

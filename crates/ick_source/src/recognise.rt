@@ -12,7 +12,7 @@ use crate::faults::Faults;
 use crate::form::{Form, form_at};
 use crate::found::Found;
 use crate::lead::Lead;
-use crate::list::{dimensions_at, gerunds_at, items_at, names_at, targets_at};
+use crate::list::{dimensions_at, gerunds_at, items_at, names_at, places_at};
 use crate::part::{label_at, name_at, target_at, whole_at};
 use crate::place::{Place, next_at};
 use crate::token::word_at;
@@ -74,18 +74,18 @@ fn give_up_at(text: &[u8], from: Place) -> Option<Found<Body>>
     })
 }
 
-/// What follows WRITE (Revised Manual, 4.4.12).
+/// What follows WRITE (Revised Manual, 4.4.12 and 5.2).
 fn write_in_at(alloc: Global, text: &[u8], from: Place) -> Result<Option<Found<Body>>, AllocError>
     ensures { IfOk result (Answers (after Verb.Write) body_tree_of text.now (left_at text.now from)) }
 {
     let Some(from) = word_at(text, from, b"IN") else {
         return Ok(None);
     };
-    let targets = targets_at(alloc, text, from)?;
-    Ok(made(targets, Body::WriteIn))
+    let places = places_at(alloc, text, from)?;
+    Ok(made(places, Body::WriteIn))
 }
 
-/// What follows READ (Revised Manual, 4.4.13).
+/// What follows READ (Revised Manual, 4.4.13 and 5.2).
 fn read_out_at(alloc: Global, text: &[u8], from: Place) -> Result<Option<Found<Body>>, AllocError>
     ensures { IfOk result (Answers (after Verb.Read) body_tree_of text.now (left_at text.now from)) }
 {

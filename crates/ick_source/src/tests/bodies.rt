@@ -91,10 +91,18 @@ fn push_target(alloc: Global, out: &mut String, target: &Target) -> Result<(), A
     }
 }
 
+fn push_place(alloc: Global, out: &mut String, place: &Place) -> Result<(), AllocError> {
+    out.push_str(" ")?;
+    match place {
+        Place::Scalar(name) | Place::Array(name) => push_name(alloc, out, name),
+        Place::Element(element) => push_element(alloc, out, element),
+    }
+}
+
 fn push_item(alloc: Global, out: &mut String, item: &Item) -> Result<(), AllocError> {
     out.push_str(" ")?;
     match item {
-        Item::Scalar(name) => push_name(alloc, out, name),
+        Item::Scalar(name) | Item::Array(name) => push_name(alloc, out, name),
         Item::Element(element) => push_element(alloc, out, element),
         Item::Mesh(number) => push_number(alloc, out, "#", *number),
     }
@@ -164,9 +172,9 @@ fn push_parts(alloc: Global, out: &mut String, body: &Body) -> Result<(), AllocE
         Body::AbstainKinds(gerunds) | Body::ReinstateKinds(gerunds) => {
             push_gerunds(alloc, out, gerunds.as_slice())
         }
-        Body::WriteIn(targets) => {
-            for target in targets {
-                push_target(alloc, out, target)?;
+        Body::WriteIn(places) => {
+            for place in places {
+                push_place(alloc, out, place)?;
             }
             Ok(())
         }
@@ -256,7 +264,7 @@ fn expressions_are_read(rt: HostRuntime) -> Result<(), Fail> {
 
 #[test]
 fn bodies_are_read(rt: HostRuntime) -> Result<(), Fail> {
-    let rows: [(&[u8], &str); 32] = [
+    let rows: [(&[u8], &str); 44] = [
         (b",1SUB'#2''#3' <- #7", "CALCULATE [,1 #2 #3] #7 19"),
         (b",1 <- #2 BY #3", "DIMENSION ,1 #2 #3 14"),
         (b";4<-.1BY'#2~.3'BY#4 B", "DIMENSION ;4 .1 (~ #2 .3) #4 19"),
@@ -288,8 +296,20 @@ fn bodies_are_read(rt: HostRuntime) -> Result<(), Fail> {
         (b"WRITE IN #1", "-"),
         (b"READ OUT ,1SUB#2#3+#4+.5", "READ OUT [,1 #2 #3] #4 .5 24"),
         (b"READOUT #70000", "READ OUT #65535 14 M"),
-        (b"READ OUT ,1", "-"),
         (b"READ OUT #&1", "-"),
+        (b"READ OUT ,1", "READ OUT ,1 11"),
+        (b"WRITE IN .1+,1", "WRITE IN .1 ,1 14"),
+        (b"READ OUT ,1+,1SUB#1+#3", "READ OUT ,1 [,1 #1] #3 22"),
+        (b"WRITE IN ,1SUB#1 + , 2", "WRITE IN [,1 #1] ,2 22"),
+        (b"READ OUT ,0", "READ OUT ,0 11 N"),
+        (b"WRITE IN ,70000", "WRITE IN ,65535 15 N"),
+        (b"READ OUT ,1~#1", "READ OUT ,1 11"),
+        (b"READ OUT ;1", "-"),
+        (b"WRITE IN ;1", "-"),
+        (b"READ OUT ,1 SUB", "-"),
+        (b"WRITE IN ,1SUB+.1", "-"),
+        (b"READ OUT ,", "-"),
+        (b",1 <- ,2", "-"),
         (b"GIVE", "-"),
         (b"", "-"),
     ];
