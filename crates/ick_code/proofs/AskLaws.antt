@@ -5,7 +5,8 @@ use Rattle.std.specs.Prelude.{nat_lt, Option, Some, None}
 use Rattle.ick_source.specs.Trees.{StatementTree}
 use Rattle.ick_code.specs.meaning.State.{State, Ending, statement_at}
 use Rattle.ick_code.specs.meaning.Do.{do_statement}
-use Rattle.ick_code.specs.meaning.Move.{plain, choice, ended, ask, ask_at, ask_of, is_uncertain, is_done, pass_over, meet, advance}
+use Rattle.ick_code.specs.meaning.Move.{plain, choice, ended, ask, ask_at, ask_of, is_uncertain, is_done, pass_over}
+use Rattle.ick_code.specs.meaning.Move.{meet, advance}
 use Rattle.ick_code.specs.Laws.{after_output, on_input}
 
 -- a choice is asked at a chance strictly between none and all

@@ -1,5 +1,6 @@
 -- What is seen of a compiled program.
-use Rattle.std.proofs.Common.{◌≡◌, ℕ, zero, suc, ◌≤◌, ◌<◌, Bool, true, false, not, ◌&&◌, List, [], take, length, Option, Some, None, refl, sym, ap, ◌∙◌, subst, le_trans, arith, if◌then◌else◌, ◌∷◌, ◌-◌, get_or}
+use Rattle.std.proofs.Common.{◌≡◌, ℕ, zero, suc, ◌≤◌, ◌<◌, Bool, true, false, not, ◌&&◌, List, [], take, length, Option}
+use Rattle.std.proofs.Common.{Some, None, refl, sym, ap, ◌∙◌, subst, le_trans, arith, if◌then◌else◌, ◌∷◌, ◌-◌, get_or}
 use Rattle.std.specs.Prelude.{filter, slice_get, slice_range, option_map}
 use Rattle.std.specs.List.{IsDistinct, AllPass, list_all}
 use Rattle.std.proofs.lemmas.List.Sums.{AllPass-from_list_all}
@@ -16,8 +17,9 @@ use Rattle.ick_code.specs.Counts.{count_after, peak}
 use Rattle.ick_code.specs.Code.{Means, IsCompiledStatement, IsCode}
 use Rattle.ick_code.specs.Compiled.{code_program, code_slots, compiled_at, ops_in, code_ops, Shows, IsCompiled}
 use Rattle.ick_code.proofs.SlotLemmas.{each_once-distinct}
-use Rattle.ick_code.proofs.SameNames.{both_left, both_right}
+use Rattle.ick_code.proofs.Bools.{both_left, both_right}
 use Rattle.ick_code.proofs.Slotted.{slots_is}
+use Rattle.ick_code.proofs.Members.{some_member}
 use Rattle.ick_code.proofs.CountLemmas.{prefix-le, peak_reached}
 
 passing_filtered : (p q : Name → Bool) (names : List Name) → list_all p names ≡ true → list_all p (filter q names) ≡ true
@@ -45,24 +47,14 @@ passing_own p (name ∷ names) = cases (p name) refl (passing_own p names)
 kept_names : (p : Name → Bool) (names : List Name) → AllPass p (each_once (filter p names))
 kept_names p names = AllPass-from_list_all p (each_once (filter p names)) (passing_once p (filter p names) (passing_own p names))
 
-some_compiled : (statements : List CompiledStatement) (n : ℕ) → n < length statements → (compiled : CompiledStatement) × (slice_get statements n ≡ Some compiled)
-some_compiled [] n h = absurd (omega arith)
-some_compiled (compiled ∷ statements) zero h = (compiled, refl)
-some_compiled (compiled ∷ statements) (suc n) h = some_compiled statements n (omega arith)
-
 -- what is kept of a statement
 pub compiled_of : (program : List StatementTree) (code : Code) → IsCode program code.scalars.items code.arrays.items code.operands code.ops.items code.statements.items → (n : ℕ) (statement : StatementTree) →
     statement_at program n ≡ Some statement → (compiled : CompiledStatement) × (compiled_at code.statements.items n ≡ Some compiled) × IsCompiledStatement program (slots_of program) code.operands code.ops.items compiled statement
 compiled_of program code h zero statement at = absurd (cc)
 compiled_of program code h (suc k) statement at =
     let low = slice_get_within program k statement at in
-    let here = some_compiled code.statements.items k (omega (arith, h.count)) in
+    let here = some_member code.statements.items k (omega (arith, h.count)) in
     (here.0, here.1, h.each k here.0 statement here.1 at)
-
-some_statement : (program : List StatementTree) (n : ℕ) → n < length program → (statement : StatementTree) × (slice_get program n ≡ Some statement)
-some_statement [] n h = absurd (omega arith)
-some_statement (statement ∷ rest) zero h = (statement, refl)
-some_statement (statement ∷ rest) (suc n) h = some_statement rest n (omega arith)
 
 -- what is so of the operations of what is kept is so of those of each statement
 each_ops : (program : List StatementTree) (code : Code) → IsCode program code.scalars.items code.arrays.items code.operands code.ops.items code.statements.items →
@@ -71,7 +63,7 @@ each_ops program code h zero = omega arith
 each_ops program code h (suc k) = cases (slice_get code.statements.items k) refl
   where
     at : (compiled : CompiledStatement) → slice_get code.statements.items k ≡ Some compiled → (statement : StatementTree) × (slice_get program k ≡ Some statement)
-    at compiled e = some_statement program k (omega (arith, h.count, slice_get_within code.statements.items k compiled e))
+    at compiled e = some_member program k (omega (arith, h.count, slice_get_within code.statements.items k compiled e))
 
     cases : (o : Option CompiledStatement) → slice_get code.statements.items k ≡ o → peak (ops_in code.ops.items o) 0 ≤ code.operands
     cases None e = omega arith
@@ -114,7 +106,7 @@ pub record Taken (code : Code) (n : ℕ) (compiled : CompiledStatement) : Type 0
 
 taken_at : (code : Code) (k : ℕ) (compiled : CompiledStatement) → slice_get code.statements.items k ≡ Some compiled → IsCode (code_program code) code.scalars.items code.arrays.items code.operands code.ops.items code.statements.items → Taken code (suc k) compiled
 taken_at code k compiled at h =
-    let there = some_statement (code_program code) k (omega (arith, h.count, slice_get_within code.statements.items k compiled at)) in
+    let there = some_member (code_program code) k (omega (arith, h.count, slice_get_within code.statements.items k compiled at)) in
     let is = h.each k compiled there.0 at there.1 in
     record {
       at = at;

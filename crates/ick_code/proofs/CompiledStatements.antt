@@ -1,5 +1,7 @@
 -- The statements of a program, compiled one after another.
-use Rattle.std.proofs.Common.{◌≡◌, ℕ, zero, suc, ◌+◌, ◌-◌, ◌<◌, ◌≤◌, max, true, List, [], ◌∷◌, ◌++◌, length, map, take, drop, get_or, Option, Some, None, refl, sym, ap, ◌∙◌, ◌⊎◌, ⊎_elim, inl, inr, subst, arith, length-append, le_trans, take_all}
+use Rattle.std.proofs.Common.{◌≡◌, ℕ, suc, ◌+◌, ◌-◌, ◌<◌, ◌≤◌, max, true, List, [], ◌∷◌, ◌++◌, length, map, take}
+use Rattle.std.proofs.Common.{drop, get_or, Option, Some, None, refl, sym, ap, ◌∙◌, ⊎_elim, subst, arith}
+use Rattle.std.proofs.Common.{length-append, le_trans, take_all}
 use Rattle.std.specs.Prelude.{slice_get, slice_range, option_map}
 use Rattle.std.specs.List.{list_all}
 use Rattle.std.proofs.lemmas.List.{take-append-le, drop-append-le, length-map, length-drop, map-append}
@@ -21,6 +23,7 @@ use Rattle.ick_code.specs.Counts.{peak}
 use Rattle.ick_code.specs.Operations.{ops_of_body}
 use Rattle.ick_code.specs.Emitted.{IsEmitted}
 use Rattle.ick_code.specs.Code.{IsCompiledStatement, IsCode}
+use Rattle.ick_code.proofs.Members.{some_is, some_member, push_cases, mapped_from}
 use Rattle.ick_code.proofs.TakeLemmas.{take_with}
 use Rattle.ick_code.proofs.CountLemmas.{within_peak}
 use Rattle.ick_code.proofs.Slotted.{covers_all, covers_part, kinded_part}
@@ -78,12 +81,6 @@ none_compiled place slots statements ops list none = record {
     nothing : (o : Option CompiledStatement) (compiled : CompiledStatement) → o ≡ Some compiled → o ≡ None → ⊥
     nothing o compiled e f = cc
 
-push_cases : {A : Type 0} (xs : List A) (y : A) (i : ℕ) (x : A) → slice_get (xs ++ y ∷ []) i ≡ Some x → (slice_get xs i ≡ Some x) ⊎ ((i ≡ length xs) × (y ≡ x))
-push_cases [] y zero x h = inr (refl, (cc))
-push_cases [] y (suc i) x h = absurd (cc)
-push_cases (z ∷ xs) y zero x h = inl h
-push_cases (z ∷ xs) y (suc i) x h = ⊎_elim (λ a. inl a) (λ b. inr (ap suc b.0, b.1)) (push_cases xs y i x h)
-
 emitted_grows : (place : ℕ → ℕ) (slots : Slots) (ops more : List Op) (compiled : CompiledStatement) (statement : Statement) → IsEmitted place slots ops compiled statement → IsEmitted place slots (ops ++ more) compiled statement
 emitted_grows place slots ops more compiled statement h = record {
   order = h.order;
@@ -128,9 +125,6 @@ more_compiled place slots statements ops more ops' list list' most most' i compi
     peaks : Statement → ℕ
     peaks s = peak (ops_of_body place slots s.body) 0
 
-    some_is : (a b : Statement) → Some a ≡ Some b → a ≡ b
-    some_is a b e = cc
-
 -- a label's place may be had otherwise
 ops_placed : (place place' : ℕ → ℕ) (slots : Slots) → ((label : ℕ) → place label ≡ place' label) → (b : Body) → ops_of_body place slots b ≡ ops_of_body place' slots b
 ops_placed place place' slots same (body.Calculate target e) = refl
@@ -150,14 +144,6 @@ ops_placed place place' slots same body.GiveUp = refl
 ops_placed place place' slots same (body.WriteIn targets) = refl
 ops_placed place place' slots same (body.ReadOut items) = refl
 ops_placed place place' slots same body.Unrecognised = refl
-
--- what was mapped comes from a member
-mapped_from : {A B : Type 0} (f : A → B) (xs : List A) (n : ℕ) (y : B) → slice_get (map f xs) n ≡ Some y → (x : A) × (slice_get xs n ≡ Some x) × (y ≡ f x)
-mapped_from {A = A} f xs n y e = cases (slice_get xs n) refl (sym (slice_get-map f xs n) ∙ e)
-  where
-    cases : (o : Option A) → slice_get xs n ≡ o → option_map f o ≡ Some y → (x : A) × (slice_get xs n ≡ Some x) × (y ≡ f x)
-    cases None at h = absurd (cc)
-    cases (Some x) at h = (x, at, (cc))
 
 emitted_means : (program : List StatementTree) (statements : List Statement) (place : ℕ → ℕ) (most : ℕ) (ops : List Op) (compiled : CompiledStatement) (n : ℕ) (statement : Statement) →
     program ≡ map statement_tree_of statements → ((label : ℕ) → place label ≡ place_of label program) → list_all is_statement_kinded program ≡ true →
@@ -203,7 +189,7 @@ whole_code program statements place slots ops list most i so_far low high trees 
       (most_of-least (map peaks statements) m (λ n k e.
       let from = mapped_from peaks statements n k e in
       let long = slice_get_within statements n from.0 from.1 in
-      let here = some_compiled list n (omega (arith, so_far.count)) in
+      let here = some_member list n (omega (arith, so_far.count)) in
       let there = so_far.each n here.0 from.0 here.1 from.1 in
       let fits = all n here.0 here.1 in
       omega (arith, fits, from.2, ap (λ o. peak o 0) there.0.is)));
@@ -214,8 +200,3 @@ whole_code program statements place slots ops list most i so_far low high trees 
 
     peaks : Statement → ℕ
     peaks s = peak (ops_of_body place slots s.body) 0
-
-    some_compiled : (list : List CompiledStatement) (n : ℕ) → n < length list → (compiled : CompiledStatement) × (slice_get list n ≡ Some compiled)
-    some_compiled [] n h = absurd (omega arith)
-    some_compiled (compiled ∷ list) zero h = (compiled, refl)
-    some_compiled (compiled ∷ list) (suc n) h = some_compiled list n (omega arith)

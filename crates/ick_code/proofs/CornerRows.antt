@@ -2,20 +2,26 @@
 use Rattle.std.proofs.Common.{◌≡◌, ℕ, true, false, Bool, List, [], ◌∷◌, ◌++◌, Some, None, refl}
 use Rattle.std.specs.Prelude.{codes, replicate}
 use Rattle.ick_bits.specs.Operators.{sum_below, with_bits, mingled, with_neighbours, unary as on_one}
-use Rattle.ick_bits.specs.Digits.{line_answer, first_unknown, beginnings, begins_word, word_at, digit_of, number_of_words}
+use Rattle.ick_bits.specs.Digits.{line_answer, first_unknown, beginnings, begins_word, word_at, digit_of}
+use Rattle.ick_bits.specs.Digits.{number_of_words}
 use Rattle.ick_bits.specs.Numeral.{numeral_of, printed}
-use Rattle.ick_bits.specs.declared.faults.FaultKind.TheVariants.{Hyperspace, TooWide, ZeroDimension, NothingStashed, Rupture, NoDigit, SixtyFour, OffTheEdge, Unrecognised}
+use Rattle.ick_bits.specs.declared.faults.FaultKind.TheVariants.{Hyperspace, TooWide, ZeroDimension, NothingStashed}
+use Rattle.ick_bits.specs.declared.faults.FaultKind.TheVariants.{Rupture, NoDigit, SixtyFour, OffTheEdge, Unrecognised}
 use Rattle.ick_source.specs.declared.tree.UnaryOp.TheVariants.{Or, Xor}
 use Rattle.ick_source.specs.declared.tree.BinaryOp.TheVariants.{Mingle}
-use Rattle.ick_source.specs.declared.body.Gerund.TheVariants.{Calculating, Nexting, Forgetting, Resuming, Stashing, Retrieving, Ignoring, Remembering, Abstaining, Reinstating, WritingIn, ReadingOut}
+use Rattle.ick_source.specs.declared.body.Gerund.TheVariants.{Calculating, Nexting, Forgetting, Resuming, Stashing}
+use Rattle.ick_source.specs.declared.body.Gerund.TheVariants.{Retrieving, Ignoring, Remembering, Abstaining}
+use Rattle.ick_source.specs.declared.body.Gerund.TheVariants.{Reinstating, WritingIn, ReadingOut}
 use Rattle.ick_source.specs.Tree.{Tree, mesh, scalar, unary, binary}
 use Rattle.ick_source.specs.Trees.{StatementTree}
-use Rattle.ick_source.specs.BodyTree.{calculate, dimension, next, resume, stash, retrieve, ignore, remember, abstain_label, abstain_kinds, reinstate_label, reinstate_kinds, give_up}
+use Rattle.ick_source.specs.BodyTree.{calculate, dimension, next, resume, stash, retrieve, ignore, remember}
+use Rattle.ick_source.specs.BodyTree.{abstain_label, abstain_kinds, reinstate_label, reinstate_kinds, give_up}
 use Rattle.ick_code.specs.meaning.State.{State, gave_up, faulted}
 use Rattle.ick_code.specs.meaning.Outcome.{done, faults}
 use Rattle.ick_code.specs.meaning.Control.{resume as do_resume, forget as do_forget}
 use Rattle.ick_code.specs.meaning.Move.{advance, first_state, ask, plain, choice}
-use Rattle.ick_code.proofs.RowWords.{plainly, labelled, reads, prints, one, two, double, tail, other_tail, hybrid, at, after, seen}
+use Rattle.ick_code.proofs.RowWords.{plainly, labelled, reads, prints, one, two, double, tail, other_tail, hybrid, at}
+use Rattle.ick_code.proofs.RowWords.{after, seen}
 
 -- both operands of mingle are evaluated before E533: `DO .1 <- :1$,1SUB#9` with :1 too great is E241
 great : Tree

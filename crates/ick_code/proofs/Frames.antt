@@ -1,5 +1,6 @@
 -- A step neither reads nor changes what was written before it: one lemma for each thing that a statement does.
-use Rattle.std.proofs.Common.{◌≡◌, ℕ, zero, suc, ◌+◌, ◌==◌, Bool, true, false, if◌then◌else◌, List, [], ◌∷◌, ◌++◌, map, length, refl, ap, ◌∙◌, append_assoc}
+use Rattle.std.proofs.Common.{◌≡◌, ℕ, zero, suc, ◌+◌, ◌==◌, Bool, true, false, if◌then◌else◌, List, [], ◌∷◌, ◌++◌, map}
+use Rattle.std.proofs.Common.{length, refl, ap, ◌∙◌, append_assoc}
 use Rattle.std.specs.Prelude.{nat_lt, Option, Some, None, Result, Ok, Err, slice_get}
 use Rattle.std.specs.List.{list_any}
 use Rattle.ick_bits.specs.Values.{number_of}
@@ -12,18 +13,26 @@ use Rattle.ick_bits.specs.declared.faults.FaultKind.{FaultKind}
 use Rattle.ick_source.specs.declared.tree.Name.{Name}
 use Rattle.ick_source.specs.NameKinds.{is_array}
 use Rattle.ick_source.specs.Tree.{Tree, mesh, scalar, element, unary as applied, binary as joined, Trees, none, more}
-use Rattle.ick_source.specs.BodyTree.{ItemTree, single, whole, BodyTree, calculate, dimension, next, forget as forget', resume as resume', stash as stash', retrieve as retrieve', ignore as ignore', remember, abstain_label, abstain_kinds, reinstate_label, reinstate_kinds, give_up, write_in, read_out}
+use Rattle.ick_source.specs.BodyTree.{ItemTree, single, whole, BodyTree, calculate, dimension, next, forget as forget'}
+use Rattle.ick_source.specs.BodyTree.{resume as resume', stash as stash', retrieve as retrieve', ignore as ignore'}
+use Rattle.ick_source.specs.BodyTree.{remember, abstain_label, abstain_kinds, reinstate_label, reinstate_kinds, give_up}
+use Rattle.ick_source.specs.BodyTree.{write_in, read_out}
 use Rattle.ick_source.specs.Trees.{StatementTree}
 use Rattle.ick_code.specs.meaning.State.{State, Array, with_entry, statement_at}
-use Rattle.ick_code.specs.meaning.Value.{value_of, values_of, and_then, element_value, element_place, product, binary_value, unary_value}
+use Rattle.ick_code.specs.meaning.Value.{value_of, values_of, and_then, element_value, element_place, product}
+use Rattle.ick_code.specs.meaning.Value.{binary_value, unary_value}
 use Rattle.ick_code.specs.meaning.Outcome.{Outcome, done, faults, then_do, with_value, in_turn}
-use Rattle.ick_code.specs.meaning.Store.{set_scalar, set_array, store, store_at, store_within, resize, most_elements, zeros, bound_of}
+use Rattle.ick_code.specs.meaning.Store.{set_scalar, set_array, store, store_at, store_within, resize, most_elements}
+use Rattle.ick_code.specs.meaning.Store.{zeros, bound_of}
 use Rattle.ick_code.specs.meaning.Control.{place_of, call, resume, resume_at, most_returns}
 use Rattle.ick_code.specs.meaning.Stash.{stash, retrieve, retrieve_scalar, retrieve_array, ignore}
 use Rattle.ick_code.specs.meaning.Abstain.{can_be_set, set_abstained, set_kind_abstained}
-use Rattle.ick_code.specs.meaning.InputOutput.{first_line, later_lines, with_number, with_input, read_to, read_within, read_at, print}
-use Rattle.ick_code.specs.meaning.Tape.{tape_bytes, tape_after, tape_numbers, take_bytes, with_elements, print_array, read_array}
-use Rattle.ick_code.specs.meaning.Do.{trees_from, store_to, write_to, read_place, print_item, do_body, ended_by, do_statement}
+use Rattle.ick_code.specs.meaning.InputOutput.{first_line, later_lines, with_number, with_input, read_to, read_within}
+use Rattle.ick_code.specs.meaning.InputOutput.{read_at, print}
+use Rattle.ick_code.specs.meaning.Tape.{tape_bytes, tape_after, tape_numbers, take_bytes, with_elements, print_array}
+use Rattle.ick_code.specs.meaning.Tape.{read_array}
+use Rattle.ick_code.specs.meaning.Do.{trees_from, store_to, write_to, read_place, print_item, do_body, ended_by}
+use Rattle.ick_code.specs.meaning.Do.{do_statement}
 use Rattle.ick_code.specs.meaning.Move.{is_done, meet, advance}
 use Rattle.ick_code.specs.Laws.{after_output}
 

@@ -1,3 +1,5 @@
+pub mod Bools
+pub mod Members
 pub mod TakeLemmas
 pub mod SameNames
 pub mod Trees

@@ -1,10 +1,13 @@
 -- Worked programs, run by the definitions: what they append, and how they end.
 use Rattle.std.proofs.Common.{◌≡◌, ℕ, List, [], ◌∷◌, ◌++◌, Some, refl}
 use Rattle.std.specs.Prelude.{codes}
-use Rattle.ick_bits.specs.Operators.{sum_below, with_bits, mingled, ones_below, selected_bits, selected, with_neighbours, unary as on_one}
-use Rattle.ick_bits.specs.Digits.{line_answer, first_unknown, beginnings, begins_word, word_at, digit_of, number_of_words}
+use Rattle.ick_bits.specs.Operators.{sum_below, with_bits, mingled, ones_below, selected_bits, selected}
+use Rattle.ick_bits.specs.Operators.{with_neighbours, unary as on_one}
+use Rattle.ick_bits.specs.Digits.{line_answer, first_unknown, beginnings, begins_word, word_at, digit_of}
+use Rattle.ick_bits.specs.Digits.{number_of_words}
 use Rattle.ick_bits.specs.Numeral.{numeral_of, printed}
-use Rattle.ick_bits.specs.declared.faults.FaultKind.TheVariants.{Hyperspace, TooWide, NothingStashed, ResumeZero, Rupture, NoDigit, NoInput}
+use Rattle.ick_bits.specs.declared.faults.FaultKind.TheVariants.{Hyperspace, TooWide, NothingStashed, ResumeZero}
+use Rattle.ick_bits.specs.declared.faults.FaultKind.TheVariants.{Rupture, NoDigit, NoInput}
 use Rattle.ick_source.specs.declared.tree.UnaryOp.TheVariants.{And, Or, Xor}
 use Rattle.ick_source.specs.declared.tree.BinaryOp.TheVariants.{Mingle, Select}
 use Rattle.ick_source.specs.Tree.{mesh, scalar, unary, binary}

@@ -1,10 +1,14 @@
 -- Worked rows, computed from the definitions.
 use Rattle.std.proofs.Common.{◌≡◌, true, false, [], ◌∷◌, Some, Ok, Err, refl}
 use Rattle.std.specs.Prelude.{codes, replicate}
-use Rattle.ick_bits.specs.Operators.{sum_below, with_bits, mingled, ones_below, selected_bits, selected, with_neighbours, unary as on_one}
-use Rattle.ick_bits.specs.Digits.{line_answer, first_unknown, beginnings, begins_word, word_at, digit_of, number_of_words}
+use Rattle.ick_bits.specs.Operators.{sum_below, with_bits, mingled, ones_below, selected_bits, selected}
+use Rattle.ick_bits.specs.Operators.{with_neighbours, unary as on_one}
+use Rattle.ick_bits.specs.Digits.{line_answer, first_unknown, beginnings, begins_word, word_at, digit_of}
+use Rattle.ick_bits.specs.Digits.{number_of_words}
 use Rattle.ick_bits.specs.Values.{Narrow, Wide}
-use Rattle.ick_bits.specs.declared.faults.FaultKind.TheVariants.{SixtyFour, Hyperspace, TooWide, ZeroDimension, NextDepth, ResumeZero, Rupture, NothingStashed, NoInput, NoDigit}
+use Rattle.ick_bits.specs.declared.faults.FaultKind.TheVariants.{SixtyFour, Hyperspace, TooWide, ZeroDimension}
+use Rattle.ick_bits.specs.declared.faults.FaultKind.TheVariants.{NextDepth, ResumeZero, Rupture, NothingStashed}
+use Rattle.ick_bits.specs.declared.faults.FaultKind.TheVariants.{NoInput, NoDigit}
 use Rattle.ick_source.specs.declared.tree.UnaryOp.TheVariants.{Or}
 use Rattle.ick_source.specs.declared.tree.BinaryOp.TheVariants.{Mingle, Select}
 use Rattle.ick_source.specs.Tree.{mesh, scalar, unary, binary}

@@ -1,5 +1,7 @@
 -- What the operations of trees and bodies do.
-use Rattle.std.proofs.Common.{◌≡◌, ℕ, suc, ◌≤◌, true, false, List, [], ◌∷◌, ◌++◌, length, take, drop, reverse, map, Option, Some, Result, Ok, Err, refl, sym, ap, ◌∙◌, subst, arith, append_assoc, append-nil, length-append, if◌then◌else◌}
+use Rattle.std.proofs.Common.{◌≡◌, ℕ, suc, ◌≤◌, true, false, List, [], ◌∷◌, ◌++◌, length, take, drop, reverse, map}
+use Rattle.std.proofs.Common.{Option, Some, Result, Ok, Err, refl, sym, ap, ◌∙◌, subst, arith, append_assoc, append-nil}
+use Rattle.std.proofs.Common.{length-append, if◌then◌else◌}
 use Rattle.std.specs.Prelude.{nat_le, nat_lt}
 use Rattle.std.specs.List.{flat_map, list_all}
 use Rattle.std.proofs.lemmas.Bool.Decides.{nat_tests}
@@ -22,10 +24,12 @@ use Rattle.ick_source.specs.declared.body.Body.{Body}
 use Rattle.ick_source.specs.declared.body.Body.TheVariants as body
 use Rattle.ick_source.specs.Tree.{Tree, mesh, scalar, element, unary, binary, Trees, none, more, tree_of, trees_in}
 use Rattle.ick_source.specs.Trees.{StatementTree}
-use Rattle.ick_source.specs.NameKinds.{is_array, is_tail, count_in, are_few, is_kinded, are_kinded, is_item_kinded, is_body_kinded}
+use Rattle.ick_source.specs.NameKinds.{is_array, is_tail, count_in, are_few, is_kinded, are_kinded, is_item_kinded}
+use Rattle.ick_source.specs.NameKinds.{is_body_kinded}
 use Rattle.ick_source.specs.BodyTree.{ItemTree, single, whole, target_tree, place_tree, item_tree, body_tree_of}
 use Rattle.ick_code.specs.declared.op.Op.{Op}
-use Rattle.ick_code.specs.declared.op.Op.TheVariants.{Fetch, StoreAt, Resize, Forget, Resume, Save, Restore, Hide, Show, AbstainKind, ReinstateKind, Print, ReadAt, PrintArray, ReadArray}
+use Rattle.ick_code.specs.declared.op.Op.TheVariants.{Fetch, StoreAt, Resize, Forget, Resume, Save, Restore, Hide, Show}
+use Rattle.ick_code.specs.declared.op.Op.TheVariants.{AbstainKind, ReinstateKind, Print, ReadAt, PrintArray, ReadArray}
 use Rattle.ick_code.specs.declared.op.SlotName.{SlotName}
 use Rattle.ick_code.specs.declared.op.SlotName.TheVariants.{Array}
 use Rattle.ick_code.specs.meaning.State.{State}
@@ -38,11 +42,14 @@ use Rattle.ick_code.specs.meaning.Abstain.{set_kind_abstained}
 use Rattle.ick_code.specs.meaning.InputOutput.{read_at, print}
 use Rattle.ick_code.specs.meaning.Tape.{print_array, read_array}
 use Rattle.ick_code.specs.meaning.Do.{store_to, read_place, print_item, do_body}
-use Rattle.ick_code.specs.Effects.{Slots, name_at, Flow, going, broken, stuck, flow_of, gives, on_one, on_last, at_name, effect, effects, then_flow}
+use Rattle.ick_code.specs.Effects.{Slots, name_at, Flow, going, broken, stuck, flow_of, gives, on_one, on_last, at_name}
+use Rattle.ick_code.specs.Effects.{effect, effects, then_flow}
 use Rattle.ick_code.specs.Names.{names_of_tree, names_of_trees, names_of_item, names_of_body, slot_in, slot_name}
-use Rattle.ick_code.specs.Operations.{unary_op_of, binary_op_of, ops_of_tree, ops_of_trees, ops_of_item, store_ops, read_ops, print_ops, name_ops, gerund_ops, ops_of_body}
-use Rattle.ick_code.proofs.Covers.{Covers, covers_left, covers_right, covers_head, covers_tail, scalar_slot, array_slot, tail_is_array}
-use Rattle.ick_code.proofs.SameNames.{both_left, both_right, first_of, third_of}
+use Rattle.ick_code.specs.Operations.{unary_op_of, binary_op_of, ops_of_tree, ops_of_trees, ops_of_item, store_ops}
+use Rattle.ick_code.specs.Operations.{read_ops, print_ops, name_ops, gerund_ops, ops_of_body}
+use Rattle.ick_code.proofs.Covers.{Covers, covers_left, covers_right, covers_head, covers_tail, scalar_slot, array_slot}
+use Rattle.ick_code.proofs.Covers.{tail_is_array}
+use Rattle.ick_code.proofs.Bools.{both_left, both_right, first_of, third_of}
 use Rattle.ick_code.proofs.Trees.{trees-listed, kinded-listed, names-listed}
 
 -- goes on with a value, or is broken by its fault

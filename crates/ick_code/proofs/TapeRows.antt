@@ -3,7 +3,8 @@ use Rattle.std.proofs.Common.{◌≡◌, true, false, List, [], ◌∷◌, ◌++
 use Rattle.std.specs.Prelude.{codes}
 use Rattle.ick_bits.specs.Operators.{sum_below, with_bits}
 use Rattle.ick_bits.specs.Tape.{reversed_byte}
-use Rattle.ick_bits.specs.Digits.{line_answer, first_unknown, beginnings, begins_word, word_at, digit_of, number_of_words}
+use Rattle.ick_bits.specs.Digits.{line_answer, first_unknown, beginnings, begins_word, word_at, digit_of}
+use Rattle.ick_bits.specs.Digits.{number_of_words}
 use Rattle.ick_bits.specs.Numeral.{numeral_of, printed}
 use Rattle.ick_bits.specs.declared.faults.FaultKind.TheVariants.{Hyperspace}
 use Rattle.ick_source.specs.Tree.{mesh, scalar}

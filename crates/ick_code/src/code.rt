@@ -24,7 +24,8 @@ pub struct CompiledStatement<'a> {
 
 /// A compiled program: all operations in one list, and for each statement where its own stand.
 ///
-/// It keeps, for contracts alone, the program that it was compiled from, and its type keeps that it is the code of that program.
+/// It keeps, for contracts alone, the program that it was compiled from, and its type keeps that it
+/// is the code of that program.
 #[derive(Drop)]
 pub struct Code<'a> {
     program: Snapshot<Program<'a>>,
@@ -33,7 +34,8 @@ pub struct Code<'a> {
     scalars: Vec<Name>,
     arrays: Vec<Name>,
     operands: usize,
-    pub ghost compiled: { IsCode (trees_of program.value) scalars.items arrays.items operands ops.items statements.items } by { Prim.hlevel props },
+    pub ghost compiled: { IsCode (trees_of program.value)
+        scalars.items arrays.items operands ops.items statements.items } by { Prim.hlevel props },
     pub ghost few: { length statements.items ≤ most_statements },
     pub ghost few_scalars: { length scalars.items ≤ most_names },
     pub ghost few_arrays: { length arrays.items ≤ most_names },
@@ -42,9 +44,10 @@ pub struct Code<'a> {
 impl<'a> Code<'a> {
     ghost use Rattle.std.specs.Prelude.{Some, IsSomeAnd, slice_get, option_map};
     ghost use Rattle.ick_source.specs.Kinds.{kind_of};
-    ghost use Rattle.ick_code.specs.meaning.State.{statement_at};
     ghost use Rattle.ick_code.specs.Code.{Means};
-    ghost use Rattle.ick_code.specs.Compiled.{code_program, code_slots, compiled_at, code_ops, code_operands, Shows, IsCompiled};
+    ghost use Rattle.ick_code.specs.Compiled.{code_program, code_slots, code_statement};
+    ghost use Rattle.ick_code.specs.Compiled.{compiled_at, code_ops, code_operands, Shows};
+    ghost use Rattle.ick_code.specs.Compiled.{IsCompiled};
 
     /// Puts together what was compiled from a program.
     pub(crate) fn new(
@@ -54,7 +57,8 @@ impl<'a> Code<'a> {
         table: Table,
         operands: usize,
     ) -> Code<'a>
-        requires { IsCode (trees_of program.now) table.scalars.list.items table.arrays.list.items operands ops.items statements.items }
+        requires { IsCode (trees_of program.now)
+            table.scalars.list.items table.arrays.list.items operands ops.items statements.items }
         ensures { IsCompiled (trees_of program.now) result }
     {
         Code {
@@ -79,32 +83,38 @@ impl<'a> Code<'a> {
         self.statements.len() as u32
     }
 
-    /// The operations of statement `n`, from 1 to `count()`. Worked one after another, from no operands on and up to the first fault,
-    /// they do what the statement does.
+    /// The operations of statement `n`, from 1 to `count()`. Worked one after another, from an
+    /// empty operand stack on and up to the first fault, they do what the statement does.
     pub fn ops(&self, n: u32) -> &[Op]
         requires first { 1 ≤ n }
         requires last { n ≤ length (code_program self.now) }
         ensures ops { result.now ≡ code_ops self.now n }
-        ensures means { IsSomeAnd (statement_at (code_program self.now) n) (λ statement. Means (code_program self.now) (code_slots self.now) result.now statement (code_operands self.now)) }
+        ensures means { IsSomeAnd (code_statement self.now n) (λ statement.
+            Means (code_program self.now) (code_slots self.now) result.now statement
+            (code_operands self.now)) }
     {
         let compiled = self.statement(n);
         &self.ops[compiled.from..compiled.to]
     }
 
-    /// The chance of statement `n`, from 1 to `count()`, of being done each time that it is met, in percent (Revised Manual, 4.3).
+    /// The chance of statement `n`, from 1 to `count()`, of being done each time that it is met, in
+    /// percent (Revised Manual, 4.3).
     pub fn chance(&self, n: u32) -> u8
         requires first { 1 ≤ n }
         requires last { n ≤ length (code_program self.now) }
-        ensures { option_map (λ statement. statement.chance) (statement_at (code_program self.now) n) ≡ Some result }
+        ensures { option_map (λ statement. statement.chance) (code_statement self.now n) ≡
+            Some result }
     {
         self.statement(n).chance
     }
 
-    /// Whether statement `n`, from 1 to `count()`, is abstained from at the start (Revised Manual, 4.3).
+    /// Whether statement `n`, from 1 to `count()`, is abstained from at the start (Revised Manual,
+    /// 4.3).
     pub fn abstained(&self, n: u32) -> bool
         requires first { 1 ≤ n }
         requires last { n ≤ length (code_program self.now) }
-        ensures { option_map (λ statement. statement.abstained) (statement_at (code_program self.now) n) ≡ Some result }
+        ensures { option_map (λ statement. statement.abstained) (code_statement self.now n) ≡
+            Some result }
     {
         self.statement(n).abstained
     }
@@ -113,7 +123,8 @@ impl<'a> Code<'a> {
     pub fn kind(&self, n: u32) -> Kind
         requires first { 1 ≤ n }
         requires last { n ≤ length (code_program self.now) }
-        ensures { option_map (λ statement. kind_of statement.body) (statement_at (code_program self.now) n) ≡ Some result }
+        ensures { option_map (λ statement. kind_of statement.body) (code_statement self.now n) ≡
+            Some result }
     {
         self.statement(n).kind
     }
@@ -122,7 +133,8 @@ impl<'a> Code<'a> {
     pub fn text(&self, n: u32) -> &'a [u8]
         requires first { 1 ≤ n }
         requires last { n ≤ length (code_program self.now) }
-        ensures { option_map (λ statement. statement.text) (statement_at (code_program self.now) n) ≡ Some result.now }
+        ensures { option_map (λ statement. statement.text) (code_statement self.now n) ≡
+            Some result.now }
     {
         self.statement(n).text
     }
@@ -157,7 +169,7 @@ impl<'a> Code<'a> {
         self.arrays[slot as usize]
     }
 
-    /// The greatest number of operands that the operations of any statement keep.
+    /// The greatest number of operands that the operand stack holds in any statement.
     pub fn operands(&self) -> usize
         ensures { result ≡ code_operands self.now }
     {
@@ -171,7 +183,7 @@ impl<'a> Code<'a> {
         ensures at { compiled_at self.now.statements.items n ≡ Some result.now }
         ensures order { result.now.from ≤ result.now.to }
         ensures within { result.now.to ≤ length self.now.ops.items }
-        ensures shows { Shows (statement_at (code_program self.now) n) result.now }
+        ensures shows { Shows (code_statement self.now n) result.now }
     {
         &self.statements[n as usize - 1]
     }

@@ -20,11 +20,12 @@ use ick_bits::NoMemory;
 use ick_source::{Body, Kind, Program, Statement};
 use std::alloc::Global;
 
-/// The code of a program: for each statement a flat list of operations, names turned into slots and labels into numbers of statements.
+/// The code of a program: for each statement a flat list of operations, names turned into slots and
+/// labels into numbers of statements.
 ///
-/// Slots are numbered from 0, scalars and arrays apart, by the first appearance of their names in the source: a target stands before its
-/// right side, an array before its subscripts, and bodies that aren't recognised have no names. `NoMemory` is answered where a growth
-/// was refused.
+/// Slots are numbered from 0, scalars and arrays apart, by the first appearance of their names in
+/// the source: a target stands before its right side, an array before its subscripts, and bodies
+/// that aren't recognised have no names. `NoMemory` is answered where a growth was refused.
 pub fn compile<'a>(alloc: Global, program: &Program<'a>) -> Result<Code<'a>, NoMemory>
     ensures { IfOk result (IsCompiled (trees_of program.now)) }
 {
@@ -50,8 +51,12 @@ fn compile_statement<'a>(
     statement: &Statement<'a>,
 ) -> Result<CompiledStatement<'a>, NoMemory>
     requires { is_body_kinded (body_tree_of statement.now.body) ≡ true }
-    ensures ops { OnOk result (ops.new.items ≡ ops.old.items ++ ops_of_body (place_in labels.now) (table_slots table.now) statement.now.body) }
-    ensures statement { IfOk result (λ compiled. IsEmitted (place_in labels.now) (table_slots table.now) ops.new.items compiled statement.now) }
+    ensures ops { OnOk result (ops.new.items ≡
+        ops.old.items
+        ++ ops_of_body (place_in labels.now) (table_slots table.now) statement.now.body) }
+    ensures statement { IfOk result (λ compiled.
+        IsEmitted (place_in labels.now) (table_slots table.now)
+        ops.new.items compiled statement.now) }
 {
     let from = ops.len();
     emit_body(ops, table, labels, &statement.body)?;

@@ -1,25 +1,25 @@
-//! How many operands operations take, give and keep.
+//! How many operands operations pop, push and keep on the operand stack.
 
 ghost use Rattle.std.specs.Prelude.{◌≡◌, ◌≤◌};
 ghost use Rattle.ick_code.specs.Counts.{popped_by, pushed_by, peak};
 
 use crate::op::Op;
 
-/// How many operands operations keep at most, that begin with none.
+/// How many operands the stack holds at most, where operations begin with none.
 pub fn most_operands(ops: &[Op]) -> usize
     ensures { result ≡ peak ops.now 0 }
 {
     let mut count = 0usize;
     let mut most = 0usize;
     for op in ops {
-        count = count.saturating_sub(taken(*op)) + given(*op);
+        count = count.saturating_sub(popped(*op)) + pushed(*op);
         most = most.max(count);
     }
     most
 }
 
-/// How many operands an operation takes.
-fn taken(op: Op) -> usize
+/// How many operands an operation pops.
+fn popped(op: Op) -> usize
     ensures { result ≡ popped_by op }
 {
     match op {
@@ -36,8 +36,8 @@ fn taken(op: Op) -> usize
     }
 }
 
-/// How many operands an operation gives.
-fn given(op: Op) -> usize
+/// How many operands an operation pushes.
+fn pushed(op: Op) -> usize
     ensures count { result ≡ pushed_by op }
     ensures few { result ≤ 1 }
 {

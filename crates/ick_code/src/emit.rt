@@ -1,14 +1,17 @@
-//! From trees to operations: operands first, then what takes them.
+//! From trees to operations: operands are pushed first, then comes what pops them.
 
 ghost use Rattle.std.specs.Prelude.{◌≡◌, ◌++◌, true, OnOk, IfOk};
 ghost use Rattle.std.specs.List.{flat_map, list_all};
 ghost use Rattle.ick_source.specs.Tree.{tree_of, trees_in};
-ghost use Rattle.ick_source.specs.NameKinds.{count_in, are_few, is_kinded, are_kinded, is_item_kinded, is_body_kinded};
+ghost use Rattle.ick_source.specs.NameKinds.{count_in, are_few, is_kinded, are_kinded};
+ghost use Rattle.ick_source.specs.NameKinds.{is_item_kinded, is_body_kinded};
 ghost use Rattle.ick_source.specs.BodyTree.{target_tree, place_tree, item_tree, body_tree_of};
 ghost use Rattle.ick_code.specs.Names.{slot_in};
 ghost use Rattle.ick_code.specs.Tables.{table_slots};
 ghost use Rattle.ick_code.specs.Labels.{place_in};
-ghost use Rattle.ick_code.specs.Operations.{unary_op_of, binary_op_of, ops_of_tree, ops_of_trees, ops_at, store_ops, read_ops, print_ops, name_ops, gerund_ops, ops_of_body};
+ghost use Rattle.ick_code.specs.Operations.{unary_op_of, binary_op_of, ops_of_tree, ops_of_trees};
+ghost use Rattle.ick_code.specs.Operations.{ops_at, store_ops, read_ops, print_ops, name_ops};
+ghost use Rattle.ick_code.specs.Operations.{gerund_ops, ops_of_body};
 ghost use Rattle.ick_code.specs.Forms.{on_name_of, on_gerund_of};
 
 use crate::labels::Labels;
@@ -84,7 +87,8 @@ pub fn emit_body(
     body: &Body,
 ) -> Result<(), NoMemory>
     requires { is_body_kinded (body_tree_of body.now) ≡ true }
-    ensures { OnOk result (ops.new.items ≡ ops.old.items ++ ops_of_body (place_in labels.now) (table_slots table.now) body.now) }
+    ensures { OnOk result (ops.new.items ≡
+        ops.old.items ++ ops_of_body (place_in labels.now) (table_slots table.now) body.now) }
 {
     match body {
         Body::Calculate(target, e) => {
@@ -127,7 +131,8 @@ fn emit_names(
     form: NameForm,
     names: &[Name],
 ) -> Result<(), NoMemory>
-    ensures { OnOk result (ops.new.items ≡ ops.old.items ++ name_ops (table_slots table.now) (on_name_of form) names.now) }
+    ensures { OnOk result (ops.new.items ≡
+        ops.old.items ++ name_ops (table_slots table.now) (on_name_of form) names.now) }
 {
     for name in names {
         ops.push(form.on(table.slot(*name)))?;
@@ -137,7 +142,8 @@ fn emit_names(
 
 /// Appends one operation for each gerund.
 fn emit_gerunds(ops: &mut Vec<Op>, switch: Switch, gerunds: &[Gerund]) -> Result<(), NoMemory>
-    ensures { OnOk result (ops.new.items ≡ ops.old.items ++ gerund_ops (on_gerund_of switch) gerunds.now) }
+    ensures { OnOk result (ops.new.items ≡
+        ops.old.items ++ gerund_ops (on_gerund_of switch) gerunds.now) }
 {
     for gerund in gerunds {
         ops.push(switch.on_kind(*gerund))?;
@@ -148,7 +154,8 @@ fn emit_gerunds(ops: &mut Vec<Op>, switch: Switch, gerunds: &[Gerund]) -> Result
 /// Appends the operations that read input for each place.
 fn emit_places(ops: &mut Vec<Op>, table: &Table, places: &[Place]) -> Result<(), NoMemory>
     requires { list_all (λ place. is_item_kinded (place_tree place)) places.now ≡ true }
-    ensures { OnOk result (ops.new.items ≡ ops.old.items ++ flat_map (read_ops (table_slots table.now)) places.now) }
+    ensures { OnOk result (ops.new.items ≡
+        ops.old.items ++ flat_map (read_ops (table_slots table.now)) places.now) }
 {
     for place in places {
         emit_read(ops, table, place)?;
@@ -159,7 +166,8 @@ fn emit_places(ops: &mut Vec<Op>, table: &Table, places: &[Place]) -> Result<(),
 /// Appends the operations that print each item.
 fn emit_items(ops: &mut Vec<Op>, table: &Table, items: &[Item]) -> Result<(), NoMemory>
     requires { list_all (λ item. is_item_kinded (item_tree item)) items.now ≡ true }
-    ensures { OnOk result (ops.new.items ≡ ops.old.items ++ flat_map (print_ops (table_slots table.now)) items.now) }
+    ensures { OnOk result (ops.new.items ≡
+        ops.old.items ++ flat_map (print_ops (table_slots table.now)) items.now) }
 {
     for item in items {
         emit_print(ops, table, item)?;
@@ -170,7 +178,8 @@ fn emit_items(ops: &mut Vec<Op>, table: &Table, items: &[Item]) -> Result<(), No
 /// Appends the operations that store a value in a target.
 fn emit_store(ops: &mut Vec<Op>, table: &Table, target: &Target) -> Result<(), NoMemory>
     requires { is_kinded (target_tree target.now) ≡ true }
-    ensures { OnOk result (ops.new.items ≡ ops.old.items ++ store_ops (table_slots table.now) target.now) }
+    ensures { OnOk result (ops.new.items ≡
+        ops.old.items ++ store_ops (table_slots table.now) target.now) }
 {
     match target {
         Target::Scalar(name) => ops.push(Op::Store(table.scalars.slot(*name)))?,
@@ -185,7 +194,8 @@ fn emit_store(ops: &mut Vec<Op>, table: &Table, target: &Target) -> Result<(), N
 /// Appends the operations that read input for a place.
 fn emit_read(ops: &mut Vec<Op>, table: &Table, place: &Place) -> Result<(), NoMemory>
     requires { is_item_kinded (place_tree place.now) ≡ true }
-    ensures { OnOk result (ops.new.items ≡ ops.old.items ++ read_ops (table_slots table.now) place.now) }
+    ensures { OnOk result (ops.new.items ≡
+        ops.old.items ++ read_ops (table_slots table.now) place.now) }
 {
     match place {
         Place::Scalar(name) => ops.push(Op::ReadTo(table.scalars.slot(*name)))?,
@@ -201,7 +211,8 @@ fn emit_read(ops: &mut Vec<Op>, table: &Table, place: &Place) -> Result<(), NoMe
 /// Appends the operations that print an item.
 fn emit_print(ops: &mut Vec<Op>, table: &Table, item: &Item) -> Result<(), NoMemory>
     requires { is_item_kinded (item_tree item.now) ≡ true }
-    ensures { OnOk result (ops.new.items ≡ ops.old.items ++ print_ops (table_slots table.now) item.now) }
+    ensures { OnOk result (ops.new.items ≡
+        ops.old.items ++ print_ops (table_slots table.now) item.now) }
 {
     match item {
         Item::Scalar(name) => ops.push(Op::Load(table.scalars.slot(*name)))?,
@@ -221,7 +232,9 @@ fn emit_print(ops: &mut Vec<Op>, table: &Table, item: &Item) -> Result<(), NoMem
 fn emit_fetch(ops: &mut Vec<Op>, table: &Table, element: &Element) -> Result<(), NoMemory>
     requires few { are_few (trees_in element.now.subs.items) ≡ true }
     requires kinded { are_kinded (trees_in element.now.subs.items) ≡ true }
-    ensures { OnOk result (ops.new.items ≡ ops.old.items ++ ops_at (table_slots table.now) (trees_in element.now.subs.items) (Op.Fetch (slot_in table.now.arrays.list.items element.now.array))) }
+    ensures { OnOk result (ops.new.items ≡
+        ops.old.items ++ ops_at (table_slots table.now) (trees_in element.now.subs.items)
+        (Op.Fetch (slot_in table.now.arrays.list.items element.now.array))) }
 {
     let count = emit_exprs(ops, table, &element.subs)?;
     ops.push(Op::Fetch(table.arrays.slot(element.array), count))?;
@@ -232,7 +245,8 @@ fn emit_fetch(ops: &mut Vec<Op>, table: &Table, element: &Element) -> Result<(),
 #[cycle(expression)]
 fn emit_expr(ops: &mut Vec<Op>, table: &Table, e: &Expr) -> Result<(), NoMemory>
     requires { is_kinded (tree_of e.now) ≡ true }
-    ensures { OnOk result (ops.new.items ≡ ops.old.items ++ ops_of_tree (table_slots table.now) (tree_of e.now)) }
+    ensures { OnOk result (ops.new.items ≡
+        ops.old.items ++ ops_of_tree (table_slots table.now) (tree_of e.now)) }
 {
     match e {
         Expr::Mesh(number) => ops.push(Op::Constant(*number))?,
@@ -251,13 +265,14 @@ fn emit_expr(ops: &mut Vec<Op>, table: &Table, e: &Expr) -> Result<(), NoMemory>
     Ok(())
 }
 
-/// Appends the operations of expressions, one after another, and answers how many expressions they are.
+/// Appends the operations of expressions, one after another, and answers how many they are.
 #[cycle(expression)]
 fn emit_exprs(ops: &mut Vec<Op>, table: &Table, list: &Vec<Expr>) -> Result<u32, NoMemory>
     requires few { are_few (trees_in list.now.items) ≡ true }
     requires kinded { are_kinded (trees_in list.now.items) ≡ true }
     ensures count { IfOk result (λ count. count ≡ count_in (trees_in list.now.items)) }
-    ensures ops { OnOk result (ops.new.items ≡ ops.old.items ++ ops_of_trees (table_slots table.now) (trees_in list.now.items)) }
+    ensures ops { OnOk result (ops.new.items ≡
+        ops.old.items ++ ops_of_trees (table_slots table.now) (trees_in list.now.items)) }
 {
     let count = list.len() as u32;
     for e in list {

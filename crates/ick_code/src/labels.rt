@@ -25,7 +25,8 @@ impl Labels {
     /// The labels of statements.
     pub fn new(alloc: Global, statements: &[Statement]) -> Result<Labels, NoMemory>
         requires { length statements.now ≤ most_statements }
-        ensures { IfOk result (λ labels. (label : ℕ) → place_in labels label ≡ place_of label (map statement_tree_of statements.now)) }
+        ensures { IfOk result (λ labels. (label : ℕ) → place_in labels label ≡
+            place_of label (map statement_tree_of statements.now)) }
     {
         let mut places = BTreeMap::new(alloc);
         let mut past = 1;
@@ -46,7 +47,8 @@ impl Labels {
 
 /// Keeps the place of a label, unless it has one.
 fn note(places: &mut BTreeMap<u16, u32>, label: Option<u16>, place: u32) -> Result<(), NoMemory>
-    ensures { OnOk result ((q : ℕ) → get nat_cmp places.new q ≡ with_place (get nat_cmp places.old q) (is_label q label) place) }
+    ensures { OnOk result ((q : ℕ) → get nat_cmp places.new q ≡
+        with_place (get nat_cmp places.old q) (is_label q label) place) }
 {
     let Some(label) = label else {
         return Ok(());

@@ -1,10 +1,10 @@
 //! Code: the flat operations of a program's statements, which do what the statements do.
 //!
-//! - `op`: operations over a list of operands
+//! - `op`: operations over an operand stack
 //! - `names`, `table`: slots for the names of variables
 //! - `labels`: which statement a label stands before
 //! - `emit`: from trees to operations
-//! - `counts`: how many operands they keep
+//! - `counts`: how many operands they pop, push and keep
 //! - `code`: a compiled program
 //! - `compiler`: from programs to code
 //! - `laws`: what is so of every step

@@ -1,4 +1,4 @@
-//! Operations over a stack of operands.
+//! Operations over an operand stack.
 
 use ick_source::Gerund;
 use std::mem::size_of;
