@@ -1,5 +1,6 @@
 -- What is seen of a compiled program.
-use Rattle.std.proofs.Common.{◌≡◌, ℕ, zero, suc, ◌≤◌, ◌<◌, Bool, true, false, not, ◌&&◌, List, [], take, length, Option, Some, None, refl, sym, ap, ◌∙◌, subst, le_trans, arith, if◌then◌else◌, ◌∷◌, ◌-◌, get_or}
+use Rattle.std.proofs.Common.{◌≡◌, ℕ, zero, suc, ◌≤◌, ◌<◌, Bool, true, false, not, ◌&&◌, List, [], take, length, Option}
+use Rattle.std.proofs.Common.{Some, None, refl, sym, ap, ◌∙◌, subst, le_trans, arith, if◌then◌else◌, ◌∷◌, ◌-◌, get_or}
 use Rattle.std.specs.Prelude.{filter, slice_get, slice_range, option_map}
 use Rattle.std.specs.List.{IsDistinct, AllPass, list_all}
 use Rattle.std.proofs.lemmas.List.Sums.{AllPass-from_list_all}
@@ -8,17 +9,17 @@ use Rattle.ick_source.specs.declared.tree.Name.{Name}
 use Rattle.ick_source.specs.Trees.{StatementTree}
 use Rattle.ick_source.specs.Kinds.{kind_of}
 use Rattle.ick_code.specs.declared.op.Op.{Op}
-use Rattle.ick_code.specs.declared.code.Line.{Line}
+use Rattle.ick_code.specs.declared.code.CompiledStatement.{CompiledStatement}
 use Rattle.ick_code.specs.declared.code.Code.{Code}
-use Rattle.ick_code.specs.State.{same_name}
-use Rattle.ick_code.specs.Abstain.{statement_at}
+use Rattle.ick_code.specs.meaning.State.{same_name, statement_at}
 use Rattle.ick_code.specs.Names.{is_scalar_name, is_array_name, each_once, names_of, slots_of}
 use Rattle.ick_code.specs.Counts.{count_after, peak}
-use Rattle.ick_code.specs.Code.{Means, IsLine, IsCode}
-use Rattle.ick_code.specs.Codes.{code_program, code_slots, line_at, line_ops, code_ops, Shows, IsCompiled}
+use Rattle.ick_code.specs.Code.{Means, IsCompiledStatement, IsCode}
+use Rattle.ick_code.specs.Compiled.{code_program, code_slots, compiled_at, ops_in, code_ops, Shows, IsCompiled}
 use Rattle.ick_code.proofs.SlotLemmas.{each_once-distinct}
-use Rattle.ick_code.proofs.SameNames.{both_left, both_right}
+use Rattle.ick_code.proofs.Bools.{both_left, both_right}
 use Rattle.ick_code.proofs.Slotted.{slots_is}
+use Rattle.ick_code.proofs.Members.{some_member}
 use Rattle.ick_code.proofs.CountLemmas.{prefix-le, peak_reached}
 
 passing_filtered : (p q : Name → Bool) (names : List Name) → list_all p names ≡ true → list_all p (filter q names) ≡ true
@@ -46,51 +47,41 @@ passing_own p (name ∷ names) = cases (p name) refl (passing_own p names)
 kept_names : (p : Name → Bool) (names : List Name) → AllPass p (each_once (filter p names))
 kept_names p names = AllPass-from_list_all p (each_once (filter p names)) (passing_once p (filter p names) (passing_own p names))
 
-some_line : (lines : List Line) (n : ℕ) → n < length lines → (line : Line) × (slice_get lines n ≡ Some line)
-some_line [] n h = absurd (omega arith)
-some_line (line ∷ lines) zero h = (line, refl)
-some_line (line ∷ lines) (suc n) h = some_line lines n (omega arith)
-
--- the line of a statement
-pub line_of : (program : List StatementTree) (code : Code) → IsCode program code.scalars.items code.arrays.items code.operands code.ops.items code.lines.items → (n : ℕ) (statement : StatementTree) →
-    statement_at program n ≡ Some statement → (line : Line) × (line_at code.lines.items n ≡ Some line) × IsLine program (slots_of program) code.operands code.ops.items line statement
-line_of program code h zero statement at = absurd (cc)
-line_of program code h (suc k) statement at =
+-- what is kept of a statement
+pub compiled_of : (program : List StatementTree) (code : Code) → IsCode program code.scalars.items code.arrays.items code.operands code.ops.items code.statements.items → (n : ℕ) (statement : StatementTree) →
+    statement_at program n ≡ Some statement → (compiled : CompiledStatement) × (compiled_at code.statements.items n ≡ Some compiled) × IsCompiledStatement program (slots_of program) code.operands code.ops.items compiled statement
+compiled_of program code h zero statement at = absurd (cc)
+compiled_of program code h (suc k) statement at =
     let low = slice_get_within program k statement at in
-    let here = some_line code.lines.items k (omega (arith, h.count)) in
+    let here = some_member code.statements.items k (omega (arith, h.count)) in
     (here.0, here.1, h.each k here.0 statement here.1 at)
 
-some_statement : (program : List StatementTree) (n : ℕ) → n < length program → (statement : StatementTree) × (slice_get program n ≡ Some statement)
-some_statement [] n h = absurd (omega arith)
-some_statement (statement ∷ rest) zero h = (statement, refl)
-some_statement (statement ∷ rest) (suc n) h = some_statement rest n (omega arith)
-
--- what is so of the operations of each line is so of those of each statement
-each_ops : (program : List StatementTree) (code : Code) → IsCode program code.scalars.items code.arrays.items code.operands code.ops.items code.lines.items →
+-- what is so of the operations of what is kept is so of those of each statement
+each_ops : (program : List StatementTree) (code : Code) → IsCode program code.scalars.items code.arrays.items code.operands code.ops.items code.statements.items →
     (n : ℕ) → peak (code_ops code n) 0 ≤ code.operands
 each_ops program code h zero = omega arith
-each_ops program code h (suc k) = cases (slice_get code.lines.items k) refl
+each_ops program code h (suc k) = cases (slice_get code.statements.items k) refl
   where
-    at : (line : Line) → slice_get code.lines.items k ≡ Some line → (statement : StatementTree) × (slice_get program k ≡ Some statement)
-    at line e = some_statement program k (omega (arith, h.count, slice_get_within code.lines.items k line e))
+    at : (compiled : CompiledStatement) → slice_get code.statements.items k ≡ Some compiled → (statement : StatementTree) × (slice_get program k ≡ Some statement)
+    at compiled e = some_member program k (omega (arith, h.count, slice_get_within code.statements.items k compiled e))
 
-    cases : (o : Option Line) → slice_get code.lines.items k ≡ o → peak (line_ops code.ops.items o) 0 ≤ code.operands
+    cases : (o : Option CompiledStatement) → slice_get code.statements.items k ≡ o → peak (ops_in code.ops.items o) 0 ≤ code.operands
     cases None e = omega arith
-    cases (Some line) e = let there = at line e in (h.each k line there.0 e there.1).low
+    cases (Some compiled) e = let there = at compiled e in (h.each k compiled there.0 e there.1).low
 
-pub compiled : (program : List StatementTree) (code : Code) → code_program code ≡ program → IsCode program code.scalars.items code.arrays.items code.operands code.ops.items code.lines.items → IsCompiled program code
-compiled program code are h =
+pub is_compiled : (program : List StatementTree) (code : Code) → code_program code ≡ program → IsCode program code.scalars.items code.arrays.items code.operands code.ops.items code.statements.items → IsCompiled program code
+is_compiled program code are h =
     let slots : code_slots code ≡ slots_of program = slots_is (code_slots code) (slots_of program) h.scalars_are h.arrays_are in
     record {
       program_is = are;
       means = λ n statement at.
-          let line = line_of program code h n statement at in
+          let compiled = compiled_of program code h n statement at in
           subst (λ sl. Means program sl (code_ops code n) statement code.operands) (sym slots)
-          (subst (λ o. Means program (slots_of program) (line_ops code.ops.items o) statement code.operands) (sym line.1) line.2.means);
+          (subst (λ o. Means program (slots_of program) (ops_in code.ops.items o) statement code.operands) (sym compiled.1) compiled.2.means);
       least = λ most all.
-          h.least most (λ n line e.
-          let reached = peak_reached (slice_range code.ops.items line.from line.to) 0 in
-          let here : code_ops code (suc n) ≡ slice_range code.ops.items line.from line.to = ap (line_ops code.ops.items) e in
+          h.least most (λ n compiled e.
+          let reached = peak_reached (slice_range code.ops.items compiled.from compiled.to) 0 in
+          let here : code_ops code (suc n) ≡ slice_range code.ops.items compiled.from compiled.to = ap (ops_in code.ops.items) e in
           let fits = all (suc n) reached.0 in
           omega (arith, fits, ap (λ o. count_after (take reached.0 o) 0) here, reached.1));
       enough = λ n k. le_trans (prefix-le (code_ops code n) k 0) (each_ops program code h n);
@@ -102,21 +93,21 @@ compiled program code are h =
     }
 
 -- code by the names of its slots
-pub named_code : (program : List StatementTree) (scalars scalars' arrays arrays' : List Name) (most : ℕ) (ops : List Op) (lines : List Line) → scalars' ≡ scalars → arrays' ≡ arrays → IsCode program scalars arrays most ops lines → IsCode program scalars' arrays' most ops lines
-named_code program scalars scalars' arrays arrays' most ops lines e f h =
-    subst (λ xs. IsCode program xs arrays' most ops lines) (sym e) (subst (λ ys. IsCode program scalars ys most ops lines) (sym f) h)
+pub named_code : (program : List StatementTree) (scalars scalars' arrays arrays' : List Name) (most : ℕ) (ops : List Op) (statements : List CompiledStatement) → scalars' ≡ scalars → arrays' ≡ arrays → IsCode program scalars arrays most ops statements → IsCode program scalars' arrays' most ops statements
+named_code program scalars scalars' arrays arrays' most ops statements e f h =
+    subst (λ xs. IsCode program xs arrays' most ops statements) (sym e) (subst (λ ys. IsCode program scalars ys most ops statements) (sym f) h)
 
--- the line that a reader takes
-pub record Taken (code : Code) (n : ℕ) (line : Line) : Type 0 where
-  pub at : line_at code.lines.items n ≡ Some line
-  pub order : line.from ≤ line.to
-  pub within : line.to ≤ length code.ops.items
-  pub shows : Shows (statement_at (code_program code) n) line
+-- what a reader takes
+pub record Taken (code : Code) (n : ℕ) (compiled : CompiledStatement) : Type 0 where
+  pub at : compiled_at code.statements.items n ≡ Some compiled
+  pub order : compiled.from ≤ compiled.to
+  pub within : compiled.to ≤ length code.ops.items
+  pub shows : Shows (statement_at (code_program code) n) compiled
 
-taken_line : (code : Code) (k : ℕ) (line : Line) → slice_get code.lines.items k ≡ Some line → IsCode (code_program code) code.scalars.items code.arrays.items code.operands code.ops.items code.lines.items → Taken code (suc k) line
-taken_line code k line at h =
-    let there = some_statement (code_program code) k (omega (arith, h.count, slice_get_within code.lines.items k line at)) in
-    let is = h.each k line there.0 at there.1 in
+taken_at : (code : Code) (k : ℕ) (compiled : CompiledStatement) → slice_get code.statements.items k ≡ Some compiled → IsCode (code_program code) code.scalars.items code.arrays.items code.operands code.ops.items code.statements.items → Taken code (suc k) compiled
+taken_at code k compiled at h =
+    let there = some_member (code_program code) k (omega (arith, h.count, slice_get_within code.statements.items k compiled at)) in
+    let is = h.each k compiled there.0 at there.1 in
     record {
       at = at;
       order = is.order;
@@ -129,14 +120,14 @@ taken_line code k line at h =
       };
     }
 
-pub line_taken : (code : Code) (n : ℕ) (line : Line) → 1 ≤ n → n ≤ length (code_program code) → line ≡ get_or code.lines.items (n - 1) line → Taken code n line
-line_taken code zero line first last is = absurd (omega arith)
-line_taken code (suc k) line first last is =
+pub is_taken : (code : Code) (n : ℕ) (compiled : CompiledStatement) → 1 ≤ n → n ≤ length (code_program code) → compiled ≡ get_or code.statements.items (n - 1) compiled → Taken code n compiled
+is_taken code zero compiled first last is = absurd (omega arith)
+is_taken code (suc k) compiled first last is =
     let h = code.compiled in
-    let low : k < length code.lines.items = omega (arith, h.count) in
+    let low : k < length code.statements.items = omega (arith, h.count) in
     let one : suc k - 1 ≡ k = omega arith in
-    taken_line code k line (slice_get-get_or code.lines.items k line low ∙ ap (λ x. Some x) (sym (is ∙ ap (λ i. get_or code.lines.items i line) one))) h
+    taken_at code k compiled (slice_get-get_or code.statements.items k compiled low ∙ ap (λ x. Some x) (sym (is ∙ ap (λ i. get_or code.statements.items i compiled) one))) h
 
 -- of any code
 pub code_compiled : (code : Code) → IsCompiled (code_program code) code
-code_compiled code = compiled (code_program code) code refl code.compiled
+code_compiled code = is_compiled (code_program code) code refl code.compiled

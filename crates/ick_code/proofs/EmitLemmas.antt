@@ -1,5 +1,6 @@
 -- Operations of expressions, one after another.
-use Rattle.std.proofs.Common.{◌≡◌, ℕ, ◌+◌, ◌<◌, List, [], ◌∷◌, ◌++◌, length, take, get_or, sym, ap, ◌∙◌, append_assoc, append-nil}
+use Rattle.std.proofs.Common.{◌≡◌, ℕ, ◌+◌, ◌<◌, List, [], ◌∷◌, ◌++◌, length, take, get_or, sym, ap, ◌∙◌, append_assoc}
+use Rattle.std.proofs.Common.{append-nil}
 use Rattle.ick_source.specs.declared.tree.Expr.{Expr}
 use Rattle.ick_source.specs.Tree.{tree_of, trees_in}
 use Rattle.ick_code.specs.declared.op.Op.{Op}

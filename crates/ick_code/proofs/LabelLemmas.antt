@@ -1,11 +1,13 @@
 -- Labels of statements, one after another.
-use Rattle.std.proofs.Common.{◌≡◌, ℕ, suc, ◌+◌, ◌<◌, ◌≤◌, Bool, true, false, List, [], ◌∷◌, ◌++◌, length, map, take, take_all, length-take-le, get_or, Option, Some, None, refl, sym, ap, ◌∙◌, arith, if◌then◌else◌}
+use Rattle.std.proofs.Common.{◌≡◌, ℕ, suc, ◌+◌, ◌<◌, ◌≤◌, Bool, true, false, List, [], ◌∷◌, ◌++◌, length, map, take}
+use Rattle.std.proofs.Common.{take_all, length-take-le, get_or, Option, Some, None, refl, sym, ap, ◌∙◌, arith}
+use Rattle.std.proofs.Common.{if◌then◌else◌}
 use Rattle.std.specs.Prelude.{unwrap_or, option_map}
 use Rattle.std.proofs.lemmas.List.{length-map, map-append}
 use Rattle.ick_source.specs.declared.statements.Statement.{Statement}
 use Rattle.ick_source.specs.Trees.{statement_tree_of}
 use Rattle.ick_source.specs.Trees.{StatementTree}
-use Rattle.ick_code.specs.Control.{is_label, place_of}
+use Rattle.ick_code.specs.meaning.Control.{is_label, place_of}
 use Rattle.ick_code.specs.Labels.{first_place, with_place}
 use Rattle.ick_code.proofs.TakeLemmas.{take_with}
 

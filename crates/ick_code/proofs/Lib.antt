@@ -1,3 +1,5 @@
+pub mod Bools
+pub mod Members
 pub mod TakeLemmas
 pub mod SameNames
 pub mod Trees
@@ -10,7 +12,13 @@ pub mod CountLemmas
 pub mod Covers
 pub mod Slotted
 pub mod Runs
-pub mod LineLemmas
+pub mod Frames
+pub mod AskLaws
+pub mod Leads
+pub mod CompiledStatements
 pub mod CodeLemmas
+pub mod RowWords
 mod ProgramRows
-pub mod Rows
+mod Rows
+mod CornerRows
+mod TapeRows

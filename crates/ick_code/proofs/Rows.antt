@@ -1,32 +1,29 @@
 -- Worked rows, computed from the definitions.
 use Rattle.std.proofs.Common.{◌≡◌, true, false, [], ◌∷◌, Some, Ok, Err, refl}
 use Rattle.std.specs.Prelude.{codes, replicate}
-use Rattle.ick_bits.specs.Operators.{sum_below, with_bits, mingled, ones_below, selected_bits, selected, with_neighbours, unary as on_one}
-use Rattle.ick_bits.specs.Digits.{line_answer, first_unknown, beginnings, begins_word, word_at, digit_of, number_of_words}
+use Rattle.ick_bits.specs.Operators.{sum_below, with_bits, mingled, ones_below, selected_bits, selected}
+use Rattle.ick_bits.specs.Operators.{with_neighbours, unary as on_one}
+use Rattle.ick_bits.specs.Digits.{line_answer, first_unknown, beginnings, begins_word, word_at, digit_of}
+use Rattle.ick_bits.specs.Digits.{number_of_words}
 use Rattle.ick_bits.specs.Values.{Narrow, Wide}
-use Rattle.ick_bits.specs.declared.faults.FaultKind.TheVariants.{SixtyFour, Hyperspace, TooWide, ZeroDimension, NextDepth, ResumeZero, Rupture, NothingStashed, NoInput, NoDigit}
-use Rattle.ick_source.specs.declared.tree.Name.{Name}
-use Rattle.ick_source.specs.declared.tree.NameKind.TheVariants.{Onespot, Tail}
+use Rattle.ick_bits.specs.declared.faults.FaultKind.TheVariants.{SixtyFour, Hyperspace, TooWide, ZeroDimension}
+use Rattle.ick_bits.specs.declared.faults.FaultKind.TheVariants.{NextDepth, ResumeZero, Rupture, NothingStashed}
+use Rattle.ick_bits.specs.declared.faults.FaultKind.TheVariants.{NoInput, NoDigit}
 use Rattle.ick_source.specs.declared.tree.UnaryOp.TheVariants.{Or}
 use Rattle.ick_source.specs.declared.tree.BinaryOp.TheVariants.{Mingle, Select}
-use Rattle.ick_source.specs.Tree.{mesh, scalar, element, unary, binary, none, more}
+use Rattle.ick_source.specs.Tree.{mesh, scalar, unary, binary}
 use Rattle.ick_source.specs.Trees.{StatementTree}
-use Rattle.ick_source.specs.BodyTree.{give_up, write_in, calculate}
-use Rattle.ick_code.specs.State.{State, with_entry}
-use Rattle.ick_code.specs.Value.{value_of}
-use Rattle.ick_code.specs.Outcome.{done, faults}
-use Rattle.ick_code.specs.Store.{store, resize}
-use Rattle.ick_code.specs.Control.{call, resume, forget}
-use Rattle.ick_code.specs.Stash.{stash, retrieve, ignore}
-use Rattle.ick_code.specs.Abstain.{set_abstained}
-use Rattle.ick_code.specs.Do.{do_body}
-use Rattle.ick_code.specs.Move.{first_state}
-
-spot : Name
-spot = record { kind = Onespot; number = 1 }
-
-tail : Name
-tail = record { kind = Tail; number = 1 }
+use Rattle.ick_source.specs.BodyTree.{give_up, calculate}
+use Rattle.ick_code.specs.meaning.State.{State, with_entry}
+use Rattle.ick_code.specs.meaning.Value.{value_of}
+use Rattle.ick_code.specs.meaning.Outcome.{done, faults}
+use Rattle.ick_code.specs.meaning.Store.{store, resize}
+use Rattle.ick_code.specs.meaning.Control.{call, resume, forget}
+use Rattle.ick_code.specs.meaning.Stash.{stash, retrieve, ignore}
+use Rattle.ick_code.specs.meaning.Abstain.{set_abstained}
+use Rattle.ick_code.specs.meaning.Do.{do_body}
+use Rattle.ick_code.specs.meaning.Move.{first_state}
+use Rattle.ick_code.proofs.RowWords.{reads, one, tail, at}
 
 start : State
 start = first_state [] []
@@ -55,17 +52,15 @@ unfolding selected selected_bits ones_below sum_below
 selects = refl
 
 -- an array without dimensions has no element
-no_dimensions : value_of (element tail (more (mesh 1) none)) start ≡ Err Hyperspace
+no_dimensions : value_of (at tail (mesh 1 ∷ [])) start ≡ Err Hyperspace
 unfolding start
 no_dimensions = refl
 
 -- 65535 is the greatest number of a onespot
-fits : (s : State) → store spot 65535 (record s { ignored = λ _. false }) ≡ done (record s { ignored = λ _. false; scalars = with_entry s.scalars spot 65535 })
-unfolding spot
+fits : (s : State) → store one 65535 (record s { ignored = λ _. false }) ≡ done (record s { ignored = λ _. false; scalars = with_entry s.scalars one 65535 })
 fits s = refl
 
-too_wide : (s : State) → store spot 65536 s ≡ faults TooWide [] s
-unfolding spot
+too_wide : (s : State) → store one 65536 s ≡ faults TooWide [] s
 too_wide s = refl
 
 no_zero : (s : State) → resize tail (2 ∷ 0 ∷ []) s ≡ faults ZeroDimension [] s
@@ -74,36 +69,36 @@ no_zero s = refl
 too_many_elements : (s : State) → resize tail (256 ∷ 257 ∷ []) s ≡ faults Hyperspace [] s
 too_many_elements s = refl
 
--- NEXT with 78 entries and with 79
-last_entry : (s : State) → call 5 (record s { entries = replicate 78 1 }) ≡ done (record s { place = 5; entries = s.place ∷ replicate 78 1 })
-last_entry s = refl
+-- NEXT with 78 returns and with 79
+last_return : (s : State) → call 5 (record s { returns = replicate 78 1 }) ≡ done (record s { place = 5; returns = s.place ∷ replicate 78 1 })
+last_return s = refl
 
-no_entry_left : (s : State) → call 5 (record s { entries = replicate 79 1 }) ≡ faults NextDepth [] (record s { entries = replicate 79 1 })
-no_entry_left s = refl
+no_room_for_a_return : (s : State) → call 5 (record s { returns = replicate 79 1 }) ≡ faults NextDepth [] (record s { returns = replicate 79 1 })
+no_room_for_a_return s = refl
 
--- RESUME goes to the last entry taken
-resumes : (s : State) → resume 2 (record s { entries = 7 ∷ 5 ∷ 3 ∷ [] }) ≡ done (record s { place = 5; entries = 3 ∷ [] })
+-- RESUME goes on at the last return popped
+resumes : (s : State) → resume 2 (record s { returns = 7 ∷ 5 ∷ 3 ∷ [] }) ≡ done (record s { place = 5; returns = 3 ∷ [] })
 resumes s = refl
 
 resumes_none : (s : State) → resume 0 s ≡ faults ResumeZero [] s
 resumes_none s = refl
 
-resumes_too_many : (s : State) → resume 3 (record s { entries = 7 ∷ 5 ∷ [] }) ≡ faults Rupture [] (record s { entries = 7 ∷ 5 ∷ [] })
+resumes_too_many : (s : State) → resume 3 (record s { returns = 7 ∷ 5 ∷ [] }) ≡ faults Rupture [] (record s { returns = 7 ∷ 5 ∷ [] })
 resumes_too_many s = refl
 
-forgets_all : (s : State) → forget 9 (record s { entries = 7 ∷ 5 ∷ [] }) ≡ record s { entries = [] }
+forgets_all : (s : State) → forget 9 (record s { returns = 7 ∷ 5 ∷ [] }) ≡ record s { returns = [] }
 forgets_all s = refl
 
 -- an ignored variable's stash is popped, and its value stays
 stashed : State
-stashed = ignore true spot (stash spot start)
+stashed = ignore true one (stash one start)
 
-retrieves_ignored : retrieve spot stashed ≡ done (record stashed { stashed_scalars = with_entry stashed.stashed_scalars spot [] })
-unfolding stashed spot start
+retrieves_ignored : retrieve one stashed ≡ done (record stashed { stashed_scalars = with_entry stashed.stashed_scalars one [] })
+unfolding stashed start
 retrieves_ignored = refl
 
-nothing_stashed : retrieve spot start ≡ faults NothingStashed [] start
-unfolding start spot
+nothing_stashed : retrieve one start ≡ faults NothingStashed [] start
+unfolding start
 nothing_stashed = refl
 
 -- a statement that gives up stays as it is
@@ -115,19 +110,19 @@ unfolding the_end
 stays_abstained s = refl
 
 -- WRITE IN looks for the element before it takes its line
-no_line_taken : (s : State) → do_body [] [] (Some (write_in (element tail (more (mesh 1) none) ∷ []))) (record start { input = codes "TEN" }) ≡ faults Hyperspace [] (record start { input = codes "TEN" })
+no_line_taken : (s : State) → do_body [] [] (Some (reads (at tail (mesh 1 ∷ []) ∷ []))) (record start { input = codes "TEN" }) ≡ faults Hyperspace [] (record start { input = codes "TEN" })
 unfolding start
 no_line_taken s = refl
 
-no_line_left : do_body [] [] (Some (write_in (scalar spot ∷ []))) start ≡ faults NoInput [] start
+no_line_left : do_body [] [] (Some (reads (scalar one ∷ []))) start ≡ faults NoInput [] start
 unfolding start
 no_line_left = refl
 
-unknown_word : do_body [] [] (Some (write_in (scalar spot ∷ []))) (record start { input = codes "OH TEN" }) ≡ faults NoDigit (codes "TEN") start
+unknown_word : do_body [] [] (Some (reads (scalar one ∷ []))) (record start { input = codes "OH TEN" }) ≡ faults NoDigit (codes "TEN") start
 unfolding start line_answer first_unknown beginnings begins_word word_at digit_of number_of_words
 unknown_word = refl
 
 -- the right side is evaluated before the subscripts of a target: its fault comes first
-right_side_first : do_body [] [] (Some (calculate (element tail (more (mesh 1) none)) (binary Mingle (binary Mingle (mesh 65535) (mesh 1)) (mesh 1)))) start ≡ faults SixtyFour [] start
+right_side_first : do_body [] [] (Some (calculate (at tail (mesh 1 ∷ [])) (binary Mingle (binary Mingle (mesh 65535) (mesh 1)) (mesh 1)))) start ≡ faults SixtyFour [] start
 unfolding mingled with_bits sum_below
 right_side_first = refl

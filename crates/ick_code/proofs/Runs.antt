@@ -1,5 +1,7 @@
 -- What the operations of trees and bodies do.
-use Rattle.std.proofs.Common.{◌≡◌, ℕ, suc, ◌≤◌, true, false, List, [], ◌∷◌, ◌++◌, length, take, drop, reverse, map, Option, Some, Result, Ok, Err, refl, sym, ap, ◌∙◌, subst, arith, append_assoc, append-nil, length-append, if◌then◌else◌}
+use Rattle.std.proofs.Common.{◌≡◌, ℕ, suc, ◌≤◌, true, false, List, [], ◌∷◌, ◌++◌, length, take, drop, reverse, map}
+use Rattle.std.proofs.Common.{Option, Some, Result, Ok, Err, refl, sym, ap, ◌∙◌, subst, arith, append_assoc, append-nil}
+use Rattle.std.proofs.Common.{length-append, if◌then◌else◌}
 use Rattle.std.specs.Prelude.{nat_le, nat_lt}
 use Rattle.std.specs.List.{flat_map, list_all}
 use Rattle.std.proofs.lemmas.Bool.Decides.{nat_tests}
@@ -16,31 +18,38 @@ use Rattle.ick_source.specs.declared.tree.BinaryOp.{BinaryOp}
 use Rattle.ick_source.specs.declared.tree.BinaryOp.TheVariants as binary_op
 use Rattle.ick_source.specs.declared.body.Target.{Target}
 use Rattle.ick_source.specs.declared.body.Target.TheVariants as to
-use Rattle.ick_source.specs.declared.body.Item.{Item}
+use Rattle.ick_source.specs.declared.body.Place.{Place}
+use Rattle.ick_source.specs.declared.body.Place.TheVariants as from
 use Rattle.ick_source.specs.declared.body.Body.{Body}
 use Rattle.ick_source.specs.declared.body.Body.TheVariants as body
 use Rattle.ick_source.specs.Tree.{Tree, mesh, scalar, element, unary, binary, Trees, none, more, tree_of, trees_in}
 use Rattle.ick_source.specs.Trees.{StatementTree}
-use Rattle.ick_source.specs.NameKinds.{is_array, count_in, are_few, is_kinded, are_kinded, is_body_kinded}
-use Rattle.ick_source.specs.BodyTree.{target_tree, item_tree, body_tree_of}
+use Rattle.ick_source.specs.NameKinds.{is_array, is_tail, count_in, are_few, is_kinded, are_kinded, is_item_kinded}
+use Rattle.ick_source.specs.NameKinds.{is_body_kinded}
+use Rattle.ick_source.specs.BodyTree.{ItemTree, single, whole, target_tree, place_tree, item_tree, body_tree_of}
 use Rattle.ick_code.specs.declared.op.Op.{Op}
-use Rattle.ick_code.specs.declared.op.Op.TheVariants.{Fetch, StoreAt, Resize, Forget, Resume, Save, Restore, Hide, Show, AbstainKind, ReinstateKind, Print, ReadAt}
+use Rattle.ick_code.specs.declared.op.Op.TheVariants.{Fetch, StoreAt, Resize, Forget, Resume, Save, Restore, Hide, Show}
+use Rattle.ick_code.specs.declared.op.Op.TheVariants.{AbstainKind, ReinstateKind, Print, ReadAt, PrintArray, ReadArray}
 use Rattle.ick_code.specs.declared.op.SlotName.{SlotName}
 use Rattle.ick_code.specs.declared.op.SlotName.TheVariants.{Array}
-use Rattle.ick_code.specs.State.{State}
-use Rattle.ick_code.specs.Value.{value_of, values_of, and_then, element_value, unary_value, binary_value}
-use Rattle.ick_code.specs.Outcome.{Outcome, done, faults, then_do, with_value, in_turn}
-use Rattle.ick_code.specs.Store.{store_at, resize}
-use Rattle.ick_code.specs.Control.{place_of, call, forget, resume}
-use Rattle.ick_code.specs.Stash.{stash, retrieve, ignore}
-use Rattle.ick_code.specs.Abstain.{set_kind_abstained}
-use Rattle.ick_code.specs.InputOutput.{read_at, print}
-use Rattle.ick_code.specs.Do.{store_to, write_to, print_item, do_body}
-use Rattle.ick_code.specs.Effects.{Slots, name_at, Flow, going, broken, stuck, flow_of, gives, on_one, on_last, at_name, effect, effects, then_flow}
-use Rattle.ick_code.specs.Names.{names_of_tree, names_of_trees, names_of_body, slot_in, slot_name}
-use Rattle.ick_code.specs.Operations.{unary_op_of, binary_op_of, ops_of_tree, ops_of_trees, store_ops, read_ops, print_ops, name_ops, gerund_ops, ops_of_body}
+use Rattle.ick_code.specs.meaning.State.{State}
+use Rattle.ick_code.specs.meaning.Value.{value_of, values_of, and_then, element_value, unary_value, binary_value}
+use Rattle.ick_code.specs.meaning.Outcome.{Outcome, done, faults, then_do, with_value, in_turn}
+use Rattle.ick_code.specs.meaning.Store.{store_at, resize}
+use Rattle.ick_code.specs.meaning.Control.{place_of, call, forget, resume}
+use Rattle.ick_code.specs.meaning.Stash.{stash, retrieve, ignore}
+use Rattle.ick_code.specs.meaning.Abstain.{set_kind_abstained}
+use Rattle.ick_code.specs.meaning.InputOutput.{read_at, print}
+use Rattle.ick_code.specs.meaning.Tape.{print_array, read_array}
+use Rattle.ick_code.specs.meaning.Do.{store_to, read_place, print_item, do_body}
+use Rattle.ick_code.specs.Effects.{Slots, name_at, Flow, going, broken, stuck, flow_of, gives, on_one, on_last, at_name}
+use Rattle.ick_code.specs.Effects.{effect, effects, then_flow}
+use Rattle.ick_code.specs.Names.{names_of_tree, names_of_trees, names_of_item, names_of_body, slot_in, slot_name}
+use Rattle.ick_code.specs.Operations.{unary_op_of, binary_op_of, ops_of_tree, ops_of_trees, ops_of_item, store_ops}
+use Rattle.ick_code.specs.Operations.{read_ops, print_ops, name_ops, gerund_ops, ops_of_body}
 use Rattle.ick_code.proofs.Covers.{Covers, covers_left, covers_right, covers_head, covers_tail, scalar_slot, array_slot}
-use Rattle.ick_code.proofs.SameNames.{both_left, both_right, first_of, third_of}
+use Rattle.ick_code.proofs.Covers.{tail_is_array}
+use Rattle.ick_code.proofs.Bools.{both_left, both_right, first_of, third_of}
 use Rattle.ick_code.proofs.Trees.{trees-listed, kinded-listed, names-listed}
 
 -- goes on with a value, or is broken by its fault
@@ -182,12 +191,27 @@ module _ (program : List StatementTree) (slots : Slots) (text : List ℕ) where
       ∙ on-same (values_of ts s) s _ _ (λ vs same. listed (StoreAt (slot_in slots.arrays e.array)) e.array (λ name subs below. on_one below (λ v rest. flow_of rest (store_at name subs (number_of v) s))) ts (v ∷ []) s rest (λ k operands. refl) at vs same)
       ∙ sym (then-with_value (values_of ts s) s (λ vs. store_at e.array vs (number_of v) s) (run rest))
 
-  -- a line goes to a target
-  target_reads : (target : Target) → is_kinded (target_tree target) ≡ true → Covers slots (names_of_tree (target_tree target)) → (rest : List Op) (s : State) →
-      run (read_ops slots target ++ rest) [] s ≡ then_flow (flow_of [] (write_to (target_tree target) s)) (run rest)
-  target_reads (to.Scalar name) kinded covered rest s =
+  -- an operation on an array whole
+  array_goes : (array : Name) (make : ℕ → Op) (f : Name → State → Outcome) →
+      is_tail array.kind ≡ true →
+      Covers slots (array ∷ []) →
+      ((slot : ℕ) (s : State) →
+      effect program slots text (make slot) [] s ≡ at_name (name_at slots (Array slot)) (λ name. flow_of [] (f name s))) →
+      (rest : List Op) (s : State) →
+      run (make (slot_in slots.arrays array) ∷ rest) [] s ≡ then_flow (flow_of [] (f array s)) (run rest)
+  array_goes array make f tail covered one rest s =
+      let at = array_slot slots array (tail_is_array array.kind tail) (covers_head slots array [] covered) in
+      ap (λ w. then_flow w (run rest)) (one (slot_in slots.arrays array) s ∙ at-name _ array _ at)
+
+  -- input goes to a place
+  place_reads : (place : Place) →
+      is_item_kinded (place_tree place) ≡ true →
+      Covers slots (names_of_item (place_tree place)) →
+      (rest : List Op) (s : State) →
+      run (read_ops slots place ++ rest) [] s ≡ then_flow (flow_of [] (read_place (place_tree place) s)) (run rest)
+  place_reads (from.Scalar name) kinded covered rest s =
       ap (λ f. then_flow f (run rest)) (at-name _ name _ (scalar_slot slots name kinded (covers_head slots name [] covered)))
-  target_reads (to.Element e) kinded covered rest s =
+  place_reads (from.Element e) kinded covered rest s =
       let ts = trees_in e.subs.items in
       let made = ReadAt (slot_in slots.arrays e.array) (count_in ts) in
       let at = array_slot slots e.array (first_of (is_array e.array.kind) (are_few ts) (are_kinded ts) kinded) (covers_head slots e.array (names_of_trees ts) covered) in
@@ -195,6 +219,8 @@ module _ (program : List StatementTree) (slots : Slots) (text : List ℕ) where
       ∙ trees_runs ts (third_of (is_array e.array.kind) (are_few ts) (are_kinded ts) kinded) (covers_tail slots e.array (names_of_trees ts) covered) (made ∷ rest) [] s
       ∙ on-same (values_of ts s) s _ _ (λ vs same. listed (ReadAt (slot_in slots.arrays e.array)) e.array (λ name subs below. flow_of below (read_at name subs s)) ts [] s rest (λ k operands. refl) at vs same)
       ∙ sym (then-with_value (values_of ts s) s (λ vs. read_at e.array vs s) (run rest))
+  place_reads (from.Array name) kinded covered rest s =
+      array_goes name ReadArray read_array kinded covered (λ slot s. refl) rest s
 
   -- one operation on the value of a tree
   value_goes : (t : Tree) (op : Op) (f : Value → State → Outcome) → is_kinded t ≡ true → Covers slots (names_of_tree t) → ((v : Value) (s : State) → effect program slots text op (v ∷ []) s ≡ flow_of [] (f v s)) →
@@ -213,23 +239,39 @@ module _ (program : List StatementTree) (slots : Slots) (text : List ℕ) where
       ∙ value_goes t op f kinded covered one [] s
       ∙ then_flow-last _
 
-  targets_read : (targets : List Target) → list_all is_kinded (map target_tree targets) ≡ true → Covers slots (flat_map names_of_tree (map target_tree targets)) → (s : State) →
-      run (flat_map (read_ops slots) targets) [] s ≡ flow_of [] (in_turn write_to (map target_tree targets) s)
-  targets_read [] kinded covered s = refl
-  targets_read (target ∷ targets) kinded covered s =
-      let t = target_tree target in
-      let ts = map target_tree targets in
-      target_reads target (both_left (is_kinded t) (list_all is_kinded ts) kinded) (covers_left slots (names_of_tree t) (flat_map names_of_tree ts) covered) (flat_map (read_ops slots) targets) s
-      ∙ flow-then_do (write_to t s) (in_turn write_to ts) (run (flat_map (read_ops slots) targets)) (λ s. targets_read targets (both_right (is_kinded t) (list_all is_kinded ts) kinded) (covers_right slots (names_of_tree t) (flat_map names_of_tree ts) covered) s)
+  -- an item is printed
+  item_prints : (t : ItemTree) →
+      is_item_kinded t ≡ true →
+      Covers slots (names_of_item t) →
+      (rest : List Op) (s : State) →
+      run (ops_of_item slots t ++ rest) [] s ≡ then_flow (flow_of [] (print_item t s)) (run rest)
+  item_prints (single t) kinded covered rest s =
+      value_goes t Print (λ v s. done (print (number_of v) s)) kinded covered (λ v s. refl) rest s
+  item_prints (whole name) kinded covered rest s =
+      array_goes name PrintArray print_array kinded covered (λ slot s. refl) rest s
 
-  items_print : (items : List Item) → list_all is_kinded (map item_tree items) ≡ true → Covers slots (flat_map names_of_tree (map item_tree items)) → (s : State) →
-      run (flat_map (print_ops slots) items) [] s ≡ flow_of [] (in_turn print_item (map item_tree items) s)
-  items_print [] kinded covered s = refl
-  items_print (item ∷ items) kinded covered s =
-      let t = item_tree item in
-      let ts = map item_tree items in
-      value_goes t Print (λ v s. done (print (number_of v) s)) (both_left (is_kinded t) (list_all is_kinded ts) kinded) (covers_left slots (names_of_tree t) (flat_map names_of_tree ts) covered) (λ v s. refl) (flat_map (print_ops slots) items) s
-      ∙ flow-then_do (print_item t s) (in_turn print_item ts) (run (flat_map (print_ops slots) items)) (λ s. items_print items (both_right (is_kinded t) (list_all is_kinded ts) kinded) (covers_right slots (names_of_tree t) (flat_map names_of_tree ts) covered) s)
+  -- the members of a list, one after another
+  members_run : {A : Type 0} (tree : A → ItemTree) (ops : A → List Op) (f : ItemTree → State → Outcome) →
+      ((x : A) →
+      is_item_kinded (tree x) ≡ true →
+      Covers slots (names_of_item (tree x)) →
+      (rest : List Op) (s : State) →
+      run (ops x ++ rest) [] s ≡ then_flow (flow_of [] (f (tree x) s)) (run rest)) →
+      (xs : List A) →
+      list_all is_item_kinded (map tree xs) ≡ true →
+      Covers slots (flat_map names_of_item (map tree xs)) →
+      (s : State) →
+      run (flat_map ops xs) [] s ≡ flow_of [] (in_turn f (map tree xs) s)
+  members_run tree ops f one [] kinded covered s = refl
+  members_run tree ops f one (x ∷ xs) kinded covered s =
+      let t = tree x in
+      let ts = map tree xs in
+      let is_one = both_left (is_item_kinded t) (list_all is_item_kinded ts) kinded in
+      let are_others = both_right (is_item_kinded t) (list_all is_item_kinded ts) kinded in
+      let has = covers_left slots (names_of_item t) (flat_map names_of_item ts) covered in
+      let have = covers_right slots (names_of_item t) (flat_map names_of_item ts) covered in
+      one x is_one has (flat_map ops xs) s
+      ∙ flow-then_do (f t s) (in_turn f ts) (run (flat_map ops xs)) (λ s. members_run tree ops f one xs are_others have s)
 
   names_run : (make : SlotName → Op) (f : Name → State → Outcome) → ((slot : SlotName) (s : State) → effect program slots text (make slot) [] s ≡ at_name (name_at slots slot) (λ name. flow_of [] (f name s))) →
       (names : List Name) → Covers slots names → (s : State) → run (name_ops slots make names) [] s ≡ flow_of [] (in_turn f names s)
@@ -281,6 +323,8 @@ module _ (program : List StatementTree) (slots : Slots) (text : List ℕ) where
   body_runs (body.ReinstateLabel label) kinded covered s = refl
   body_runs (body.ReinstateKinds gerunds) kinded covered s = gerunds_run ReinstateKind (λ g s. done (set_kind_abstained program false g s)) (λ g s. refl) gerunds.items s
   body_runs body.GiveUp kinded covered s = refl
-  body_runs (body.WriteIn targets) kinded covered s = targets_read targets.items kinded covered s
-  body_runs (body.ReadOut items) kinded covered s = items_print items.items kinded covered s
+  body_runs (body.WriteIn places) kinded covered s =
+      members_run place_tree (read_ops slots) read_place place_reads places.items kinded covered s
+  body_runs (body.ReadOut items) kinded covered s =
+      members_run item_tree (print_ops slots) print_item (λ item. item_prints (item_tree item)) items.items kinded covered s
   body_runs body.Unrecognised kinded covered s = refl

@@ -1,11 +1,12 @@
 -- When two names are one.
-use Rattle.std.proofs.Common.{◌≡◌, ℕ, ◌<◌, ◌==◌, Bool, true, false, ◌&&◌, refl, ap, ◌∙◌, arith, eq-eqb}
+use Rattle.std.proofs.Common.{◌≡◌, ℕ, ◌<◌, ◌==◌, true, ◌&&◌, refl, ap, ◌∙◌, arith, eq-eqb}
 use Rattle.std.proofs.lemmas.Bool.{eqb-true}
 use Rattle.ick_source.specs.declared.tree.Name.{Name}
 use Rattle.ick_source.specs.declared.tree.NameKind.{NameKind}
 use Rattle.ick_source.specs.declared.tree.NameKind.TheVariants.{Onespot, Twospot, Tail, Hybrid}
-use Rattle.ick_code.specs.State.{same_kind, same_name}
+use Rattle.ick_code.specs.meaning.State.{same_kind, same_name}
 use Rattle.ick_code.specs.Names.{kind_rank, rank_of}
+use Rattle.ick_code.proofs.Bools.{both_left, both_right}
 
 same_kind-refl : (k : NameKind) → same_kind k k ≡ true
 same_kind-refl Onespot = refl
@@ -15,23 +16,6 @@ same_kind-refl Hybrid = refl
 
 pub same_name-refl : (name : Name) → same_name name name ≡ true
 same_name-refl name = ap (λ b. b && (name.number == name.number)) (same_kind-refl name.kind) ∙ eq-eqb name.number name.number refl
-
-pub both_left : (a b : Bool) → (a && b) ≡ true → a ≡ true
-both_left true b h = refl
-both_left false b h = absurd (cc)
-
-pub both_right : (a b : Bool) → (a && b) ≡ true → b ≡ true
-both_right true b h = h
-both_right false b h = absurd (cc)
-
-pub first_of : (a b c : Bool) → (a && (b && c)) ≡ true → a ≡ true
-first_of a b c h = both_left a (b && c) h
-
-pub second_of : (a b c : Bool) → (a && (b && c)) ≡ true → b ≡ true
-second_of a b c h = both_left b c (both_right a (b && c) h)
-
-pub third_of : (a b c : Bool) → (a && (b && c)) ≡ true → c ≡ true
-third_of a b c h = both_right b c (both_right a (b && c) h)
 
 same_kind_is : (a b : NameKind) → same_kind a b ≡ true → a ≡ b
 same_kind_is Onespot Onespot h = refl

@@ -1,8 +1,10 @@
 -- Lists of names that get one more.
-use Rattle.std.proofs.Common.{◌≡◌, ℕ, suc, ◌<◌, ◌≤◌, Bool, true, false, not, ◌&&◌, ◌||◌, List, [], ◌∷◌, ◌++◌, length, map, Option, Some, None, refl, sym, ap, ◌∙◌, subst, arith, append_assoc, append-nil, if◌then◌else◌, nat_eq, lt-ltb}
+use Rattle.std.proofs.Common.{◌≡◌, ℕ, suc, ◌<◌, ◌≤◌, Bool, true, false, not, ◌&&◌, ◌||◌, List, [], ◌∷◌, ◌++◌, length}
+use Rattle.std.proofs.Common.{map, Option, Some, None, refl, sym, ap, ◌∙◌, subst, arith, append_assoc, append-nil}
+use Rattle.std.proofs.Common.{if◌then◌else◌, nat_eq, lt-ltb}
 use Rattle.std.specs.Prelude.{filter, slice_get, option_map, unwrap_or, is_some}
 use Rattle.std.specs.List.{list_any, list_all, IsDistinct, AllByRecursion}
-use Rattle.std.proofs.lemmas.Bool.{eqb-true, ltb-true}
+use Rattle.std.proofs.lemmas.Bool.{eqb-true, ltb-true, not-true}
 use Rattle.std.proofs.lemmas.Bool.Decides.{nat_tests}
 use Rattle.std.proofs.lemmas.List.{length-map}
 use Rattle.std.proofs.lemmas.Map.Keys.{IsDistinct-push}
@@ -13,9 +15,11 @@ use Rattle.std.specs.Ordering.{nat_cmp, is_eq}
 use Rattle.std.proofs.lemmas.List.Folds.{list_any-append, list_all-append}
 use Rattle.std.proofs.lemmas.Map.Steps.{length-le_from_distinct_below}
 use Rattle.ick_source.specs.declared.tree.Name.{Name}
-use Rattle.ick_code.specs.State.{same_name}
-use Rattle.ick_code.specs.Names.{is_among, each_once, found, slot_in, with_name, rank_of, is_short}
-use Rattle.ick_code.proofs.SameNames.{same_name-refl, same_name_is, rank_is, kind_rank-below, both_left, both_right}
+use Rattle.ick_code.specs.meaning.State.{same_name}
+use Rattle.ick_code.specs.Names.{is_among, each_once, found, slot_in, with_name, rank_of, numbers_of_a_kind, most_names}
+use Rattle.ick_code.specs.Names.{is_short}
+use Rattle.ick_code.proofs.Bools.{both_left, both_right, same_truth, not_other, neither}
+use Rattle.ick_code.proofs.SameNames.{same_name-refl, same_name_is, rank_is, kind_rank-below}
 
 some_mapped : (o : Option ℕ) → is_some (option_map suc o) ≡ is_some o
 some_mapped None = refl
@@ -77,26 +81,8 @@ unfoldable pub added : List Name → List Name → List Name
 added names [] = names
 added names (name ∷ more) = added (with_name names name) more
 
-either_none : (a b : Bool) → a ≡ false → b ≡ false → (a || b) ≡ false
-either_none a b h e = ap (λ a. a || b) h ∙ e
-
-apart_cases : (a b : Bool) → (a ≡ true → b ≡ true) → (not a && not b) ≡ not b
-apart_cases true b h = ap not (sym (h refl))
-apart_cases false b h = refl
-
 same_name-comm : (a b : Name) → same_name a b ≡ same_name b a
-same_name-comm a b = bool_same (same_name a b) (same_name b a) (λ h. subst (λ x. same_name b x ≡ true) (sym (same_name_is a b h)) (same_name-refl b)) (λ h. subst (λ x. same_name a x ≡ true) (sym (same_name_is b a h)) (same_name-refl a))
-  where
-    bool_same : (x y : Bool) → (x ≡ true → y ≡ true) → (y ≡ true → x ≡ true) → x ≡ y
-    bool_same true y there back = sym (there refl)
-    bool_same false true there back = back refl
-    bool_same false false there back = refl
-
-not_either : (a b : Bool) → (not a && not b) ≡ not (b || (a || false))
-not_either true true = refl
-not_either true false = refl
-not_either false true = refl
-not_either false false = refl
+same_name-comm a b = same_truth (same_name a b) (same_name b a) (λ h. subst (λ x. same_name b x ≡ true) (sym (same_name_is a b h)) (same_name-refl b)) (λ h. subst (λ x. same_name a x ≡ true) (sym (same_name_is b a h)) (same_name-refl a))
 
 -- names that are not among others
 abbrev new_to : List Name → Name → Bool
@@ -109,13 +95,13 @@ added_cases names more name true is rest =
     rest names
     ∙ ap (λ l. names ++ l) (sym
     (ap (λ b. if not b then name ∷ filter (new_to names) (filter (λ other. not (same_name name other)) (each_once more)) else filter (new_to names) (filter (λ other. not (same_name name other)) (each_once more))) is
-    ∙ filter-both (new_to names) (λ other. not (same_name name other)) (new_to names) (λ other. apart_cases (same_name name other) (is_among other names) (λ h. subst (λ x. is_among x names ≡ true) (same_name_is name other h) is)) (each_once more)))
+    ∙ filter-both (new_to names) (λ other. not (same_name name other)) (new_to names) (λ other. not_other (same_name name other) (is_among other names) (λ h. subst (λ x. is_among x names ≡ true) (same_name_is name other h) is)) (each_once more)))
 added_cases names more name false is rest =
     rest (names ++ name ∷ [])
     ∙ append_assoc names (name ∷ []) (filter (new_to (names ++ name ∷ [])) (each_once more))
     ∙ ap (λ l. names ++ l)
     (ap (λ l. name ∷ l) (sym (filter-both (new_to names) (λ other. not (same_name name other)) (new_to (names ++ name ∷ []))
-    (λ other. ap (λ b. not b && not (is_among other names)) (same_name-comm name other) ∙ not_either (same_name other name) (is_among other names) ∙ ap not (sym (list_any-append (same_name other) names (name ∷ [])))) (each_once more)))
+    (λ other. ap (λ b. not b && not (is_among other names)) (same_name-comm name other) ∙ neither (same_name other name) (is_among other names) ∙ ap not (sym (list_any-append (same_name other) names (name ∷ [])))) (each_once more)))
     ∙ sym (ap (λ b. if not b then name ∷ filter (new_to names) (filter (λ other. not (same_name name other)) (each_once more)) else filter (new_to names) (filter (λ other. not (same_name name other)) (each_once more))) is))
 
 -- what came stands at its first place
@@ -157,16 +143,12 @@ all_such : (P Q : Name → Type 0) → ((name : Name) → P name → Q name) →
 all_such P Q such [] h = tt
 all_such P Q such (name ∷ names) h = (such name h.0, all_such P Q such names h.1)
 
-not_not : (b : Bool) → not b ≡ true → b ≡ false
-not_not true h = absurd (cc)
-not_not false h = refl
-
 -- each once means no two alike
 pub each_once-distinct : (names : List Name) → IsDistinct same_name (each_once names)
 unfolding IsDistinct
 each_once-distinct [] = tt
 each_once-distinct (name ∷ names) = (
-  all_such (λ y. not (same_name name y) ≡ true) (λ y. same_name name y ≡ false) (λ y h. not_not (same_name name y) h) _ (passing (λ y. not (same_name name y)) (each_once names)),
+  all_such (λ y. not (same_name name y) ≡ true) (λ y. same_name name y ≡ false) (λ y h. not-true (same_name name y) h) _ (passing (λ y. not (same_name name y)) (each_once names)),
   distinct_filtered (λ y. not (same_name name y)) (each_once names) (each_once-distinct names),
 )
 
@@ -185,22 +167,22 @@ unfolding IsDistinct
 ranks_distinct [] h = tt
 ranks_distinct (name ∷ names) h = (ranks_apart name names h.0, ranks_distinct names h.1)
 
-ranks_below : (names : List Name) → list_all is_short names ≡ true → (q : ℕ) → list_any (nat_eq q) (map rank_of names) ≡ true → q < 262144
+ranks_below : (names : List Name) → list_all is_short names ≡ true → (q : ℕ) → list_any (nat_eq q) (map rank_of names) ≡ true → q < most_names
 ranks_below [] short q h = absurd (cc)
 ranks_below (name ∷ names) short q h = cases (nat_eq q (rank_of name)) refl h (λ e. ranks_below names (both_right (is_short name) (list_all is_short names) short) q e)
   where
-    cases : (b : Bool) → nat_eq q (rank_of name) ≡ b → (b || list_any (nat_eq q) (map rank_of names)) ≡ true → (list_any (nat_eq q) (map rank_of names) ≡ true → q < 262144) → q < 262144
+    cases : (b : Bool) → nat_eq q (rank_of name) ≡ b → (b || list_any (nat_eq q) (map rank_of names)) ≡ true → (list_any (nat_eq q) (map rank_of names) ≡ true → q < most_names) → q < most_names
     cases true e h rest =
         let is = eqb-true q (rank_of name) e in
-        let low = ltb-true name.number 65536 (both_left (is_short name) (list_all is_short names) short) in
+        let low = ltb-true name.number numbers_of_a_kind (both_left (is_short name) (list_all is_short names) short) in
         let kind = kind_rank-below name.kind in
         omega arith
     cases false e h rest = rest h
 
 -- there are no more names than numbers of 18 bits
-pub few_names : (names : List Name) → IsDistinct same_name names → list_all is_short names ≡ true → length names ≤ 262144
+pub few_names : (names : List Name) → IsDistinct same_name names → list_all is_short names ≡ true → length names ≤ most_names
 few_names names once short =
-    subst (λ n. n ≤ 262144) (length-map names rank_of) (length-le_from_distinct_below (map rank_of names) 262144 (ranks_distinct names once) (ranks_below names short))
+    subst (λ n. n ≤ most_names) (length-map names rank_of) (length-le_from_distinct_below (map rank_of names) most_names (ranks_distinct names once) (ranks_below names short))
 
 congr_name : (x y z : Name) → same_name x y ≡ true → same_name x z ≡ same_name y z
 congr_name x y z h = ap (λ n. same_name n z) (same_name_is x y h)
@@ -211,9 +193,9 @@ names_laws = record { refl = same_name-refl; symm = same_name-comm; congr = cong
 pub once_more : (names : List Name) (name : Name) → IsDistinct same_name names → is_among name names ≡ false → IsDistinct same_name (names ++ name ∷ [])
 once_more names name once new = IsDistinct-push names_laws names name once new
 
-pub short_more : (names : List Name) (name : Name) → list_all is_short names ≡ true → name.number < 65536 → list_all is_short (names ++ name ∷ []) ≡ true
+pub short_more : (names : List Name) (name : Name) → list_all is_short names ≡ true → name.number < numbers_of_a_kind → list_all is_short (names ++ name ∷ []) ≡ true
 short_more names name short low =
-    list_all-append is_short names (name ∷ []) ∙ ap (λ b. b && (is_short name && true)) short ∙ ap (λ b. b && true) (lt-ltb name.number 65536 low)
+    list_all-append is_short names (name ∷ []) ∙ ap (λ b. b && (is_short name && true)) short ∙ ap (λ b. b && true) (lt-ltb name.number numbers_of_a_kind low)
 
 nat_cmp-apart : (a b : ℕ) → (a ≡ b → ⊥) → is_eq (nat_cmp a b) ≡ false
 nat_cmp-apart a b ne = grind (arith, ne, nat_tests)

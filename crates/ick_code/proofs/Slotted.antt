@@ -1,16 +1,21 @@
 -- The slots of a program are those that its names get, and each of its names has one.
-use Rattle.std.proofs.Common.{◌≡◌, ℕ, zero, suc, Bool, true, false, not, ◌||◌, List, [], ◌∷◌, Some, refl, ap, ◌∙◌, subst, if◌then◌else◌}
+use Rattle.std.proofs.Common.{◌≡◌, ℕ, zero, suc, Bool, true, false, not, ◌||◌, List, [], ◌∷◌, Some, refl, ap, ◌∙◌}
+use Rattle.std.proofs.Common.{subst, if◌then◌else◌}
 use Rattle.std.specs.Prelude.{filter, slice_get}
 use Rattle.std.specs.List.{list_all}
+use Rattle.std.proofs.lemmas.Bool.{false_from_ne_true}
 use Rattle.ick_source.specs.declared.tree.Name.{Name}
 use Rattle.ick_source.specs.Trees.{StatementTree}
 use Rattle.ick_source.specs.NameKinds.{is_array, is_body_kinded, is_statement_kinded}
 use Rattle.ick_code.specs.declared.op.SlotName.TheVariants.{Scalar, Array}
-use Rattle.ick_code.specs.State.{same_name}
+use Rattle.ick_code.specs.meaning.State.{same_name}
 use Rattle.ick_code.specs.Effects.{Slots, name_at}
-use Rattle.ick_code.specs.Names.{names_of_body, names_of, is_scalar_name, is_array_name, is_among, each_once, slots_of, slot_in, with_name}
+use Rattle.ick_code.specs.Names.{names_of_body, names_of, is_scalar_name, is_array_name, is_among, each_once, slots_of}
+use Rattle.ick_code.specs.Names.{slot_in, with_name}
 use Rattle.ick_code.specs.Tables.{with_slot, with_names, no_slots}
-use Rattle.ick_code.proofs.SameNames.{same_name_is, same_name-refl, both_left, both_right}
+use Rattle.ick_code.proofs.Bools.{both_left, both_right}
+use Rattle.ick_code.proofs.Members.{some_is}
+use Rattle.ick_code.proofs.SameNames.{same_name_is, same_name-refl}
 use Rattle.ick_code.proofs.SlotLemmas.{added, added-none, found-stands}
 use Rattle.ick_code.proofs.Covers.{Covers, covers_left, covers_right}
 
@@ -73,12 +78,8 @@ once_cases name other names false is h rest =
     ap (λ b. b || is_among name (filter (λ x. not (same_name other x)) (each_once names))) is
     ∙ among-filter (λ x. not (same_name other x)) name (each_once names) (ap not apart) (rest h)
   where
-    bool_false : (b : Bool) → (b ≡ true → ⊥) → b ≡ false
-    bool_false true never = absurd (never refl)
-    bool_false false never = refl
-
     apart_from : (a b : Name) → same_name b a ≡ false → same_name a b ≡ false
-    apart_from a b h = bool_false (same_name a b) (λ e. let same : same_name b a ≡ true = subst (λ x. same_name x a ≡ true) (same_name_is a b e) (same_name-refl a) in absurd (cc))
+    apart_from a b h = false_from_ne_true (same_name a b) (λ e. let same : same_name b a ≡ true = subst (λ x. same_name x a ≡ true) (same_name_is a b e) (same_name-refl a) in absurd (cc))
 
 among-each_once : (name : Name) (names : List Name) → is_among name names ≡ true → is_among name (each_once names) ≡ true
 among-each_once name [] h = absurd (cc)
@@ -99,16 +100,10 @@ pub covers_part : (slots : Slots) (program : List StatementTree) (n : ℕ) (stat
 covers_part slots [] n statement at covered = absurd (cc)
 covers_part slots (first ∷ rest) zero statement at covered =
     subst (λ s. Covers slots (names_of_body s.body)) (some_is first statement at) (covers_left slots (names_of_body first.body) (names_of rest) covered)
-  where
-    some_is : (a b : StatementTree) → Some a ≡ Some b → a ≡ b
-    some_is a b e = cc
 covers_part slots (first ∷ rest) (suc n) statement at covered = covers_part slots rest n statement at (covers_right slots (names_of_body first.body) (names_of rest) covered)
 
 pub kinded_part : (program : List StatementTree) (n : ℕ) (statement : StatementTree) → slice_get program n ≡ Some statement → list_all is_statement_kinded program ≡ true → is_body_kinded statement.body ≡ true
 kinded_part [] n statement at kinded = absurd (cc)
 kinded_part (first ∷ rest) zero statement at kinded =
     subst (λ s. is_body_kinded s.body ≡ true) (some_is first statement at) (both_left (is_statement_kinded first) (list_all is_statement_kinded rest) kinded)
-  where
-    some_is : (a b : StatementTree) → Some a ≡ Some b → a ≡ b
-    some_is a b e = cc
 kinded_part (first ∷ rest) (suc n) statement at kinded = kinded_part rest n statement at (both_right (is_statement_kinded first) (list_all is_statement_kinded rest) kinded)

@@ -1,5 +1,6 @@
 -- Slots that names get, one after another.
-use Rattle.std.proofs.Common.{◌≡◌, ℕ, ◌+◌, ◌<◌, List, [], ◌∷◌, ◌++◌, length, map, take, get_or, OnOk, Result, refl, sym, ap, ◌∙◌, subst, append_assoc, append-nil}
+use Rattle.std.proofs.Common.{◌≡◌, ℕ, ◌+◌, ◌<◌, List, [], ◌∷◌, ◌++◌, length, map, take, get_or, OnOk, Result, refl, sym}
+use Rattle.std.proofs.Common.{ap, ◌∙◌, subst, append_assoc, append-nil}
 use Rattle.std.specs.List.{flat_map}
 use Rattle.std.proofs.lemmas.List.{take_more}
 use Rattle.ick_source.specs.declared.tree.Expr.{Expr}
@@ -24,6 +25,9 @@ names_append slots (x ∷ xs) ys = names_append (with_slot slots x) xs ys
 
 pub names_cons : (slots : Slots) (x : Name) (xs : List Name) → with_names slots (x ∷ xs) ≡ with_names (with_names slots (x ∷ [])) xs
 names_cons slots x xs = names_append slots (x ∷ []) xs
+
+-- what names do one after another
+pub ruleset names_steps = (names_none, names_append, names_cons)
 
 -- a list's names, where one more member came
 pub came_more : {A : Type 0} (names : List A → List Name) (own : A → List Name) → ((xs : List A) (x : A) → names (xs ++ x ∷ []) ≡ names xs ++ own x) →

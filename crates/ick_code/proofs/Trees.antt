@@ -1,22 +1,26 @@
 -- An element's tree, by the list of its subscripts.
-use Rattle.std.proofs.Common.{◌≡◌, ℕ, zero, suc, ◌<◌, true, ◌&&◌, nat_lt, List, [], ◌∷◌, ◌++◌, length, map, get_or, Vec, Global, refl, sym, ap, ◌∙◌, arith, ltb-true}
+use Rattle.std.proofs.Common.{◌≡◌, ℕ, zero, suc, ◌<◌, true, ◌&&◌, nat_lt, List, [], ◌∷◌, ◌++◌, length, map, get_or, Vec}
+use Rattle.std.proofs.Common.{Global, refl, sym, ap, ◌∙◌, arith, ltb-true}
 use Rattle.std.specs.List.{flat_map, list_all}
 use Rattle.ick_source.specs.declared.tree.Element.{Element as ElementRecord}
-use Rattle.ick_source.specs.declared.tree.Expr.{Expr, Row_of-Expr, end_of-Expr, more_of-Expr, items-the_row-Expr, items_hidden-the_row-Expr-0}
+use Rattle.ick_source.specs.declared.tree.Expr.{Expr, Row_of-Expr, end_of-Expr, more_of-Expr, items-the_row-Expr}
+use Rattle.ick_source.specs.declared.tree.Expr.{items_hidden-the_row-Expr-0}
 use Rattle.ick_source.specs.declared.tree.Expr.TheVariants.{Element, Element'}
+use Rattle.std.proofs.lemmas.List.{length-map}
 use Rattle.std.proofs.lemmas.List.Folds.{list_all-map}
 use Rattle.ick_source.specs.declared.tree.Name.{Name}
-use Rattle.ick_source.specs.declared.body.Target.{Target}
+use Rattle.ick_source.specs.declared.body.Place.{Place}
 use Rattle.ick_source.specs.declared.body.Item.{Item}
 use Rattle.ick_source.specs.declared.body.Body.{Body}
 use Rattle.ick_source.specs.declared.body.Body.TheVariants.{Dimension, WriteIn, ReadOut}
 use Rattle.ick_source.specs.declared.statements.Statement.{Statement}
-use Rattle.ick_source.specs.BodyTree.{target_tree, item_tree, body_tree_of}
+use Rattle.ick_source.specs.BodyTree.{place_tree, item_tree, body_tree_of}
 use Rattle.ick_source.specs.Trees.{statement_tree_of}
-use Rattle.ick_source.specs.NameKinds.{is_array, count_in, are_few, is_kinded, are_kinded, is_body_kinded, is_statement_kinded}
-use Rattle.ick_code.specs.Do.{trees_from}
+use Rattle.ick_source.specs.NameKinds.{is_array, count_in, are_few, is_kinded, are_kinded, is_item_kinded}
+use Rattle.ick_source.specs.NameKinds.{is_body_kinded, is_statement_kinded}
+use Rattle.ick_code.specs.meaning.Do.{trees_from}
 use Rattle.ick_code.specs.Names.{names_of_tree, names_of_trees}
-use Rattle.ick_code.proofs.SameNames.{both_left, both_right, second_of, third_of}
+use Rattle.ick_code.proofs.Bools.{both_left, both_right, second_of, third_of}
 use Rattle.ick_source.specs.Tree.{element, more, tree_of, trees_of, trees_in}
 
 trees_of-row : {n : _} (row : Row_of-Expr n) → trees_of row ≡ trees_in (items-the_row-Expr n row)
@@ -75,24 +79,28 @@ kinded_element x e is h =
     let all = sym (ap (λ e. is_kinded (tree_of e)) is ∙ ap is_kinded (tree_of-element x)) ∙ h in
     (second_of (is_array x.array.kind) (are_few ts) (are_kinded ts) all, third_of (is_array x.array.kind) (are_few ts) (are_kinded ts) all)
 
-long_mapped : {A B : Type 0} (f : A → B) (xs : List A) → length (map f xs) ≡ length xs
-long_mapped f [] = refl
-long_mapped f (x ∷ xs) = ap suc (long_mapped f xs)
-
 pub kinded_dimensions : (array : Name) (es : Vec Expr Global) (b : Body) → b ≡ Dimension array es → is_body_kinded (body_tree_of b) ≡ true → (are_few (trees_in es.items) ≡ true) × (are_kinded (trees_in es.items) ≡ true)
 kinded_dimensions array es b is h =
     let few = nat_lt (length (map tree_of es.items)) 4294967296 in
     let all = list_all is_kinded (map tree_of es.items) in
     let whole = ap (λ b. is_body_kinded (body_tree_of b)) (sym is) ∙ h in (
-      ap (λ n. nat_lt n 4294967296) (count_in-listed es.items ∙ sym (long_mapped tree_of es.items)) ∙ second_of (is_array array.kind) few all whole,
+      ap (λ n. nat_lt n 4294967296) (count_in-listed es.items ∙ sym (length-map es.items tree_of)) ∙ second_of (is_array array.kind) few all whole,
       kinded-listed es.items (third_of (is_array array.kind) few all whole),
     )
 
-pub kinded_targets : (targets : Vec Target Global) (b : Body) → b ≡ WriteIn targets → is_body_kinded (body_tree_of b) ≡ true → list_all (λ target. is_kinded (target_tree target)) targets.items ≡ true
-kinded_targets targets b is h = sym (list_all-map is_kinded target_tree targets.items) ∙ ap (λ b. is_body_kinded (body_tree_of b)) (sym is) ∙ h
+pub kinded_places : (places : Vec Place Global) (b : Body) →
+    b ≡ WriteIn places →
+    is_body_kinded (body_tree_of b) ≡ true →
+    list_all (λ place. is_item_kinded (place_tree place)) places.items ≡ true
+kinded_places places b is h =
+    sym (list_all-map is_item_kinded place_tree places.items) ∙ ap (λ b. is_body_kinded (body_tree_of b)) (sym is) ∙ h
 
-pub kinded_items : (items : Vec Item Global) (b : Body) → b ≡ ReadOut items → is_body_kinded (body_tree_of b) ≡ true → list_all (λ item. is_kinded (item_tree item)) items.items ≡ true
-kinded_items items b is h = sym (list_all-map is_kinded item_tree items.items) ∙ ap (λ b. is_body_kinded (body_tree_of b)) (sym is) ∙ h
+pub kinded_items : (items : Vec Item Global) (b : Body) →
+    b ≡ ReadOut items →
+    is_body_kinded (body_tree_of b) ≡ true →
+    list_all (λ item. is_item_kinded (item_tree item)) items.items ≡ true
+kinded_items items b is h =
+    sym (list_all-map is_item_kinded item_tree items.items) ∙ ap (λ b. is_body_kinded (body_tree_of b)) (sym is) ∙ h
 
 kinded_body : (statements : List Statement) (i : ℕ) (s d : Statement) → list_all is_statement_kinded (map statement_tree_of statements) ≡ true → i < length statements → s ≡ get_or statements i d → is_body_kinded (body_tree_of s.body) ≡ true
 kinded_body [] i s d h within is = absurd (omega arith)

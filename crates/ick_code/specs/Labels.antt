@@ -1,15 +1,17 @@
 -- Which statement a label stands before.
-use Rattle.std.specs.Prelude.{ℕ, suc, Bool, true, false, List, [], ◌∷◌, Option, Some, None, unwrap_or, option_map, if◌then◌else◌}
+use Rattle.std.specs.Prelude.{ℕ, suc, Bool, true, false, List, [], ◌∷◌, Option, Some, None, unwrap_or, option_map}
+use Rattle.std.specs.Prelude.{if◌then◌else◌}
 use Rattle.std.specs.BTreeMap.{get}
 use Rattle.std.specs.Ordering.{nat_cmp}
 use Rattle.ick_source.specs.Trees.{StatementTree}
 use Rattle.ick_code.specs.declared.labels.Labels.{Labels}
-use Rattle.ick_code.specs.Control.{is_label}
+use Rattle.ick_code.specs.meaning.Control.{is_label}
 
 -- the number of the first statement with a label, where there is one
 abbrev pub first_place : ℕ → List StatementTree → Option ℕ
 first_place label [] = None
-first_place label (statement ∷ rest) = if is_label label statement.label then Some 1 else option_map suc (first_place label rest)
+first_place label (statement ∷ rest) =
+    if is_label label statement.label then Some 1 else option_map suc (first_place label rest)
 
 -- a place that is known stays; else it is the new one, where the label is that of the statement there
 abbrev pub with_place : Option ℕ → Bool → ℕ → Option ℕ

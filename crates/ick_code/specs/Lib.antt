@@ -1,13 +1,4 @@
-pub mod State
-pub mod Value
-pub mod Outcome
-pub mod Store
-pub mod Control
-pub mod Stash
-pub mod Abstain
-pub mod InputOutput
-pub mod Do
-pub mod Move
+pub mod meaning
 pub mod Effects
 pub mod Counts
 pub mod Names
@@ -15,6 +6,7 @@ pub mod Tables
 pub mod Labels
 pub mod Forms
 pub mod Operations
-pub mod Lines
+pub mod Emitted
 pub mod Code
-pub mod Codes
+pub mod Compiled
+pub mod Laws

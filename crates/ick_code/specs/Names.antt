@@ -1,16 +1,19 @@
 -- Names of variables in the order of the source text, and slots for them.
-use Rattle.std.specs.Prelude.{ℕ, suc, ◌+◌, ◌*◌, nat_lt, Bool, not, List, [], ◌∷◌, ◌++◌, filter, Option, Some, None, unwrap_or, option_map, if◌then◌else◌}
+use Rattle.std.specs.Prelude.{ℕ, suc, ◌+◌, ◌*◌, nat_lt, Bool, not, List, [], ◌∷◌, ◌++◌, filter, Option, Some, None}
+use Rattle.std.specs.Prelude.{unwrap_or, option_map, if◌then◌else◌}
 use Rattle.std.specs.List.{flat_map, list_any}
 use Rattle.ick_source.specs.declared.tree.Name.{Name}
 use Rattle.ick_source.specs.declared.tree.NameKind.{NameKind}
 use Rattle.ick_source.specs.declared.tree.NameKind.TheVariants.{Onespot, Twospot, Tail, Hybrid}
 use Rattle.ick_source.specs.Tree.{Tree, mesh, scalar, element, unary, binary, Trees, none, more}
-use Rattle.ick_source.specs.BodyTree.{BodyTree, calculate, dimension, next, forget, resume, stash, retrieve, ignore, remember, abstain_label, abstain_kinds, reinstate_label, reinstate_kinds, give_up, write_in, read_out}
+use Rattle.ick_source.specs.BodyTree.{ItemTree, single, whole, BodyTree, calculate, dimension, next, forget, resume}
+use Rattle.ick_source.specs.BodyTree.{stash, retrieve, ignore, remember, abstain_label, abstain_kinds, reinstate_label}
+use Rattle.ick_source.specs.BodyTree.{reinstate_kinds, give_up, write_in, read_out}
 use Rattle.ick_source.specs.Trees.{StatementTree}
 use Rattle.ick_source.specs.NameKinds.{is_array}
 use Rattle.ick_code.specs.declared.op.SlotName.{SlotName}
 use Rattle.ick_code.specs.declared.op.SlotName.TheVariants.{Scalar, Array}
-use Rattle.ick_code.specs.State.{same_name}
+use Rattle.ick_code.specs.meaning.State.{same_name}
 use Rattle.ick_code.specs.Effects.{Slots}
 
 abbrev mutual
@@ -24,6 +27,10 @@ abbrev mutual
   pub names_of_trees : Trees → List Name
   names_of_trees none = []
   names_of_trees (more t ts) = names_of_tree t ++ names_of_trees ts
+
+abbrev pub names_of_item : ItemTree → List Name
+names_of_item (single t) = names_of_tree t
+names_of_item (whole array) = array ∷ []
 
 -- the names of a body; one that isn't recognised has none
 abbrev pub names_of_body : Option BodyTree → List Name
@@ -42,8 +49,8 @@ names_of_body (Some (abstain_kinds gerunds)) = []
 names_of_body (Some (reinstate_label label)) = []
 names_of_body (Some (reinstate_kinds gerunds)) = []
 names_of_body (Some give_up) = []
-names_of_body (Some (write_in targets)) = flat_map names_of_tree targets
-names_of_body (Some (read_out items)) = flat_map names_of_tree items
+names_of_body (Some (write_in places)) = flat_map names_of_item places
+names_of_body (Some (read_out items)) = flat_map names_of_item items
 
 -- all names of a program, as often as they stand in it
 abbrev pub names_of : List StatementTree → List Name
@@ -97,6 +104,13 @@ kind_rank Hybrid = 3
 abbrev pub rank_of : Name → ℕ
 rank_of name = 4 * name.number + kind_rank name.kind
 
+-- how many numbers names of one kind have, those of 16 bits, and how many names there are of all kinds
+abbrev pub numbers_of_a_kind : ℕ
+numbers_of_a_kind = 65536
+
+abbrev pub most_names : ℕ
+most_names = 4 * numbers_of_a_kind
+
 -- names whose numbers are of 16 bits
 abbrev pub is_short : Name → Bool
-is_short name = nat_lt name.number 65536
+is_short name = nat_lt name.number numbers_of_a_kind

@@ -3,7 +3,8 @@
 ghost use Rattle.std.specs.Prelude.{◌≡◌, ◌≤◌, ◌<◌, length};
 ghost use Rattle.std.proofs.Props.{props};
 ghost use Rattle.ick_source.specs.Programs.{trees_of};
-ghost use Rattle.ick_code.specs.Code.{IsCode};
+ghost use Rattle.ick_code.specs.Names.{most_names};
+ghost use Rattle.ick_code.specs.Code.{most_statements, IsCode};
 
 use crate::op::Op;
 use crate::table::Table;
@@ -12,7 +13,7 @@ use std::snapshot::Snapshot;
 
 /// Where the operations of a statement stand, and what a run has to know of it beside them.
 #[derive(Drop)]
-pub struct Line<'a> {
+pub struct CompiledStatement<'a> {
     pub from: usize,
     pub to: usize,
     pub chance: u8,
@@ -23,102 +24,119 @@ pub struct Line<'a> {
 
 /// A compiled program: all operations in one list, and for each statement where its own stand.
 ///
-/// It keeps, for contracts alone, the program that it was compiled from, and its type keeps that it is the code of that program.
+/// It keeps, for contracts alone, the program that it was compiled from, and its type keeps that it
+/// is the code of that program.
 #[derive(Drop)]
 pub struct Code<'a> {
     program: Snapshot<Program<'a>>,
     ops: Vec<Op>,
-    lines: Vec<Line<'a>>,
+    statements: Vec<CompiledStatement<'a>>,
     scalars: Vec<Name>,
     arrays: Vec<Name>,
     operands: usize,
-    pub ghost compiled: { IsCode (trees_of program.value) scalars.items arrays.items operands ops.items lines.items } by { Prim.hlevel props },
-    pub ghost few: { length lines.items ≤ 524288 },
-    pub ghost few_scalars: { length scalars.items ≤ 262144 },
-    pub ghost few_arrays: { length arrays.items ≤ 262144 },
+    pub ghost compiled: { IsCode (trees_of program.value)
+        scalars.items arrays.items operands ops.items statements.items } by { Prim.hlevel props },
+    pub ghost few: { length statements.items ≤ most_statements },
+    pub ghost few_scalars: { length scalars.items ≤ most_names },
+    pub ghost few_arrays: { length arrays.items ≤ most_names },
 }
 
 impl<'a> Code<'a> {
-    ghost use Rattle.std.specs.Prelude.{Some, IfSome, slice_get, option_map};
+    ghost use Rattle.std.specs.Prelude.{Some, IsSomeAnd, slice_get, option_map};
     ghost use Rattle.ick_source.specs.Kinds.{kind_of};
-    ghost use Rattle.ick_code.specs.Abstain.{statement_at};
     ghost use Rattle.ick_code.specs.Code.{Means};
-    ghost use Rattle.ick_code.specs.Codes.{code_program, code_slots, line_at, code_ops, code_operands, Shows, IsCompiled};
+    ghost use Rattle.ick_code.specs.Compiled.{code_program, code_slots, code_statement};
+    ghost use Rattle.ick_code.specs.Compiled.{compiled_at, code_ops, code_operands, Shows};
+    ghost use Rattle.ick_code.specs.Compiled.{IsCompiled};
 
     /// Puts together what was compiled from a program.
     pub(crate) fn new(
         program: &Program<'a>,
         ops: Vec<Op>,
-        lines: Vec<Line<'a>>,
+        statements: Vec<CompiledStatement<'a>>,
         table: Table,
         operands: usize,
     ) -> Code<'a>
-        requires { IsCode (trees_of program.now) table.scalars.list.items table.arrays.list.items operands ops.items lines.items }
+        requires { IsCode (trees_of program.now)
+            table.scalars.list.items table.arrays.list.items operands ops.items statements.items }
         ensures { IsCompiled (trees_of program.now) result }
     {
         Code {
             program: Snapshot::of(program),
             ops,
-            lines,
+            statements,
             scalars: table.scalars.into_list(),
             arrays: table.arrays.into_list(),
             operands,
         }
     }
 
+    /// Its operations do what the statements do that it was compiled from.
+    pub fn law(&self)
+        ensures { IsCompiled (code_program self.now) self.now }
+    {}
+
     /// The number of statements.
     pub fn count(&self) -> u32
         ensures { result ≡ length (code_program self.now) }
     {
-        self.lines.len() as u32
+        self.statements.len() as u32
     }
 
-    /// The operations of statement `n`, from 1 to `count()`. Worked one after another, from no operands on and up to the first fault,
-    /// they do what the statement does.
+    /// The operations of statement `n`, from 1 to `count()`. Worked one after another, from an
+    /// empty operand stack on and up to the first fault, they do what the statement does.
     pub fn ops(&self, n: u32) -> &[Op]
         requires first { 1 ≤ n }
         requires last { n ≤ length (code_program self.now) }
         ensures ops { result.now ≡ code_ops self.now n }
-        ensures means { IfSome (statement_at (code_program self.now) n) (λ statement. Means (code_program self.now) (code_slots self.now) result.now statement (code_operands self.now)) }
+        ensures means { IsSomeAnd (code_statement self.now n) (λ statement.
+            Means (code_program self.now) (code_slots self.now) result.now statement
+            (code_operands self.now)) }
     {
-        let line = self.line(n);
-        &self.ops[line.from..line.to]
+        let compiled = self.statement(n);
+        &self.ops[compiled.from..compiled.to]
     }
 
-    /// The chance of statement `n`, from 1 to `count()`, of being done each time that it is met, in percent (Revised Manual, 4.3).
+    /// The chance of statement `n`, from 1 to `count()`, of being done each time that it is met, in
+    /// percent (Revised Manual, 4.3).
     pub fn chance(&self, n: u32) -> u8
         requires first { 1 ≤ n }
         requires last { n ≤ length (code_program self.now) }
-        ensures { option_map (λ statement. statement.chance) (statement_at (code_program self.now) n) ≡ Some result }
+        ensures { option_map (λ statement. statement.chance) (code_statement self.now n) ≡
+            Some result }
     {
-        self.line(n).chance
+        self.statement(n).chance
     }
 
-    /// Whether statement `n`, from 1 to `count()`, is abstained from at the start (Revised Manual, 4.3).
+    /// Whether statement `n`, from 1 to `count()`, is abstained from at the start (Revised Manual,
+    /// 4.3).
     pub fn abstained(&self, n: u32) -> bool
         requires first { 1 ≤ n }
         requires last { n ≤ length (code_program self.now) }
-        ensures { option_map (λ statement. statement.abstained) (statement_at (code_program self.now) n) ≡ Some result }
+        ensures { option_map (λ statement. statement.abstained) (code_statement self.now n) ≡
+            Some result }
     {
-        self.line(n).abstained
+        self.statement(n).abstained
     }
 
     /// The kind of statement `n`, from 1 to `count()`.
     pub fn kind(&self, n: u32) -> Kind
         requires first { 1 ≤ n }
         requires last { n ≤ length (code_program self.now) }
-        ensures { option_map (λ statement. kind_of statement.body) (statement_at (code_program self.now) n) ≡ Some result }
+        ensures { option_map (λ statement. kind_of statement.body) (code_statement self.now n) ≡
+            Some result }
     {
-        self.line(n).kind
+        self.statement(n).kind
     }
 
     /// The text of statement `n`, from 1 to `count()`: its bytes in the source.
     pub fn text(&self, n: u32) -> &'a [u8]
         requires first { 1 ≤ n }
         requires last { n ≤ length (code_program self.now) }
-        ensures { option_map (λ statement. statement.text) (statement_at (code_program self.now) n) ≡ Some result.now }
+        ensures { option_map (λ statement. statement.text) (code_statement self.now n) ≡
+            Some result.now }
     {
-        self.line(n).text
+        self.statement(n).text
     }
 
     /// The number of slots of scalars, which are counted from 0.
@@ -151,22 +169,22 @@ impl<'a> Code<'a> {
         self.arrays[slot as usize]
     }
 
-    /// The greatest number of operands that the operations of any statement keep.
+    /// The greatest number of operands that the operand stack holds in any statement.
     pub fn operands(&self) -> usize
         ensures { result ≡ code_operands self.now }
     {
         self.operands
     }
 
-    /// The line of a statement.
-    fn line(&self, n: u32) -> &Line<'a>
+    /// What is kept of a statement.
+    fn statement(&self, n: u32) -> &CompiledStatement<'a>
         requires first { 1 ≤ n }
         requires last { n ≤ length (code_program self.now) }
-        ensures at { line_at self.now.lines.items n ≡ Some result.now }
+        ensures at { compiled_at self.now.statements.items n ≡ Some result.now }
         ensures order { result.now.from ≤ result.now.to }
         ensures within { result.now.to ≤ length self.now.ops.items }
-        ensures shows { Shows (statement_at (code_program self.now) n) result.now }
+        ensures shows { Shows (code_statement self.now n) result.now }
     {
-        &self.lines[n as usize - 1]
+        &self.statements[n as usize - 1]
     }
 }

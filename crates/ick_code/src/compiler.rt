@@ -7,10 +7,10 @@ ghost use Rattle.ick_source.specs.BodyTree.{body_tree_of};
 ghost use Rattle.ick_code.specs.Tables.{table_slots};
 ghost use Rattle.ick_code.specs.Labels.{place_in};
 ghost use Rattle.ick_code.specs.Operations.{ops_of_body};
-ghost use Rattle.ick_code.specs.Lines.{IsLineOf};
-ghost use Rattle.ick_code.specs.Codes.{IsCompiled};
+ghost use Rattle.ick_code.specs.Emitted.{IsEmitted};
+ghost use Rattle.ick_code.specs.Compiled.{IsCompiled};
 
-use crate::code::{Code, Line};
+use crate::code::{Code, CompiledStatement};
 use crate::counts::most_operands;
 use crate::emit::emit_body;
 use crate::labels::Labels;
@@ -20,26 +20,27 @@ use ick_bits::NoMemory;
 use ick_source::{Body, Kind, Program, Statement};
 use std::alloc::Global;
 
-/// The code of a program: for each statement a flat list of operations, names turned into slots and labels into numbers of statements.
+/// The code of a program: for each statement a flat list of operations, names turned into slots and
+/// labels into numbers of statements.
 ///
-/// Slots are numbered from 0, scalars and arrays apart, by the first appearance of their names in the source: a target stands before its
-/// right side, an array before its subscripts, and bodies that aren't recognised have no names. `NoMemory` is answered where a growth
-/// was refused.
+/// Slots are numbered from 0, scalars and arrays apart, by the first appearance of their names in
+/// the source: a target stands before its right side, an array before its subscripts, and bodies
+/// that aren't recognised have no names. `NoMemory` is answered where a growth was refused.
 pub fn compile<'a>(alloc: Global, program: &Program<'a>) -> Result<Code<'a>, NoMemory>
     ensures { IfOk result (IsCompiled (trees_of program.now)) }
 {
-    let statements = program.statements();
-    let table = Table::new(alloc, statements)?;
-    let labels = Labels::new(alloc, statements)?;
+    let source = program.statements();
+    let table = Table::new(alloc, source)?;
+    let labels = Labels::new(alloc, source)?;
     let mut ops = Vec::new(alloc);
-    let mut lines = Vec::new(alloc);
+    let mut statements = Vec::new(alloc);
     let mut operands = 0usize;
-    for statement in statements {
-        let line = compile_statement(&mut ops, &table, &labels, statement)?;
-        operands = operands.max(most_operands(&ops[line.from..line.to]));
-        lines.push(line)?;
+    for statement in source {
+        let compiled = compile_statement(&mut ops, &table, &labels, statement)?;
+        operands = operands.max(most_operands(&ops[compiled.from..compiled.to]));
+        statements.push(compiled)?;
     }
-    Ok(Code::new(program, ops, lines, table, operands))
+    Ok(Code::new(program, ops, statements, table, operands))
 }
 
 /// Appends the operations of a statement, and answers where they stand.
@@ -48,14 +49,18 @@ fn compile_statement<'a>(
     table: &Table,
     labels: &Labels,
     statement: &Statement<'a>,
-) -> Result<Line<'a>, NoMemory>
+) -> Result<CompiledStatement<'a>, NoMemory>
     requires { is_body_kinded (body_tree_of statement.now.body) ≡ true }
-    ensures ops { OnOk result (ops.new.items ≡ ops.old.items ++ ops_of_body (place_in labels.now) (table_slots table.now) statement.now.body) }
-    ensures line { IfOk result (λ line. IsLineOf (place_in labels.now) (table_slots table.now) ops.new.items line statement.now) }
+    ensures ops { OnOk result (ops.new.items ≡
+        ops.old.items
+        ++ ops_of_body (place_in labels.now) (table_slots table.now) statement.now.body) }
+    ensures statement { IfOk result (λ compiled.
+        IsEmitted (place_in labels.now) (table_slots table.now)
+        ops.new.items compiled statement.now) }
 {
     let from = ops.len();
     emit_body(ops, table, labels, &statement.body)?;
-    Ok(Line {
+    Ok(CompiledStatement {
         from,
         to: ops.len(),
         chance: statement.chance,

@@ -1,26 +1,26 @@
-//! How many operands operations take, give and keep.
+//! How many operands operations pop, push and keep on the operand stack.
 
 ghost use Rattle.std.specs.Prelude.{◌≡◌, ◌≤◌};
-ghost use Rattle.ick_code.specs.Counts.{taken_by, given_by, peak};
+ghost use Rattle.ick_code.specs.Counts.{popped_by, pushed_by, peak};
 
 use crate::op::Op;
 
-/// How many operands operations keep at most, that begin with none.
+/// How many operands the stack holds at most, where operations begin with none.
 pub fn most_operands(ops: &[Op]) -> usize
     ensures { result ≡ peak ops.now 0 }
 {
     let mut count = 0usize;
     let mut most = 0usize;
     for op in ops {
-        count = count.saturating_sub(taken(*op)) + given(*op);
+        count = count.saturating_sub(popped(*op)) + pushed(*op);
         most = most.max(count);
     }
     most
 }
 
-/// How many operands an operation takes.
-fn taken(op: Op) -> usize
-    ensures { result ≡ taken_by op }
+/// How many operands an operation pops.
+fn popped(op: Op) -> usize
+    ensures { result ≡ popped_by op }
 {
     match op {
         Op::Constant(_) | Op::Load(_) | Op::Call(_) => 0,
@@ -31,13 +31,14 @@ fn taken(op: Op) -> usize
         Op::Mingle | Op::Select => 2,
         Op::Save(_) | Op::Restore(_) | Op::Hide(_) | Op::Show(_) => 0,
         Op::AbstainOne(_) | Op::ReinstateOne(_) | Op::AbstainKind(_) | Op::ReinstateKind(_) => 0,
-        Op::ReadTo(_) | Op::Stop | Op::Fail => 0,
+        Op::ReadTo(_) | Op::PrintArray(_) | Op::ReadArray(_) => 0,
+        Op::Stop | Op::Fail => 0,
     }
 }
 
-/// How many operands an operation gives.
-fn given(op: Op) -> usize
-    ensures count { result ≡ given_by op }
+/// How many operands an operation pushes.
+fn pushed(op: Op) -> usize
+    ensures count { result ≡ pushed_by op }
     ensures few { result ≤ 1 }
 {
     match op {
@@ -47,6 +48,7 @@ fn given(op: Op) -> usize
         Op::Call(_) | Op::Forget | Op::Resume => 0,
         Op::Save(_) | Op::Restore(_) | Op::Hide(_) | Op::Show(_) => 0,
         Op::AbstainOne(_) | Op::ReinstateOne(_) | Op::AbstainKind(_) | Op::ReinstateKind(_) => 0,
-        Op::Print | Op::ReadTo(_) | Op::ReadAt(_, _) | Op::Stop | Op::Fail => 0,
+        Op::Print | Op::ReadTo(_) | Op::ReadAt(_, _) => 0,
+        Op::PrintArray(_) | Op::ReadArray(_) | Op::Stop | Op::Fail => 0,
     }
 }

@@ -1,21 +1,24 @@
-//! From trees to operations: operands first, then what takes them.
+//! From trees to operations: operands are pushed first, then comes what pops them.
 
 ghost use Rattle.std.specs.Prelude.{◌≡◌, ◌++◌, true, OnOk, IfOk};
 ghost use Rattle.std.specs.List.{flat_map, list_all};
 ghost use Rattle.ick_source.specs.Tree.{tree_of, trees_in};
-ghost use Rattle.ick_source.specs.NameKinds.{count_in, are_few, is_kinded, are_kinded, is_body_kinded};
-ghost use Rattle.ick_source.specs.BodyTree.{target_tree, item_tree, body_tree_of};
+ghost use Rattle.ick_source.specs.NameKinds.{count_in, are_few, is_kinded, are_kinded};
+ghost use Rattle.ick_source.specs.NameKinds.{is_item_kinded, is_body_kinded};
+ghost use Rattle.ick_source.specs.BodyTree.{target_tree, place_tree, item_tree, body_tree_of};
 ghost use Rattle.ick_code.specs.Names.{slot_in};
 ghost use Rattle.ick_code.specs.Tables.{table_slots};
 ghost use Rattle.ick_code.specs.Labels.{place_in};
-ghost use Rattle.ick_code.specs.Operations.{unary_op_of, binary_op_of, ops_of_tree, ops_of_trees, ops_at, store_ops, read_ops, print_ops, name_ops, gerund_ops, ops_of_body};
+ghost use Rattle.ick_code.specs.Operations.{unary_op_of, binary_op_of, ops_of_tree, ops_of_trees};
+ghost use Rattle.ick_code.specs.Operations.{ops_at, store_ops, read_ops, print_ops, name_ops};
+ghost use Rattle.ick_code.specs.Operations.{gerund_ops, ops_of_body};
 ghost use Rattle.ick_code.specs.Forms.{on_name_of, on_gerund_of};
 
 use crate::labels::Labels;
 use crate::op::{Op, SlotName};
 use crate::table::Table;
 use ick_bits::NoMemory;
-use ick_source::{BinaryOp, Body, Element, Expr, Gerund, Item, Name, Target, UnaryOp};
+use ick_source::{BinaryOp, Body, Element, Expr, Gerund, Item, Name, Place, Target, UnaryOp};
 
 /// What is done for each name of a list.
 #[derive(Clone, Copy)]
@@ -84,7 +87,8 @@ pub fn emit_body(
     body: &Body,
 ) -> Result<(), NoMemory>
     requires { is_body_kinded (body_tree_of body.now) ≡ true }
-    ensures { OnOk result (ops.new.items ≡ ops.old.items ++ ops_of_body (place_in labels.now) (table_slots table.now) body.now) }
+    ensures { OnOk result (ops.new.items ≡
+        ops.old.items ++ ops_of_body (place_in labels.now) (table_slots table.now) body.now) }
 {
     match body {
         Body::Calculate(target, e) => {
@@ -113,7 +117,7 @@ pub fn emit_body(
         Body::ReinstateLabel(label) => ops.push(Op::ReinstateOne(labels.place(*label)))?,
         Body::ReinstateKinds(gerunds) => emit_gerunds(ops, Switch::Reinstate, gerunds)?,
         Body::GiveUp => ops.push(Op::Stop)?,
-        Body::WriteIn(targets) => emit_targets(ops, table, targets)?,
+        Body::WriteIn(places) => emit_places(ops, table, places)?,
         Body::ReadOut(items) => emit_items(ops, table, items)?,
         Body::Unrecognised => ops.push(Op::Fail)?,
     }
@@ -127,7 +131,8 @@ fn emit_names(
     form: NameForm,
     names: &[Name],
 ) -> Result<(), NoMemory>
-    ensures { OnOk result (ops.new.items ≡ ops.old.items ++ name_ops (table_slots table.now) (on_name_of form) names.now) }
+    ensures { OnOk result (ops.new.items ≡
+        ops.old.items ++ name_ops (table_slots table.now) (on_name_of form) names.now) }
 {
     for name in names {
         ops.push(form.on(table.slot(*name)))?;
@@ -137,7 +142,8 @@ fn emit_names(
 
 /// Appends one operation for each gerund.
 fn emit_gerunds(ops: &mut Vec<Op>, switch: Switch, gerunds: &[Gerund]) -> Result<(), NoMemory>
-    ensures { OnOk result (ops.new.items ≡ ops.old.items ++ gerund_ops (on_gerund_of switch) gerunds.now) }
+    ensures { OnOk result (ops.new.items ≡
+        ops.old.items ++ gerund_ops (on_gerund_of switch) gerunds.now) }
 {
     for gerund in gerunds {
         ops.push(switch.on_kind(*gerund))?;
@@ -145,21 +151,23 @@ fn emit_gerunds(ops: &mut Vec<Op>, switch: Switch, gerunds: &[Gerund]) -> Result
     Ok(())
 }
 
-/// Appends the operations that read a line for each target.
-fn emit_targets(ops: &mut Vec<Op>, table: &Table, targets: &[Target]) -> Result<(), NoMemory>
-    requires { list_all (λ target. is_kinded (target_tree target)) targets.now ≡ true }
-    ensures { OnOk result (ops.new.items ≡ ops.old.items ++ flat_map (read_ops (table_slots table.now)) targets.now) }
+/// Appends the operations that read input for each place.
+fn emit_places(ops: &mut Vec<Op>, table: &Table, places: &[Place]) -> Result<(), NoMemory>
+    requires { list_all (λ place. is_item_kinded (place_tree place)) places.now ≡ true }
+    ensures { OnOk result (ops.new.items ≡
+        ops.old.items ++ flat_map (read_ops (table_slots table.now)) places.now) }
 {
-    for target in targets {
-        emit_read(ops, table, target)?;
+    for place in places {
+        emit_read(ops, table, place)?;
     }
     Ok(())
 }
 
 /// Appends the operations that print each item.
 fn emit_items(ops: &mut Vec<Op>, table: &Table, items: &[Item]) -> Result<(), NoMemory>
-    requires { list_all (λ item. is_kinded (item_tree item)) items.now ≡ true }
-    ensures { OnOk result (ops.new.items ≡ ops.old.items ++ flat_map (print_ops (table_slots table.now)) items.now) }
+    requires { list_all (λ item. is_item_kinded (item_tree item)) items.now ≡ true }
+    ensures { OnOk result (ops.new.items ≡
+        ops.old.items ++ flat_map (print_ops (table_slots table.now)) items.now) }
 {
     for item in items {
         emit_print(ops, table, item)?;
@@ -170,7 +178,8 @@ fn emit_items(ops: &mut Vec<Op>, table: &Table, items: &[Item]) -> Result<(), No
 /// Appends the operations that store a value in a target.
 fn emit_store(ops: &mut Vec<Op>, table: &Table, target: &Target) -> Result<(), NoMemory>
     requires { is_kinded (target_tree target.now) ≡ true }
-    ensures { OnOk result (ops.new.items ≡ ops.old.items ++ store_ops (table_slots table.now) target.now) }
+    ensures { OnOk result (ops.new.items ≡
+        ops.old.items ++ store_ops (table_slots table.now) target.now) }
 {
     match target {
         Target::Scalar(name) => ops.push(Op::Store(table.scalars.slot(*name)))?,
@@ -182,41 +191,39 @@ fn emit_store(ops: &mut Vec<Op>, table: &Table, target: &Target) -> Result<(), N
     Ok(())
 }
 
-/// Appends the operations that read a line for a target.
-fn emit_read(ops: &mut Vec<Op>, table: &Table, target: &Target) -> Result<(), NoMemory>
-    requires { is_kinded (target_tree target.now) ≡ true }
-    ensures { OnOk result (ops.new.items ≡ ops.old.items ++ read_ops (table_slots table.now) target.now) }
+/// Appends the operations that read input for a place.
+fn emit_read(ops: &mut Vec<Op>, table: &Table, place: &Place) -> Result<(), NoMemory>
+    requires { is_item_kinded (place_tree place.now) ≡ true }
+    ensures { OnOk result (ops.new.items ≡
+        ops.old.items ++ read_ops (table_slots table.now) place.now) }
 {
-    match target {
-        Target::Scalar(name) => ops.push(Op::ReadTo(table.scalars.slot(*name)))?,
-        Target::Element(element) => {
+    match place {
+        Place::Scalar(name) => ops.push(Op::ReadTo(table.scalars.slot(*name)))?,
+        Place::Element(element) => {
             let count = emit_exprs(ops, table, &element.subs)?;
             ops.push(Op::ReadAt(table.arrays.slot(element.array), count))?;
         }
+        Place::Array(name) => ops.push(Op::ReadArray(table.arrays.slot(*name)))?,
     }
     Ok(())
 }
 
 /// Appends the operations that print an item.
 fn emit_print(ops: &mut Vec<Op>, table: &Table, item: &Item) -> Result<(), NoMemory>
-    requires { is_kinded (item_tree item.now) ≡ true }
-    ensures { OnOk result (ops.new.items ≡ ops.old.items ++ print_ops (table_slots table.now) item.now) }
-{
-    emit_item(ops, table, item)?;
-    ops.push(Op::Print)?;
-    Ok(())
-}
-
-/// Appends the operations of an item's value.
-fn emit_item(ops: &mut Vec<Op>, table: &Table, item: &Item) -> Result<(), NoMemory>
-    requires { is_kinded (item_tree item.now) ≡ true }
-    ensures { OnOk result (ops.new.items ≡ ops.old.items ++ ops_of_tree (table_slots table.now) (item_tree item.now)) }
+    requires { is_item_kinded (item_tree item.now) ≡ true }
+    ensures { OnOk result (ops.new.items ≡
+        ops.old.items ++ print_ops (table_slots table.now) item.now) }
 {
     match item {
         Item::Scalar(name) => ops.push(Op::Load(table.scalars.slot(*name)))?,
         Item::Element(element) => emit_fetch(ops, table, element)?,
         Item::Mesh(number) => ops.push(Op::Constant(*number))?,
+        Item::Array(name) => {
+            ops.push(Op::PrintArray(table.arrays.slot(*name)))?;
+            return Ok(());
+        }
     }
+    ops.push(Op::Print)?;
     Ok(())
 }
 
@@ -225,7 +232,9 @@ fn emit_item(ops: &mut Vec<Op>, table: &Table, item: &Item) -> Result<(), NoMemo
 fn emit_fetch(ops: &mut Vec<Op>, table: &Table, element: &Element) -> Result<(), NoMemory>
     requires few { are_few (trees_in element.now.subs.items) ≡ true }
     requires kinded { are_kinded (trees_in element.now.subs.items) ≡ true }
-    ensures { OnOk result (ops.new.items ≡ ops.old.items ++ ops_at (table_slots table.now) (trees_in element.now.subs.items) (Op.Fetch (slot_in table.now.arrays.list.items element.now.array))) }
+    ensures { OnOk result (ops.new.items ≡
+        ops.old.items ++ ops_at (table_slots table.now) (trees_in element.now.subs.items)
+        (Op.Fetch (slot_in table.now.arrays.list.items element.now.array))) }
 {
     let count = emit_exprs(ops, table, &element.subs)?;
     ops.push(Op::Fetch(table.arrays.slot(element.array), count))?;
@@ -236,7 +245,8 @@ fn emit_fetch(ops: &mut Vec<Op>, table: &Table, element: &Element) -> Result<(),
 #[cycle(expression)]
 fn emit_expr(ops: &mut Vec<Op>, table: &Table, e: &Expr) -> Result<(), NoMemory>
     requires { is_kinded (tree_of e.now) ≡ true }
-    ensures { OnOk result (ops.new.items ≡ ops.old.items ++ ops_of_tree (table_slots table.now) (tree_of e.now)) }
+    ensures { OnOk result (ops.new.items ≡
+        ops.old.items ++ ops_of_tree (table_slots table.now) (tree_of e.now)) }
 {
     match e {
         Expr::Mesh(number) => ops.push(Op::Constant(*number))?,
@@ -255,13 +265,14 @@ fn emit_expr(ops: &mut Vec<Op>, table: &Table, e: &Expr) -> Result<(), NoMemory>
     Ok(())
 }
 
-/// Appends the operations of expressions, one after another, and answers how many expressions they are.
+/// Appends the operations of expressions, one after another, and answers how many they are.
 #[cycle(expression)]
 fn emit_exprs(ops: &mut Vec<Op>, table: &Table, list: &Vec<Expr>) -> Result<u32, NoMemory>
     requires few { are_few (trees_in list.now.items) ≡ true }
     requires kinded { are_kinded (trees_in list.now.items) ≡ true }
     ensures count { IfOk result (λ count. count ≡ count_in (trees_in list.now.items)) }
-    ensures ops { OnOk result (ops.new.items ≡ ops.old.items ++ ops_of_trees (table_slots table.now) (trees_in list.now.items)) }
+    ensures ops { OnOk result (ops.new.items ≡
+        ops.old.items ++ ops_of_trees (table_slots table.now) (trees_in list.now.items)) }
 {
     let count = list.len() as u32;
     for e in list {

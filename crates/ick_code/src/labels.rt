@@ -4,8 +4,9 @@ ghost use Rattle.std.specs.Prelude.{◌≡◌, ℕ, ◌≤◌, length, map, OnOk
 ghost use Rattle.std.specs.BTreeMap.{get};
 ghost use Rattle.std.specs.Ordering.{nat_cmp};
 ghost use Rattle.ick_source.specs.Trees.{statement_tree_of};
-ghost use Rattle.ick_code.specs.Control.{is_label, place_of};
+ghost use Rattle.ick_code.specs.meaning.Control.{is_label, place_of};
 ghost use Rattle.ick_code.specs.Labels.{with_place, place_in};
+ghost use Rattle.ick_code.specs.Code.{most_statements};
 
 use ick_bits::NoMemory;
 use ick_source::Statement;
@@ -23,8 +24,9 @@ pub struct Labels {
 impl Labels {
     /// The labels of statements.
     pub fn new(alloc: Global, statements: &[Statement]) -> Result<Labels, NoMemory>
-        requires { length statements.now ≤ 524288 }
-        ensures { IfOk result (λ labels. (label : ℕ) → place_in labels label ≡ place_of label (map statement_tree_of statements.now)) }
+        requires { length statements.now ≤ most_statements }
+        ensures { IfOk result (λ labels. (label : ℕ) → place_in labels label ≡
+            place_of label (map statement_tree_of statements.now)) }
     {
         let mut places = BTreeMap::new(alloc);
         let mut past = 1;
@@ -45,7 +47,8 @@ impl Labels {
 
 /// Keeps the place of a label, unless it has one.
 fn note(places: &mut BTreeMap<u16, u32>, label: Option<u16>, place: u32) -> Result<(), NoMemory>
-    ensures { OnOk result ((q : ℕ) → get nat_cmp places.new q ≡ with_place (get nat_cmp places.old q) (is_label q label) place) }
+    ensures { OnOk result ((q : ℕ) → get nat_cmp places.new q ≡
+        with_place (get nat_cmp places.old q) (is_label q label) place) }
 {
     let Some(label) = label else {
         return Ok(());

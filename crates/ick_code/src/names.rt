@@ -6,8 +6,9 @@ ghost use Rattle.std.specs.BTreeMap.{get};
 ghost use Rattle.std.specs.Ordering.{nat_cmp};
 ghost use Rattle.std.proofs.lemmas.Map.Keys.{IsDistinct-prop};
 ghost use Rattle.ick_source.specs.declared.tree.Name.{Name as Named};
-ghost use Rattle.ick_code.specs.State.{same_name};
+ghost use Rattle.ick_code.specs.meaning.State.{same_name};
 ghost use Rattle.ick_code.specs.Names.{found, slot_in, with_name, rank_of, kind_rank, is_short};
+ghost use Rattle.ick_code.specs.Names.{most_names};
 
 use ick_bits::NoMemory;
 use ick_source::{Name, NameKind};
@@ -55,7 +56,7 @@ impl Names {
     /// The names by their slots.
     pub fn into_list(self) -> Vec<Name>
         ensures names { result.items ≡ self.list.items }
-        ensures few { length result.items ≤ 262144 }
+        ensures few { length result.items ≤ most_names }
     {
         let Names { list, slots: _ } = self;
         list

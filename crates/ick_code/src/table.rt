@@ -1,17 +1,19 @@
-//! The slots of a program, and how its names get them: all names of the program come in the order of the source text.
+//! The slots of a program, and how its names get them: all names of the program come in the order
+//! of the source text.
 
 ghost use Rattle.std.specs.Prelude.{◌≡◌, [], ◌∷◌, map, OnOk, IfOk};
 ghost use Rattle.std.specs.List.{flat_map};
 ghost use Rattle.ick_source.specs.Tree.{tree_of, trees_in};
-ghost use Rattle.ick_source.specs.BodyTree.{target_tree, item_tree, body_tree_of};
+ghost use Rattle.ick_source.specs.BodyTree.{target_tree, place_tree, item_tree, body_tree_of};
 ghost use Rattle.ick_source.specs.Trees.{statement_tree_of};
-ghost use Rattle.ick_code.specs.Names.{names_of_tree, names_of_trees, names_of_body, names_of, slot_name};
+ghost use Rattle.ick_code.specs.Names.{names_of_tree, names_of_trees, names_of_item, names_of_body};
+ghost use Rattle.ick_code.specs.Names.{names_of, slot_name};
 ghost use Rattle.ick_code.specs.Tables.{table_slots, with_names, no_slots};
 
 use crate::names::Names;
 use crate::op::SlotName;
 use ick_bits::NoMemory;
-use ick_source::{Body, Element, Expr, Item, Name, NameKind, Statement, Target};
+use ick_source::{Body, Element, Expr, Item, Name, NameKind, Place, Statement, Target};
 use std::alloc::Global;
 
 /// The names of the slots, of scalars and of arrays.
@@ -25,7 +27,8 @@ impl Table {
     /// The slots of the names of statements.
     #[tactic(auto, using(crate::proofs::TableLemmas::names_none))]
     pub fn new(alloc: Global, statements: &[Statement]) -> Result<Table, NoMemory>
-        ensures { IfOk result (λ table. table_slots table ≡ with_names no_slots (names_of (map statement_tree_of statements.now))) }
+        ensures { IfOk result (λ table. table_slots table ≡
+            with_names no_slots (names_of (map statement_tree_of statements.now))) }
     {
         let mut table = Table {
             scalars: Names::new(alloc),
@@ -50,7 +53,8 @@ impl Table {
     /// Gives the name a slot, where it has none.
     #[tactic(auto, using(crate::proofs::TableLemmas::names_one))]
     fn add(&mut self, name: Name) -> Result<(), NoMemory>
-        ensures { OnOk result (table_slots self.new ≡ with_names (table_slots self.old) (name ∷ [])) }
+        ensures { OnOk result (table_slots self.new ≡
+            with_names (table_slots self.old) (name ∷ [])) }
     {
         match name.kind {
             NameKind::Onespot | NameKind::Twospot => self.scalars.add(name),
@@ -71,9 +75,10 @@ impl Table {
 
     /// Gives slots to the names of an expression.
     #[cycle(adding)]
-    #[tactic(auto, using(crate::proofs::TableLemmas::names_none, crate::proofs::TableLemmas::names_append, crate::proofs::TableLemmas::names_cons))]
+    #[tactic(auto, using(crate::proofs::TableLemmas::names_steps))]
     fn add_expr(&mut self, e: &Expr) -> Result<(), NoMemory>
-        ensures { OnOk result (table_slots self.new ≡ with_names (table_slots self.old) (names_of_tree (tree_of e.now))) }
+        ensures { OnOk result (table_slots self.new ≡
+            with_names (table_slots self.old) (names_of_tree (tree_of e.now))) }
     {
         match e {
             Expr::Mesh(_) => Ok(()),
@@ -92,9 +97,10 @@ impl Table {
 
     /// Gives slots to the names of expressions, one after another.
     #[cycle(adding)]
-    #[tactic(auto, using(crate::proofs::TableLemmas::names_none, crate::proofs::TableLemmas::names_append, crate::proofs::TableLemmas::names_cons))]
+    #[tactic(auto, using(crate::proofs::TableLemmas::names_steps))]
     fn add_exprs(&mut self, list: &Vec<Expr>) -> Result<(), NoMemory>
-        ensures { OnOk result (table_slots self.new ≡ with_names (table_slots self.old) (names_of_trees (trees_in list.now.items))) }
+        ensures { OnOk result (table_slots self.new ≡
+            with_names (table_slots self.old) (names_of_trees (trees_in list.now.items))) }
     {
         for e in list {
             self.add_expr(e)?;
@@ -103,18 +109,20 @@ impl Table {
     }
 
     /// Gives slots to the names of an element.
-    #[tactic(auto, using(crate::proofs::TableLemmas::names_none, crate::proofs::TableLemmas::names_append, crate::proofs::TableLemmas::names_cons))]
+    #[tactic(auto, using(crate::proofs::TableLemmas::names_steps))]
     fn add_element(&mut self, element: &Element) -> Result<(), NoMemory>
-        ensures { OnOk result (table_slots self.new ≡ with_names (table_slots self.old) (element.now.array ∷ names_of_trees (trees_in element.now.subs.items))) }
+        ensures { OnOk result (table_slots self.new ≡ with_names (table_slots
+            self.old) (element.now.array ∷ names_of_trees (trees_in element.now.subs.items))) }
     {
         self.add(element.array)?;
         self.add_exprs(&element.subs)
     }
 
     /// Gives slots to the names of a target.
-    #[tactic(auto, using(crate::proofs::TableLemmas::names_none, crate::proofs::TableLemmas::names_append, crate::proofs::TableLemmas::names_cons))]
+    #[tactic(auto, using(crate::proofs::TableLemmas::names_steps))]
     fn add_target(&mut self, target: &Target) -> Result<(), NoMemory>
-        ensures { OnOk result (table_slots self.new ≡ with_names (table_slots self.old) (names_of_tree (target_tree target.now))) }
+        ensures { OnOk result (table_slots self.new ≡
+            with_names (table_slots self.old) (names_of_tree (target_tree target.now))) }
     {
         match target {
             Target::Scalar(name) => self.add(*name),
@@ -123,24 +131,39 @@ impl Table {
     }
 
     /// Gives slots to the names of an item.
-    #[tactic(auto, using(crate::proofs::TableLemmas::names_none, crate::proofs::TableLemmas::names_append, crate::proofs::TableLemmas::names_cons))]
+    #[tactic(auto, using(crate::proofs::TableLemmas::names_steps))]
     fn add_item(&mut self, item: &Item) -> Result<(), NoMemory>
-        ensures { OnOk result (table_slots self.new ≡ with_names (table_slots self.old) (names_of_tree (item_tree item.now))) }
+        ensures { OnOk result (table_slots self.new ≡
+            with_names (table_slots self.old) (names_of_item (item_tree item.now))) }
     {
         match item {
             Item::Scalar(name) => self.add(*name),
             Item::Element(element) => self.add_element(element),
             Item::Mesh(_) => Ok(()),
+            Item::Array(name) => self.add(*name),
         }
     }
 
-    /// Gives slots to the names of targets, one after another.
-    #[tactic(auto, using(crate::proofs::TableLemmas::names_none))]
-    fn add_targets(&mut self, targets: &[Target]) -> Result<(), NoMemory>
-        ensures { OnOk result (table_slots self.new ≡ with_names (table_slots self.old) (flat_map names_of_tree (map target_tree targets.now))) }
+    /// Gives slots to the names of a place.
+    #[tactic(auto, using(crate::proofs::TableLemmas::names_steps))]
+    fn add_place(&mut self, place: &Place) -> Result<(), NoMemory>
+        ensures { OnOk result (table_slots self.new ≡
+            with_names (table_slots self.old) (names_of_item (place_tree place.now))) }
     {
-        for target in targets {
-            self.add_target(target)?;
+        match place {
+            Place::Scalar(name) | Place::Array(name) => self.add(*name),
+            Place::Element(element) => self.add_element(element),
+        }
+    }
+
+    /// Gives slots to the names of places, one after another.
+    #[tactic(auto, using(crate::proofs::TableLemmas::names_none))]
+    fn add_places(&mut self, places: &[Place]) -> Result<(), NoMemory>
+        ensures { OnOk result (table_slots self.new ≡ with_names
+            (table_slots self.old) (flat_map names_of_item (map place_tree places.now))) }
+    {
+        for place in places {
+            self.add_place(place)?;
         }
         Ok(())
     }
@@ -148,7 +171,8 @@ impl Table {
     /// Gives slots to the names of items, one after another.
     #[tactic(auto, using(crate::proofs::TableLemmas::names_none))]
     fn add_items(&mut self, items: &[Item]) -> Result<(), NoMemory>
-        ensures { OnOk result (table_slots self.new ≡ with_names (table_slots self.old) (flat_map names_of_tree (map item_tree items.now))) }
+        ensures { OnOk result (table_slots self.new ≡
+            with_names (table_slots self.old) (flat_map names_of_item (map item_tree items.now))) }
     {
         for item in items {
             self.add_item(item)?;
@@ -157,9 +181,10 @@ impl Table {
     }
 
     /// Gives slots to the names of a body.
-    #[tactic(auto, using(crate::proofs::TableLemmas::names_none, crate::proofs::TableLemmas::names_append, crate::proofs::TableLemmas::names_cons))]
+    #[tactic(auto, using(crate::proofs::TableLemmas::names_steps))]
     fn add_body(&mut self, body: &Body) -> Result<(), NoMemory>
-        ensures { OnOk result (table_slots self.new ≡ with_names (table_slots self.old) (names_of_body (body_tree_of body.now))) }
+        ensures { OnOk result (table_slots self.new ≡
+            with_names (table_slots self.old) (names_of_body (body_tree_of body.now))) }
     {
         match body {
             Body::Calculate(target, e) => {
@@ -173,7 +198,7 @@ impl Table {
             Body::Forget(e) | Body::Resume(e) => self.add_expr(e),
             Body::Stash(names) | Body::Retrieve(names) => self.add_all(names),
             Body::Ignore(names) | Body::Remember(names) => self.add_all(names),
-            Body::WriteIn(targets) => self.add_targets(targets),
+            Body::WriteIn(places) => self.add_places(places),
             Body::ReadOut(items) => self.add_items(items),
             Body::Next(_) | Body::AbstainLabel(_) | Body::AbstainKinds(_) => Ok(()),
             Body::ReinstateLabel(_) | Body::ReinstateKinds(_) => Ok(()),

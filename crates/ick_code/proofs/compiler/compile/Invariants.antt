@@ -1,7 +1,7 @@
 use Rattle.ick_code.specs.Tables.{table_slots}
 use Rattle.ick_code.specs.Labels.{place_in}
-use Rattle.ick_code.proofs.LineLemmas.{LinesSoFar}
+use Rattle.ick_code.proofs.CompiledStatements.{CompiledSoFar}
 use Rattle.ick_code.proofs.compiler.compile.Given as goal
 
 abbrev pub invariant-loop-statement : goal.invariant-loop-statement
-invariant-loop-statement l = LinesSoFar (place_in l.labels) (table_slots l.table) l.statements l.ops.items l.lines.items l.operands l.statement-index
+invariant-loop-statement l = CompiledSoFar (place_in l.labels) (table_slots l.table) l.source l.ops.items l.statements.items l.operands l.statement-index

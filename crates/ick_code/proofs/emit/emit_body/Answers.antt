@@ -1,8 +1,8 @@
 use Rattle.std.proofs.Common.{ap, ◌∙◌}
 use Rattle.std.specs.List.{list_all}
-use Rattle.ick_source.specs.NameKinds.{is_kinded}
-use Rattle.ick_source.specs.BodyTree.{target_tree, item_tree}
-use Rattle.ick_code.proofs.Trees.{kinded_dimensions, kinded_targets, kinded_items}
+use Rattle.ick_source.specs.NameKinds.{is_item_kinded}
+use Rattle.ick_source.specs.BodyTree.{place_tree, item_tree}
+use Rattle.ick_code.proofs.Trees.{kinded_dimensions, kinded_places, kinded_items}
 use Rattle.ick_code.proofs.emit.emit_body.Goals as goal
 
 pub emit_exprs-requires-clause-few : goal.emit_exprs-requires-clause-few
@@ -11,10 +11,12 @@ emit_exprs-requires-clause-few c = (kinded_dimensions c.in-Dimension.array c.in-
 pub emit_exprs-requires-clause-kinded : goal.emit_exprs-requires-clause-kinded
 emit_exprs-requires-clause-kinded c = (kinded_dimensions c.in-Dimension.array c.in-Dimension.dimensions c.args.body.now c.in-Dimension.is c.requires).1
 
-pub emit_targets-requires : goal.emit_targets-requires
-emit_targets-requires c =
-    ap (list_all (λ target. is_kinded (target_tree target))) c.deref-in-WriteIn.ensures.value ∙ kinded_targets c.in-WriteIn.targets c.args.body.now c.in-WriteIn.is c.requires
+pub emit_places-requires : goal.emit_places-requires
+emit_places-requires c =
+    ap (list_all (λ place. is_item_kinded (place_tree place))) c.deref-in-WriteIn.ensures.value
+    ∙ kinded_places c.in-WriteIn.places c.args.body.now c.in-WriteIn.is c.requires
 
 pub emit_items-requires : goal.emit_items-requires
 emit_items-requires c =
-    ap (list_all (λ item. is_kinded (item_tree item))) c.deref-in-ReadOut.ensures.value ∙ kinded_items c.in-ReadOut.items c.args.body.now c.in-ReadOut.is c.requires
+    ap (list_all (λ item. is_item_kinded (item_tree item))) c.deref-in-ReadOut.ensures.value
+    ∙ kinded_items c.in-ReadOut.items c.args.body.now c.in-ReadOut.is c.requires

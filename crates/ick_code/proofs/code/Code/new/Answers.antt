@@ -1,9 +1,9 @@
 use Rattle.std.proofs.Common.{ap}
 use Rattle.ick_source.specs.Programs.{trees_of}
-use Rattle.ick_code.proofs.CodeLemmas.{compiled, named_code}
+use Rattle.ick_code.proofs.CodeLemmas.{is_compiled, named_code}
 use Rattle.ick_code.proofs.code.Code.new.Goals as goal
 
 pub returns : goal.returns
 returns c =
-    compiled _ _ (ap trees_of c.of.ensures)
-    (named_code _ _ _ _ _ c.args.operands c.args.ops.items c.args.lines.items c.into_list.ensures.names c.into_list-2.ensures.names c.requires)
+    is_compiled _ _ (ap trees_of c.of.ensures)
+    (named_code _ _ _ _ _ c.args.operands c.args.ops.items c.args.statements.items c.into_list.ensures.names c.into_list-2.ensures.names c.requires)

@@ -1,5 +1,5 @@
 use Rattle.std.proofs.Common.{ap, ◌∙◌, sym, arith}
-use Rattle.ick_code.specs.Control.{is_label}
+use Rattle.ick_code.specs.meaning.Control.{is_label}
 use Rattle.ick_code.specs.Labels.{with_place}
 use Rattle.ick_code.proofs.LabelLemmas.{noted_more, noted_all}
 use Rattle.ick_code.proofs.labels.Labels.new.Goals as goal

@@ -1,10 +1,12 @@
-use Rattle.std.proofs.Common.{◌≡◌, ◌<◌, true, false, List, [], ◌∷◌, ◌++◌, length, Some, is_some, Result, Ok, Err, IsOk, is_ok, if◌then◌else◌, sym, ap, ◌∙◌, subst, arith, rules, nat_cmp}
+use Rattle.std.proofs.Common.{◌≡◌, ◌<◌, true, false, List, [], ◌∷◌, ◌++◌, length, Some, is_some, Result, Ok, Err, IsOk}
+use Rattle.std.proofs.Common.{is_ok, if◌then◌else◌, sym, ap, ◌∙◌, subst, arith, rules, nat_cmp}
 use Rattle.std.specs.BTreeMap.{get, Updates}
 use Rattle.std.specs.List.{IsDistinct, list_all}
 use Rattle.ick_source.specs.declared.tree.Name.{Name}
-use Rattle.ick_code.specs.State.{same_name}
+use Rattle.ick_code.specs.meaning.State.{same_name}
 use Rattle.ick_code.specs.Names.{found, rank_of, is_short}
-use Rattle.ick_code.proofs.SlotLemmas.{few_names, once_more, short_more, indexed_more, among_indexed, with_present, with_absent}
+use Rattle.ick_code.proofs.SlotLemmas.{few_names, once_more, short_more, indexed_more, among_indexed, with_present}
+use Rattle.ick_code.proofs.SlotLemmas.{with_absent}
 use Rattle.ick_code.proofs.names.Names.add.Goals as goal
 
 pub returns-then-contains_key : goal.returns-then-contains_key

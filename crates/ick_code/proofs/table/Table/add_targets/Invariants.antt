@@ -1,9 +1,0 @@
-use Rattle.std.proofs.Common.{◌≡◌, take, map}
-use Rattle.std.specs.List.{flat_map}
-use Rattle.ick_source.specs.BodyTree.{target_tree}
-use Rattle.ick_code.specs.Names.{names_of_tree}
-use Rattle.ick_code.specs.Tables.{table_slots, with_names}
-use Rattle.ick_code.proofs.table.Table.add_targets.Given as goal
-
-abbrev pub invariant-loop-target : goal.invariant-loop-target
-invariant-loop-target l = table_slots l.self ≡ with_names (table_slots l.initial.self) (flat_map names_of_tree (map target_tree (take l.target-index l.targets)))

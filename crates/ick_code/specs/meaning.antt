@@ -1,0 +1,11 @@
+pub mod State
+pub mod Value
+pub mod Outcome
+pub mod Store
+pub mod Control
+pub mod Stash
+pub mod Abstain
+pub mod InputOutput
+pub mod Tape
+pub mod Do
+pub mod Move
