@@ -1,4 +1,4 @@
--- The grammar of bodies. As in the grammar of expressions, `from` and `to` are places, each as the symbols that are left there.
+-- The grammar of bodies. As in the grammar of expressions, `from` and `to` are positions, each as the characters that are left there.
 use Rattle.std.specs.Prelude.{ℕ, ◌≡◌, ◌≤◌, List, [], ◌∷◌, Some, None, codes}
 use Rattle.ick_source.specs.declared.tree.NameKind.{NameKind}
 use Rattle.ick_source.specs.declared.tree.Name.{Name}
@@ -9,7 +9,7 @@ use Rattle.ick_source.specs.declared.form.Form.{Form}
 use Rattle.ick_source.specs.declared.form.Form.TheVariants.{Calculation, Dimensioning, Call, Action}
 use Rattle.ick_source.specs.declared.verb.Verb.{Verb}
 use Rattle.ick_source.specs.declared.verb.Verb.TheVariants.{Forget, Resume, Stash, Retrieve, Ignore, Remember, Abstain, Reinstate, Give, Write, Read}
-use Rattle.ick_source.specs.Place.{next_of, past_next}
+use Rattle.ick_source.specs.Position.{next_lead, past_lead}
 use Rattle.ick_source.specs.Token.{IsNumber, IsWord}
 use Rattle.ick_source.specs.Tree.{Tree, mesh, scalar}
 use Rattle.ick_source.specs.Expression.{IsExpr, IsElement}
@@ -38,10 +38,10 @@ pub record IsWholeElement (from to : List ℕ) (t : Tree) : Type 0 where
   pub is_element : IsElement None from to t height
   pub low : height ≤ 256
 
--- a mark of this sort with its number
+-- a sigil of this sort with its number
 pub record IsNamed (leads : NameKind → Lead) (from to : List ℕ) (x : Name) : Type 0 where
-  pub begins : next_of from ≡ leads x.kind
-  pub number : IsNumber (past_next from) to x.number
+  pub begins : next_lead from ≡ leads x.kind
+  pub number : IsNumber (past_lead from) to x.number
 
 -- a name in a list of names: a spot or an array
 pub data IsName : List ℕ → List ℕ → Name → Type 0 where
@@ -54,7 +54,7 @@ pub data IsTarget : List ℕ → List ℕ → Tree → Type 0 where
 
 pub data IsItem : List ℕ → List ℕ → Tree → Type 0 where
   of_target : {from to : List ℕ} {t : Tree} → IsTarget from to t → IsItem from to t
-  of_mesh : {from to : List ℕ} {n : ℕ} → next_of from ≡ Hash → IsNumber (past_next from) to n → IsItem from to (mesh n)
+  of_mesh : {from to : List ℕ} {n : ℕ} → next_lead from ≡ Hash → IsNumber (past_lead from) to n → IsItem from to (mesh n)
 
 pub data IsGerund : List ℕ → List ℕ → Gerund → Type 0 where
   one_word : {from to : List ℕ} {g : Gerund} → IsWord (gerund_word g) from to → second_word g ≡ None → IsGerund from to g
@@ -106,7 +106,7 @@ pub data IsBodyOf : Form → List ℕ → List ℕ → BodyTree → Type 0 where
   nexts : {from mid to : List ℕ} {n : ℕ} → IsLabel from mid n → IsWord (codes "NEXT") mid to → IsBodyOf Call from to (next n)
   does : {from mid to : List ℕ} {v : Verb} {b : BodyTree} → IsWord (verb_word v) from mid → IsAfter v mid to b → IsBodyOf Action from to b
 
-pub record IsAnyBody (from to : List ℕ) (b : BodyTree) : Type 0 where
+pub record IsBody (from to : List ℕ) (b : BodyTree) : Type 0 where
   pub form : Form
   pub stands : IsBodyOf form from to b
 

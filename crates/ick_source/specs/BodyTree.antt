@@ -10,7 +10,7 @@ use Rattle.ick_source.specs.declared.body.Item.TheVariants.{Scalar as ItemScalar
 use Rattle.ick_source.specs.declared.body.Body.{Body}
 use Rattle.ick_source.specs.declared.body.Body.TheVariants.{Calculate, Dimension, Next, Forget, Resume, Stash, Retrieve, Ignore, Remember, AbstainLabel, AbstainKinds, ReinstateLabel, ReinstateKinds, GiveUp, WriteIn, ReadOut, Unrecognised}
 use Rattle.ick_source.specs.Tree.{Tree, mesh, scalar, element, tree_of, trees_in}
-use Rattle.ick_source.specs.Kept.{kept, kept_name, kept_tree, no_faults, both_faults, name_faults, label_faults, faults_of}
+use Rattle.ick_source.specs.Clamped.{clamped, clamped_name, clamped_tree, no_faults, both_faults, name_faults, label_faults, faults_of}
 
 -- Targets and items are trees: a scalar, an element, or as an item a mesh.
 pub data BodyTree : Type 0 where
@@ -61,23 +61,23 @@ body_tree_of (ReadOut ts) = Some (read_out (map item_tree ts.items))
 body_tree_of Unrecognised = None
 
 -- the body with 65535 for each number above it
-abbrev pub kept_body : BodyTree → BodyTree
-kept_body (calculate t e) = calculate (kept_tree t) (kept_tree e)
-kept_body (dimension x es) = dimension (kept_name x) (map kept_tree es)
-kept_body (next n) = next (kept n)
-kept_body (forget e) = forget (kept_tree e)
-kept_body (resume e) = resume (kept_tree e)
-kept_body (stash xs) = stash (map kept_name xs)
-kept_body (retrieve xs) = retrieve (map kept_name xs)
-kept_body (ignore xs) = ignore (map kept_name xs)
-kept_body (remember xs) = remember (map kept_name xs)
-kept_body (abstain_label n) = abstain_label (kept n)
-kept_body (abstain_kinds gs) = abstain_kinds gs
-kept_body (reinstate_label n) = reinstate_label (kept n)
-kept_body (reinstate_kinds gs) = reinstate_kinds gs
-kept_body give_up = give_up
-kept_body (write_in ts) = write_in (map kept_tree ts)
-kept_body (read_out ts) = read_out (map kept_tree ts)
+abbrev pub clamped_body : BodyTree → BodyTree
+clamped_body (calculate t e) = calculate (clamped_tree t) (clamped_tree e)
+clamped_body (dimension x es) = dimension (clamped_name x) (map clamped_tree es)
+clamped_body (next n) = next (clamped n)
+clamped_body (forget e) = forget (clamped_tree e)
+clamped_body (resume e) = resume (clamped_tree e)
+clamped_body (stash xs) = stash (map clamped_name xs)
+clamped_body (retrieve xs) = retrieve (map clamped_name xs)
+clamped_body (ignore xs) = ignore (map clamped_name xs)
+clamped_body (remember xs) = remember (map clamped_name xs)
+clamped_body (abstain_label n) = abstain_label (clamped n)
+clamped_body (abstain_kinds gs) = abstain_kinds gs
+clamped_body (reinstate_label n) = reinstate_label (clamped n)
+clamped_body (reinstate_kinds gs) = reinstate_kinds gs
+clamped_body give_up = give_up
+clamped_body (write_in ts) = write_in (map clamped_tree ts)
+clamped_body (read_out ts) = read_out (map clamped_tree ts)
 
 -- the faults of all members of a list
 abbrev pub faults_along : {A : Type 0} → (A → Faults) → List A → Faults
