@@ -1,5 +1,6 @@
 -- Negations and percentages.
 use Rattle.std.proofs.Common.{Bool, List, None, Option, Some, ap, arith, codes, false, inl, inr, length, refl, subst, sym, true, ℕ, ◌+◌, ◌≡◌, ◌≤◌, ◌⊎◌}
+use Rattle.ick_source.specs.declared.parsed.Scanned.{Scanned}
 use Rattle.ick_source.specs.Bytes.{byte}
 use Rattle.ick_source.specs.Qualifiers.{IsChance, IsNegated, IsNegatedAfter, IsNegation, IsPercentage, AreQualifiers, affirmed, already, certain, given, negated, not_yet}
 use Rattle.ick_source.proofs.ByteLemmas.{Finds, gap_exists, gap_unique, inside, le_or, number_in_along, number_in_inside, number_in_decided, number_in_unique, equal_decided, word_in_decided}
@@ -107,8 +108,8 @@ pub after_inside : {s : List ℕ} {f : Bool} {i j : ℕ} {d : Bool} → IsNegate
 after_inside already l = l
 after_inside (not_yet d) l = negated_inside d l
 
-pub negated_already : (s : List ℕ) (i : ℕ) (f : Bool) (x : Bool × ℕ) → f ≡ true → x ≡ (true, i) → IsNegatedAfter s f i x.1 x.0
+pub negated_already : (s : List ℕ) (i : ℕ) (f : Bool) (x : Scanned Bool ℕ) → f ≡ true → x ≡ record { value = true; to = i } → IsNegatedAfter s f i x.to x.value
 negated_already s i f x e h = rw (e, h) already
 
-pub negated_fresh : (s : List ℕ) (i : ℕ) (f : Bool) (x r : Bool × ℕ) → f ≡ false → x ≡ r → IsNegated s i r.1 r.0 → IsNegatedAfter s f i x.1 x.0
+pub negated_fresh : (s : List ℕ) (i : ℕ) (f : Bool) (x r : Scanned Bool ℕ) → f ≡ false → x ≡ r → IsNegated s i r.to r.value → IsNegatedAfter s f i x.to x.value
 negated_fresh s i f x r e h d = rw (e, h) (not_yet d)

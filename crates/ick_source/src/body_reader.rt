@@ -205,7 +205,11 @@ fn call_at(text: &[u8], from: Position) -> Option<Parsed<Body, Position>>
 }
 
 /// A verb and what follows it.
-fn action_at(alloc: Global, text: &[u8], from: Position) -> Result<Option<Parsed<Body, Position>>, AllocError>
+fn action_at(
+    alloc: Global,
+    text: &[u8],
+    from: Position,
+) -> Result<Option<Parsed<Body, Position>>, AllocError>
     ensures { IfOk result (Answers (formed Form.Action) body_tree_of text.now (left_at text.now from)) }
 {
     let Some(verb) = verb_at(text, from) else {

@@ -58,7 +58,11 @@ fn spot_at(
 }
 
 /// A mesh after its sigil.
-fn constant_at(alloc: Global, text: &[u8], past: Position) -> Result<Option<Measured<Expr>>, AllocError>
+fn constant_at(
+    alloc: Global,
+    text: &[u8],
+    past: Position,
+) -> Result<Option<Measured<Expr>>, AllocError>
     ensures { IfOk result (AnswersTree (IsNumbered mesh (left_at text.now past)) 1 text.now) }
 {
     let prefix = prefix_at(text, past);
