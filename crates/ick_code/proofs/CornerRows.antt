@@ -13,7 +13,7 @@ use Rattle.ick_source.specs.declared.body.Gerund.TheVariants.{Calculating, Nexti
 use Rattle.ick_source.specs.declared.body.Gerund.TheVariants.{Retrieving, Ignoring, Remembering, Abstaining}
 use Rattle.ick_source.specs.declared.body.Gerund.TheVariants.{Reinstating, WritingIn, ReadingOut}
 use Rattle.ick_source.specs.Tree.{Tree, mesh, scalar, unary, binary}
-use Rattle.ick_source.specs.Trees.{StatementTree}
+use Rattle.ick_source.specs.StatementTree.{StatementTree}
 use Rattle.ick_source.specs.BodyTree.{calculate, dimension, next, resume, stash, retrieve, ignore, remember}
 use Rattle.ick_source.specs.BodyTree.{abstain_label, abstain_kinds, reinstate_label, reinstate_kinds, give_up}
 use Rattle.ick_code.specs.meaning.State.{State, gave_up, faulted}

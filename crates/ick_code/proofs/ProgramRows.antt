@@ -11,7 +11,7 @@ use Rattle.ick_bits.specs.declared.faults.FaultKind.TheVariants.{Rupture, NoDigi
 use Rattle.ick_source.specs.declared.tree.UnaryOp.TheVariants.{And, Or, Xor}
 use Rattle.ick_source.specs.declared.tree.BinaryOp.TheVariants.{Mingle, Select}
 use Rattle.ick_source.specs.Tree.{mesh, scalar, unary, binary}
-use Rattle.ick_source.specs.Trees.{StatementTree}
+use Rattle.ick_source.specs.StatementTree.{StatementTree}
 use Rattle.ick_source.specs.BodyTree.{calculate, dimension, next, resume, stash, retrieve, ignore, remember, give_up}
 use Rattle.ick_code.specs.meaning.State.{gave_up, faulted}
 use Rattle.ick_code.specs.meaning.Move.{advance}

@@ -12,7 +12,7 @@ use Rattle.ick_bits.specs.declared.faults.FaultKind.TheVariants.{NoInput, NoDigi
 use Rattle.ick_source.specs.declared.tree.UnaryOp.TheVariants.{Or}
 use Rattle.ick_source.specs.declared.tree.BinaryOp.TheVariants.{Mingle, Select}
 use Rattle.ick_source.specs.Tree.{mesh, scalar, unary, binary}
-use Rattle.ick_source.specs.Trees.{StatementTree}
+use Rattle.ick_source.specs.StatementTree.{StatementTree}
 use Rattle.ick_source.specs.BodyTree.{give_up, calculate}
 use Rattle.ick_code.specs.meaning.State.{State, with_entry}
 use Rattle.ick_code.specs.meaning.Value.{value_of}

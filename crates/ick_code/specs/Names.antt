@@ -9,7 +9,7 @@ use Rattle.ick_source.specs.Tree.{Tree, mesh, scalar, element, unary, binary, Tr
 use Rattle.ick_source.specs.BodyTree.{ItemTree, single, whole, BodyTree, calculate, dimension, next, forget, resume}
 use Rattle.ick_source.specs.BodyTree.{stash, retrieve, ignore, remember, abstain_label, abstain_kinds, reinstate_label}
 use Rattle.ick_source.specs.BodyTree.{reinstate_kinds, give_up, write_in, read_out}
-use Rattle.ick_source.specs.Trees.{StatementTree}
+use Rattle.ick_source.specs.StatementTree.{StatementTree}
 use Rattle.ick_source.specs.NameKinds.{is_array}
 use Rattle.ick_code.specs.declared.op.SlotName.{SlotName}
 use Rattle.ick_code.specs.declared.op.SlotName.TheVariants.{Scalar, Array}

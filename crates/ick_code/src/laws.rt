@@ -2,7 +2,7 @@
 
 ghost use Rattle.std.specs.Prelude.{◌≡◌, ◌<◌, ◌↔◌, ◌++◌, ℕ, Bool, true, false, List, Some, length};
 ghost use Rattle.ick_source.specs.declared.kinds.Kind.TheVariants.{WriteIn, ReadOut};
-ghost use Rattle.ick_source.specs.Trees.{StatementTree};
+ghost use Rattle.ick_source.specs.StatementTree.{StatementTree};
 ghost use Rattle.ick_code.specs.meaning.State.{State, Ending};
 ghost use Rattle.ick_code.specs.meaning.Move.{ask, plain, choice, ended, advance, first_state};
 ghost use Rattle.ick_code.specs.Laws.{after_output, on_input, kind_at, IsWithin};

@@ -21,8 +21,8 @@ kind_of_body (abstain_kinds gs) = Abstain
 kind_of_body (reinstate_label n) = Reinstate
 kind_of_body (reinstate_kinds gs) = Reinstate
 kind_of_body give_up = GiveUp
-kind_of_body (write_in xs) = WriteIn
-kind_of_body (read_out xs) = ReadOut
+kind_of_body (write_in ts) = WriteIn
+kind_of_body (read_out ts) = ReadOut
 
 abbrev pub kind_of : Option BodyTree → Kind
 kind_of None = Unrecognised

@@ -5,30 +5,19 @@ ghost use Rattle.ick_source.specs.Gerund.{gerund_word, second_word};
 
 use crate::tree::{Element, Expr, Name};
 
-/// What a calculation stores into: a variable or an element of an array (Revised Manual, 4.4.1).
+/// What a value may be stored in: a variable or an element of an array.
 #[derive(Debug, PartialEq, Eq, Drop)]
 pub enum Target {
     Scalar(Name),
     Element(Element),
 }
 
-/// What WRITE IN stores into: a variable, an element of an array (Revised Manual, 4.4.12), or a
-/// whole array, whose name is a tail's (5.2).
-#[derive(Debug, PartialEq, Eq, Drop)]
-pub enum Place {
-    Scalar(Name),
-    Element(Element),
-    Array(Name),
-}
-
-/// What READ OUT prints: a variable, an element of an array, a mesh (Revised Manual, 4.4.13), or a
-/// whole array, whose name is a tail's (5.2).
+/// What READ OUT prints: a variable, an element of an array or a mesh (Revised Manual, 4.4.13).
 #[derive(Debug, PartialEq, Eq, Drop)]
 pub enum Item {
     Scalar(Name),
     Element(Element),
     Mesh(u16),
-    Array(Name),
 }
 
 /// The statements that an ABSTAIN or a REINSTATE by gerunds is for (Revised Manual, 4.4.9).
@@ -131,9 +120,9 @@ pub enum Body {
     ReinstateKinds(Vec<Gerund>),
     /// The run ends (4.4.11).
     GiveUp,
-    /// Values are read (4.4.12, 5.2).
-    WriteIn(Vec<Place>),
-    /// Values are printed (4.4.13, 5.2).
+    /// Values are read (4.4.12).
+    WriteIn(Vec<Target>),
+    /// Values are printed (4.4.13).
     ReadOut(Vec<Item>),
     /// A body of no other form. The statement is kept, and is a fault only when it is done (4.5).
     Unrecognised,

@@ -2,7 +2,7 @@
 
 ghost use Rattle.ick_source.specs.Laws.{OneBody, OneCut, OneReading, OneRefusal};
 
-/// From one place, under one mark, at most one expression stands.
+/// From one position, under one delimiter, at most one expression stands.
 pub fn one_reading()
     ensures { OneReading }
 {}
@@ -18,7 +18,7 @@ pub fn one_cut()
 {}
 
 /// Each text compiles to one list of statements at most, is refused with one kind of fault at one
-/// statement at most, and never both; one that is not too long compiles or is refused.
+/// statement at most, and never both.
 pub fn one_refusal()
     ensures { OneRefusal }
 {}

@@ -2,7 +2,7 @@
 
 ghost use Rattle.std.specs.Prelude.{◌≡◌, ◌+◌, ◌<◌, ◌≤◌, ◌++◌, length, take, codes, if◌then◌else◌};
 ghost use Rattle.std.specs.Prelude.{OnOk, OnErr, vec_len, vec_capacity};
-ghost use Rattle.ick_source.specs.Trees.{statement_tree_of, statement_trees, AreNumbered};
+ghost use Rattle.ick_source.specs.StatementTree.{statement_tree_of, statement_trees, AreNumbered};
 ghost use Rattle.ick_source.specs.Programs.{trees_of};
 ghost use Rattle.ick_source.specs.Listing.{label_text, line_of, listing};
 
@@ -21,7 +21,6 @@ pub fn append_listing(out: &mut Vec<u8>, program: &Program<'_>) -> Result<(), No
     ensures err { OnErr result (out.new.items ≡ out.old.items) }
     ensures full { let text = listing (trees_of program.now) in
         OnErr result (vec_capacity out.old < vec_len out.old + length text) }
-    ensures capacity { vec_capacity out.old ≤ vec_capacity out.new }
 {
     let start = out.len();
     let appended = push_lines(out, program.statements());
@@ -39,7 +38,6 @@ fn push_lines(out: &mut Vec<u8>, statements: &[Statement<'_>]) -> Result<(), NoM
     ensures err { OnErr result (take (vec_len out.old) out.new.items ≡ out.old.items) }
     ensures full { let text = listing (statement_trees statements.now) in
         OnErr result (vec_capacity out.old < vec_len out.old + length text) }
-    ensures capacity { vec_capacity out.old ≤ vec_capacity out.new }
 {
     for statement in statements {
         push_line(out, statement)?;

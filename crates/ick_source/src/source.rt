@@ -3,22 +3,23 @@
 ghost use Rattle.std.specs.Prelude.{◌≡◌, ℕ, ◌+◌, ◌-◌, ◌*◌, ◌^◌, ◌<◌, ◌≤◌, List, [], ◌∷◌, ◌++◌, ◌↔◌};
 ghost use Rattle.std.specs.Prelude.{length, IfOk, IfErr, OnOk, IsErrOf};
 ghost use Rattle.ick_bits.specs.declared.faults.FaultKind.{FaultKind};
-ghost use Rattle.ick_source.specs.Trees.{StatementTree};
-ghost use Rattle.ick_source.specs.Cut.{Cut};
-ghost use Rattle.ick_source.specs.Refusals.{Compiles, Refused, longest};
+ghost use Rattle.ick_source.specs.StatementTree.{StatementTree};
+ghost use Rattle.ick_source.specs.Cut.{IsCut};
+ghost use Rattle.ick_source.specs.Refusals.{Compiles, IsRefused, longest};
 ghost use Rattle.ick_source.specs.Programs.{trees_of};
-ghost use Rattle.ick_source.specs.ReadRefusals.{Refuses, RefusesFitting};
-ghost use Rattle.ick_source.specs.ReadStatements.{ReadsStatement};
-ghost use Rattle.ick_source.specs.ReadSources.{HasRead, ReadSoFar, ReadWhole};
+ghost use Rattle.ick_source.specs.RefusalAnswers.{Refuses, RefusesFitting};
+ghost use Rattle.ick_source.specs.StatementAnswers.{ReadsStatement};
+ghost use Rattle.ick_source.specs.SourceAnswers.{HasRead, HasReadUpTo, HasReadAll};
 
 use crate::body::Body;
 use crate::boundaries::next_boundary;
 use crate::bytes::after_white;
 use crate::faults::Faults;
-use crate::pieces::{Candidate, statement_at, trimmed};
+use crate::parsed::Scanned;
 use crate::programs::Program;
 use crate::ranges::OutOfRange;
 use crate::refusals::Refusal;
+use crate::statement_reader::{statement_at, trimmed};
 use crate::statements::Statement;
 use std::alloc::{AllocError, Global};
 
@@ -45,35 +46,38 @@ impl<'a> Reader<'a> {
         }
     }
 
-    fn add(&mut self, candidate: Candidate<'a>) -> Result<(), AllocError>
+    fn add(&mut self, statement: Statement<'a>, faults: Faults) -> Result<(), AllocError>
         requires room { self.old.count < 2 ^ 32 - 1 }
         requires polite { self.old.polite ≤ self.old.count }
-        requires number { candidate.statement.number ≡ self.old.count + 1 }
+        requires number { statement.number ≡ self.old.count + 1 }
         ensures added { OnOk result ((trees : List StatementTree) (tree : StatementTree) →
-            HasRead self.old trees → ReadsStatement candidate.entry tree →
+            HasRead self.old trees → ReadsStatement statement.entry faults tree →
             HasRead self.new (trees ++ tree ∷ [])) }
         ensures count { OnOk result (self.new.count ≡ self.old.count + 1) }
     {
-        let polite = candidate.statement.polite;
-        self.statements.push(candidate.statement)?;
+        let polite = statement.polite;
+        self.statements.push(statement)?;
         self.count += 1;
         self.polite += u32::from(polite);
-        self.out_of_range = self.out_of_range.and(self.count, candidate.faults);
+        self.out_of_range = self.out_of_range.noting(self.count, faults);
         Ok(())
     }
 }
 
-/// A reader that has read the bytes before the first start, and the place of that start or of the
+/// A reader that has read the bytes before the first start, and the position of that start or of the
 /// end of the text.
-fn front_of(alloc: Global, text: &[u8]) -> Result<(Reader<'_>, usize), AllocError>
-    ensures read { IfOk result (λ r. ReadSoFar text.now r.1 r.0) }
-    ensures count { IfOk result (λ r. 2 * r.0.count ≤ r.1 + 1) }
+fn front_of(alloc: Global, text: &[u8]) -> Result<Scanned<Reader<'_>, usize>, AllocError>
+    ensures read { IfOk result (λ r. HasReadUpTo text.now r.to r.value) }
+    ensures count { IfOk result (λ r. 2 * r.value.count ≤ r.to + 1) }
 {
     let mut reader = Reader::new(alloc);
     let begin = after_white(text, 0);
     let start = next_boundary(text, 0);
     if begin >= start {
-        return Ok((reader, start));
+        return Ok(Scanned {
+            value: reader,
+            to: start,
+        });
     }
     let statement = Statement {
         label: None,
@@ -84,23 +88,25 @@ fn front_of(alloc: Global, text: &[u8]) -> Result<(Reader<'_>, usize), AllocErro
         text: trimmed(text, begin, start),
         number: 1,
     };
-    reader.add(Candidate {
-        statement,
-        faults: Faults::NONE,
-    })?;
-    Ok((reader, start))
+    reader.add(statement, Faults::NONE)?;
+    Ok(Scanned {
+        value: reader,
+        to: start,
+    })
 }
 
 /// A reader that has read the whole text.
 fn whole_of(alloc: Global, text: &[u8]) -> Result<Reader<'_>, AllocError>
     requires { length text.now ≤ longest }
-    ensures read { IfOk result (ReadWhole text.now) }
+    ensures read { IfOk result (HasReadAll text.now) }
     ensures count { IfOk result (λ r. 2 * r.count ≤ length text.now + 1) }
 {
-    let (mut reader, mut at) = front_of(alloc, text)?;
-    while let Some((candidate, end)) = statement_at(alloc, text, at, reader.count + 1)? {
-        reader.add(candidate)?;
-        at = end;
+    let front = front_of(alloc, text)?;
+    let mut reader = front.value;
+    let mut at = front.to;
+    while let Some(statement) = statement_at(alloc, text, at, reader.count + 1)? {
+        reader.add(statement.value, statement.faults)?;
+        at = statement.to;
     }
     Ok(reader)
 }
@@ -108,7 +114,7 @@ fn whole_of(alloc: Global, text: &[u8]) -> Result<Reader<'_>, AllocError>
 /// The program of a source that is not too long, unless a fault stands in it.
 fn program_of(alloc: Global, text: &[u8]) -> Result<Program<'_>, Refusal>
     requires { length text.now ≤ longest }
-    ensures ok { IfOk result (λ p. Cut text.now (trees_of p)) }
+    ensures ok { IfOk result (λ p. IsCut text.now (trees_of p)) }
     ensures err { IfErr result (RefusesFitting text.now) }
 {
     let Reader {
@@ -143,7 +149,7 @@ pub fn read_source<'a>(alloc: Global, text: &'a [u8]) -> Result<Program<'a>, Ref
     ensures only { IfOk result (λ p.
         (trees : List StatementTree) → Compiles text.now trees → trees ≡ trees_of p) }
     ensures not_refused { IfOk result (λ p.
-        (kind : FaultKind) (n : ℕ) → Refused text.now kind n → ⊥) }
+        (kind : FaultKind) (n : ℕ) → IsRefused text.now kind n → ⊥) }
 
     // A fault is the only one of the text, and is found at the first statement that has it.
     ensures refused { IfErr result (λ e. Refuses text.now e) }

@@ -1,24 +1,29 @@
 //! Worked bodies, shown as text: `(op a b)` for operators, `[name subscripts]` for an element, then the byte where the
 //! body ends and `M`, `N`, `L` where a mesh, a name or a label is out of range. `-` is no body.
 
-use crate::draft::body_at;
+use crate::body_bytes::body_in;
 use crate::*;
 use std::alloc::{AllocError, Global};
 use std::test::Fail;
 
-fn push_number(alloc: Global, out: &mut String, mark: &str, number: u16) -> Result<(), AllocError> {
-    let shown = format!(in alloc; "{mark}{number}")?;
+fn push_number(
+    alloc: Global,
+    out: &mut String,
+    sigil: &str,
+    number: u16,
+) -> Result<(), AllocError> {
+    let shown = format!(in alloc; "{sigil}{number}")?;
     out.push_str(shown.as_str())
 }
 
 fn push_name(alloc: Global, out: &mut String, name: &Name) -> Result<(), AllocError> {
-    let mark = match name.kind {
+    let sigil = match name.kind {
         NameKind::Onespot => ".",
         NameKind::Twospot => ":",
         NameKind::Tail => ",",
         NameKind::Hybrid => ";",
     };
-    push_number(alloc, out, mark, name.number)
+    push_number(alloc, out, sigil, name.number)
 }
 
 fn push_element(alloc: Global, out: &mut String, element: &Element) -> Result<(), AllocError> {
@@ -57,22 +62,22 @@ fn shown_expression(alloc: Global, expression: &Expr) -> Result<String, AllocErr
             Ok(shown)
         }
         Expr::Unary(op, inner) => {
-            let mark = match op {
+            let sign = match op {
                 UnaryOp::And => '&',
                 UnaryOp::Or => 'V',
                 UnaryOp::Xor => '?',
             };
             let inner = shown_expression(alloc, inner)?;
-            format!(in alloc; "({mark} {inner})")
+            format!(in alloc; "({sign} {inner})")
         }
         Expr::Binary(op, left, right) => {
-            let mark = match op {
+            let sign = match op {
                 BinaryOp::Mingle => '$',
                 BinaryOp::Select => '~',
             };
             let left = shown_expression(alloc, left)?;
             let right = shown_expression(alloc, right)?;
-            format!(in alloc; "({mark} {left} {right})")
+            format!(in alloc; "({sign} {left} {right})")
         }
     }
 }
@@ -91,18 +96,10 @@ fn push_target(alloc: Global, out: &mut String, target: &Target) -> Result<(), A
     }
 }
 
-fn push_place(alloc: Global, out: &mut String, place: &Place) -> Result<(), AllocError> {
-    out.push_str(" ")?;
-    match place {
-        Place::Scalar(name) | Place::Array(name) => push_name(alloc, out, name),
-        Place::Element(element) => push_element(alloc, out, element),
-    }
-}
-
 fn push_item(alloc: Global, out: &mut String, item: &Item) -> Result<(), AllocError> {
     out.push_str(" ")?;
     match item {
-        Item::Scalar(name) | Item::Array(name) => push_name(alloc, out, name),
+        Item::Scalar(name) => push_name(alloc, out, name),
         Item::Element(element) => push_element(alloc, out, element),
         Item::Mesh(number) => push_number(alloc, out, "#", *number),
     }
@@ -172,9 +169,9 @@ fn push_parts(alloc: Global, out: &mut String, body: &Body) -> Result<(), AllocE
         Body::AbstainKinds(gerunds) | Body::ReinstateKinds(gerunds) => {
             push_gerunds(alloc, out, gerunds.as_slice())
         }
-        Body::WriteIn(places) => {
-            for place in places {
-                push_place(alloc, out, place)?;
+        Body::WriteIn(targets) => {
+            for target in targets {
+                push_target(alloc, out, target)?;
             }
             Ok(())
         }
@@ -196,20 +193,20 @@ fn shown_body(alloc: Global, body: &Body) -> Result<String, AllocError> {
 }
 
 fn shown_at(alloc: Global, text: &[u8]) -> Result<String, AllocError> {
-    let Some(draft) = body_at(alloc, text, 0)? else {
+    let Some(found) = body_in(alloc, text, 0)? else {
         return String::from_str(alloc, "-");
     };
-    let mut shown = shown_body(alloc, &draft.body)?;
-    let end = draft.end;
-    let place = format!(in alloc; " {end}")?;
-    shown.push_str(place.as_str())?;
-    if draft.faults.mesh {
+    let mut shown = shown_body(alloc, &found.value)?;
+    let end = found.to;
+    let position = format!(in alloc; " {end}")?;
+    shown.push_str(position.as_str())?;
+    if found.faults.mesh {
         shown.push_str(" M")?;
     }
-    if draft.faults.name {
+    if found.faults.name {
         shown.push_str(" N")?;
     }
-    if draft.faults.label {
+    if found.faults.label {
         shown.push_str(" L")?;
     }
     Ok(shown)
@@ -264,7 +261,7 @@ fn expressions_are_read(rt: HostRuntime) -> Result<(), Fail> {
 
 #[test]
 fn bodies_are_read(rt: HostRuntime) -> Result<(), Fail> {
-    let rows: [(&[u8], &str); 44] = [
+    let rows: [(&[u8], &str); 32] = [
         (b",1SUB'#2''#3' <- #7", "CALCULATE [,1 #2 #3] #7 19"),
         (b",1 <- #2 BY #3", "DIMENSION ,1 #2 #3 14"),
         (b";4<-.1BY'#2~.3'BY#4 B", "DIMENSION ;4 .1 (~ #2 .3) #4 19"),
@@ -296,20 +293,8 @@ fn bodies_are_read(rt: HostRuntime) -> Result<(), Fail> {
         (b"WRITE IN #1", "-"),
         (b"READ OUT ,1SUB#2#3+#4+.5", "READ OUT [,1 #2 #3] #4 .5 24"),
         (b"READOUT #70000", "READ OUT #65535 14 M"),
+        (b"READ OUT ,1", "-"),
         (b"READ OUT #&1", "-"),
-        (b"READ OUT ,1", "READ OUT ,1 11"),
-        (b"WRITE IN .1+,1", "WRITE IN .1 ,1 14"),
-        (b"READ OUT ,1+,1SUB#1+#3", "READ OUT ,1 [,1 #1] #3 22"),
-        (b"WRITE IN ,1SUB#1 + , 2", "WRITE IN [,1 #1] ,2 22"),
-        (b"READ OUT ,0", "READ OUT ,0 11 N"),
-        (b"WRITE IN ,70000", "WRITE IN ,65535 15 N"),
-        (b"READ OUT ,1~#1", "READ OUT ,1 11"),
-        (b"READ OUT ;1", "-"),
-        (b"WRITE IN ;1", "-"),
-        (b"READ OUT ,1 SUB", "-"),
-        (b"WRITE IN ,1SUB+.1", "-"),
-        (b"READ OUT ,", "-"),
-        (b",1 <- ,2", "-"),
         (b"GIVE", "-"),
         (b"", "-"),
     ];
@@ -402,9 +387,9 @@ fn the_height_is_at_most_256(rt: HostRuntime) -> Result<(), Fail> {
     let alloc = rt.alloc();
     let shown = shown_at(alloc, grouped(alloc, 255)?.as_slice())?;
     assert_eq!(rt; shown.as_str(), "CALCULATE .1 #1 518");
-    assert!(rt; body_at(alloc, grouped(alloc, 256)?.as_slice(), 0)?.is_none());
-    assert!(rt; body_at(alloc, chained(alloc, 256)?.as_slice(), 0)?.is_some());
-    assert!(rt; body_at(alloc, chained(alloc, 257)?.as_slice(), 0)?.is_none());
+    assert!(rt; body_in(alloc, grouped(alloc, 256)?.as_slice(), 0)?.is_none());
+    assert!(rt; body_in(alloc, chained(alloc, 256)?.as_slice(), 0)?.is_some());
+    assert!(rt; body_in(alloc, chained(alloc, 257)?.as_slice(), 0)?.is_none());
     Ok(())
 }
 
@@ -418,7 +403,7 @@ fn a_body_is_read_at_a_byte(rt: HostRuntime) -> Result<(), Fail> {
         (10, None),
         (11, None),
     ] {
-        let end = body_at(rt.alloc(), text, at)?.map(|draft| draft.end);
+        let end = body_in(rt.alloc(), text, at)?.map(|found| found.to);
         assert_eq!(rt; end, wanted, "at {at}");
     }
     Ok(())

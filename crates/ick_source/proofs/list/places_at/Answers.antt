@@ -1,8 +1,0 @@
-use Rattle.ick_source.proofs.PartOnce.{place_unique, place-shorter}
-use Rattle.ick_source.proofs.list.places_at.Goals as goal
-
-pub list_at-requires-clause-once : goal.list_at-requires-clause-once
-list_at-requires-clause-once c = place_unique
-
-pub list_at-requires-clause-symbols : goal.list_at-requires-clause-symbols
-list_at-requires-clause-symbols c = place-shorter

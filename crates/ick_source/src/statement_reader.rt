@@ -1,0 +1,126 @@
+//! One statement of a text.
+
+ghost use Rattle.std.specs.Prelude.{◌≡◌, ℕ, ◌<◌, ◌≤◌, length, Option, Some, IfOk, MatchOption};
+ghost use Rattle.ick_source.specs.Bytes.{byte, IsWhite};
+ghost use Rattle.ick_source.specs.Boundaries.{IsStart};
+ghost use Rattle.ick_source.specs.StatementTree.{StatementTree};
+ghost use Rattle.ick_source.specs.Statements.{IsTrimmed, IsStatement};
+ghost use Rattle.ick_source.specs.HeadAnswers.{ReadsLabel};
+ghost use Rattle.ick_source.specs.StatementAnswers.{AnswersRecognised, EndsAt, ClampsLabel, ReadsStatement};
+
+use crate::body::Body;
+use crate::body_bytes::body_in;
+use crate::boundaries::{is_boundary, next_boundary, opening_at};
+use crate::bytes::{after_white, byte_at};
+use crate::faults::{Faults, clamped_number};
+use crate::parsed::Parsed;
+use crate::qualifiers::qualifiers_at;
+use crate::statements::Statement;
+use ick_bits::is_white;
+use std::alloc::{AllocError, Global};
+
+/// The label of a statement, clamped, and whether it is out of range.
+#[derive(Clone, Copy)]
+struct ClampedLabel {
+    label: Option<u16>,
+    faults: Faults,
+}
+
+/// The label that was read, clamped.
+fn clamped_label(label: Option<u32>) -> ClampedLabel
+    ensures { (read : Option ℕ) → ReadsLabel label read → ClampsLabel result read }
+{
+    match label {
+        Some(number) => ClampedLabel {
+            label: Some(clamped_number(number)),
+            faults: Faults::of_label(number),
+        },
+        None => ClampedLabel {
+            label: None,
+            faults: Faults::NONE,
+        },
+    }
+}
+
+/// The text from a position up to another, without white bytes at its end.
+pub fn trimmed(text: &[u8], from: usize, to: usize) -> &[u8]
+    requires some { from < to }
+    requires within { to ≤ length text.now }
+    requires solid { IsWhite (byte text.now from) → ⊥ }
+    ensures { IsTrimmed text.now from to result.now }
+{
+    let mut last = to - 1;
+    while is_white(byte_at(text, last)) {
+        last -= 1;
+    }
+    &text[from..last + 1]
+}
+
+/// The body here, where it goes up to a boundary, with that boundary as its end.
+fn recognised_at(
+    alloc: Global,
+    text: &[u8],
+    at: usize,
+) -> Result<Option<Parsed<Body, usize>>, AllocError>
+    requires { at ≤ length text.now }
+    ensures { IfOk result (AnswersRecognised text.now at) }
+{
+    let Some(mut body) = body_in(alloc, text, at)? else {
+        return Ok(None);
+    };
+    body.to = after_white(text, body.to);
+    if !is_boundary(text, body.to) {
+        return Ok(None);
+    }
+    Ok(Some(body))
+}
+
+/// What stands after a head, up to the end of its statement.
+fn ending_at(alloc: Global, text: &[u8], head: usize) -> Result<Parsed<Body, usize>, AllocError>
+    requires { head ≤ length text.now }
+    ensures { IfOk result (EndsAt text.now head) }
+{
+    let begin = after_white(text, head);
+    match recognised_at(alloc, text, begin)? {
+        Some(body) => Ok(body),
+        None => Ok(Parsed {
+            value: Body::Unrecognised,
+            to: next_boundary(text, head),
+            faults: Faults::NONE,
+        }),
+    }
+}
+
+/// The statement that starts here, and the position after it.
+pub fn statement_at<'a>(
+    alloc: Global,
+    text: &'a [u8],
+    at: usize,
+    number: u32,
+) -> Result<Option<Parsed<Statement<'a>, usize>>, AllocError>
+    requires { at ≤ length text.now }
+    ensures { IfOk result (λ r. MatchOption r (IsStart text.now at → ⊥) (λ x.
+        ((t : StatementTree) × IsStatement text.now at x.to t × ReadsStatement x.value x.faults t)
+        × (x.value.number ≡ number))) }
+{
+    let Some(start) = opening_at(text, at) else {
+        return Ok(None);
+    };
+    let qualifiers = qualifiers_at(text, start.to);
+    let body = ending_at(alloc, text, qualifiers.to)?;
+    let label = clamped_label(start.value.label);
+    let statement = Statement {
+        label: label.label,
+        polite: start.value.polite,
+        abstained: qualifiers.value.abstained,
+        chance: qualifiers.value.chance,
+        body: body.value,
+        text: trimmed(text, at, body.to),
+        number,
+    };
+    Ok(Some(Parsed {
+        value: statement,
+        to: body.to,
+        faults: label.faults.union(body.faults),
+    }))
+}
