@@ -1,5 +1,5 @@
 -- What a state asks for.
-use Rattle.std.proofs.Common.{◌≡◌, ℕ, ◌<◌, ◌&&◌, ◌==◌, Bool, true, false, if◌then◌else◌, List, refl, ap, ◌↔◌, arith}
+use Rattle.std.proofs.Common.{◌≡◌, ◌∙◌, ℕ, ◌<◌, ◌&&◌, ◌==◌, Bool, true, false, if◌then◌else◌, List, refl, ap, ◌↔◌, arith}
 use Rattle.std.proofs.lemmas.Bool.Decides.{nat_tests}
 use Rattle.std.specs.Prelude.{nat_lt, Option, Some, None}
 use Rattle.ick_source.specs.StatementTree.{StatementTree}
@@ -7,7 +7,6 @@ use Rattle.ick_code.specs.meaning.State.{State, Ending, statement_at}
 use Rattle.ick_code.specs.meaning.Do.{do_statement}
 use Rattle.ick_code.specs.meaning.Move.{plain, choice, ended, ask, ask_at, ask_of, is_uncertain, is_done, pass_over}
 use Rattle.ick_code.specs.meaning.Move.{meet, advance}
-use Rattle.ick_code.specs.Laws.{after_output, on_input}
 
 -- a choice is asked at a chance strictly between none and all
 same_chance : (a b : ℕ) → choice a ≡ choice b → a ≡ b
@@ -38,30 +37,31 @@ pub chance_between : (program : List StatementTree) (s : State) (n : ℕ) → as
 unfolding ask
 chance_between program s n h = of_end s.end program s n h
 
--- neither output nor input bears on what is asked
-output_at : (o : List ℕ) (found : Option StatementTree) (s : State) → ask_at found (after_output o s) ≡ ask_at found s
-output_at o None s = refl
-output_at o (Some statement) s = refl
+-- what is asked rests on the place, the abstained statements and the end alone
+found_same : (found : Option StatementTree) (s t : State) →
+    t.abstained t.place ≡ s.abstained s.place →
+    ask_at found t ≡ ask_at found s
+found_same None s t flag = refl
+found_same (Some statement) s t flag =
+    ap (λ b. if is_uncertain statement b then choice statement.chance else plain) flag
 
-output_of : (o : List ℕ) (end : Option Ending) (program : List StatementTree) (s : State) → ask_of end program (after_output o s) ≡ ask_of end program s
-output_of o (Some e) program s = refl
-output_of o None program s = output_at o (statement_at program s.place) s
+going_same : (end : Option Ending) (program : List StatementTree) (s t : State) →
+    t.place ≡ s.place →
+    t.abstained ≡ s.abstained →
+    ask_of end program t ≡ ask_of end program s
+going_same (Some end) program s t place abstained = refl
+going_same None program s t place abstained =
+    ap (λ n. ask_at (statement_at program n) t) place
+    ∙ found_same (statement_at program s.place) s t (ap (λ flags. flags t.place) abstained ∙ ap s.abstained place)
 
-pub ask_output : (program : List StatementTree) (s : State) (o : List ℕ) → ask program (after_output o s) ≡ ask program s
+pub ask_same : (program : List StatementTree) (s t : State) →
+    t.place ≡ s.place →
+    t.abstained ≡ s.abstained →
+    t.end ≡ s.end →
+    ask program t ≡ ask program s
 unfolding ask
-ask_output program s o = output_of o s.end program s
-
-input_at : (input : List ℕ) (found : Option StatementTree) (s : State) → ask_at found (on_input input s) ≡ ask_at found s
-input_at input None s = refl
-input_at input (Some statement) s = refl
-
-input_of : (input : List ℕ) (end : Option Ending) (program : List StatementTree) (s : State) → ask_of end program (on_input input s) ≡ ask_of end program s
-input_of input (Some e) program s = refl
-input_of input None program s = input_at input (statement_at program s.place) s
-
-pub ask_input : (program : List StatementTree) (s : State) (input : List ℕ) → ask program (on_input input s) ≡ ask program s
-unfolding ask
-ask_input program s input = input_of input s.end program s
+ask_same program s t place abstained end =
+    ap (λ e. ask_of e program t) end ∙ going_same s.end program s t place abstained
 
 -- where nothing is asked both choices do the same
 either_same : (b c : Bool) (n : ℕ) → (if b then choice n else plain) ≡ plain → (if b then true else c) ≡ (if b then false else c)

@@ -9,6 +9,7 @@ use Rattle.ick_bits.specs.declared.faults.FaultKind.TheVariants.{Hyperspace, Too
 use Rattle.ick_bits.specs.declared.faults.FaultKind.TheVariants.{Rupture, NoDigit, SixtyFour, OffTheEdge, Unrecognised}
 use Rattle.ick_source.specs.declared.tree.UnaryOp.TheVariants.{Or, Xor}
 use Rattle.ick_source.specs.declared.tree.BinaryOp.TheVariants.{Mingle}
+use Rattle.ick_source.specs.declared.body.Gerund.{Gerund}
 use Rattle.ick_source.specs.declared.body.Gerund.TheVariants.{Calculating, Nexting, Forgetting, Resuming, Stashing}
 use Rattle.ick_source.specs.declared.body.Gerund.TheVariants.{Retrieving, Ignoring, Remembering, Abstaining}
 use Rattle.ick_source.specs.declared.body.Gerund.TheVariants.{Reinstating, WritingIn, ReadingOut}
@@ -27,6 +28,9 @@ use Rattle.ick_code.proofs.RowWords.{after, seen}
 great : Tree
 great = binary Mingle (mesh 65535) (mesh 1)
 
+too_great : Tree
+too_great = binary Mingle great great
+
 both_operands_first : List StatementTree
 both_operands_first = plainly (calculate (scalar one) (binary Mingle great (at tail (mesh 9 ∷ [])))) ∷ []
 
@@ -37,30 +41,30 @@ unfolding advance both_operands_first great mingled with_bits sum_below
 element_fault_before_mingle_fault = refl
 
 mingle_fault_of_the_left_operand :
-    seen (plainly (calculate (scalar one) (binary Mingle (binary Mingle great great) (at tail (mesh 9 ∷ [])))) ∷ []) [] 1
+    seen (plainly (calculate (scalar one) (binary Mingle too_great (at tail (mesh 9 ∷ [])))) ∷ []) [] 1
     ≡ record { output = []; input = []; end = Some (faulted SixtyFour 1 []) }
-unfolding advance great mingled with_bits sum_below
+unfolding advance too_great great mingled with_bits sum_below
 mingle_fault_of_the_left_operand = refl
 
 -- the right side, then the subscripts, then E241, then E275
 right_side_before_subscripts : List StatementTree
 right_side_before_subscripts =
-    plainly (calculate (at tail (binary Mingle great great ∷ [])) (at other_tail (mesh 9 ∷ [])))
+    plainly (calculate (at tail (too_great ∷ [])) (at other_tail (mesh 9 ∷ [])))
     ∷ []
 
 right_side_fault_first :
     seen right_side_before_subscripts [] 1
     ≡ record { output = []; input = []; end = Some (faulted Hyperspace 1 []) }
-unfolding advance right_side_before_subscripts great mingled with_bits sum_below
+unfolding advance right_side_before_subscripts too_great great mingled with_bits sum_below
 right_side_fault_first = refl
 
 subscripts_before_place : List StatementTree
-subscripts_before_place = plainly (calculate (at tail (mesh 9 ∷ binary Mingle great great ∷ [])) great) ∷ []
+subscripts_before_place = plainly (calculate (at tail (mesh 9 ∷ too_great ∷ [])) great) ∷ []
 
 subscript_fault_before_the_element :
     seen subscripts_before_place [] 1
     ≡ record { output = []; input = []; end = Some (faulted SixtyFour 1 []) }
-unfolding advance subscripts_before_place great mingled with_bits sum_below
+unfolding advance subscripts_before_place too_great great mingled with_bits sum_below
 subscript_fault_before_the_element = refl
 
 place_before_size : ℕ → List StatementTree
@@ -113,16 +117,10 @@ ignored_zero_dimension_is_a_fault = refl
 ignored_line : List StatementTree
 ignored_line =
     plainly (ignore (one ∷ []))
-    ∷ plainly (reads (one_target ∷ two_target ∷ []))
-    ∷ plainly (prints (one_target ∷ two_target ∷ []))
+    ∷ plainly (reads (scalar one ∷ scalar two ∷ []))
+    ∷ plainly (prints (scalar one ∷ scalar two ∷ []))
     ∷ plainly give_up
     ∷ []
-  where
-    one_target : Tree
-    one_target = scalar one
-
-    two_target : Tree
-    two_target = scalar two
 
 ignored_name_takes_its_line :
     seen ignored_line (codes "ONE\nTWO\nSIX") 4
@@ -130,17 +128,19 @@ ignored_name_takes_its_line :
 unfolding advance ignored_line line_answer first_unknown beginnings begins_word word_at digit_of number_of_words
 ignored_name_takes_its_line = refl
 
--- a list of WRITE IN that is partly done: the first line is stored, the next is not taken (E241), and none is given back
+-- a list of WRITE IN that is partly done: the first line is stored, the next is not taken, and none is given back
 partly : List StatementTree
 partly = plainly (reads (scalar one ∷ at tail (scalar one ∷ []) ∷ [])) ∷ []
 
-lines_before_a_fault_stay_read : let s = after partly (true ∷ []) (first_state partly (codes "TWO\nSIX\n")) in (s.scalars one ≡ 2) × (s.input ≡ codes "SIX\n") × (s.end ≡ Some (faulted Hyperspace 1 []))
+lines_before_a_fault_stay_read :
+    let s = after partly (true ∷ []) (first_state partly (codes "TWO\nSIX\n")) in
+    (s.scalars one ≡ 2) × (s.input ≡ codes "SIX\n") × (s.end ≡ Some (faulted Hyperspace 1 []))
 unfolding advance partly line_answer first_unknown beginnings begins_word word_at digit_of number_of_words
 lines_before_a_fault_stay_read = (refl, refl, refl)
 
 -- the subscript of the second item is what the first item got
-subscript_from_the_line : List StatementTree
-subscript_from_the_line =
+line_subscript : List StatementTree
+line_subscript =
     plainly (dimension tail (mesh 2 ∷ []))
     ∷ plainly (reads (scalar one ∷ at tail (scalar one ∷ []) ∷ []))
     ∷ plainly (prints (at tail (mesh 2 ∷ []) ∷ []))
@@ -148,14 +148,15 @@ subscript_from_the_line =
     ∷ []
 
 subscript_is_what_the_line_before_gave :
-    seen subscript_from_the_line (codes "TWO\nSIX\n") 4
+    seen line_subscript (codes "TWO\nSIX\n") 4
     ≡ record { output = printed (numeral_of 6); input = []; end = Some gave_up }
-unfolding advance subscript_from_the_line line_answer first_unknown beginnings begins_word word_at digit_of number_of_words
+unfolding advance line_subscript line_answer first_unknown beginnings begins_word word_at digit_of number_of_words
 subscript_is_what_the_line_before_gave = refl
 
--- an unknown word after a number that is too large, with other_tail white bytes than a space; the line stays taken
+-- an unknown word after a number that is too large, with other white bytes than a space; the line stays taken
 unknown_word_before_too_large :
-    seen (plainly (reads (scalar one ∷ [])) ∷ []) (codes "\tFOUR\rTWO NINE FOUR NINE SIX SEVEN TWO NINE SIX\tsixty \nONE") 1
+    seen (plainly (reads (scalar one ∷ [])) ∷ [])
+    (codes "\tFOUR\rTWO NINE FOUR NINE SIX SEVEN TWO NINE SIX\tsixty \nONE") 1
     ≡ record { output = []; input = codes "ONE"; end = Some (faulted NoDigit 1 (codes "sixty")) }
 unfolding advance line_answer first_unknown beginnings begins_word word_at digit_of number_of_words
 unknown_word_before_too_large = refl
@@ -218,9 +219,14 @@ calculating_names_dimensions :
 unfolding advance calculating
 calculating_names_dimensions = refl
 
+gerunds : List Gerund
+gerunds =
+    Calculating ∷ Nexting ∷ Forgetting ∷ Resuming ∷ Stashing ∷ Retrieving ∷ Ignoring ∷ Remembering ∷ Abstaining
+    ∷ Reinstating ∷ WritingIn ∷ ReadingOut ∷ []
+
 every_gerund : List StatementTree
 every_gerund =
-    plainly (abstain_kinds (Calculating ∷ Nexting ∷ Forgetting ∷ Resuming ∷ Stashing ∷ Retrieving ∷ Ignoring ∷ Remembering ∷ Abstaining ∷ Reinstating ∷ WritingIn ∷ ReadingOut ∷ []))
+    plainly (abstain_kinds gerunds)
     ∷ plainly (prints (mesh 1 ∷ []))
     ∷ plainly (reinstate_kinds (ReadingOut ∷ []))
     ∷ plainly (prints (mesh 1 ∷ []))
@@ -229,7 +235,7 @@ every_gerund =
     ∷ []
 
 no_gerund_names_give_up : seen every_gerund [] 6 ≡ record { output = []; input = []; end = Some gave_up }
-unfolding advance every_gerund
+unfolding advance every_gerund gerunds
 no_gerund_names_give_up = refl
 
 give_up_label : List StatementTree
@@ -266,19 +272,27 @@ unfolding advance
 empty_program_is_off_the_edge = refl
 
 -- RESUME and FORGET at 79 and 80
-resume_of_79 : (s : State) → do_resume 79 (record s { returns = replicate 78 1 ++ 7 ∷ [] }) ≡ done (record s { place = 7; returns = [] })
+resume_of_79 :
+    (s : State) → do_resume 79 (record s { returns = replicate 78 1 ++ 7 ∷ [] })
+    ≡ done (record s { place = 7; returns = [] })
 resume_of_79 s = refl
 
-resume_of_80_is_a_rupture : (s : State) → do_resume 80 (record s { returns = replicate 79 1 }) ≡ faults Rupture [] (record s { returns = replicate 79 1 })
+resume_of_80_is_a_rupture :
+    (s : State) → do_resume 80 (record s { returns = replicate 79 1 })
+    ≡ faults Rupture [] (record s { returns = replicate 79 1 })
 resume_of_80_is_a_rupture s = refl
 
 forget_of_80_drops_all : (s : State) → do_forget 80 (record s { returns = replicate 79 1 }) ≡ record s { returns = [] }
 forget_of_80_drops_all s = refl
 
-forget_of_none_keeps_all : (s : State) → do_forget 0 (record s { returns = replicate 79 1 }) ≡ record s { returns = replicate 79 1 }
+forget_of_none_keeps_all :
+    (s : State) → do_forget 0 (record s { returns = replicate 79 1 })
+    ≡ record s { returns = replicate 79 1 }
 forget_of_none_keeps_all s = refl
 
-forget_of_the_greatest_number_drops_all : (s : State) → do_forget 4294967295 (record s { returns = replicate 79 1 }) ≡ record s { returns = [] }
+forget_of_the_greatest_number_drops_all :
+    (s : State) → do_forget 4294967295 (record s { returns = replicate 79 1 })
+    ≡ record s { returns = [] }
 forget_of_the_greatest_number_drops_all s = refl
 
 -- no choice is asked at an abstained statement, nor at chance 0 or 100
@@ -293,7 +307,10 @@ uncertain_asks_a_choice : ask (at_chance false 50) (first_state (at_chance false
 unfolding ask at_chance
 uncertain_asks_a_choice = refl
 
-sure_impossible_and_past_the_end_ask_nothing : (ask (at_chance false 0) (first_state (at_chance false 0) []) ≡ plain) × (ask (at_chance false 100) (first_state (at_chance false 100) []) ≡ plain) × (ask [] (first_state [] []) ≡ plain)
+sure_impossible_and_past_the_end_ask_nothing :
+    (ask (at_chance false 0) (first_state (at_chance false 0) []) ≡ plain)
+    × (ask (at_chance false 100) (first_state (at_chance false 100) []) ≡ plain)
+    × (ask [] (first_state [] []) ≡ plain)
 unfolding ask at_chance
 sure_impossible_and_past_the_end_ask_nothing = (refl, refl, refl)
 
@@ -304,7 +321,9 @@ passed_over_or_done :
 unfolding advance at_chance
 passed_over_or_done = (refl, refl, refl)
 
-sure_is_done_whatever_is_chosen : (advance (at_chance false 100) (first_state (at_chance false 100) []) false).output ≡ printed (numeral_of 1)
+sure_is_done_whatever_is_chosen :
+    (advance (at_chance false 100) (first_state (at_chance false 100) []) false).output
+    ≡ printed (numeral_of 1)
 unfolding advance at_chance
 sure_is_done_whatever_is_chosen = refl
 
@@ -326,7 +345,11 @@ widths =
 
 unary_operators_keep_the_width :
     seen widths [] 11
-    ≡ record { output = printed (numeral_of 2147483649) ++ printed (numeral_of 2147483649) ++ printed (numeral_of 32769); input = []; end = Some gave_up }
+    ≡ record {
+      output = printed (numeral_of 2147483649) ++ printed (numeral_of 2147483649) ++ printed (numeral_of 32769);
+      input = [];
+      end = Some gave_up;
+    }
 unfolding advance widths on_one with_neighbours with_bits sum_below
 unary_operators_keep_the_width = refl
 

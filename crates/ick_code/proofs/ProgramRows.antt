@@ -57,7 +57,11 @@ operators =
 
 items_from_the_left :
     seen operators [] 5
-    ≡ record { output = printed (numeral_of 4) ++ printed (numeral_of 32879) ++ printed (numeral_of 32875); input = []; end = Some gave_up }
+    ≡ record {
+      output = printed (numeral_of 4) ++ printed (numeral_of 32879) ++ printed (numeral_of 32875);
+      input = [];
+      end = Some gave_up;
+    }
 unfolding advance operators on_one with_neighbours with_bits sum_below
 items_from_the_left = refl
 
@@ -129,7 +133,8 @@ elements : ℕ → ℕ → List StatementTree
 elements row column =
     plainly (dimension tail (mesh 2 ∷ mesh 3 ∷ []))
     ∷ plainly (calculate (at tail (mesh 2 ∷ mesh 3 ∷ [])) (mesh 7))
-    ∷ plainly (prints (at tail (mesh row ∷ mesh column ∷ []) ∷ at tail (binary Mingle (mesh 1) (mesh 0) ∷ mesh 1 ∷ []) ∷ []))
+    ∷ plainly (prints (at tail (mesh row ∷ mesh column ∷ []) ∷ at tail (binary Mingle (mesh 1) (mesh 0) ∷ mesh 1 ∷ [])
+    ∷ []))
     ∷ plainly give_up
     ∷ []
 

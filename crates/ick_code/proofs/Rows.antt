@@ -15,7 +15,7 @@ use Rattle.ick_source.specs.Tree.{mesh, scalar, unary, binary}
 use Rattle.ick_source.specs.StatementTree.{StatementTree}
 use Rattle.ick_source.specs.BodyTree.{give_up, calculate}
 use Rattle.ick_code.specs.meaning.State.{State, with_entry}
-use Rattle.ick_code.specs.meaning.Value.{value_of}
+use Rattle.ick_code.specs.meaning.Value.{value_of, scalar_value}
 use Rattle.ick_code.specs.meaning.Outcome.{done, faults}
 use Rattle.ick_code.specs.meaning.Store.{store, resize}
 use Rattle.ick_code.specs.meaning.Control.{call, resume, forget}
@@ -43,7 +43,9 @@ narrow : value_of (unary Or (binary Select (mesh 1) (mesh 1))) start ≡ Ok (Nar
 unfolding selected selected_bits ones_below sum_below on_one with_neighbours with_bits
 narrow = refl
 
-wide : value_of (unary Or (binary Select (mesh 1) (binary Mingle (mesh 65535) (mesh 65535)))) start ≡ Ok (Wide 2147483649)
+wide :
+    value_of (unary Or (binary Select (mesh 1) (binary Mingle (mesh 65535) (mesh 65535)))) start
+    ≡ Ok (Wide 2147483649)
 unfolding mingled selected selected_bits ones_below sum_below on_one with_neighbours with_bits
 wide = refl
 
@@ -57,7 +59,9 @@ unfolding start
 no_dimensions = refl
 
 -- 65535 is the greatest number of a onespot
-fits : (s : State) → store one 65535 (record s { ignored = λ _. false }) ≡ done (record s { ignored = λ _. false; scalars = with_entry s.scalars one 65535 })
+fits :
+    (s : State) → store one 65535 (record s { ignored = λ _. false })
+    ≡ done (record s { ignored = λ _. false; scalars = with_entry s.scalars one 65535 })
 fits s = refl
 
 too_wide : (s : State) → store one 65536 s ≡ faults TooWide [] s
@@ -70,20 +74,28 @@ too_many_elements : (s : State) → resize tail (256 ∷ 257 ∷ []) s ≡ fault
 too_many_elements s = refl
 
 -- NEXT with 78 returns and with 79
-last_return : (s : State) → call 5 (record s { returns = replicate 78 1 }) ≡ done (record s { place = 5; returns = s.place ∷ replicate 78 1 })
+last_return :
+    (s : State) → call 5 (record s { returns = replicate 78 1 })
+    ≡ done (record s { place = 5; returns = s.place ∷ replicate 78 1 })
 last_return s = refl
 
-no_room_for_a_return : (s : State) → call 5 (record s { returns = replicate 79 1 }) ≡ faults NextDepth [] (record s { returns = replicate 79 1 })
+no_room_for_a_return :
+    (s : State) → call 5 (record s { returns = replicate 79 1 })
+    ≡ faults NextDepth [] (record s { returns = replicate 79 1 })
 no_room_for_a_return s = refl
 
 -- RESUME goes on at the last return popped
-resumes : (s : State) → resume 2 (record s { returns = 7 ∷ 5 ∷ 3 ∷ [] }) ≡ done (record s { place = 5; returns = 3 ∷ [] })
+resumes :
+    (s : State) → resume 2 (record s { returns = 7 ∷ 5 ∷ 3 ∷ [] })
+    ≡ done (record s { place = 5; returns = 3 ∷ [] })
 resumes s = refl
 
 resumes_none : (s : State) → resume 0 s ≡ faults ResumeZero [] s
 resumes_none s = refl
 
-resumes_too_many : (s : State) → resume 3 (record s { returns = 7 ∷ 5 ∷ [] }) ≡ faults Rupture [] (record s { returns = 7 ∷ 5 ∷ [] })
+resumes_too_many :
+    (s : State) → resume 3 (record s { returns = 7 ∷ 5 ∷ [] })
+    ≡ faults Rupture [] (record s { returns = 7 ∷ 5 ∷ [] })
 resumes_too_many s = refl
 
 forgets_all : (s : State) → forget 9 (record s { returns = 7 ∷ 5 ∷ [] }) ≡ record s { returns = [] }
@@ -93,7 +105,9 @@ forgets_all s = refl
 stashed : State
 stashed = ignore true one (stash one start)
 
-retrieves_ignored : retrieve one stashed ≡ done (record stashed { stashed_scalars = with_entry stashed.stashed_scalars one [] })
+retrieves_ignored :
+    retrieve one stashed
+    ≡ done (record stashed { stashed_scalars = with_entry stashed.stashed_scalars one [] })
 unfolding stashed start
 retrieves_ignored = refl
 
@@ -109,8 +123,19 @@ stays_abstained : (s : State) → set_abstained (the_end ∷ []) false 1 s ≡ s
 unfolding the_end
 stays_abstained s = refl
 
+-- neither does one that isn't there
+stays_without_a_statement : (s : State) → set_abstained (the_end ∷ []) true 2 s ≡ s
+unfolding the_end
+stays_without_a_statement s = refl
+
+-- a narrow variable is loaded in its width, whatever number stands for it
+loads_in_its_width : (s : State) → scalar_value one (record s { scalars = λ _. 65543 }) ≡ Narrow 7
+loads_in_its_width s = refl
+
 -- WRITE IN looks for the element before it takes its line
-no_line_taken : (s : State) → do_body [] [] (Some (reads (at tail (mesh 1 ∷ []) ∷ []))) (record start { input = codes "TEN" }) ≡ faults Hyperspace [] (record start { input = codes "TEN" })
+no_line_taken :
+    (s : State) → do_body [] [] (Some (reads (at tail (mesh 1 ∷ []) ∷ []))) (record start { input = codes "TEN" })
+    ≡ faults Hyperspace [] (record start { input = codes "TEN" })
 unfolding start
 no_line_taken s = refl
 
@@ -118,11 +143,15 @@ no_line_left : do_body [] [] (Some (reads (scalar one ∷ []))) start ≡ faults
 unfolding start
 no_line_left = refl
 
-unknown_word : do_body [] [] (Some (reads (scalar one ∷ []))) (record start { input = codes "OH TEN" }) ≡ faults NoDigit (codes "TEN") start
+unknown_word :
+    do_body [] [] (Some (reads (scalar one ∷ []))) (record start { input = codes "OH TEN" })
+    ≡ faults NoDigit (codes "TEN") start
 unfolding start line_answer first_unknown beginnings begins_word word_at digit_of number_of_words
 unknown_word = refl
 
 -- the right side is evaluated before the subscripts of a target: its fault comes first
-right_side_first : do_body [] [] (Some (calculate (at tail (mesh 1 ∷ [])) (binary Mingle (binary Mingle (mesh 65535) (mesh 1)) (mesh 1)))) start ≡ faults SixtyFour [] start
+right_side_first :
+    do_body [] [] (Some (calculate (at tail (mesh 1 ∷ [])) (binary Mingle (binary Mingle (mesh 65535) (mesh 1)) (mesh 1)))) start
+    ≡ faults SixtyFour [] start
 unfolding mingled with_bits sum_below
 right_side_first = refl

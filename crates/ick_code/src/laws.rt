@@ -5,11 +5,11 @@ ghost use Rattle.ick_source.specs.declared.kinds.Kind.TheVariants.{WriteIn, Read
 ghost use Rattle.ick_source.specs.StatementTree.{StatementTree};
 ghost use Rattle.ick_code.specs.meaning.State.{State, Ending};
 ghost use Rattle.ick_code.specs.meaning.Move.{ask, plain, choice, ended, advance, first_state};
-ghost use Rattle.ick_code.specs.Laws.{after_output, on_input, kind_at, IsWithin};
+ghost use Rattle.ick_code.specs.Laws.{after_output, kind_at, IsWithin};
 
 /// What a state asks for: a choice at a chance that is neither none nor sure, nothing where both
-/// choices lead to the same state, and an end exactly where the run has it. Neither what was
-/// written nor what is left of the input bears on it (Revised Manual, 4.3, and this profile).
+/// choices lead to the same state, and an end exactly where the run has it. It rests on the place,
+/// the abstained statements and the end alone (Revised Manual, 4.3, and this profile).
 pub fn law_of_asking()
     ensures chance { (program : List StatementTree) (s : State) (n : ℕ) →
         ask program s ≡ choice n → (0 < n) × (n < 100) }
@@ -17,10 +17,9 @@ pub fn law_of_asking()
         ask program s ≡ plain → advance program s true ≡ advance program s false }
     ensures ended { (program : List StatementTree) (s : State) (end : Ending) →
         (ask program s ≡ ended end) ↔ (s.end ≡ Some end) }
-    ensures output { (program : List StatementTree) (s : State) (o : List ℕ) →
-        ask program (after_output o s) ≡ ask program s }
-    ensures input { (program : List StatementTree) (s : State) (input : List ℕ) →
-        ask program (on_input input s) ≡ ask program s }
+    ensures rests { (program : List StatementTree) (s t : State) →
+        t.place ≡ s.place → t.abstained ≡ s.abstained → t.end ≡ s.end →
+        ask program t ≡ ask program s }
 {}
 
 /// A step neither reads nor changes what was written before it, and appends to it in READ OUT

@@ -1,4 +1,4 @@
-use Rattle.ick_code.proofs.AskLaws.{chance_between, plain_same, ended_exactly, ask_output, ask_input}
+use Rattle.ick_code.proofs.AskLaws.{chance_between, plain_same, ended_exactly, ask_same}
 use Rattle.ick_code.proofs.laws.law_of_asking.Goals as goal
 
 pub returns : goal.returns
@@ -6,6 +6,5 @@ returns c = record {
   chance = chance_between;
   plain = plain_same;
   ended = ended_exactly;
-  output = ask_output;
-  input = ask_input;
+  rests = ask_same;
 }
