@@ -1,10 +1,12 @@
 /* Stands before the C library's calls for memory and for bytes, and has one of them fail.
  *
- *   FAULT      which kind of call: alloc, open, read, write; or short-read, short-write, which move one byte in
- *              place of many
+ *   FAULT      which kind of call: alloc, open, read, write; or read-interrupted, write-interrupted (by a signal),
+ *              write-broken (a pipe that nobody reads); or short-read, short-write, which move one byte in place of
+ *              many
  *   FAULT_AT   N, counted from 1: which call of that kind (0 or absent: none)
  *   FAULT_TO   one (or absent): the Nth call alone; all: the Nth and each later one
- *   FAULT_LOG  a file that afterwards holds "calls=C failed=F": the calls of that kind, and those that failed
+ *   FAULT_LOG  a file that afterwards holds "calls=C failed=F errors=E": the calls of that kind, those that failed,
+ *              and how many of these were writes on standard error
  *
  * Only what the program asks for by these names is counted. What the C library takes for itself isn't seen.
  */
@@ -18,13 +20,14 @@
 #include <sys/syscall.h>
 #include <unistd.h>
 
-enum kind { NONE, ALLOC, OPEN, READ, WRITE, SHORT_READ, SHORT_WRITE, KINDS };
+enum kind { NONE, ALLOC, OPEN, READ, WRITE, READ_INTERRUPTED, WRITE_INTERRUPTED, WRITE_BROKEN, SHORT_READ, SHORT_WRITE, KINDS };
 
-static const char *const names[KINDS] = {"", "alloc", "open", "read", "write", "short-read", "short-write"};
+static const char *const names[KINDS] = {"", "alloc", "open", "read", "write", "read-interrupted", "write-interrupted",
+                                         "write-broken", "short-read", "short-write"};
 
 static enum kind wanted;
 static int and_later;
-static unsigned long at, calls, failed;
+static unsigned long at, calls, failed, errors;
 
 extern void *__libc_malloc(size_t);
 extern void *__libc_calloc(size_t, size_t);
@@ -47,13 +50,13 @@ __attribute__((constructor)) static void begin(void) {
             wanted = (enum kind)i;
     at = which ? strtoul(which, NULL, 10) : 0;
     and_later = until && !strcmp(until, "all");
-    calls = failed = 0;
+    calls = failed = errors = 0;
 }
 
 __attribute__((destructor)) static void end(void) {
     const char *log = getenv("FAULT_LOG");
-    char line[64];
-    int length = snprintf(line, sizeof line, "calls=%lu failed=%lu\n", calls, failed);
+    char line[96];
+    int length = snprintf(line, sizeof line, "calls=%lu failed=%lu errors=%lu\n", calls, failed, errors);
     int file = log ? (int)syscall(SYS_open, log, O_WRONLY | O_CREAT | O_TRUNC, 0644) : -1;
     if (file >= 0) {
         syscall(SYS_write, file, line, (size_t)length);
@@ -81,14 +84,26 @@ void *realloc(void *block, size_t size) {
 ssize_t read(int file, void *target, size_t size) {
     if (fails(READ))
         return errno = EIO, -1;
+    if (fails(READ_INTERRUPTED))
+        return errno = EINTR, -1;
     if (size > 1 && fails(SHORT_READ))
         size = 1;
     return syscall(SYS_read, file, target, size);
 }
 
+static ssize_t not_written(int file, int why) {
+    if (file == STDERR_FILENO)
+        errors++;
+    return errno = why, -1;
+}
+
 ssize_t write(int file, const void *text, size_t size) {
     if (fails(WRITE))
-        return errno = EIO, -1;
+        return not_written(file, EIO);
+    if (fails(WRITE_INTERRUPTED))
+        return not_written(file, EINTR);
+    if (fails(WRITE_BROKEN))
+        return not_written(file, EPIPE);
     if (size > 1 && fails(SHORT_WRITE))
         size = 1;
     return syscall(SYS_write, file, text, size);

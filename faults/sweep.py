@@ -3,20 +3,22 @@
 
   sweep.py PROGRAM
 
-For each of the runs in RUNS and each kind of failure, the program runs once with nothing failing, and then once for
-each N with its Nth call of that kind failing, until a run comes to its end with no call failed. Each of these runs
-has to end by itself with an answer that is allowed:
+For each row of ../rows/table.py that is swept and each kind of failure, the program runs once with nothing failing,
+and then once for each N with its Nth call of that kind failing, until a run comes to its end with no call failed. A
+run in which nothing failed has to leave the row's answer. Each of the others has to end by itself with an answer that
+the table of exit statuses allows:
 
-  alloc        status 4 and OUT OF MEMORY alone on standard error; the output is a beginning of the whole run's.
-               Where one request alone is refused, the whole run's answer too: the standard library's collect and
-               extend ask for less room when they are refused the room that they were told of
-  open, read   status 4 and FILE NOT READ or READ FAILED alone; the output is a beginning
-  write        status 4; the output is a beginning; WRITE FAILED alone, or, where it is standard error that failed,
-               a beginning of the error text that was due
-  short-read   the whole run's answer
-  short-write  the whole run's answer
+  alloc        status 4 and OUT OF MEMORY alone on standard error; the output is a beginning of the row's.
+               Where one request alone is refused, the row's answer too: the standard library's collect and extend
+               ask for less room when they are refused the room that they were told of
+  open, read   status 4 and FILE NOT READ where the row names a file, else READ FAILED, alone; no output
+  write        status 4; the output is a beginning of the row's, and WRITE FAILED alone; or, where it was standard
+               error that failed, all of the output, and a beginning of the row's error text
+  short-read   the row's answer
+  short-write  the row's answer
 
-A line is printed for each run and kind; the last line is 'N passed, M failed', counting runs of the program.
+A read or a write that a signal interrupts has failed, and so has a write to a pipe that nobody reads. A line is
+printed for each row and kind; the last line is 'N passed, M failed', counting runs of the program.
 """
 import collections
 import os
@@ -25,33 +27,12 @@ import sys
 import tempfile
 
 HERE = os.path.dirname(os.path.realpath(__file__))
-KINDS = [("alloc", "all"), ("alloc", "one"), ("open", "one"), ("read", "one"), ("write", "one"),
-         ("short-read", "one"), ("short-write", "one")]
-LINES = {"alloc": [b"OUT OF MEMORY\n"], "open": [b"FILE NOT READ\n"], "read": [b"READ FAILED\n", b"FILE NOT READ\n"],
-         "write": [b"WRITE FAILED\n"]}
+sys.path.insert(0, os.path.join(HERE, "..", "rows"))
+from table import SOURCE, SWEPT, Answer  # noqa: E402
 
-PRINTS = b"DO READ OUT #1\nPLEASE READ OUT #4000 + #65535\nDO GIVE UP\n"
-FAULTS = b"DO READ OUT #1\nPLEASE READ OUT LOUD\nDO GIVE UP\n"
-REFUSED = b"DO READ OUT #70000\nPLEASE GIVE UP\n"
-LISTED = b"(1) DO .1 <- ,1SUB'#1$.2'#3\nDO STASH .1 + ,1\nPLEASE ABSTAIN FROM (1)\nDO \xff"
-LOST = b"(1) DO (2) NEXT\nPLEASE GIVE UP\n"
-
-# A name, the words (FILE stands for a file with the source), the source, and what is on standard input.
-RUNS = [
-    ("prints", [], PRINTS, None),
-    ("prints from FILE", ["run", "FILE"], PRINTS, b""),
-    ("faults", ["run"], FAULTS, None),
-    ("faults from FILE", ["run", "FILE"], FAULTS, b""),
-    ("refused", ["run"], REFUSED, None),
-    ("refused from FILE", ["run", "FILE"], REFUSED, b""),
-    ("check", ["check"], PRINTS, None),
-    ("list from FILE", ["list", "FILE"], LISTED, b""),
-    ("refused by its labels", ["check"], LOST, None),
-    ("no file", ["run", "no-such-file"], b"", b""),
-    ("help", ["--help"], b"", b""),
-    ("help of run", ["run", "--help"], b"", b""),
-    ("usage", ["jump"], b"", b""),
-]
+KINDS = [("alloc", "all"), ("alloc", "one"), ("open", "one"), ("read", "one"), ("read-interrupted", "one"),
+         ("write", "one"), ("write-interrupted", "one"), ("write-broken", "one"), ("short-read", "one"),
+         ("short-write", "one")]
 MOST = 20_000
 SECONDS = 60
 
@@ -61,60 +42,75 @@ class Sweep:
         self.program, self.library, self.folder = os.path.abspath(program), library, folder
         self.passed, self.failed = 0, 0
 
-    def answer(self, words, entered, kind, to, at):
-        """(status, output, error text) of one run, and how many calls failed in it."""
+    def answer(self, given, kind, to, at):
+        """What one run leaves, and how many calls failed in it, and how many of them on standard error."""
         log = os.path.join(self.folder, "log")
         env = {"LD_PRELOAD": self.library, "FAULT": kind, "FAULT_AT": str(at), "FAULT_TO": to, "FAULT_LOG": log}
+        words = ["source" if word == "FILE" else word for word in given.words]
+        entered = given.source if given.entered is SOURCE else given.entered
         done = subprocess.run([self.program, *words], input=entered, env=env, cwd=self.folder, capture_output=True,
                               timeout=SECONDS)
+        found = Answer(done.returncode, done.stdout, done.stderr)
         try:
             with open(log, encoding="ascii") as file:
                 counts = dict(word.split("=") for word in file.read().split())
             os.remove(log)
         except FileNotFoundError:
-            return (done.returncode, done.stdout, done.stderr), None
-        return (done.returncode, done.stdout, done.stderr), int(counts["failed"])
+            return found, None, None
+        return found, int(counts["failed"]), int(counts["errors"])
 
-    def sweep(self, name, words, entered, kind, to):
-        whole, _ = self.answer(words, entered, kind, to, 0)
+    def sweep(self, given, wanted, kind, to):
         tally, mistakes = collections.Counter(), []
-        for at in range(1, MOST):
-            found, failed = self.answer(words, entered, kind, to, at)
-            if failed == 0:
-                wrong = None if found == whole else "nothing failed, and the answer is another"
-            elif failed is None:
+        for at in range(MOST):
+            found, failed, on_errors = self.answer(given, kind, to, at)
+            if failed is None:
                 wrong = "crashed"
+            elif failed == 0:
+                wrong = None if found == wanted else "nothing failed, and the answer is another"
             else:
-                wrong = mistake(kind, to, found, whole)
-                tally[f"{found[0]} {found[2].decode(errors='replace').splitlines()[:1]}"] += 1
+                wrong = mistake(given, kind, to, on_errors, found, wanted)
+                tally[f"{found.status} {found.errors.decode(errors='replace').splitlines()[:1]}"] += 1
             if wrong:
                 mistakes.append(f"    at {at}: {wrong}: {found}")
             else:
                 self.passed += 1
-            if failed == 0:
+            if failed == 0 and at > 0:
                 break
         else:
             mistakes.append(f"    no end after {MOST} runs")
         self.failed += len(mistakes)
         summary = "; ".join(f"{count} x {answer}" for answer, count in sorted(tally.items())) or "no such call"
-        print(f"{name}, {kind} ({to}): {summary}")
+        print(f"{given.name}, {kind} ({to}): {summary}")
         for line in mistakes:
             print(line)
 
 
-def mistake(kind, to, found, whole):
+def notice(given, kind):
+    """The line that a failure of this kind has."""
+    if kind == "alloc":
+        return b"OUT OF MEMORY\n"
+    if kind.startswith("write"):
+        return b"WRITE FAILED\n"
+    return b"FILE NOT READ\n" if len(given.words) == 2 else b"READ FAILED\n"
+
+
+def mistake(given, kind, to, on_errors, found, wanted):
     """What is wrong with the answer of a run in which a call failed, or None."""
-    if found == whole and (kind.startswith("short") or (kind == "alloc" and to == "one")):
+    if found == wanted and (kind.startswith("short") or (kind == "alloc" and to == "one")):
         return None
     if kind.startswith("short"):
         return "another answer"
-    status, output, errors = found
-    if status != 4:
-        return f"status {status}"
-    cut = kind == "write" and whole[2].startswith(errors)
-    if errors not in LINES[kind] and not cut:
+    if found.status != 4:
+        return f"status {found.status}"
+    if on_errors:
+        if not wanted.errors.startswith(found.errors) or found.errors == wanted.errors:
+            return "the error text is no beginning of the row's"
+        return None if found.output == wanted.output else "another output"
+    if found.errors != notice(given, kind):
         return "error text"
-    return None if whole[1].startswith(output) else "the output is no beginning of the whole run's"
+    if kind == "open" or kind.startswith("read"):
+        return "output" if found.output else None
+    return None if wanted.output.startswith(found.output) else "the output is no beginning of the row's"
 
 
 def main():
@@ -125,12 +121,11 @@ def main():
         subprocess.run([os.environ.get("CC", "cc"), "-O1", "-Wall", "-shared", "-fPIC", "-o", library,
                         os.path.join(HERE, "faults.c")], check=True)
         sweep = Sweep(sys.argv[1], library, folder)
-        for name, words, source, entered in RUNS:
+        for given, wanted in SWEPT:
             with open(os.path.join(folder, "source"), "wb") as file:
-                file.write(source)
-            words = ["source" if word == "FILE" else word for word in words]
+                file.write(given.source)
             for kind, to in KINDS:
-                sweep.sweep(name, words, source if entered is None else entered, kind, to)
+                sweep.sweep(given, wanted, kind, to)
     print(f"{sweep.passed} passed, {sweep.failed} failed")
     return 1 if sweep.failed else 0
 

@@ -1,15 +1,33 @@
-//! The files of the system, which count their failures. Nothing is told of their bytes.
-ghost use Rattle.std.specs.Prelude.{◌≡◌, [], false};
+//! The files of the system. Nothing is told of their bytes.
+ghost use Rattle.std.specs.Prelude.{◌≡◌, None, Some, [], false, if◌then◌else◌, is_some};
 
+use crate::counted::read_from;
 use ick_cli::{ByteSource, DeviceFault, Files};
 use std::fs::{self, File};
-use std::io::Read;
+use std::io::{self, Read};
+
+/// The file that was opened last. Where none was, there is no byte to read.
+#[derive(Drop)]
+struct OpenFile {
+    file: Option<File>,
+}
+
+impl Read for OpenFile {
+    ghost remaining = { λ s. if is_some s.file then None else Some [] };
+
+    fn read(&mut self, target: &mut [u8]) -> io::Result<usize> {
+        match &mut self.file {
+            Some(file) => file.read(target),
+            None => Ok(0),
+        }
+    }
+}
 
 /// The files of the system, and the one that was opened last.
 #[derive(Drop)]
 pub struct DiskFiles<'r> {
     runtime: &'r HostRuntime,
-    file: Option<File>,
+    open: OpenFile,
     failures: u64,
 }
 
@@ -20,7 +38,7 @@ impl<'r> DiskFiles<'r> {
     {
         DiskFiles {
             runtime,
-            file: None,
+            open: OpenFile { file: None },
             failures: 0,
         }
     }
@@ -38,16 +56,7 @@ impl ByteSource for DiskFiles<'_> {
     }
 
     fn read(&mut self, target: &mut [u8]) -> Result<usize, DeviceFault> {
-        let Some(file) = &mut self.file else {
-            return Ok(0);
-        };
-        match file.read(target) {
-            Ok(count) => Ok(count),
-            Err(_) => {
-                self.failures += 1;
-                Err(DeviceFault)
-            }
-        }
+        read_from(&mut self.open, &mut self.failures, target)
     }
 }
 
@@ -57,7 +66,7 @@ impl Files for DiskFiles<'_> {
     fn open_named(&mut self, name: &str) -> Result<(), DeviceFault> {
         match fs::open(self.runtime, name) {
             Ok(file) => {
-                self.file = Some(file);
+                self.open.file = Some(file);
                 Ok(())
             }
             Err(_) => {

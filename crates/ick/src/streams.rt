@@ -1,7 +1,7 @@
-//! Devices over the streams of the system, which count their failures. Nothing is told of their
-//! bytes. Any error of a stream is a failure, an interruption too.
+//! Devices over the streams of the system. Nothing is told of their bytes.
 ghost use Rattle.std.specs.Prelude.{◌≡◌, [], false};
 
+use crate::counted::{read_from, write_to};
 use ick_cli::{ByteSink, ByteSource, DeviceFault};
 use std::io::{Read, Write};
 
@@ -36,17 +36,11 @@ impl<R: Read> ByteSource for InStream<R> {
     }
 
     fn read(&mut self, target: &mut [u8]) -> Result<usize, DeviceFault> {
-        match self.stream.read(target) {
-            Ok(count) => Ok(count),
-            Err(_) => {
-                self.failures += 1;
-                Err(DeviceFault)
-            }
-        }
+        read_from(&mut self.stream, &mut self.failures, target)
     }
 }
 
-/// A stream that is written. A write that takes no byte of a text has failed.
+/// A stream that is written.
 #[derive(Drop)]
 pub struct OutStream<W> {
     stream: W,
@@ -77,15 +71,6 @@ impl<W: Write> ByteSink for OutStream<W> {
     }
 
     fn write(&mut self, text: &[u8]) -> Result<usize, DeviceFault> {
-        if text.is_empty() {
-            return Ok(0);
-        }
-        match self.stream.write(text) {
-            Ok(count) if 0 < count => Ok(count),
-            _ => {
-                self.failures += 1;
-                Err(DeviceFault)
-            }
-        }
+        write_to(&mut self.stream, &mut self.failures, text)
     }
 }

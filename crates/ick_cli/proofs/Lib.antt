@@ -1,6 +1,7 @@
 pub mod Answered
 pub mod Builders
+pub mod ExecutionLemmas
+pub mod FirstFault
+pub mod OneAnswer
 pub mod Rows
-pub mod RunLemmas
 pub mod Served
-pub mod Texts

@@ -5,9 +5,9 @@ use Rattle.clap.specs.Words.{fault_of}
 use Rattle.clap.specs.declared.error.ErrorKind.TheVariants as kind
 use Rattle.ick_cli.specs.Words.{ick_app}
 use Rattle.ick_cli.specs.Job.{HasJob, job_of}
-use Rattle.ick_cli.specs.declared.words.job.Verb.TheVariants.{Check, List as ListVerb, Run}
+use Rattle.ick_cli.specs.declared.words.job.Subcommand.TheVariants.{Check, List as ListVerb, Run}
 
-no_words : job_of [] ≡ record { verb = Run; file = None }
+no_words : job_of [] ≡ record { subcommand = Run; file = None }
 unfolding clap_on_literals
 no_words = refl
 
@@ -15,7 +15,7 @@ no_words_is_a_job : HasJob []
 unfolding clap_on_literals
 no_words_is_a_job = refl
 
-run_alone : job_of (codes "run" ∷ []) ≡ record { verb = Run; file = None }
+run_alone : job_of (codes "run" ∷ []) ≡ record { subcommand = Run; file = None }
 unfolding clap_on_literals
 run_alone = refl
 
@@ -23,7 +23,7 @@ run_alone_is_a_job : HasJob (codes "run" ∷ [])
 unfolding clap_on_literals
 run_alone_is_a_job = refl
 
-run_file : job_of (codes "run" ∷ codes "f" ∷ []) ≡ record { verb = Run; file = Some (codes "f") }
+run_file : job_of (codes "run" ∷ codes "f" ∷ []) ≡ record { subcommand = Run; file = Some (codes "f") }
 unfolding clap_on_literals
 run_file = refl
 
@@ -31,7 +31,7 @@ run_file_is_a_job : HasJob (codes "run" ∷ codes "f" ∷ [])
 unfolding clap_on_literals
 run_file_is_a_job = refl
 
-file_behind_dashes : job_of (codes "run" ∷ codes "--" ∷ codes "-b" ∷ []) ≡ record { verb = Run; file = Some (codes "-b") }
+file_behind_dashes : job_of (codes "run" ∷ codes "--" ∷ codes "-b" ∷ []) ≡ record { subcommand = Run; file = Some (codes "-b") }
 unfolding clap_on_literals
 file_behind_dashes = refl
 
@@ -39,7 +39,7 @@ file_without_command : fault_of ick_app (codes "f" ∷ []) ≡ kind.UnknownArgum
 unfolding clap_on_literals
 file_without_command = refl
 
-check_file : job_of (codes "check" ∷ codes "f" ∷ []) ≡ record { verb = Check; file = Some (codes "f") }
+check_file : job_of (codes "check" ∷ codes "f" ∷ []) ≡ record { subcommand = Check; file = Some (codes "f") }
 unfolding clap_on_literals
 check_file = refl
 
@@ -47,7 +47,7 @@ check_is_a_job : HasJob (codes "check" ∷ [])
 unfolding clap_on_literals
 check_is_a_job = refl
 
-list_alone : job_of (codes "list" ∷ []) ≡ record { verb = ListVerb; file = None }
+list_alone : job_of (codes "list" ∷ []) ≡ record { subcommand = ListVerb; file = None }
 unfolding clap_on_literals
 list_alone = refl
 

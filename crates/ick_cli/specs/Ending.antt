@@ -1,16 +1,18 @@
 -- What the work leaves, by how it ends.
-use Rattle.std.specs.Prelude.{◌≡◌, ◌≢◌, ◌≤◌, ◌++◌, ◌==◌, ℕ, List, [], Option, Some, None, take, if◌then◌else◌, slice_index}
-use Rattle.ick_cli.specs.Tool.{Answer, line_text}
+use Rattle.std.specs.Prelude.{◌≡◌, ◌≤◌, ◌+◌, ◌++◌, ◌==◌, if◌then◌else◌, take}
+use Rattle.std.specs.Prelude.{ℕ, List, [], Option, Some, None}
+use Rattle.ick_cli.specs.Notice.{notice_text}
+use Rattle.ick_cli.specs.Tool.{Answer}
 use Rattle.ick_cli.specs.declared.ending.Ending.{Ending}
 use Rattle.ick_cli.specs.declared.ending.Ending.TheVariants.{Answered, NoMemory, FileNotRead, ReadFailed, WriteFailed}
-use Rattle.ick_cli.specs.declared.ending.Message.{Message}
-use Rattle.ick_cli.specs.declared.ending.Message.TheVariants as message
-use Rattle.ick_cli.specs.declared.ending.Line.TheVariants as line
+use Rattle.ick_cli.specs.declared.notice.Message.{Message}
+use Rattle.ick_cli.specs.declared.notice.Message.TheVariants as message
+use Rattle.ick_cli.specs.declared.notice.Notice.TheVariants as notice
 
 -- the bytes of an error text
 abbrev pub message_text : Message → List ℕ
 message_text message.Nothing = []
-message_text (message.Line l) = line_text l
+message_text (message.Notice n) = notice_text n
 message_text (message.Text t) = t.items
 
 -- the status and the error text of an ending
@@ -20,10 +22,10 @@ ending_status _ = 4
 
 abbrev pub ending_text : Ending → List ℕ
 ending_text (Answered status message) = message_text message
-ending_text NoMemory = line_text line.OutOfMemory
-ending_text FileNotRead = line_text line.FileNotRead
-ending_text ReadFailed = line_text line.ReadFailed
-ending_text WriteFailed = line_text line.WriteFailed
+ending_text NoMemory = notice_text notice.OutOfMemory
+ending_text FileNotRead = notice_text notice.FileNotRead
+ending_text ReadFailed = notice_text notice.ReadFailed
+ending_text WriteFailed = notice_text notice.WriteFailed
 
 -- how many calls of the files failed, how many reads of the reader, and how many writes of the writer
 abbrev pub failed_files : Ending → ℕ
@@ -38,14 +40,22 @@ abbrev pub failed_writes : Ending → ℕ
 failed_writes WriteFailed = 1
 failed_writes _ = 0
 
--- an error text that is no line on memory or a stream, as its first byte shows
-abbrev pub IsOwnText : List ℕ → Type 0
-IsOwnText text = (slice_index text 0 ≢ 79) × (slice_index text 0 ≢ 82) × (slice_index text 0 ≢ 87)
-
--- an ending by an answer has one of its statuses and an error text of its own
+-- an ending by an answer has one of the statuses of answers
 abbrev pub IsProper : Ending → Type 0
-IsProper (Answered status message) = (status ≤ 3) × IsOwnText (message_text message)
+IsProper (Answered status message) = status ≤ 3
 IsProper _ = Unit {0}
+
+-- The work ended so, and the counts of failures of files, reader and writer say what it opened, read and wrote: the one
+-- device whose failure is the ending failed once, and the others not.
+pub record Leaves (ending : Ending) (files files' reads reads' writes writes' : ℕ) : Type 0 where
+  pub proper : IsProper ending
+  pub opened : files' ≡ files + failed_files ending
+  pub read : reads' ≡ reads + failed_reads ending
+  pub wrote : writes' ≡ writes + failed_writes ending
+
+-- the same of work that neither opens nor reads
+abbrev pub LeavesWriter : Ending → ℕ → ℕ → Type 0
+LeavesWriter ending writes writes' = Leaves ending 0 0 0 0 writes writes'
 
 -- an answer with this status and error text, or want of memory
 abbrev pub EndsBy : ℕ → List ℕ → Ending → Type 0
@@ -56,7 +66,7 @@ EndsBy status text _ = ⊥
 -- the ending that an answer has
 abbrev pub HasAnswer : Answer → Ending → Type 0
 HasAnswer answer (Answered status message) = (status ≡ answer.status) × (message_text message ≡ answer.errors)
-HasAnswer answer FileNotRead = (4 ≡ answer.status) × (line_text line.FileNotRead ≡ answer.errors)
+HasAnswer answer FileNotRead = (4 ≡ answer.status) × (notice_text notice.FileNotRead ≡ answer.errors)
 HasAnswer answer _ = Unit {0}
 
 -- all of the answer's output went out where the ending has the answer, and else a beginning of it
@@ -64,6 +74,10 @@ abbrev pub Sends : List ℕ → Ending → List ℕ → List ℕ → Type 0
 Sends output (Answered status message) before after = after ≡ before ++ output
 Sends output FileNotRead before after = after ≡ before ++ output
 Sends output _ before after = (n : ℕ) × (after ≡ before ++ take n output)
+
+-- an ending that has an answer, whose output went out
+abbrev pub Answers : Answer → Ending → List ℕ → List ℕ → Type 0
+Answers answer ending before after = HasAnswer answer ending × Sends answer.output ending before after
 
 -- the source that a job is given: none exactly where the count of the files' failures rose
 abbrev pub source_of : Option (List ℕ) → (List ℕ → List ℕ) → ℕ → ℕ → List ℕ → Option (List ℕ)

@@ -1,34 +1,38 @@
 -- The job that words ask for, by the matches that clap defines.
-use Rattle.std.specs.Prelude.{◌≡◌, List, [], Option, codes, if◌then◌else◌, option_map}
+use Rattle.std.specs.Prelude.{◌≡◌, Bool, List, [], Option, codes, is_some, if◌then◌else◌, option_map}
 use Rattle.std.specs.Option.{option_map_or}
 use Rattle.std.specs.Str.{bytes_eq}
 use Rattle.clap.specs.Words.{Row, Text, fault_of, first_of, subcommand_of}
 use Rattle.ick_cli.specs.Words.{ick_app}
 use Rattle.ick_cli.specs.declared.words.job.Job.{Job}
-use Rattle.ick_cli.specs.declared.words.job.Verb.{Verb}
-use Rattle.ick_cli.specs.declared.words.job.Verb.TheVariants.{Check, List as ListVerb, Run}
+use Rattle.ick_cli.specs.declared.words.job.Subcommand.{Subcommand}
+use Rattle.ick_cli.specs.declared.words.job.Subcommand.TheVariants.{Check, List as ListVerb, Run}
 
 -- command and FILE
 pub record Asked : Type 0 where
-  pub verb : Verb
+  pub subcommand : Subcommand
   pub file : Option Text
+
+-- it names a file
+abbrev pub has_file : Asked → Bool
+has_file a = is_some a.file
 
 -- what a job is, whatever memory its texts lie in
 abbrev pub asked : Job → Asked
-asked j = record { verb = j.verb; file = option_map (λ s. s.now) j.file }
+asked j = record { subcommand = j.subcommand; file = option_map (λ s. s.now) j.file }
 
 -- the command of a name
-abbrev pub verb_of : Text → Verb
-verb_of name = if bytes_eq name (codes "check") then Check
+abbrev pub subcommand_named : Text → Subcommand
+subcommand_named name = if bytes_eq name (codes "check") then Check
     else (if bytes_eq name (codes "list") then ListVerb else Run)
 
 -- what the matches of a command ask for
-abbrev pub asked_of : Verb → List Row → Asked
-asked_of verb rows = record { verb = verb; file = first_of (codes "file") rows }
+abbrev pub asked_of : Subcommand → List Row → Asked
+asked_of subcommand rows = record { subcommand = subcommand; file = first_of (codes "file") rows }
 
 -- where no command is named, a run with no argument
 abbrev pub asked_in : Option (Text × List Row) → Asked
-asked_in found = option_map_or (λ p. asked_of (verb_of p.0) p.1) found (asked_of Run [])
+asked_in found = option_map_or (λ p. asked_of (subcommand_named p.0) p.1) found (asked_of Run [])
 
 -- the words ask for a job: by the law of clap their parse fails for want of memory alone
 abbrev pub HasJob : List Text → Type 0

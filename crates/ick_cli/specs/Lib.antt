@@ -1,7 +1,8 @@
 pub mod Built
 pub mod Ending
 pub mod Job
-pub mod Kept
+pub mod Laws
+pub mod Notice
 pub mod Run
 pub mod Serve
 pub mod Stopped
@@ -10,3 +11,4 @@ pub mod Tool
 pub mod Usage
 pub mod Whole
 pub mod Words
+pub mod Written

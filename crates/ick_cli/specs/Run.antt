@@ -1,5 +1,6 @@
 -- The run of a program over the bodies that are done so far: READ OUT of meshes alone, and GIVE UP.
-use Rattle.std.specs.Prelude.{◌+◌, ◌-◌, ◌==◌, ◌&&◌, ◌||◌, ◌++◌, ℕ, zero, suc, Bool, true, false, List, [], Option, Some, None, if◌then◌else◌, length, nat_lt, slice_get}
+use Rattle.std.specs.Prelude.{◌+◌, ◌-◌, ◌==◌, ◌&&◌, ◌||◌, ◌++◌, if◌then◌else◌, length, nat_lt, slice_get}
+use Rattle.std.specs.Prelude.{ℕ, zero, suc, Bool, true, false, List, [], Option, Some, None}
 use Rattle.std.specs.List.{flat_map, list_all}
 use Rattle.ick_bits.specs.Numeral.{numeral_of, printed}
 use Rattle.ick_bits.specs.declared.faults.FaultKind.{FaultKind}
@@ -40,7 +41,8 @@ body_output _ = []
 
 abbrev pub body_end : ℕ → List ℕ → Option BodyTree → Option End
 body_end place text (Some give_up) = Some gave_up
-body_end place text (Some (read_out items)) = if list_all is_mesh items then None else Some (fault kind.Unrecognised place text)
+body_end place text (Some (read_out items)) =
+    if list_all is_mesh items then None else Some (fault kind.Unrecognised place text)
 body_end place text _ = Some (fault kind.Unrecognised place text)
 
 -- a statement that is passed over, whatever is chosen, and one that asks for a choice

@@ -1,27 +1,53 @@
 -- What a whole call of the program leaves.
-use Rattle.std.specs.Prelude.{◌≡◌, ◌≢◌, ◌<◌, ◌≤◌, ◌++◌, ◌⊎◌, ℕ, Bool, true, List, take}
-use Rattle.ick_cli.specs.Tool.{Answer, line_text}
-use Rattle.ick_cli.specs.declared.ending.Line.TheVariants as line
+use Rattle.std.specs.Prelude.{◌≡◌, ◌+◌, ◌<◌, ◌≤◌, ◌++◌, ◌⊎◌, ℕ, Bool, true, List, take}
+use Rattle.ick_cli.specs.Notice.{notice_text}
+use Rattle.ick_cli.specs.Tool.{Answer}
+use Rattle.ick_cli.specs.declared.notice.Notice.TheVariants.{FileNotRead, ReadFailed, WriteFailed, OutOfMemory}
 
-abbrev pub out_of_memory : List ℕ
-out_of_memory = line_text line.OutOfMemory
+-- how many calls of the files, the reader and the writer have failed
+pub record Failures : Type 0 where
+  pub files : ℕ
+  pub reads : ℕ
+  pub writes : ℕ
 
--- An error text was written and the status is the one given; or a beginning of it was written, a
--- write failed, and the status is 4.
-pub record Finishes (told : Bool) (status : ℕ) (text : List ℕ) (failed failed' : ℕ) (errors errors' : List ℕ) (code : ℕ) : Type 0 where
+abbrev pub counts : ℕ → ℕ → ℕ → Failures
+counts files reads writes = record { files = files; reads = reads; writes = writes }
+
+-- one of the statuses of the program
+abbrev pub IsStatus : ℕ → Type 0
+IsStatus code = (code ≤ 4) ⊎ (code ≡ 64)
+
+-- The error text and the status that are due. No device failed, and the status is any but 4; or it is 4, and the text
+-- is the line of the device that failed, once, or that of want of memory, where none failed.
+pub data IsDue (old new : Failures) : List ℕ → ℕ → Type 0 where
+  nothing_failed : (text : List ℕ) (status : ℕ) → new ≡ old → (status ≤ 3) ⊎ (status ≡ 64) → IsDue old new text status
+  file_failed : new ≡ record old { files = old.files + 1 } → IsDue old new (notice_text FileNotRead) 4
+  read_failed : new ≡ record old { reads = old.reads + 1 } → IsDue old new (notice_text ReadFailed) 4
+  write_failed : new ≡ record old { writes = old.writes + 1 } → IsDue old new (notice_text WriteFailed) 4
+  memory_failed : new ≡ old → IsDue old new (notice_text OutOfMemory) 4
+
+-- The error text and the status that are due to a job that has this answer, behind what was written. They are the
+-- answer's, and all of its output is written; or reader, writer or memory failed, and a beginning of it is.
+pub data IsServed (answer : Answer) (old new : Failures) (before after : List ℕ) : List ℕ → ℕ → Type 0 where
+  answered : new.reads ≡ old.reads → new.writes ≡ old.writes → after ≡ before ++ answer.output
+      → IsServed answer old new before after answer.errors answer.status
+  cut_by_read : (n : ℕ) → new ≡ record old { reads = old.reads + 1 } → after ≡ before ++ take n answer.output
+      → IsServed answer old new before after (notice_text ReadFailed) 4
+  cut_by_write : (n : ℕ) → new ≡ record old { writes = old.writes + 1 } → after ≡ before ++ take n answer.output
+      → IsServed answer old new before after (notice_text WriteFailed) 4
+  cut_by_memory : (n : ℕ) → new ≡ old → after ≡ before ++ take n answer.output
+      → IsServed answer old new before after (notice_text OutOfMemory) 4
+
+-- The text was written behind what stood on the error stream, and the status is the one given; or a beginning of the
+-- text was, a write of it failed, and the status is 4.
+pub record Finishes (told : Bool) (status : ℕ) (text : List ℕ)
+    (failed failed' : ℕ) (errors errors' : List ℕ) (code : ℕ) : Type 0 where
   pub grows : failed ≤ failed'
   pub whole : failed' ≡ failed → (code ≡ status) × (told ≡ true → errors' ≡ errors ++ text)
   pub fault : failed < failed' → code ≡ 4
   pub beginning : told ≡ true → (n : ℕ) × (errors' ≡ errors ++ take n text)
 
--- What an answer comes to: what went out is a beginning of its output; where no count of failures
--- rose and memory didn't run out, all is the answer's; else the status is 4.
-pub record Serves (answer : Answer) (failed failed' : ℕ) (output output' errors errors' : List ℕ) (code : ℕ) : Type 0 where
-  pub beginning : (n : ℕ) × (output' ≡ output ++ take n answer.output)
-  pub exact : failed' ≡ failed → errors' ≢ errors ++ out_of_memory
-      → (output' ≡ output ++ answer.output) × (errors' ≡ errors ++ answer.errors) × (code ≡ answer.status)
-  pub fault : (failed < failed') ⊎ (errors' ≡ errors ++ out_of_memory) → code ≡ 4
-
--- one of the statuses of the program
-abbrev pub IsStatus : ℕ → Type 0
-IsStatus code = (code ≤ 4) ⊎ (code ≡ 64)
+-- an error text and a status that are due were finished so
+abbrev pub FinishesDue : (List ℕ → ℕ → Type 0) → Bool → ℕ → ℕ → List ℕ → List ℕ → ℕ → Type 0
+FinishesDue Due told failed failed' errors errors' code =
+    (text : List ℕ) × (status : ℕ) × Due text status × Finishes told status text failed failed' errors errors' code

@@ -1,9 +1,9 @@
 -- What a run that was made stands for.
 use Rattle.ick_bits.specs.declared.faults.Fault.{Fault}
 use Rattle.ick_cli.specs.Run.{End, gave_up, fault, Stop as StopTree, at_end, at_choice, Ran as RanTree}
-use Rattle.ick_cli.specs.declared.run.Ran.{Ran}
-use Rattle.ick_cli.specs.declared.run.Stop.{Stop}
-use Rattle.ick_cli.specs.declared.run.Stop.TheVariants.{GaveUp, Faulted, Wants}
+use Rattle.ick_cli.specs.declared.execution.Ran.{Ran}
+use Rattle.ick_cli.specs.declared.execution.Stop.{Stop}
+use Rattle.ick_cli.specs.declared.execution.Stop.TheVariants.{GaveUp, Faulted, Wants}
 
 abbrev pub fault_of : Fault → End
 fault_of f = fault f.kind f.statement f.subject.now

@@ -7,18 +7,10 @@ use Rattle.ick_source.specs.StatementTree.{StatementTree}
 use Rattle.ick_source.specs.Refusals.{Compiles, IsRefused, longest}
 use Rattle.ick_cli.specs.Run.{End, Ran, Stop, at_choice, at_end, at_limit, fault, gave_up, run_of}
 use Rattle.ick_cli.specs.Summary.{summary}
-use Rattle.ick_cli.specs.declared.ending.Line.{Line}
-use Rattle.ick_cli.specs.declared.ending.Line.TheVariants as line
-use Rattle.ick_cli.specs.declared.words.job.Verb.{Verb}
-use Rattle.ick_cli.specs.declared.words.job.Verb.TheVariants.{Check, List as ListVerb, Run}
-
--- the lines of error texts, each with its line end
-abbrev pub line_text : Line → List ℕ
-line_text line.SourceTooLong = codes "SOURCE TOO LONG\n"
-line_text line.FileNotRead = codes "FILE NOT READ\n"
-line_text line.ReadFailed = codes "READ FAILED\n"
-line_text line.WriteFailed = codes "WRITE FAILED\n"
-line_text line.OutOfMemory = codes "OUT OF MEMORY\n"
+use Rattle.ick_cli.specs.Notice.{notice_text}
+use Rattle.ick_cli.specs.declared.notice.Notice.TheVariants as notice
+use Rattle.ick_cli.specs.declared.words.job.Subcommand.{Subcommand}
+use Rattle.ick_cli.specs.declared.words.job.Subcommand.TheVariants.{Check, List as ListVerb, Run}
 
 -- output, error text and status
 pub record Answer : Type 0 where
@@ -62,18 +54,22 @@ unfoldable pub usual_limit : ℕ
 usual_limit = 1000000
 
 -- the answer to a program: it is counted, listed or run
-abbrev pub program_answer : Verb → List StatementTree → Answer
+abbrev pub program_answer : Subcommand → List StatementTree → Answer
 program_answer Check trees = shown (summary trees)
 program_answer ListVerb trees = shown (listing trees)
 program_answer Run trees = run_answer (run_of trees usual_limit)
 
 -- the answer to a source: it is too long, or it is refused, or it compiles to a program
-pub data IsSourceAnswer (verb : Verb) (source : List ℕ) : Answer → Type 0 where
-  too_long : longest < length source → IsSourceAnswer verb source (refusal 2 (line_text line.SourceTooLong))
-  refused : (kind : FaultKind) (n : ℕ) → IsRefused source kind n → IsSourceAnswer verb source (refusal 2 (message_of kind n []))
-  compiled : (trees : List StatementTree) → Compiles source trees → IsSourceAnswer verb source (program_answer verb trees)
+pub data IsSourceAnswer (subcommand : Subcommand) (source : List ℕ) : Answer → Type 0 where
+  too_long : longest < length source
+      → IsSourceAnswer subcommand source (refusal 2 (notice_text notice.SourceTooLong))
+  refused : (kind : FaultKind) (n : ℕ) → IsRefused source kind n
+      → IsSourceAnswer subcommand source (refusal 2 (message_of kind n []))
+  compiled : (trees : List StatementTree) → Compiles source trees
+      → IsSourceAnswer subcommand source (program_answer subcommand trees)
 
 -- the answer to a job, whose source is none where the file did not open or a read of it failed
-pub data IsToolAnswer (verb : Verb) : Option (List ℕ) → Answer → Type 0 where
-  not_read : IsToolAnswer verb None (refusal 4 (line_text line.FileNotRead))
-  read : (source : List ℕ) (answer : Answer) → IsSourceAnswer verb source answer → IsToolAnswer verb (Some source) answer
+pub data IsToolAnswer (subcommand : Subcommand) : Option (List ℕ) → Answer → Type 0 where
+  not_read : IsToolAnswer subcommand None (refusal 4 (notice_text notice.FileNotRead))
+  read : (source : List ℕ) (answer : Answer) → IsSourceAnswer subcommand source answer
+      → IsToolAnswer subcommand (Some source) answer

@@ -1,9 +1,13 @@
 -- What words leave that ask for no job.
-use Rattle.std.specs.Prelude.{◌≡◌, ◌≢◌, ◌<◌, ◌≤◌, ◌++◌, ◌⊎◌, ℕ, Bool, true, List, [], ◌∷◌}
+use Rattle.std.specs.Prelude.{◌≡◌, ◌≢◌, ◌+◌, ◌++◌, ◌⊎◌, ℕ, Bool, true, List, [], ◌∷◌, take}
 use Rattle.clap.specs.Words.{Kinds}
 use Rattle.clap.specs.declared.error.ErrorKind.{ErrorKind}
 use Rattle.clap.specs.declared.error.ErrorKind.TheVariants as kind
-use Rattle.ick_cli.specs.Serve.{out_of_memory}
+use Rattle.ick_cli.specs.Notice.{notice_text}
+use Rattle.ick_cli.specs.declared.driver.WordsFault.{WordsFault}
+use Rattle.ick_cli.specs.declared.driver.WordsFault.TheVariants.{NoMemory, NotText}
+use Rattle.ick_cli.specs.declared.notice.Notice.{Notice}
+use Rattle.ick_cli.specs.declared.notice.Notice.TheVariants.{WriteFailed, OutOfMemory, WordsNotRead}
 
 -- a request for help, and a mistake in the words
 abbrev pub IsRequest : ErrorKind → Type 0
@@ -24,17 +28,26 @@ AreMistakes kinds = (kinds ≢ []) × EachIs IsMistake kinds
 abbrev pub AreRequests : Kinds → Type 0
 AreRequests kinds = (kinds ≢ []) × EachIs IsRequest kinds
 
--- status 64, or want of memory, or the error text wasn't written
-pub record Refuses (told : Bool) (failed failed' : ℕ) (errors errors' : List ℕ) (code : ℕ) : Type 0 where
-  pub grows : failed ≤ failed'
-  pub whole : failed' ≡ failed → (code ≡ 64) ⊎ ((code ≡ 4) × (told ≡ true → errors' ≡ errors ++ out_of_memory))
-  pub fault : failed < failed' → code ≡ 4
+-- what is due to a mistake: a text of clap, with status 64; or memory ran out
+pub data IsRefused : List ℕ → ℕ → Type 0 where
+  refused : (text : List ℕ) → IsRefused text 64
+  refused_without_memory : IsRefused (notice_text OutOfMemory) 4
 
--- A text went out behind what was written, and status 0 with no error text; or want of memory, or a
--- write failed, with status 4.
-pub record Helps (told told_errors : Bool) (wrote wrote' failed failed' : ℕ) (output output' errors errors' : List ℕ) (code : ℕ) : Type 0 where
-  pub grows : (wrote ≤ wrote') × (failed ≤ failed')
-  pub whole : wrote' ≡ wrote → failed' ≡ failed
-      → ((code ≡ 0) × (errors' ≡ errors)) ⊎ ((code ≡ 4) × (told_errors ≡ true → errors' ≡ errors ++ out_of_memory))
-  pub fault : (wrote < wrote') ⊎ (failed < failed') → code ≡ 4
-  pub appends : told ≡ true → (text : List ℕ) × (output' ≡ output ++ text)
+-- What is due to a request for help, behind what was written: a text of clap is written, and nothing is said; or the
+-- writer failed, once, and a beginning of the text is written; or memory ran out, and nothing is.
+pub data IsHelped (told : Bool) (failed failed' : ℕ) (before after : List ℕ) : List ℕ → ℕ → Type 0 where
+  helped : (text : List ℕ) → failed' ≡ failed → (told ≡ true → after ≡ before ++ text)
+      → IsHelped told failed failed' before after [] 0
+  help_cut : (text : List ℕ) → failed' ≡ failed + 1 → (told ≡ true → (n : ℕ) × (after ≡ before ++ take n text))
+      → IsHelped told failed failed' before after (notice_text WriteFailed) 4
+  help_without_memory : failed' ≡ failed → after ≡ before
+      → IsHelped told failed failed' before after (notice_text OutOfMemory) 4
+
+-- what is due where the words can't be had
+abbrev pub words_notice : WordsFault → Notice
+words_notice NoMemory = OutOfMemory
+words_notice NotText = WordsNotRead
+
+abbrev pub words_status : WordsFault → ℕ
+words_status NoMemory = 4
+words_status NotText = 64

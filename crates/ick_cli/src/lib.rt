@@ -1,26 +1,41 @@
-//! The command line: `serve` does the job that words ask for, over devices that the caller hands in.
+//! The command line: `serve` does the job that words ask for, over devices that the caller hands
+//! in.
 //!
 //! - `devices`: sources, sinks and files, and the loops over them
 //! - `words`: the commands and arguments, and the job that words ask for
-//! - `summary`: the line of a program that is checked
-//! - `run`: the run of a program
-//! - `stopped`: the status and the error text of a run that has stopped
+//! - `notice`: what is said on the error stream
 //! - `ending`: how the work of a job ends
-//! - `work`: the work of a job, in its order
-//! - `front`: the whole, from the words to the status
+//! - `output`: the output of an answer
+//! - `execution`: the run of a program
+//! - `stopped`: the status and the error text of a run that has stopped
+//! - `commands`: what each command does with a program
+//! - `dispatch`: from a job to its command
+//! - `status`: the exit status
+//! - `report`: the error text and the status at the end of a call
+//! - `usage`: the answer to words that ask for no job
+//! - `driver`: the whole, from the words to the status
+//! - `laws`: what holds of each job
 #![tactic(auto)]
 
+mod commands;
 mod devices;
+mod dispatch;
+mod driver;
 mod ending;
-mod front;
-mod run;
+mod execution;
+mod laws;
+mod notice;
+mod output;
+mod report;
+mod status;
 mod stopped;
-mod summary;
+mod usage;
 mod words;
-mod work;
 
 pub use devices::{ByteSink, ByteSource, DeviceFault, Files, SliceSource, VecSink, write_whole};
-pub use front::{Status, serve};
+pub use driver::{WordsFault, refuse_words, serve};
+pub use laws::one_answer;
+pub use status::Status;
 
 #[cfg(test)]
 mod tests;

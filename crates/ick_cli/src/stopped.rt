@@ -6,8 +6,8 @@ ghost use Rattle.ick_cli.specs.Run.{at_choice};
 ghost use Rattle.ick_cli.specs.Stopped.{stop_of};
 ghost use Rattle.ick_cli.specs.Tool.{stop_status, stop_text};
 
-use crate::ending::Message;
-use crate::run::Stop;
+use crate::execution::Stop;
+use crate::notice::Message;
 use ick_bits::{Fault, NoMemory, append_decimal, append_message};
 use std::alloc::Global;
 

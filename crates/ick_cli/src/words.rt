@@ -2,6 +2,7 @@
 
 mod arguments;
 mod command;
+mod help;
 mod job;
 
-pub use job::{Job, Verb, read_job};
+pub use job::{Job, Subcommand, read_job};

@@ -13,6 +13,8 @@ pub trait Files: ByteSource {
     /// raises the count of failures by one; an `Ok` leaves it.
     fn open_named(&mut self, name: &str) -> Result<(), DeviceFault>
         requires { Self.failed self.old + 1 < 2 ^ 64 }
-        ensures count { Self.failed self.new ≡ Self.failed self.old + (if is_ok result then 0 else 1) }
-        ensures opened { Self.told ≡ true → IfOk result (λ _. Self.left self.new ≡ named self.old name.now) };
+        ensures count { Self.failed self.new
+            ≡ Self.failed self.old + (if is_ok result then 0 else 1) }
+        ensures opened { Self.told ≡ true → IfOk result (λ _.
+            Self.left self.new ≡ named self.old name.now) };
 }

@@ -59,16 +59,16 @@ impl ByteSource for SliceSource<'_> {
 /// A sink that keeps what is written. It has failed where it couldn't grow.
 #[derive(Drop)]
 pub struct VecSink {
-    kept: Vec<u8>,
+    written: Vec<u8>,
     failures: u64,
 }
 
 impl Model for VecSink {
-    ghost use Rattle.ick_cli.specs.Kept.{Kept};
+    ghost use Rattle.ick_cli.specs.Written.{Written};
 
-    ghost Value = { Kept };
+    ghost Value = { Written };
 
-    ghost view = { λ s. record { bytes = s.kept.items; failures = s.failures } };
+    ghost view = { λ s. record { bytes = s.written.items; failures = s.failures } };
 }
 
 impl VecSink {
@@ -77,7 +77,7 @@ impl VecSink {
         ensures { result ≡ record { bytes = []; failures = 0 } }
     {
         VecSink {
-            kept: Vec::new(alloc),
+            written: Vec::new(alloc),
             failures: 0,
         }
     }
@@ -86,7 +86,7 @@ impl VecSink {
     pub fn bytes(&self) -> &[u8]
         ensures { result.now ≡ self.now.bytes }
     {
-        self.kept.as_slice()
+        self.written.as_slice()
     }
 }
 
@@ -102,7 +102,7 @@ impl ByteSink for VecSink {
     }
 
     fn write(&mut self, text: &[u8]) -> Result<usize, DeviceFault> {
-        match self.kept.extend_from_slice(text) {
+        match self.written.extend_from_slice(text) {
             Ok(()) => Ok(text.len()),
             Err(_) => {
                 self.failures += 1;

@@ -26,8 +26,10 @@ pub fn read_first<R: ByteSource>(
     requires { R.failed source.old + 1 < 2 ^ 64 }
     ensures count { R.failed source.new ≡ R.failed source.old + read_failures result }
     ensures fits { IfOk result (λ text. length text.items ≤ most) }
-    ensures front { R.told ≡ true → IfOk result (λ text. text.items ≡ take most (R.left source.old)) }
-    ensures rest { R.told ≡ true → IfOk result (λ _. R.left source.new ≡ drop most (R.left source.old)) }
+    ensures front { R.told ≡ true → IfOk result (λ text.
+        text.items ≡ take most (R.left source.old)) }
+    ensures rest { R.told ≡ true → IfOk result (λ _.
+        R.left source.new ≡ drop most (R.left source.old)) }
 {
     let mut text = Vec::new(alloc);
     let mut block = [0; BLOCK];
@@ -53,7 +55,8 @@ pub fn write_whole<W: ByteSink>(sink: &mut W, text: &[u8]) -> Result<(), DeviceF
     ensures count { W.failed sink.new ≡ W.failed sink.old + (if is_ok result then 0 else 1) }
     ensures beginning { W.told ≡ true → (n : ℕ) × (n ≤ length text.now)
         × (W.written sink.new ≡ W.written sink.old ++ take n text.now) }
-    ensures all { W.told ≡ true → OnOk result (W.written sink.new ≡ W.written sink.old ++ text.now) }
+    ensures all { W.told ≡ true
+        → OnOk result (W.written sink.new ≡ W.written sink.old ++ text.now) }
 {
     let mut at = 0;
     while at < text.len() {

@@ -47,7 +47,13 @@ fn checks_sources(rt: HostRuntime) {
             code: 0,
         },
         Row {
-            source: b"DO GIVE UP\nDO GIVE UP\nDO GIVE UP\nDO GIVE UP\nPLEASE GIVE UP\nPLEASE GIVE UP\n",
+            source: b"DO GIVE UP
+DO GIVE UP
+DO GIVE UP
+DO GIVE UP
+PLEASE GIVE UP
+PLEASE GIVE UP
+",
             output: b"6 STATEMENTS, 2 POLITE\n",
             error_text: b"",
             code: 0,
@@ -55,85 +61,127 @@ fn checks_sources(rt: HostRuntime) {
         Row {
             source: b"DO GIVE UP\nDO GIVE UP\nDO GIVE UP\nDO GIVE UP\nDO GIVE UP\n",
             output: b"",
-            error_text: b"ICL079I PROGRAMMER IS INSUFFICIENTLY POLITE\n        ON THE WAY TO 6\n        CORRECT SOURCE AND RESUBNIT\n",
+            error_text: b"ICL079I PROGRAMMER IS INSUFFICIENTLY POLITE
+        ON THE WAY TO 6
+        CORRECT SOURCE AND RESUBNIT
+",
             code: 2,
         },
         Row {
             source: b"PLEASE GIVE UP\nPLEASE GIVE UP\nDO GIVE UP\nDO GIVE UP\nDO GIVE UP\n",
             output: b"",
-            error_text: b"ICL099I PROGRAMMER IS OVERLY POLITE\n        ON THE WAY TO 6\n        CORRECT SOURCE AND RESUBNIT\n",
+            error_text: b"ICL099I PROGRAMMER IS OVERLY POLITE
+        ON THE WAY TO 6
+        CORRECT SOURCE AND RESUBNIT
+",
             code: 2,
         },
         Row {
             source: b"PLEASE GIVE UP\nPLEASE GIVE UP\nDO GIVE UP\n",
             output: b"",
-            error_text: b"ICL099I PROGRAMMER IS OVERLY POLITE\n        ON THE WAY TO 4\n        CORRECT SOURCE AND RESUBNIT\n",
+            error_text: b"ICL099I PROGRAMMER IS OVERLY POLITE
+        ON THE WAY TO 4
+        CORRECT SOURCE AND RESUBNIT
+",
             code: 2,
         },
         Row {
             source: b"DO .70000 <- #1\nPLEASE READ OUT #70000\n",
             output: b"",
-            error_text: b"ICL017I DO YOU EXPECT ME TO FIGURE THIS OUT?\n        ON THE WAY TO 3\n        CORRECT SOURCE AND RESUBNIT\n",
+            error_text: b"ICL017I DO YOU EXPECT ME TO FIGURE THIS OUT?
+        ON THE WAY TO 3
+        CORRECT SOURCE AND RESUBNIT
+",
             code: 2,
         },
         Row {
             source: b"(7) DO GIVE UP\n(007) PLEASE GIVE UP\n",
             output: b"",
-            error_text: b"ICL182I YOU MUST LIKE THIS LABEL A LOT!\n        ON THE WAY TO 3\n        CORRECT SOURCE AND RESUBNIT\n",
+            error_text: b"ICL182I YOU MUST LIKE THIS LABEL A LOT!
+        ON THE WAY TO 3
+        CORRECT SOURCE AND RESUBNIT
+",
             code: 2,
         },
         Row {
             source: b"(1) DO (9) NEXT\n(1) DO ABSTAIN FROM (8)\n",
             output: b"",
-            error_text: b"ICL182I YOU MUST LIKE THIS LABEL A LOT!\n        ON THE WAY TO 3\n        CORRECT SOURCE AND RESUBNIT\n",
+            error_text: b"ICL182I YOU MUST LIKE THIS LABEL A LOT!
+        ON THE WAY TO 3
+        CORRECT SOURCE AND RESUBNIT
+",
             code: 2,
         },
         Row {
             source: b"(99999999999999999999999) DO GIVE UP\n",
             output: b"",
-            error_text: b"ICL197I SO! 65535 LABELS AREN'T ENOUGH FOR YOU?\n        ON THE WAY TO 2\n        CORRECT SOURCE AND RESUBNIT\n",
+            error_text: b"ICL197I SO! 65535 LABELS AREN'T ENOUGH FOR YOU?
+        ON THE WAY TO 2
+        CORRECT SOURCE AND RESUBNIT
+",
             code: 2,
         },
         Row {
             source: b"DO (7) NEXT\n",
             output: b"",
-            error_text: b"ICL129I PROGRAM HAS GOTTEN LOST\n        ON THE WAY TO 2\n        CORRECT SOURCE AND RESUBNIT\n",
+            error_text: b"ICL129I PROGRAM HAS GOTTEN LOST
+        ON THE WAY TO 2
+        CORRECT SOURCE AND RESUBNIT
+",
             code: 2,
         },
         Row {
             source: b"DO ABSTAIN FROM (8)\nDO (9) NEXT\n",
             output: b"",
-            error_text: b"ICL129I PROGRAM HAS GOTTEN LOST\n        ON THE WAY TO 3\n        CORRECT SOURCE AND RESUBNIT\n",
+            error_text: b"ICL129I PROGRAM HAS GOTTEN LOST
+        ON THE WAY TO 3
+        CORRECT SOURCE AND RESUBNIT
+",
             code: 2,
         },
         Row {
             source: b"DO ABSTAIN FROM (8)\nPLEASE GIVE UP\n",
             output: b"",
-            error_text: b"ICL139I I WASN'T PLANNING TO GO THERE ANYWAY\n        ON THE WAY TO 2\n        CORRECT SOURCE AND RESUBNIT\n",
+            error_text: b"ICL139I I WASN'T PLANNING TO GO THERE ANYWAY
+        ON THE WAY TO 2
+        CORRECT SOURCE AND RESUBNIT
+",
             code: 2,
         },
         Row {
             source: b"DO REINSTATE (8)\n",
             output: b"",
-            error_text: b"ICL139I I WASN'T PLANNING TO GO THERE ANYWAY\n        ON THE WAY TO 2\n        CORRECT SOURCE AND RESUBNIT\n",
+            error_text: b"ICL139I I WASN'T PLANNING TO GO THERE ANYWAY
+        ON THE WAY TO 2
+        CORRECT SOURCE AND RESUBNIT
+",
             code: 2,
         },
         Row {
             source: b"DO .0 <- #70000\n",
             output: b"",
-            error_text: b"ICL017I DO YOU EXPECT ME TO FIGURE THIS OUT?\n        ON THE WAY TO 2\n        CORRECT SOURCE AND RESUBNIT\n",
+            error_text: b"ICL017I DO YOU EXPECT ME TO FIGURE THIS OUT?
+        ON THE WAY TO 2
+        CORRECT SOURCE AND RESUBNIT
+",
             code: 2,
         },
         Row {
             source: b"(70000) DO .0 <- #1\n",
             output: b"",
-            error_text: b"ICL200I NOTHING VENTURED, NOTHING GAINED\n        ON THE WAY TO 2\n        CORRECT SOURCE AND RESUBNIT\n",
+            error_text: b"ICL200I NOTHING VENTURED, NOTHING GAINED
+        ON THE WAY TO 2
+        CORRECT SOURCE AND RESUBNIT
+",
             code: 2,
         },
         Row {
             source: b"DO (0) NEXT\n",
             output: b"",
-            error_text: b"ICL197I SO! 65535 LABELS AREN'T ENOUGH FOR YOU?\n        ON THE WAY TO 2\n        CORRECT SOURCE AND RESUBNIT\n",
+            error_text: b"ICL197I SO! 65535 LABELS AREN'T ENOUGH FOR YOU?
+        ON THE WAY TO 2
+        CORRECT SOURCE AND RESUBNIT
+",
             code: 2,
         },
     ] {

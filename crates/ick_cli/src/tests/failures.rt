@@ -1,176 +1,175 @@
 //! Devices that fail.
-use super::fakes::{ALWAYS, NamedFile, Shelf, WornSink, WornSource};
-use super::table::PRINTS_ONE;
-use crate::{SliceSource, VecSink, serve};
+use super::table::{ALWAYS, AMPLE, Call, ONE_NUMERAL, Row, left_by};
 use std::alloc::Global;
 use std::process::Abort;
 
-#[test]
-fn files_fail(rt: HostRuntime) {
-    for words in [
-        ["check", "g"].as_slice(),
-        ["list", "g"].as_slice(),
-        ["run", "g"].as_slice(),
-    ] {
-        assert_not_read(&rt, rt.alloc(), words, ALWAYS);
-    }
-    for words in [
-        ["check", "f"].as_slice(),
-        ["list", "f"].as_slice(),
-        ["run", "f"].as_slice(),
-    ] {
-        assert_not_read(&rt, rt.alloc(), words, 0);
-        assert_not_read(&rt, rt.alloc(), words, 1);
-    }
-}
-
-// The file of the words is not read, of whose reads so many are good.
-fn assert_not_read(rt: &impl Abort, alloc: Global, words: &[&str], good: u32) {
-    let mut files = Shelf {
-        files: &[NamedFile {
-            name: "f",
-            bytes: PRINTS_ONE,
-        }],
-        rest: b"",
-        good,
-        failures: 0,
-    };
-    let mut reader = SliceSource::new(b"");
-    let mut writer = VecSink::new(alloc);
-    let mut errors = VecSink::new(alloc);
-    let status = serve(
-        alloc,
-        words,
-        &mut files,
-        &mut reader,
-        &mut writer,
-        &mut errors,
-    );
-    assert!(rt; status.code() == 4, "status of {words:?}");
-    assert!(rt; writer.bytes().is_empty(), "output of {words:?}");
+// A call over the source of one numeral leaves what the row says.
+fn assert_left(rt: &impl Abort, alloc: Global, call: &Call<'_>, row: &Row<'_>) {
+    let words = call.words;
+    let left = left_by(alloc, call);
+    assert!(rt; left.code == row.code, "status of {words:?}");
+    assert!(rt; left.output.as_slice() == row.output, "output of {words:?}");
     assert!(rt;
-        errors.bytes() == b"FILE NOT READ\n".as_slice(),
+        left.error_text.as_slice() == row.error_text,
         "error text of {words:?}"
     );
 }
 
-// A command, how many reads and how many bytes of each sink are good, and what it leaves.
-#[derive(Clone, Copy)]
-struct Worn<'a> {
-    verb: &'a str,
-    reads: u32,
-    writer_room: usize,
-    errors_room: usize,
-    output: &'a [u8],
-    error_text: &'a [u8],
-    code: u8,
-}
-
-// The command leaves this over the source of one numeral.
-fn assert_worn(rt: &impl Abort, alloc: Global, worn: &Worn<'_>) {
-    let mut files = Shelf {
-        files: &[],
-        rest: b"",
-        good: ALWAYS,
-        failures: 0,
+#[test]
+fn files_fail(rt: HostRuntime) {
+    let not_read = Row {
+        source: ONE_NUMERAL,
+        output: b"",
+        error_text: b"FILE NOT READ\n",
+        code: 4,
     };
-    let mut reader = WornSource {
-        rest: PRINTS_ONE,
-        good: worn.reads,
-        failures: 0,
-    };
-    let mut writer = WornSink {
-        bytes: Vec::new(alloc),
-        room: worn.writer_room,
-        failures: 0,
-    };
-    let mut errors = WornSink {
-        bytes: Vec::new(alloc),
-        room: worn.errors_room,
-        failures: 0,
-    };
-    let status = serve(
-        alloc,
-        &[worn.verb],
-        &mut files,
-        &mut reader,
-        &mut writer,
-        &mut errors,
-    );
-    assert!(rt; status.code() == worn.code, "status of {}", worn.verb);
-    assert!(rt;
-        writer.bytes.as_slice() == worn.output,
-        "output of {}",
-        worn.verb
-    );
-    assert!(rt;
-        errors.bytes.as_slice() == worn.error_text,
-        "error text of {}",
-        worn.verb
-    );
+    for (words, reads) in [
+        (["check", "g"].as_slice(), ALWAYS),
+        (["list", "g"].as_slice(), ALWAYS),
+        (["run", "g"].as_slice(), ALWAYS),
+        (["check", "f"].as_slice(), 0),
+        (["list", "f"].as_slice(), 0),
+        (["run", "f"].as_slice(), 0),
+        (["check", "f"].as_slice(), 1),
+        (["list", "f"].as_slice(), 1),
+        (["run", "f"].as_slice(), 1),
+    ] {
+        let call = Call {
+            words,
+            source: ONE_NUMERAL,
+            more: 0,
+            reads,
+            writer_room: AMPLE,
+            errors_room: AMPLE,
+        };
+        assert_left(&rt, rt.alloc(), &call, &not_read);
+    }
 }
 
 #[test]
-fn streams_fail(rt: HostRuntime) {
-    for verb in ["check", "list", "run"] {
-        let read_failed = Worn {
-            verb,
+fn files_are_opened_once(rt: HostRuntime) {
+    for (words, opened, unread) in [
+        (["check", "f"].as_slice(), 1, ONE_NUMERAL.len()),
+        (["list", "f"].as_slice(), 1, ONE_NUMERAL.len()),
+        (["run", "f"].as_slice(), 1, ONE_NUMERAL.len()),
+        (["check"].as_slice(), 0, 0),
+        (["list"].as_slice(), 0, 0),
+        (["run"].as_slice(), 0, 0),
+        (["run", "--help"].as_slice(), 0, ONE_NUMERAL.len()),
+        (["run", "f", "g"].as_slice(), 0, ONE_NUMERAL.len()),
+    ] {
+        let call = Call {
+            words,
+            source: ONE_NUMERAL,
+            more: 0,
+            reads: ALWAYS,
+            writer_room: AMPLE,
+            errors_room: AMPLE,
+        };
+        let left = left_by(rt.alloc(), &call);
+        assert!(rt; left.opened == opened, "files of {words:?}");
+        assert!(rt; left.unread == unread, "reader of {words:?}");
+    }
+}
+
+#[test]
+fn reads_fail(rt: HostRuntime) {
+    for word in ["check", "list", "run"] {
+        let worn = Call {
+            words: &[word],
+            source: ONE_NUMERAL,
+            more: 0,
             reads: 2,
-            writer_room: 100,
-            errors_room: 100,
+            writer_room: AMPLE,
+            errors_room: AMPLE,
+        };
+        let read_failed = Row {
+            source: ONE_NUMERAL,
             output: b"",
             error_text: b"READ FAILED\n",
             code: 4,
         };
-        assert_worn(&rt, rt.alloc(), &read_failed);
-        let unsaid = Worn {
+        assert_left(&rt, rt.alloc(), &worn, &read_failed);
+        let unsaid = Call {
             errors_room: 5,
+            ..worn
+        };
+        let cut = Row {
             error_text: b"READ ",
             ..read_failed
         };
-        assert_worn(&rt, rt.alloc(), &unsaid);
-        let nothing_written = Worn {
-            reads: ALWAYS,
-            writer_room: 0,
-            errors_room: 0,
-            error_text: b"",
-            ..read_failed
-        };
-        assert_worn(&rt, rt.alloc(), &nothing_written);
+        assert_left(&rt, rt.alloc(), &unsaid, &cut);
     }
 }
 
 #[test]
 fn writes_fail(rt: HostRuntime) {
-    for (verb, text) in [
+    for (word, text) in [
         ("check", b"2 STATEMENTS, 1 POLITE\n".as_slice()),
         (
             "list",
-            b"1 - DO - 100 READ-OUT \"DO READ OUT #1\"\n2 - PLEASE - 100 GIVE-UP \"PLEASE GIVE UP\"\n",
+            b"1 - DO - 100 READ-OUT \"DO READ OUT #1\"
+2 - PLEASE - 100 GIVE-UP \"PLEASE GIVE UP\"
+",
         ),
         ("run", b"\nI\n"),
     ] {
-        for room in 0..text.len() {
-            let short = Worn {
-                verb,
-                reads: ALWAYS,
-                writer_room: room,
-                errors_room: 100,
-                output: &text[..room],
-                error_text: b"WRITE FAILED\n",
-                code: 4,
-            };
-            assert_worn(&rt, rt.alloc(), &short);
-        }
-        let whole = Worn {
-            verb,
+        let whole = Call {
+            words: &[word],
+            source: ONE_NUMERAL,
+            more: 0,
             reads: ALWAYS,
             writer_room: text.len(),
             errors_room: 0,
+        };
+        let written = Row {
+            source: ONE_NUMERAL,
             output: text,
             error_text: b"",
             code: 0,
         };
-        assert_worn(&rt, rt.alloc(), &whole);
+        assert_left(&rt, rt.alloc(), &whole, &written);
+        for room in 0..text.len() {
+            let short = Call {
+                writer_room: room,
+                errors_room: AMPLE,
+                ..whole
+            };
+            let cut = Row {
+                output: &text[..room],
+                error_text: b"WRITE FAILED\n",
+                code: 4,
+                ..written
+            };
+            assert_left(&rt, rt.alloc(), &short, &cut);
+            let unsaid = Call {
+                errors_room: 0,
+                ..short
+            };
+            let silent = Row {
+                error_text: b"",
+                ..cut
+            };
+            assert_left(&rt, rt.alloc(), &unsaid, &silent);
+        }
     }
+}
+
+#[test]
+fn help_fails(rt: HostRuntime) {
+    let short = Call {
+        words: &["--help"],
+        source: b"",
+        more: 0,
+        reads: ALWAYS,
+        writer_room: 6,
+        errors_room: AMPLE,
+    };
+    let cut = Row {
+        source: b"",
+        output: b"Checks",
+        error_text: b"WRITE FAILED\n",
+        code: 4,
+    };
+    assert_left(&rt, rt.alloc(), &short, &cut);
 }

@@ -5,13 +5,12 @@ ghost use Rattle.std.specs.Str.{bytes_eq};
 
 use crate::{ByteSink, ByteSource, DeviceFault, Files};
 
-/// More calls than any test makes.
-pub const ALWAYS: u32 = 1_000_000;
-
-/// A source that hands out its bytes one a call, and fails once `good` calls were made.
+/// A source that hands out one byte a call and so many `more`, and fails once `good` calls were
+/// made.
 #[derive(Drop)]
 pub struct WornSource<'a> {
     pub rest: &'a [u8],
+    pub more: u16,
     pub good: u32,
     pub failures: u64,
 }
@@ -33,7 +32,11 @@ impl ByteSource for WornSource<'_> {
             return Err(DeviceFault);
         }
         self.good -= 1;
-        let count = self.rest.len().min(target.len()).min(1);
+        let count = self
+            .rest
+            .len()
+            .min(target.len())
+            .min(usize::from(self.more) + 1);
         let (front, rest) = self.rest.split_at(count);
         target[..count].copy_from_slice(front);
         self.rest = rest;
@@ -55,12 +58,14 @@ fn file_named<'a>(files: &'a [NamedFile<'a>], name: &str) -> Option<&'a NamedFil
     files.iter().find(|file| file.name == name)
 }
 
-/// Files by name, whose reads fail once `good` of them were made.
+/// Files by name, whose reads fail once `good` of them were made, and which count how often one was
+/// opened.
 #[derive(Drop)]
 pub struct Shelf<'a> {
     pub files: &'a [NamedFile<'a>],
     pub rest: &'a [u8],
     pub good: u32,
+    pub opened: u32,
     pub failures: u64,
 }
 
@@ -90,12 +95,14 @@ impl ByteSource for Shelf<'_> {
 }
 
 impl Files for Shelf<'_> {
-    ghost named = { λ s name. option_map_or (λ f. f.bytes.now) (find (λ f. bytes_eq f.name.now name) s.files.now) [] };
+    ghost named = { λ s name.
+        option_map_or (λ f. f.bytes.now) (find (λ f. bytes_eq f.name.now name) s.files.now) [] };
 
     fn open_named(&mut self, name: &str) -> Result<(), DeviceFault> {
         match file_named(self.files, name) {
             Some(file) => {
                 self.rest = file.bytes;
+                self.opened = self.opened.saturating_add(1);
                 Ok(())
             }
             None => {

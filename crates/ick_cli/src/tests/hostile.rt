@@ -25,7 +25,7 @@ fn joined(alloc: Global, pieces: &[&[u8]]) -> Result<Vec<u8>, AllocError> {
 #[test]
 fn sources_have_a_longest(rt: HostRuntime) -> Result<(), Fail> {
     let longest = repeated(rt.alloc(), b" ", 1_048_576)?;
-    for (verb, output, error_text, code) in [
+    for (subcommand, output, error_text, code) in [
         (
             "check",
             b"0 STATEMENTS, 0 POLITE\n".as_slice(),
@@ -36,7 +36,10 @@ fn sources_have_a_longest(rt: HostRuntime) -> Result<(), Fail> {
         (
             "run",
             b"",
-            b"ICL633I PROGRAM FELL OFF THE EDGE ON THE WAY TO THE NEW WORLD.\n        ON THE WAY TO 1\n        CORRECT SOURCE AND RESUBNIT\n",
+            b"ICL633I PROGRAM FELL OFF THE EDGE ON THE WAY TO THE NEW WORLD.
+        ON THE WAY TO 1
+        CORRECT SOURCE AND RESUBNIT
+",
             1,
         ),
     ] {
@@ -46,7 +49,7 @@ fn sources_have_a_longest(rt: HostRuntime) -> Result<(), Fail> {
             error_text,
             code,
         };
-        assert_row(&rt, rt.alloc(), &[verb], &row);
+        assert_row(&rt, rt.alloc(), &[subcommand], &row);
     }
     let longer = repeated(rt.alloc(), b" ", 1_048_577)?;
     let row = Row {
@@ -55,9 +58,9 @@ fn sources_have_a_longest(rt: HostRuntime) -> Result<(), Fail> {
         error_text: b"SOURCE TOO LONG\n",
         code: 2,
     };
-    for verb in ["check", "list", "run"] {
-        assert_row(&rt, rt.alloc(), &[verb], &row);
-        assert_row(&rt, rt.alloc(), &[verb, "f"], &row);
+    for subcommand in ["check", "list", "run"] {
+        assert_row(&rt, rt.alloc(), &[subcommand], &row);
+        assert_row(&rt, rt.alloc(), &[subcommand, "f"], &row);
     }
     Ok(())
 }
@@ -95,7 +98,10 @@ fn statements_are_many(rt: HostRuntime) -> Result<(), Fail> {
     let row = Row {
         source: source.as_slice(),
         output: b"",
-        error_text: b"ICL079I PROGRAMMER IS INSUFFICIENTLY POLITE\n        ON THE WAY TO 524289\n        CORRECT SOURCE AND RESUBNIT\n",
+        error_text: b"ICL079I PROGRAMMER IS INSUFFICIENTLY POLITE
+        ON THE WAY TO 524289
+        CORRECT SOURCE AND RESUBNIT
+",
         code: 2,
     };
     assert_row(&rt, rt.alloc(), &["check"], &row);

@@ -6,7 +6,10 @@ fn lists_sources(rt: HostRuntime) {
     for row in [
         Row {
             source: b"PLEASE NOTE THAT THIS WOULD DO NOTHING\nDO GIVE UP\n",
-            output: b"1 - PLEASE NOT 100 UNRECOGNISED \"PLEASE NOTE THAT THIS WOULD\"\n2 - DO NOT 100 UNRECOGNISED \"DO NOTHING\"\n3 - DO - 100 GIVE-UP \"DO GIVE UP\"\n",
+            output: b"1 - PLEASE NOT 100 UNRECOGNISED \"PLEASE NOTE THAT THIS WOULD\"
+2 - DO NOT 100 UNRECOGNISED \"DO NOTHING\"
+3 - DO - 100 GIVE-UP \"DO GIVE UP\"
+",
             error_text: b"",
             code: 0,
         },
@@ -24,7 +27,8 @@ fn lists_sources(rt: HostRuntime) {
         },
         Row {
             source: b"(007) PLEASE DO %000000100 READ OUT #1 + #2\n",
-            output: b"1 (7) PLEASE - 100 READ-OUT \"(007) PLEASE DO %000000100 READ OUT #1 + #2\"\n",
+            output: b"1 (7) PLEASE - 100 READ-OUT \"(007) PLEASE DO %000000100 READ OUT #1 + #2\"
+",
             error_text: b"",
             code: 0,
         },
@@ -43,18 +47,28 @@ fn lists_sources(rt: HostRuntime) {
         Row {
             source: b"DO READ OUT #70000\n",
             output: b"",
-            error_text: b"ICL017I DO YOU EXPECT ME TO FIGURE THIS OUT?\n        ON THE WAY TO 2\n        CORRECT SOURCE AND RESUBNIT\n",
+            error_text: b"ICL017I DO YOU EXPECT ME TO FIGURE THIS OUT?
+        ON THE WAY TO 2
+        CORRECT SOURCE AND RESUBNIT
+",
             code: 2,
         },
         Row {
             source: b"PLEASE GIVE UP\nPLEASE GIVE UP\nPLEASE GIVE UP\n",
             output: b"",
-            error_text: b"ICL099I PROGRAMMER IS OVERLY POLITE\n        ON THE WAY TO 4\n        CORRECT SOURCE AND RESUBNIT\n",
+            error_text: b"ICL099I PROGRAMMER IS OVERLY POLITE
+        ON THE WAY TO 4
+        CORRECT SOURCE AND RESUBNIT
+",
             code: 2,
         },
         Row {
             source: b"DO ABSTAIN FROM (5) DO READ OUT #1 (5) DO READ OUT #2 PLEASE GIVE UP\n",
-            output: b"1 - DO - 100 ABSTAIN \"DO ABSTAIN FROM (5)\"\n2 - DO - 100 READ-OUT \"DO READ OUT #1\"\n3 (5) DO - 100 READ-OUT \"(5) DO READ OUT #2\"\n4 - PLEASE - 100 GIVE-UP \"PLEASE GIVE UP\"\n",
+            output: b"1 - DO - 100 ABSTAIN \"DO ABSTAIN FROM (5)\"
+2 - DO - 100 READ-OUT \"DO READ OUT #1\"
+3 (5) DO - 100 READ-OUT \"(5) DO READ OUT #2\"
+4 - PLEASE - 100 GIVE-UP \"PLEASE GIVE UP\"
+",
             error_text: b"",
             code: 0,
         },
@@ -65,8 +79,38 @@ fn lists_sources(rt: HostRuntime) {
             code: 0,
         },
         Row {
-            source: b"DO .1 <- #1\nDO ,1 <- #2 BY #3\nPLEASE (5) NEXT\nDO FORGET #1\nDO RESUME #1\n(5) DO STASH .1 + ,2\nDO RETRIEVE :1\nPLEASE IGNORE ;1\nDO REMEMBER .1\nDO ABSTAIN FROM CALCULATING + READINGOUT\nDO REINSTATE (5)\nPLEASE WRITE IN .1 + ,2SUB#1\nDO READ OUT ,2SUB.1\nDO READ OUT #1~#1\nDO GIVE UP\n",
-            output: b"1 - DO - 100 CALCULATE \"DO .1 <- #1\"\n2 - DO - 100 CALCULATE \"DO ,1 <- #2 BY #3\"\n3 - PLEASE - 100 NEXT \"PLEASE (5) NEXT\"\n4 - DO - 100 FORGET \"DO FORGET #1\"\n5 - DO - 100 RESUME \"DO RESUME #1\"\n6 (5) DO - 100 STASH \"(5) DO STASH .1 + ,2\"\n7 - DO - 100 RETRIEVE \"DO RETRIEVE :1\"\n8 - PLEASE - 100 IGNORE \"PLEASE IGNORE ;1\"\n9 - DO - 100 REMEMBER \"DO REMEMBER .1\"\n10 - DO - 100 ABSTAIN \"DO ABSTAIN FROM CALCULATING + READINGOUT\"\n11 - DO - 100 REINSTATE \"DO REINSTATE (5)\"\n12 - PLEASE - 100 WRITE-IN \"PLEASE WRITE IN .1 + ,2SUB#1\"\n13 - DO - 100 READ-OUT \"DO READ OUT ,2SUB.1\"\n14 - DO - 100 UNRECOGNISED \"DO READ OUT #1~#1\"\n15 - DO - 100 GIVE-UP \"DO GIVE UP\"\n",
+            source: b"DO .1 <- #1
+DO ,1 <- #2 BY #3
+PLEASE (5) NEXT
+DO FORGET #1
+DO RESUME #1
+(5) DO STASH .1 + ,2
+DO RETRIEVE :1
+PLEASE IGNORE ;1
+DO REMEMBER .1
+DO ABSTAIN FROM CALCULATING + READINGOUT
+DO REINSTATE (5)
+PLEASE WRITE IN .1 + ,2SUB#1
+DO READ OUT ,2SUB.1
+DO READ OUT #1~#1
+DO GIVE UP
+",
+            output: b"1 - DO - 100 CALCULATE \"DO .1 <- #1\"
+2 - DO - 100 CALCULATE \"DO ,1 <- #2 BY #3\"
+3 - PLEASE - 100 NEXT \"PLEASE (5) NEXT\"
+4 - DO - 100 FORGET \"DO FORGET #1\"
+5 - DO - 100 RESUME \"DO RESUME #1\"
+6 (5) DO - 100 STASH \"(5) DO STASH .1 + ,2\"
+7 - DO - 100 RETRIEVE \"DO RETRIEVE :1\"
+8 - PLEASE - 100 IGNORE \"PLEASE IGNORE ;1\"
+9 - DO - 100 REMEMBER \"DO REMEMBER .1\"
+10 - DO - 100 ABSTAIN \"DO ABSTAIN FROM CALCULATING + READINGOUT\"
+11 - DO - 100 REINSTATE \"DO REINSTATE (5)\"
+12 - PLEASE - 100 WRITE-IN \"PLEASE WRITE IN .1 + ,2SUB#1\"
+13 - DO - 100 READ-OUT \"DO READ OUT ,2SUB.1\"
+14 - DO - 100 UNRECOGNISED \"DO READ OUT #1~#1\"
+15 - DO - 100 GIVE-UP \"DO GIVE UP\"
+",
             error_text: b"",
             code: 0,
         },

@@ -1,11 +1,11 @@
 //! Programs that are run.
-use super::table::{PRINTS_ONE, Row, assert_row};
+use super::table::{ONE_NUMERAL, Row, assert_row};
 
 #[test]
 fn runs_sources(rt: HostRuntime) {
     for row in [
         Row {
-            source: PRINTS_ONE,
+            source: ONE_NUMERAL,
             output: b"\nI\n",
             error_text: b"",
             code: 0,
@@ -31,19 +31,28 @@ fn runs_sources(rt: HostRuntime) {
         Row {
             source: b"",
             output: b"",
-            error_text: b"ICL633I PROGRAM FELL OFF THE EDGE ON THE WAY TO THE NEW WORLD.\n        ON THE WAY TO 1\n        CORRECT SOURCE AND RESUBNIT\n",
+            error_text: b"ICL633I PROGRAM FELL OFF THE EDGE ON THE WAY TO THE NEW WORLD.
+        ON THE WAY TO 1
+        CORRECT SOURCE AND RESUBNIT
+",
             code: 1,
         },
         Row {
             source: b"HELLO\n",
             output: b"",
-            error_text: b"ICL000I HELLO\n        ON THE WAY TO 2\n        CORRECT SOURCE AND RESUBNIT\n",
+            error_text: b"ICL000I HELLO
+        ON THE WAY TO 2
+        CORRECT SOURCE AND RESUBNIT
+",
             code: 1,
         },
         Row {
             source: b"DO %101 GIVE UP\n",
             output: b"",
-            error_text: b"ICL000I DO %101 GIVE UP\n        ON THE WAY TO 2\n        CORRECT SOURCE AND RESUBNIT\n",
+            error_text: b"ICL000I DO %101 GIVE UP
+        ON THE WAY TO 2
+        CORRECT SOURCE AND RESUBNIT
+",
             code: 1,
         },
         Row {
@@ -61,7 +70,10 @@ fn runs_sources(rt: HostRuntime) {
         Row {
             source: b"DO .70000 <- #1\nPLEASE READ OUT #70000\n",
             output: b"",
-            error_text: b"ICL017I DO YOU EXPECT ME TO FIGURE THIS OUT?\n        ON THE WAY TO 3\n        CORRECT SOURCE AND RESUBNIT\n",
+            error_text: b"ICL017I DO YOU EXPECT ME TO FIGURE THIS OUT?
+        ON THE WAY TO 3
+        CORRECT SOURCE AND RESUBNIT
+",
             code: 2,
         },
         Row {
@@ -73,13 +85,19 @@ fn runs_sources(rt: HostRuntime) {
         Row {
             source: b"DO READ OUT #70000\n",
             output: b"",
-            error_text: b"ICL017I DO YOU EXPECT ME TO FIGURE THIS OUT?\n        ON THE WAY TO 2\n        CORRECT SOURCE AND RESUBNIT\n",
+            error_text: b"ICL017I DO YOU EXPECT ME TO FIGURE THIS OUT?
+        ON THE WAY TO 2
+        CORRECT SOURCE AND RESUBNIT
+",
             code: 2,
         },
         Row {
             source: b"DO READ OUT #1\nDO .1 <- #1\n",
             output: b"\nI\n",
-            error_text: b"ICL000I DO .1 <- #1\n        ON THE WAY TO 3\n        CORRECT SOURCE AND RESUBNIT\n",
+            error_text: b"ICL000I DO .1 <- #1
+        ON THE WAY TO 3
+        CORRECT SOURCE AND RESUBNIT
+",
             code: 1,
         },
         Row {
@@ -91,13 +109,19 @@ fn runs_sources(rt: HostRuntime) {
         Row {
             source: b"DO READ OUT #1\nDO READ OUT #2+.1\nPLEASE GIVE UP\n",
             output: b"\nI\n",
-            error_text: b"ICL000I DO READ OUT #2+.1\n        ON THE WAY TO 3\n        CORRECT SOURCE AND RESUBNIT\n",
+            error_text: b"ICL000I DO READ OUT #2+.1
+        ON THE WAY TO 3
+        CORRECT SOURCE AND RESUBNIT
+",
             code: 1,
         },
         Row {
             source: b"DO READ OUT #1+#2\nDO (5) NEXT\n(5) PLEASE GIVE UP\n",
             output: b"\nI\n\nII\n",
-            error_text: b"ICL000I DO (5) NEXT\n        ON THE WAY TO 3\n        CORRECT SOURCE AND RESUBNIT\n",
+            error_text: b"ICL000I DO (5) NEXT
+        ON THE WAY TO 3
+        CORRECT SOURCE AND RESUBNIT
+",
             code: 1,
         },
     ] {

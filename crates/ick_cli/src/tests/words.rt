@@ -1,90 +1,178 @@
 //! Words that ask for no job.
-use super::fakes::{ALWAYS, Shelf};
-use super::table::PRINTS_ONE;
-use crate::{SliceSource, VecSink, serve};
+use super::table::{ONE_NUMERAL, left_by_words};
+use std::alloc::Global;
+use std::process::Abort;
+
+const IN_ALL: &[u8] = b"Usage: ick [COMMAND]\n\nFor more information, try '--help'.\n";
+
+const IN_CHECK: &[u8] = b"Usage: ick check [FILE]\n\nFor more information, try '--help'.\n";
+
+const IN_LIST: &[u8] = b"Usage: ick list [FILE]\n\nFor more information, try '--help'.\n";
+
+const IN_RUN: &[u8] = b"Usage: ick run [FILE]\n\nFor more information, try '--help'.\n";
 
 #[test]
 fn refuses_words(rt: HostRuntime) {
-    for words in [
-        ["nope", "run"].as_slice(),
-        ["f"].as_slice(),
-        ["runs"].as_slice(),
-        ["check", "f", "g"].as_slice(),
-        ["check", "--limit=3"].as_slice(),
-        ["list", "-b"].as_slice(),
-        ["list", "--choices=-"].as_slice(),
-        ["--limit=3"].as_slice(),
-        ["run", "-b"].as_slice(),
-        ["run", "f", "g"].as_slice(),
-        [""].as_slice(),
+    for (words, front, back) in [
+        (
+            ["nope", "run"].as_slice(),
+            b"error: unrecognized subcommand 'nope'\n\n".as_slice(),
+            IN_ALL,
+        ),
+        (
+            ["f"].as_slice(),
+            b"error: unrecognized subcommand 'f'\n\n",
+            IN_ALL,
+        ),
+        (
+            [""].as_slice(),
+            b"error: unrecognized subcommand ''\n\n",
+            IN_ALL,
+        ),
+        (
+            ["--limit=3"].as_slice(),
+            b"error: unexpected argument '--limit' found\n\n",
+            IN_ALL,
+        ),
+        (
+            ["check", "f", "g"].as_slice(),
+            b"error: unexpected argument 'g' found\n\n",
+            IN_CHECK,
+        ),
+        (
+            ["run", "f", "g", "h"].as_slice(),
+            b"error: unexpected argument 'g' found\n\n",
+            IN_RUN,
+        ),
     ] {
-        let mut files = Shelf {
-            files: &[],
-            rest: b"",
-            good: ALWAYS,
-            failures: 0,
-        };
-        let mut reader = SliceSource::new(PRINTS_ONE);
-        let mut writer = VecSink::new(rt.alloc());
-        let mut errors = VecSink::new(rt.alloc());
-        let status = serve(
-            rt.alloc(),
-            words,
-            &mut files,
-            &mut reader,
-            &mut writer,
-            &mut errors,
-        );
-        assert!(rt; status.code() == 64, "{words:?}");
-        assert!(rt; writer.bytes().is_empty());
-        assert!(rt; errors.bytes().starts_with(b"error: "), "{words:?}");
-        assert!(rt; reader.left().len() == PRINTS_ONE.len());
+        assert_refused(&rt, rt.alloc(), words, front, back);
     }
 }
 
 #[test]
+fn refuses_words_with_a_tip(rt: HostRuntime) {
+    for (words, front, back) in [
+        (
+            ["runs"].as_slice(),
+            b"error: unrecognized subcommand 'runs'
+
+  tip: a similar subcommand exists: 'run'
+
+"
+                .as_slice(),
+            IN_ALL,
+        ),
+        (
+            ["check", "--limit=3"].as_slice(),
+            b"error: unexpected argument '--limit' found
+
+  tip: to pass '--limit' as a value, use '-- --limit'
+
+",
+            IN_CHECK,
+        ),
+        (
+            ["list", "f", "-b"].as_slice(),
+            b"error: unexpected argument '-b' found
+
+  tip: to pass '-b' as a value, use '-- -b'
+
+",
+            IN_LIST,
+        ),
+    ] {
+        assert_refused(&rt, rt.alloc(), words, front, back);
+    }
+}
+
+// The words are refused with a text of these two parts, and nothing is read.
+fn assert_refused(rt: &impl Abort, alloc: Global, words: &[&str], front: &[u8], back: &[u8]) {
+    let left = left_by_words(alloc, words, ONE_NUMERAL);
+    assert!(rt; left.code == 64, "{words:?}");
+    assert!(rt; left.output.is_empty());
+    assert!(rt; left.unread == ONE_NUMERAL.len());
+    let text = left.error_text.as_slice();
+    assert!(rt; text.starts_with(front), "{words:?}");
+    assert!(rt; &text[front.len()..] == back, "{words:?}");
+}
+
+const HELP: &[u8] = b"Checks, lists and runs programs of INTERCAL-72
+
+Usage: ick [COMMAND]
+
+Commands:
+  check  Counts the statements of a program
+  list   Lists the statements of a program
+  run    Runs a program
+  help   Print this message or the help of the given subcommand(s)
+
+Options:
+  -h, --help  Print help
+
+Without a command, ick runs the program on standard input, as `ick run` does.
+
+Exit status:
+  0   all went well
+  1   a fault of the run
+  2   the source is refused
+  3   the run wants a choice
+  4   a file, a stream or memory failed
+  64  the words ask for nothing
+
+Example:
+  ick run examples/numerals.i
+";
+
+const HELP_OF_RUN: &[u8] = b"Runs a program
+
+Usage: ick run [FILE]
+
+Arguments:
+  [FILE]  The source; standard input where none is named
+
+Options:
+  -h, --help  Print help
+
+Prints what the program reads out.
+
+Exit status:
+  0   the program gave up
+  1   a fault of the run
+  2   the source is refused
+  3   the run wants a choice
+  4   a file, a stream or memory failed
+  64  the words ask for nothing
+
+Example:
+  ick run examples/numerals.i
+";
+
+#[test]
 fn gives_help(rt: HostRuntime) {
     for (words, text) in [
-        (
-            ["--help"].as_slice(),
-            b"Checks, lists and runs programs of INTERCAL\n\nUsage: ick [COMMAND]\n".as_slice(),
-        ),
+        (["--help"].as_slice(), HELP),
+        (["help"].as_slice(), HELP),
+        (["run", "--help"].as_slice(), HELP_OF_RUN),
+        (["help", "run"].as_slice(), HELP_OF_RUN),
+    ] {
+        let left = left_by_words(rt.alloc(), words, b"");
+        assert!(rt; left.code == 0, "{words:?}");
+        assert!(rt; left.output.as_slice() == text, "{words:?}");
+        assert!(rt; left.error_text.is_empty());
+    }
+    for (words, front) in [
         (
             ["check", "--help"].as_slice(),
             b"Counts the statements of a program\n\nUsage: ick check [FILE]\n".as_slice(),
         ),
         (
-            ["list", "--help"].as_slice(),
-            b"Lists the statements of a program\n\nUsage: ick list [FILE]\n".as_slice(),
-        ),
-        (
-            ["help", "list"].as_slice(),
-            b"Lists the statements of a program\n\nUsage: ick list [FILE]\n".as_slice(),
-        ),
-        (
-            ["run", "--help"].as_slice(),
-            b"Runs a program\n\nUsage: ick run [FILE]\n".as_slice(),
+            ["list", "-h"].as_slice(),
+            b"Lists the statements of a program\n\nUsage: ick list [FILE]\n",
         ),
     ] {
-        let mut files = Shelf {
-            files: &[],
-            rest: b"",
-            good: ALWAYS,
-            failures: 0,
-        };
-        let mut reader = SliceSource::new(b"");
-        let mut writer = VecSink::new(rt.alloc());
-        let mut errors = VecSink::new(rt.alloc());
-        let status = serve(
-            rt.alloc(),
-            words,
-            &mut files,
-            &mut reader,
-            &mut writer,
-            &mut errors,
-        );
-        assert!(rt; status.code() == 0, "{words:?}");
-        assert!(rt; writer.bytes().starts_with(text), "{words:?}");
-        assert!(rt; errors.bytes().is_empty());
+        let left = left_by_words(rt.alloc(), words, b"");
+        assert!(rt; left.code == 0, "{words:?}");
+        assert!(rt; left.output.starts_with(front), "{words:?}");
+        assert!(rt; left.error_text.is_empty());
     }
 }

@@ -3,7 +3,7 @@ ghost use Rattle.std.specs.Prelude.{IfOk};
 ghost use Rattle.ick_cli.specs.Built.{Reads};
 ghost use Rattle.ick_cli.specs.Words.{check_app, list_app, run_app, ick_app};
 
-use crate::words::arguments;
+use crate::words::{arguments, help};
 use clap::Command;
 use std::alloc::{AllocError, Global};
 
@@ -13,6 +13,7 @@ fn check_command<'a>(alloc: Global) -> Result<Command<'a>, AllocError>
 {
     Command::new(alloc, "check")
         .about("Counts the statements of a program")
+        .after_help(help::CHECK)
         .arg(arguments::file_argument(alloc))
 }
 
@@ -22,6 +23,7 @@ fn list_command<'a>(alloc: Global) -> Result<Command<'a>, AllocError>
 {
     Command::new(alloc, "list")
         .about("Lists the statements of a program")
+        .after_help(help::LIST)
         .arg(arguments::file_argument(alloc))
 }
 
@@ -31,6 +33,7 @@ fn run_command<'a>(alloc: Global) -> Result<Command<'a>, AllocError>
 {
     Command::new(alloc, "run")
         .about("Runs a program")
+        .after_help(help::RUN)
         .arg(arguments::file_argument(alloc))
 }
 
@@ -39,7 +42,8 @@ pub fn ick_command<'a>(alloc: Global) -> Result<Command<'a>, AllocError>
     ensures { IfOk result (λ c. Reads c ick_app) }
 {
     Command::new(alloc, "ick")
-        .about("Checks, lists and runs programs of INTERCAL")
+        .about("Checks, lists and runs programs of INTERCAL-72")
+        .after_help(help::ICK)
         .bin_name("ick")?
         .no_binary_name(true)
         .subcommand(check_command(alloc)?)?

@@ -4,7 +4,7 @@ ghost use Rattle.clap.specs.Words.{fault_of, first_of, found_of, rows_of, subcom
 ghost use Rattle.clap.specs.Kinds.{FailsBy};
 ghost use Rattle.clap.specs.Walk.{texts};
 ghost use Rattle.ick_cli.specs.Words.{ick_app};
-ghost use Rattle.ick_cli.specs.Job.{asked, asked_in, asked_of, job_of, verb_of};
+ghost use Rattle.ick_cli.specs.Job.{asked, asked_in, asked_of, job_of, subcommand_named};
 
 use crate::words::command::ick_command;
 use clap::{ArgMatches, Error};
@@ -12,7 +12,7 @@ use std::alloc::Global;
 
 /// What is to be done with a program.
 #[derive(Clone, Copy, Debug, PartialEq, Eq)]
-pub enum Verb {
+pub enum Subcommand {
     /// Its statements are counted.
     Check,
     /// Its statements are listed.
@@ -25,7 +25,7 @@ pub enum Verb {
 /// none is named.
 #[derive(Clone, Copy, Debug)]
 pub struct Job<'a> {
-    pub verb: Verb,
+    pub subcommand: Subcommand,
     pub file: Option<&'a str>,
 }
 
@@ -46,34 +46,34 @@ fn job_in<'a>(matches: &ArgMatches<'a>) -> Job<'a>
     ensures { asked result ≡ asked_in (subcommand_rows_of matches.now) }
 {
     match matches.subcommand() {
-        Some((name, inner)) => job_by(named_verb(name), inner),
+        Some((name, inner)) => job_by(subcommand_named(name), inner),
         None => Job {
-            verb: Verb::Run,
+            subcommand: Subcommand::Run,
             file: None,
         },
     }
 }
 
 /// The job of the matches of a command.
-fn job_by<'a>(verb: Verb, matches: &ArgMatches<'a>) -> Job<'a>
-    ensures { asked result ≡ asked_of verb (rows_of (found_of matches.now)) }
+fn job_by<'a>(subcommand: Subcommand, matches: &ArgMatches<'a>) -> Job<'a>
+    ensures { asked result ≡ asked_of subcommand (rows_of (found_of matches.now)) }
 {
     Job {
-        verb,
+        subcommand,
         file: text(matches, "file"),
     }
 }
 
 /// The command of a name.
-fn named_verb(name: &str) -> Verb
-    ensures { result ≡ verb_of name.now }
+fn subcommand_named(name: &str) -> Subcommand
+    ensures { result ≡ subcommand_named name.now }
 {
     if name == "check" {
-        Verb::Check
+        Subcommand::Check
     } else if name == "list" {
-        Verb::List
+        Subcommand::List
     } else {
-        Verb::Run
+        Subcommand::Run
     }
 }
 

@@ -1,0 +1,53 @@
+//! Reads and writes of the system that count their failures. Any error is a failure, an
+//! interruption too; nothing is tried again.
+ghost use Rattle.std.specs.Prelude.{◌≡◌, ◌+◌, ◌<◌, ◌≤◌, ◌^◌, if◌then◌else◌};
+ghost use Rattle.std.specs.Prelude.{IfOk, is_ok, length};
+ghost use Rattle.std.specs.Io.KnownBytes.{ReadConsumes, WriteAppends};
+
+use ick_cli::DeviceFault;
+use std::io::{Read, Write};
+
+/// Reads some bytes. No byte for a target that isn't empty is the end of the stream.
+pub fn read_from<R: Read>(
+    stream: &mut R,
+    failures: &mut u64,
+    target: &mut [u8],
+) -> Result<usize, DeviceFault>
+    requires { failures.old + 1 < 2 ^ 64 }
+    ensures count { failures.new ≡ failures.old + (if is_ok result then 0 else 1) }
+    ensures fits { IfOk result (λ n. n ≤ length target.old) }
+    ensures bytes { ReadConsumes (R.remaining stream.old) (R.remaining stream.new) result target.new }
+{
+    match stream.read(target) {
+        Ok(count) => Ok(count),
+        Err(_) => {
+            *failures += 1;
+            Err(DeviceFault)
+        }
+    }
+}
+
+/// Writes some bytes of the front of a text. A write that takes no byte of a text that isn't empty
+/// has failed.
+pub fn write_to<W: Write>(
+    stream: &mut W,
+    failures: &mut u64,
+    text: &[u8],
+) -> Result<usize, DeviceFault>
+    requires { failures.old + 1 < 2 ^ 64 }
+    ensures count { failures.new ≡ failures.old + (if is_ok result then 0 else 1) }
+    ensures fits { IfOk result (λ n. n ≤ length text.now) }
+    ensures gains { IfOk result (λ n. 0 < length text.now → 0 < n) }
+    ensures bytes { WriteAppends (W.contents stream.old) (W.contents stream.new) result text.now }
+{
+    if text.is_empty() {
+        return Ok(0);
+    }
+    match stream.write(text) {
+        Ok(count) if 0 < count => Ok(count),
+        _ => {
+            *failures += 1;
+            Err(DeviceFault)
+        }
+    }
+}

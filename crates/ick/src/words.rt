@@ -1,0 +1,40 @@
+//! The words that the system hands to the program.
+ghost use Rattle.std.specs.Prelude.{◌≡◌, ◌≢◌, IfOk, drop, map, string_bytes};
+
+use ick_cli::WordsFault;
+use std::alloc::{AllocError, Global};
+use std::env;
+use std::io::ErrorKind;
+
+/// All that the system hands over: the program's own name, and the words.
+pub fn arguments(rt: &HostRuntime) -> Result<Vec<String>, WordsFault> {
+    match env::args(rt) {
+        Ok(arguments) => arguments
+            .collect::<Vec<String>>(rt.alloc())
+            .map_err(|_| WordsFault::NoMemory),
+        Err(error) => Err(words_fault(error.kind())),
+    }
+}
+
+/// Why the arguments can't be had: for want of memory, or since one of them is no text.
+fn words_fault(kind: ErrorKind) -> WordsFault
+    ensures memory { kind ≡ ErrorKind.OutOfMemory → result ≡ WordsFault.NoMemory }
+    ensures text { kind ≢ ErrorKind.OutOfMemory → result ≡ WordsFault.NotText }
+{
+    match kind {
+        ErrorKind::OutOfMemory => WordsFault::NoMemory,
+        _ => WordsFault::NotText,
+    }
+}
+
+/// The words behind the program's own name, each of them whole.
+pub fn words_of<'a>(alloc: Global, arguments: &'a [String]) -> Result<Vec<&'a str>, AllocError>
+    ensures { IfOk result (λ words.
+        map (λ w. w.now) words.items ≡ map string_bytes (drop 1 arguments.entry.now)) }
+{
+    let mut words = Vec::new(alloc);
+    for argument in &arguments[arguments.len().min(1)..] {
+        words.push(argument.as_str())?;
+    }
+    Ok(words)
+}

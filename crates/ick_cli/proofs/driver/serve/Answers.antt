@@ -1,0 +1,95 @@
+use Rattle.std.proofs.Common.{◌≡◌, ◌∙◌, inl, inr, [], ◌∷◌, ap, subst, sym}
+use Rattle.clap.specs.Kinds.{HasKind, IsAmong}
+use Rattle.clap.specs.Words.{Kinds, kind_of}
+use Rattle.clap.specs.declared.error.ErrorKind.{ErrorKind}
+use Rattle.clap.specs.declared.error.ErrorKind.TheVariants as kind
+use Rattle.clap.specs.declared.error.Error.{Error}
+use Rattle.ick_cli.specs.Ending.{source_of}
+use Rattle.ick_cli.specs.Job.{Asked}
+use Rattle.std.proofs.lemmas.List.{append-nil}
+use Rattle.ick_cli.specs.Serve.{counts, cut_by_memory}
+use Rattle.ick_cli.specs.Tool.{IsToolAnswer}
+use Rattle.ick_cli.specs.Usage.{EachIs, IsMistake, IsRequest, help_without_memory}
+use Rattle.ick_cli.proofs.OneAnswer.{tool_answer}
+use Rattle.ick_cli.proofs.Served.{due, failed_due, finished_status, served}
+use Rattle.ick_cli.proofs.driver.serve.Goals as goal
+
+-- what holds of each of several kinds holds of one among them
+among : (P : ErrorKind → Type 0) (k : ErrorKind) (kinds : Kinds) → EachIs P kinds → IsAmong k kinds → P k
+among P k [] each h = absurd h
+among P k (x ∷ xs) each (inl e) = subst P (sym e) each.0
+among P k (x ∷ xs) each (inr h) = among P k xs each.1 h
+
+memory_is_mistake : (k : ErrorKind) → k ≡ kind.OutOfMemory → IsMistake k
+memory_is_mistake k e = (λ h. cc, λ h. cc)
+
+-- where the words ask for a job, an error is want of memory
+memory_ran_out : (error : Error) (kinds : Kinds) → kinds ≡ [] → HasKind kinds error → kind_of error ≡ kind.OutOfMemory
+memory_ran_out error kinds none (inl e) = e
+memory_ran_out error kinds none (inr h) = absurd (subst (λ (ks : Kinds). IsAmong (kind_of error) ks) none h)
+
+pub returns-in-Ok-clause-job : goal.returns-in-Ok-clause-job
+returns-in-Ok-clause-job g c = λ has_job files_told reader_told writer_told.
+    let source = λ (job : Asked). source_of job.file (g.F.Files.named c.args.files.now)
+    (g.F.ByteSource.failed c.args.files.now) (g.F.ByteSource.failed c.perform-ending.new.files) (g.R.ByteSource.left c.args.reader.now) in
+    let found = tool_answer _ _ in
+    let asks = subst (λ (job : Asked). IsToolAnswer job.subcommand (source job) found.0) (sym c.in-Ok.ensures.job) found.1 in
+    let work = c.perform-ending.ensures in (
+      found.0,
+      found.1,
+      (
+        _,
+        _,
+        served found.0 c.perform-ending.result _ _ _ _ _ _ _ _ work.leaves
+            (work.answer files_told reader_told writer_told found.0 asks),
+        c.report.ensures,
+      ),
+    )
+
+pub returns-in-Ok-clause-said : goal.returns-in-Ok-clause-said
+returns-in-Ok-clause-said g c = (_, _, due c.perform-ending.result _ _ _ _ _ _ c.perform-ending.ensures.leaves, c.report.ensures)
+
+pub returns-in-Ok-clause-failed : goal.returns-in-Ok-clause-failed
+returns-in-Ok-clause-failed g c = failed_due _ _ _ _ _ _ _ _ (returns-in-Ok-clause-said g c)
+
+pub returns-in-Ok-clause-status : goal.returns-in-Ok-clause-status
+returns-in-Ok-clause-status g c = finished_status _ _ _ _ _ _ _ _ (returns-in-Ok-clause-said g c)
+
+pub returns-in-Err-clause-job : goal.returns-in-Err-clause-job
+returns-in-Err-clause-job g c = λ has_job files_told reader_told writer_told.
+    let memory = c.answer_words.ensures.memory (memory_ran_out c.in-Err.error _ has_job c.in-Err.ensures.law) in
+    let found = tool_answer _ _ in (
+      found.0,
+      found.1,
+      (
+        _,
+        _,
+        cut_by_memory 0 (ap (counts _ _) (ap g.W.ByteSink.failed memory.0))
+            (ap g.W.ByteSink.written memory.0 ∙ sym (append-nil _)),
+        memory.1,
+      ),
+    )
+
+pub returns-in-Err-clause-said : goal.returns-in-Err-clause-said
+returns-in-Err-clause-said g c = c.answer_words.ensures.said _ _
+
+pub returns-in-Err-clause-failed : goal.returns-in-Err-clause-failed
+returns-in-Err-clause-failed g c = failed_due _ _ _ _ _ _ _ _ (returns-in-Err-clause-said g c)
+
+pub returns-in-Err-clause-status : goal.returns-in-Err-clause-status
+returns-in-Err-clause-status g c = finished_status _ _ _ _ _ _ _ _ (returns-in-Err-clause-said g c)
+
+pub returns-in-Err-clause-usage : goal.returns-in-Err-clause-usage
+returns-in-Err-clause-usage g c = λ mistakes.
+    elim c.in-Err.ensures.law [
+      | inl e ↦ c.answer_words.ensures.usage (memory_is_mistake (kind_of c.in-Err.error) e)
+      | inr h ↦ c.answer_words.ensures.usage (among IsMistake (kind_of c.in-Err.error) _ mistakes.1 h)
+    ]
+
+pub returns-in-Err-clause-help : goal.returns-in-Err-clause-help
+returns-in-Err-clause-help g c = λ requests.
+    elim c.in-Err.ensures.law [
+      | inl e ↦ let memory = c.answer_words.ensures.memory e in
+          (_, _, help_without_memory (ap g.W.ByteSink.failed memory.0) (ap g.W.ByteSink.written memory.0), memory.1)
+      | inr h ↦ c.answer_words.ensures.help (among IsRequest (kind_of c.in-Err.error) _ requests.1 h)
+    ]

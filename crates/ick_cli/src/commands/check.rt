@@ -1,0 +1,39 @@
+//! `ick check`: how many statements a program has.
+ghost use Rattle.std.specs.Prelude.{◌≡◌, ◌+◌, ◌<◌, ◌^◌, IfOk, true};
+ghost use Rattle.ick_source.specs.Programs.{trees_of};
+ghost use Rattle.ick_cli.specs.Ending.{Answers, LeavesWriter};
+ghost use Rattle.ick_cli.specs.Summary.{summary};
+ghost use Rattle.ick_cli.specs.Tool.{shown};
+
+use crate::devices::ByteSink;
+use crate::ending::Ending;
+use crate::notice::Message;
+use crate::output::send;
+use ick_bits::{NoMemory, append_decimal};
+use ick_source::Program;
+use std::alloc::Global;
+
+/// Answers a program by the line that counts its statements.
+pub fn answer_check<W: ByteSink>(alloc: Global, program: &Program<'_>, writer: &mut W) -> Ending
+    requires { W.failed writer.old + 1 < 2 ^ 64 }
+    ensures leaves { LeavesWriter result (W.failed writer.old) (W.failed writer.new) }
+    ensures answer { W.told ≡ true → Answers (shown (summary (trees_of program.now)))
+        result (W.written writer.old) (W.written writer.new) }
+{
+    match summary(alloc, program) {
+        Ok(line) => send(&line, 0, Message::Nothing, writer),
+        Err(NoMemory) => Ending::NoMemory,
+    }
+}
+
+/// How many statements a program has, and how many of them are polite.
+fn summary(alloc: Global, program: &Program<'_>) -> Result<Vec<u8>, NoMemory>
+    ensures { IfOk result (λ text. text.items ≡ summary (trees_of program.now)) }
+{
+    let mut text = Vec::new(alloc);
+    append_decimal(&mut text, program.statements().len() as u64)?;
+    text.extend_from_slice(b" STATEMENTS, ")?;
+    append_decimal(&mut text, u64::from(program.polite()))?;
+    text.extend_from_slice(b" POLITE\n")?;
+    Ok(text)
+}

@@ -1,0 +1,28 @@
+//! `ick list`: the statements of a program.
+ghost use Rattle.std.specs.Prelude.{◌≡◌, ◌+◌, ◌<◌, ◌^◌, true};
+ghost use Rattle.ick_source.specs.Listing.{listing};
+ghost use Rattle.ick_source.specs.Programs.{trees_of};
+ghost use Rattle.ick_cli.specs.Ending.{Answers, LeavesWriter};
+ghost use Rattle.ick_cli.specs.Tool.{shown};
+
+use crate::devices::ByteSink;
+use crate::ending::Ending;
+use crate::notice::Message;
+use crate::output::send;
+use ick_bits::NoMemory;
+use ick_source::{Program, append_listing};
+use std::alloc::Global;
+
+/// Answers a program by the lines of its statements.
+pub fn answer_list<W: ByteSink>(alloc: Global, program: &Program<'_>, writer: &mut W) -> Ending
+    requires { W.failed writer.old + 1 < 2 ^ 64 }
+    ensures leaves { LeavesWriter result (W.failed writer.old) (W.failed writer.new) }
+    ensures answer { W.told ≡ true → Answers (shown (listing (trees_of program.now)))
+        result (W.written writer.old) (W.written writer.new) }
+{
+    let mut lines = Vec::new(alloc);
+    match append_listing(&mut lines, program) {
+        Ok(()) => send(&lines, 0, Message::Nothing, writer),
+        Err(NoMemory) => Ending::NoMemory,
+    }
+}

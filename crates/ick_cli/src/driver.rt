@@ -1,0 +1,115 @@
+//! The whole of the program over its devices.
+ghost use Rattle.std.specs.Prelude.{◌≡◌, ◌+◌, ◌<◌, ◌^◌, ◌⊎◌, ◌≢◌, [], false, true};
+ghost use Rattle.clap.specs.Walk.{texts};
+ghost use Rattle.clap.specs.Words.{fault_of};
+ghost use Rattle.ick_cli.specs.Words.{ick_app};
+ghost use Rattle.ick_cli.specs.Ending.{source_of};
+ghost use Rattle.ick_cli.specs.Job.{HasJob, has_file, job_of};
+ghost use Rattle.ick_cli.specs.Notice.{notice_text};
+ghost use Rattle.ick_cli.specs.Serve.{Finishes, FinishesDue, IsDue, IsServed, IsStatus, counts};
+ghost use Rattle.ick_cli.specs.Tool.{Answer, IsToolAnswer};
+ghost use Rattle.ick_cli.specs.Usage.{AreMistakes, AreRequests, IsHelped, IsRefused};
+ghost use Rattle.ick_cli.specs.Usage.{words_notice, words_status};
+
+use crate::devices::{ByteSink, ByteSource, Files};
+use crate::dispatch::perform;
+use crate::notice::Notice;
+use crate::report::{finish, report};
+use crate::status::Status;
+use crate::usage::answer_words;
+use crate::words::read_job;
+use std::alloc::Global;
+
+/// Does the job that the words ask for, and says with which status the program ends.
+///
+/// The words are without the program's own name. The source is the file that they name, which
+/// `files` opens, or else what `reader` has; the other of the two is left alone. The output goes to
+/// `writer`, and what is to be said of a refusal, a fault or a failure to `errors`, after the
+/// output up to there. The words, the statuses and the texts are this profile's.
+pub fn serve<F: Files, R: ByteSource, W: ByteSink, E: ByteSink>(
+    alloc: Global,
+    words: &[&str],
+    files: &mut F,
+    reader: &mut R,
+    writer: &mut W,
+    errors: &mut E,
+) -> Status
+    requires files_sound { F.failed files.old + 1 < 2 ^ 64 }
+    requires reader_sound { R.failed reader.old + 1 < 2 ^ 64 }
+    requires writer_sound { W.failed writer.old + 1 < 2 ^ 64 }
+    requires errors_sound { E.failed errors.old + 1 < 2 ^ 64 }
+
+    // Words that ask for a job, over devices that do what they say: there is an answer that is the
+    // tool's, and it is served.
+    ensures job { HasJob (texts words.entry.now) → F.told ≡ true → R.told ≡ true → W.told ≡ true →
+        let job = job_of (texts words.entry.now) in
+        (answer : Answer)
+        × IsToolAnswer job.subcommand (source_of job.file (F.named files.old)
+        (F.failed files.old) (F.failed files.new) (R.left reader.old)) answer
+        × FinishesDue (IsServed answer
+        (counts (F.failed files.old) (R.failed reader.old) (W.failed writer.old))
+        (counts (F.failed files.new) (R.failed reader.new) (W.failed writer.new))
+        (W.written writer.old) (W.written writer.new))
+        E.told (E.failed errors.old) (E.failed errors.new)
+        (E.written errors.old) (E.written errors.new) result }
+    ensures reader_kept { HasJob (texts words.entry.now)
+        → has_file (job_of (texts words.entry.now)) ≡ true → reader.new ≡ reader.old }
+    ensures files_kept { HasJob (texts words.entry.now)
+        → has_file (job_of (texts words.entry.now)) ≡ false → files.new ≡ files.old }
+
+    // Other words: a mistake in them, or a request for help.
+    ensures usage { AreMistakes (fault_of ick_app (texts words.entry.now))
+        → (writer.new ≡ writer.old) × FinishesDue IsRefused
+        E.told (E.failed errors.old) (E.failed errors.new)
+        (E.written errors.old) (E.written errors.new) result }
+    ensures help { AreRequests (fault_of ick_app (texts words.entry.now)) → FinishesDue
+        (IsHelped W.told (W.failed writer.old) (W.failed writer.new)
+        (W.written writer.old) (W.written writer.new))
+        E.told (E.failed errors.old) (E.failed errors.new)
+        (E.written errors.old) (E.written errors.new) result }
+    ensures untouched { (fault_of ick_app (texts words.entry.now) ≢ [])
+        → (files.new ≡ files.old) × (reader.new ≡ reader.old) }
+
+    // Any words, over any devices.
+    ensures said { FinishesDue (IsDue
+        (counts (F.failed files.old) (R.failed reader.old) (W.failed writer.old))
+        (counts (F.failed files.new) (R.failed reader.new) (W.failed writer.new)))
+        E.told (E.failed errors.old) (E.failed errors.new)
+        (E.written errors.old) (E.written errors.new) result }
+    ensures failed { (F.failed files.old < F.failed files.new)
+        ⊎ (R.failed reader.old < R.failed reader.new)
+        ⊎ (W.failed writer.old < W.failed writer.new)
+        ⊎ (E.failed errors.old < E.failed errors.new) → result ≡ 4 }
+    ensures status { IsStatus result }
+{
+    match read_job(alloc, words) {
+        Ok(job) => {
+            let ending = perform(alloc, &job, files, reader, writer);
+            report(&ending, errors)
+        }
+        Err(error) => answer_words(alloc, &error, writer, errors),
+    }
+}
+
+/// Why the words can't be had.
+#[derive(Clone, Copy, Debug, PartialEq, Eq)]
+pub enum WordsFault {
+    /// Memory ran out.
+    NoMemory,
+    /// A word is no text.
+    NotText,
+}
+
+/// Answers in place of `serve` where the words can't be had: 4 for want of memory, and else 64,
+/// with its line on `errors` (this profile).
+pub fn refuse_words<E: ByteSink>(fault: WordsFault, errors: &mut E) -> Status
+    requires { E.failed errors.old + 1 < 2 ^ 64 }
+    ensures { Finishes E.told (words_status fault) (notice_text (words_notice fault))
+        (E.failed errors.old) (E.failed errors.new)
+        (E.written errors.old) (E.written errors.new) result }
+{
+    match fault {
+        WordsFault::NoMemory => finish(4, Notice::OutOfMemory.text(), errors),
+        WordsFault::NotText => finish(64, Notice::WordsNotRead.text(), errors),
+    }
+}

@@ -1,0 +1,52 @@
+//! What is said on the error stream.
+ghost use Rattle.std.specs.Prelude.{◌≡◌};
+ghost use Rattle.ick_cli.specs.Ending.{message_text};
+ghost use Rattle.ick_cli.specs.Notice.{notice_text};
+
+/// A line that stands in the program, so that it takes no memory.
+#[derive(Clone, Copy, Debug, PartialEq, Eq)]
+pub enum Notice {
+    SourceTooLong,
+    FileNotRead,
+    ReadFailed,
+    WriteFailed,
+    OutOfMemory,
+    WordsNotRead,
+}
+
+impl Notice {
+    /// The line, with its line end.
+    pub fn text(self) -> &'static [u8]
+        ensures { result.now ≡ notice_text self }
+    {
+        match self {
+            Notice::SourceTooLong => b"SOURCE TOO LONG\n",
+            Notice::FileNotRead => b"FILE NOT READ\n",
+            Notice::ReadFailed => b"READ FAILED\n",
+            Notice::WriteFailed => b"WRITE FAILED\n",
+            Notice::OutOfMemory => b"OUT OF MEMORY\n",
+            Notice::WordsNotRead => b"WORDS NOT READ\n",
+        }
+    }
+}
+
+/// The error text of an answer.
+#[derive(Debug, Drop)]
+pub enum Message {
+    Nothing,
+    Notice(Notice),
+    Text(Vec<u8>),
+}
+
+impl Message {
+    /// The bytes of the text.
+    pub fn bytes(&self) -> &[u8]
+        ensures { result.now ≡ message_text self.now }
+    {
+        match self {
+            Message::Nothing => &[],
+            Message::Notice(notice) => notice.text(),
+            Message::Text(text) => text.as_slice(),
+        }
+    }
+}

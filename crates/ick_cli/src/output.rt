@@ -1,0 +1,22 @@
+//! The output of an answer.
+ghost use Rattle.std.specs.Prelude.{◌≡◌, ◌+◌, ◌<◌, ◌≤◌, ◌^◌, true};
+ghost use Rattle.ick_cli.specs.Ending.{Answers, LeavesWriter, message_text};
+
+use crate::devices::{ByteSink, write_whole};
+use crate::ending::Ending;
+use crate::notice::Message;
+
+/// Writes an output, and ends with this status and error text where all of it went out.
+pub fn send<W: ByteSink>(output: &[u8], status: u8, message: Message, writer: &mut W) -> Ending
+    requires sound { W.failed writer.old + 1 < 2 ^ 64 }
+    requires known { status ≤ 3 }
+    ensures leaves { LeavesWriter result (W.failed writer.old) (W.failed writer.new) }
+    ensures answer { W.told ≡ true →
+        Answers (record { output = output.now; errors = message_text message; status = status })
+        result (W.written writer.old) (W.written writer.new) }
+{
+    match write_whole(writer, output) {
+        Ok(()) => Ending::Answered { status, message },
+        Err(_) => Ending::WriteFailed,
+    }
+}

@@ -1,0 +1,31 @@
+//! The error text and the status at the end of a call.
+ghost use Rattle.std.specs.Prelude.{◌≡◌, ◌+◌, ◌<◌, ◌^◌};
+ghost use Rattle.ick_cli.specs.Ending.{ending_status, ending_text};
+ghost use Rattle.ick_cli.specs.Serve.{Finishes};
+
+use crate::devices::{ByteSink, write_whole};
+use crate::ending::Ending;
+use crate::status::Status;
+
+/// Writes the error text of an ending, and answers its status.
+pub fn report<E: ByteSink>(ending: &Ending, errors: &mut E) -> Status
+    requires { E.failed errors.old + 1 < 2 ^ 64 }
+    ensures { Finishes E.told (ending_status ending.now) (ending_text ending.now)
+        (E.failed errors.old) (E.failed errors.new)
+        (E.written errors.old) (E.written errors.new) result }
+{
+    finish(ending.status(), ending.text(), errors)
+}
+
+/// Writes an error text, and answers the status, or 4 where the text wasn't written.
+pub fn finish<E: ByteSink>(status: u8, text: &[u8], errors: &mut E) -> Status
+    requires { E.failed errors.old + 1 < 2 ^ 64 }
+    ensures { Finishes E.told status text.now
+        (E.failed errors.old) (E.failed errors.new)
+        (E.written errors.old) (E.written errors.new) result }
+{
+    match write_whole(errors, text) {
+        Ok(()) => Status::new(status),
+        Err(_) => Status::new(4),
+    }
+}

@@ -1,0 +1,128 @@
+"""Rows over the built program: words, what it is given, and what it leaves. All answers are absolute: they come from
+the table of exit statuses and error lines in README.md, from docs/MANUAL.md and from the layout of clap, and not from
+a run of the program.
+"""
+import collections
+
+# Words (FILE stands for a file with the source), the source, and the standard input: bytes, or SOURCE for the source.
+Given = collections.namedtuple("Given", "name words source entered")
+# The exit status, the output and the error text.
+Answer = collections.namedtuple("Answer", "status output errors")
+
+SOURCE = object()
+
+
+def message(number, text, line):
+    return f"ICL{number:03}I {text}\n        ON THE WAY TO {line}\n        CORRECT SOURCE AND RESUBNIT\n".encode()
+
+
+PRINTS = b"DO READ OUT #1\nPLEASE READ OUT #4000 + #65535\nDO GIVE UP\n"
+PRINTED = b"\nI\n _\nMV\n___\nLXVDXXXV\n"
+FAULTS = b"DO READ OUT #1\nPLEASE READ OUT LOUD\nDO GIVE UP\n"
+FAULTED = Answer(1, b"\nI\n", message(0, "PLEASE READ OUT LOUD", 3))
+CHANCES = b"DO READ OUT #1\nDO %50 GIVE UP\n"
+WANTS = Answer(3, b"\nI\n", b"CHOICE WANTED AFTER 1 STEPS\n")
+REFUSED = b"DO READ OUT #70000\nPLEASE GIVE UP\n"
+REFUSAL = Answer(2, b"", message(17, "DO YOU EXPECT ME TO FIGURE THIS OUT?", 2))
+LOST = b"(1) DO (2) NEXT\nPLEASE GIVE UP\n"
+LISTED = b"(1) DO .1 <- ,1SUB'#1$.2'#3\nDO STASH .1 + ,1\nPLEASE ABSTAIN FROM (1)\nDO \xff"
+LISTING = b"""1 (1) DO - 100 CALCULATE "(1) DO .1 <- ,1SUB'#1$.2'#3"
+2 - DO - 100 STASH "DO STASH .1 + ,1"
+3 - PLEASE - 100 ABSTAIN "PLEASE ABSTAIN FROM (1)"
+4 - DO - 100 UNRECOGNISED "DO \\xff"
+"""
+HELP = b"""Checks, lists and runs programs of INTERCAL-72
+
+Usage: ick [COMMAND]
+
+Commands:
+  check  Counts the statements of a program
+  list   Lists the statements of a program
+  run    Runs a program
+  help   Print this message or the help of the given subcommand(s)
+
+Options:
+  -h, --help  Print help
+
+Without a command, ick runs the program on standard input, as `ick run` does.
+
+Exit status:
+  0   all went well
+  1   a fault of the run
+  2   the source is refused
+  3   the run wants a choice
+  4   a file, a stream or memory failed
+  64  the words ask for nothing
+
+Example:
+  ick run examples/numerals.i
+"""
+HELP_OF_CHECK = b"""Counts the statements of a program
+
+Usage: ick check [FILE]
+
+Arguments:
+  [FILE]  The source; standard input where none is named
+
+Options:
+  -h, --help  Print help
+
+Prints `n STATEMENTS, p POLITE`, or says why the source is refused.
+
+Exit status:
+  0   the source compiles
+  2   it is refused
+  4   a file, a stream or memory failed
+  64  the words ask for nothing
+
+Example:
+  ick check examples/bodies.i
+"""
+USAGE_OF_CHECK = b"""error: unexpected argument 'extra' found
+
+Usage: ick check [FILE]
+
+For more information, try '--help'.
+"""
+USAGE = b"""error: unrecognized subcommand 'jump'
+
+Usage: ick [COMMAND]
+
+For more information, try '--help'.
+"""
+LONGEST = 1_048_576
+
+# The rows over which faults/ has every call of the system fail.
+SWEPT = [
+    (Given("prints", [], PRINTS, SOURCE), Answer(0, PRINTED, b"")),
+    (Given("prints from FILE", ["run", "FILE"], PRINTS, b""), Answer(0, PRINTED, b"")),
+    (Given("faults", ["run"], FAULTS, SOURCE), FAULTED),
+    (Given("faults from FILE", ["run", "FILE"], FAULTS, b""), FAULTED),
+    (Given("wants a choice", ["run", "FILE"], CHANCES, b""), WANTS),
+    (Given("refused", ["run"], REFUSED, SOURCE), REFUSAL),
+    (Given("refused from FILE", ["run", "FILE"], REFUSED, b""), REFUSAL),
+    (Given("check", ["check"], PRINTS, SOURCE), Answer(0, b"3 STATEMENTS, 1 POLITE\n", b"")),
+    (Given("list from FILE", ["list", "FILE"], LISTED, b""), Answer(0, LISTING, b"")),
+    (Given("refused by its labels", ["check"], LOST, SOURCE),
+     Answer(2, b"", message(129, "PROGRAM HAS GOTTEN LOST", 2))),
+    (Given("no file", ["run", "no-such-file"], b"", b""), Answer(4, b"", b"FILE NOT READ\n")),
+    (Given("help", ["--help"], b"", b""), Answer(0, HELP, b"")),
+    (Given("help of check", ["check", "--help"], b"", b""), Answer(0, HELP_OF_CHECK, b"")),
+    (Given("usage", ["jump"], b"", b""), Answer(64, b"", USAGE)),
+]
+
+# The rest, which a plain run shows.
+PLAIN = [
+    (Given("dashes alone", ["--"], PRINTS, SOURCE), Answer(0, PRINTED, b"")),
+    (Given("file behind dashes", ["run", "--", "FILE"], PRINTS, b""), Answer(0, PRINTED, b"")),
+    (Given("standard input beside FILE", ["run", "FILE"], PRINTS, REFUSED), Answer(0, PRINTED, b"")),
+    (Given("a third word", ["check", "FILE", "extra"], PRINTS, b""), Answer(64, b"", USAGE_OF_CHECK)),
+    (Given("a fourth word", ["check", "FILE", "extra", "more"], PRINTS, b""), Answer(64, b"", USAGE_OF_CHECK)),
+    (Given("a word of byte 255", ["check", b"\xff"], b"", b""), Answer(64, b"", b"WORDS NOT READ\n")),
+    (Given("a folder", ["check", "."], b"", b""), Answer(4, b"", b"FILE NOT READ\n")),
+    (Given("no bytes", ["check"], b"", b""), Answer(0, b"0 STATEMENTS, 0 POLITE\n", b"")),
+    (Given("the longest source", ["check", "FILE"], b" " * LONGEST, b""), Answer(0, b"0 STATEMENTS, 0 POLITE\n", b"")),
+    (Given("one byte longer", ["run"], b" " * (LONGEST + 1), SOURCE), Answer(2, b"", b"SOURCE TOO LONG\n")),
+    (Given("one byte longer, from FILE", ["list", "FILE"], b" " * (LONGEST + 1), b""),
+     Answer(2, b"", b"SOURCE TOO LONG\n")),
+]
