@@ -3,9 +3,9 @@ use Rattle.std.proofs.Common.{◌≡◌, ◌<◌, ◌≤◌, ◌==◌, ℕ, Bool
 use Rattle.std.proofs.lemmas.List.{append-nil, length-take, take_all}
 use Rattle.ick_bits.specs.Faults.{message_of}
 use Rattle.ick_bits.specs.declared.faults.FaultKind.{FaultKind}
-use Rattle.ick_source.specs.ReadRefusals.{OnlyRefused}
-use Rattle.ick_source.specs.Refusals.{Compiles, Refused, longest}
-use Rattle.ick_source.specs.Trees.{StatementTree}
+use Rattle.ick_source.specs.RefusalAnswers.{IsOnlyRefused}
+use Rattle.ick_source.specs.Refusals.{Compiles, IsRefused, longest}
+use Rattle.ick_source.specs.StatementTree.{StatementTree}
 use Rattle.ick_cli.specs.Ending.{EndsBy, HasAnswer, IsOwnText, IsProper, Sends}
 use Rattle.ick_cli.specs.Tool.{Answer, IsSourceAnswer, IsToolAnswer, compiled, program_answer, read, refusal, refused, too_long, usual_limit}
 use Rattle.ick_cli.specs.declared.ending.Ending.{Ending}
@@ -20,7 +20,7 @@ below_limit n h = omega arith
 
 pub answered_program : (verb : Verb) (source : List ℕ) (trees : List StatementTree) (ending : Ending) (before after : List ℕ) → Compiles source trees
     → ((others : List StatementTree) → Compiles source others → others ≡ trees)
-    → ((kind : FaultKind) (n : ℕ) → Refused source kind n → ⊥)
+    → ((kind : FaultKind) (n : ℕ) → IsRefused source kind n → ⊥)
     → HasAnswer (program_answer verb trees) ending × Sends (program_answer verb trees).output ending before after
     → (answer : Answer) → IsSourceAnswer verb source answer → HasAnswer answer ending × Sends answer.output ending before after
 answered_program verb source trees ending before after compiles only not_refused answered answer (too_long h) =
@@ -30,7 +30,7 @@ answered_program verb source trees ending before after compiles only not_refused
     subst (λ (ts : List StatementTree). HasAnswer (program_answer verb ts) ending × Sends (program_answer verb ts).output ending before after)
     (sym (only others h)) answered
 
-refused_answer : (verb : Verb) (source : List ℕ) (kind : FaultKind) (n : ℕ) → OnlyRefused source kind n
+refused_answer : (verb : Verb) (source : List ℕ) (kind : FaultKind) (n : ℕ) → IsOnlyRefused source kind n
     → (answer : Answer) → IsSourceAnswer verb source answer → refusal 2 (message_of kind n []) ≡ answer
 refused_answer verb source kind n is answer (too_long h) = let fits = is.refused.fits in absurd (omega arith)
 refused_answer verb source kind n is answer (refused other m h) =
@@ -45,7 +45,7 @@ ends_refused status text FileNotRead before h = absurd h
 ends_refused status text ReadFailed before h = absurd h
 ends_refused status text WriteFailed before h = absurd h
 
-pub answered_refusal : (verb : Verb) (source : List ℕ) (kind : FaultKind) (n : ℕ) (ending : Ending) (before : List ℕ) → OnlyRefused source kind n
+pub answered_refusal : (verb : Verb) (source : List ℕ) (kind : FaultKind) (n : ℕ) (ending : Ending) (before : List ℕ) → IsOnlyRefused source kind n
     → EndsBy 2 (message_of kind n []) ending
     → (answer : Answer) → IsSourceAnswer verb source answer → HasAnswer answer ending × Sends answer.output ending before before
 answered_refusal verb source kind n ending before is ends answer h =
@@ -64,7 +64,7 @@ pub answer_of_front : (verb : Verb) (most : ℕ) (source : List ℕ) → longest
     → IsSourceAnswer verb (take most source) answer
 answer_of_front verb most source long answer (too_long h) = too_long (let front = length-take most source in omega arith)
 answer_of_front verb most source long answer (refused kind n h) =
-    refused kind n (subst (λ (t : List ℕ). Refused t kind n) (sym (take_all most source (let fits = h.fits in omega arith))) h)
+    refused kind n (subst (λ (t : List ℕ). IsRefused t kind n) (sym (take_all most source (let fits = h.fits in omega arith))) h)
 answer_of_front verb most source long answer (compiled trees h) =
     compiled trees (subst (λ (t : List ℕ). Compiles t trees) (sym (take_all most source (let fits = h.fits in omega arith))) h)
 

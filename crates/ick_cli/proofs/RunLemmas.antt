@@ -8,7 +8,7 @@ use Rattle.std.proofs.lemmas.List.Folds.{list_all-map}
 use Rattle.std.proofs.lemmas.Option.{slice_get_past}
 use Rattle.ick_bits.specs.declared.faults.FaultKind.TheVariants as kind
 use Rattle.ick_source.specs.BodyTree.{item_tree}
-use Rattle.ick_source.specs.Trees.{StatementTree}
+use Rattle.ick_source.specs.StatementTree.{StatementTree}
 use Rattle.ick_source.specs.declared.body.Item.{Item}
 use Rattle.ick_cli.specs.Run.{End, Ran, State, Stop, ask, asked_at, at_choice, at_end, behind, body_end, body_output, choice, ended, fault, is_mesh, is_passed, move, moved_over, plain, ran_on, ran_out, run_from, run_of, standing, statement_at, stopped}
 

@@ -6,7 +6,7 @@ use Rattle.ick_bits.specs.declared.faults.FaultKind.{FaultKind}
 use Rattle.ick_bits.specs.declared.faults.FaultKind.TheVariants as kind
 use Rattle.ick_source.specs.BodyTree.{BodyTree, give_up, read_out}
 use Rattle.ick_source.specs.Tree.{Tree, mesh}
-use Rattle.ick_source.specs.Trees.{StatementTree}
+use Rattle.ick_source.specs.StatementTree.{StatementTree}
 
 -- the end that a run comes to: it gave up, or a fault of this kind, statement and subject
 pub data End : Type 0 where

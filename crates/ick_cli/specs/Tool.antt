@@ -3,8 +3,8 @@ use Rattle.std.specs.Prelude.{◌<◌, ◌++◌, ℕ, List, [], Option, Some, No
 use Rattle.ick_bits.specs.Faults.{message_of}
 use Rattle.ick_bits.specs.declared.faults.FaultKind.{FaultKind}
 use Rattle.ick_source.specs.Listing.{listing}
-use Rattle.ick_source.specs.Trees.{StatementTree}
-use Rattle.ick_source.specs.Refusals.{Compiles, Refused, longest}
+use Rattle.ick_source.specs.StatementTree.{StatementTree}
+use Rattle.ick_source.specs.Refusals.{Compiles, IsRefused, longest}
 use Rattle.ick_cli.specs.Run.{End, Ran, Stop, at_choice, at_end, at_limit, fault, gave_up, run_of}
 use Rattle.ick_cli.specs.Summary.{summary}
 use Rattle.ick_cli.specs.declared.ending.Line.{Line}
@@ -70,7 +70,7 @@ program_answer Run trees = run_answer (run_of trees usual_limit)
 -- the answer to a source: it is too long, or it is refused, or it compiles to a program
 pub data IsSourceAnswer (verb : Verb) (source : List ℕ) : Answer → Type 0 where
   too_long : longest < length source → IsSourceAnswer verb source (refusal 2 (line_text line.SourceTooLong))
-  refused : (kind : FaultKind) (n : ℕ) → Refused source kind n → IsSourceAnswer verb source (refusal 2 (message_of kind n []))
+  refused : (kind : FaultKind) (n : ℕ) → IsRefused source kind n → IsSourceAnswer verb source (refusal 2 (message_of kind n []))
   compiled : (trees : List StatementTree) → Compiles source trees → IsSourceAnswer verb source (program_answer verb trees)
 
 -- the answer to a job, whose source is none where the file did not open or a read of it failed

@@ -5,7 +5,7 @@
 ghost use Rattle.std.specs.Prelude.{◌≡◌, ◌+◌, ◌<◌, ◌++◌, ℕ, IfOk, OnOk, length, map, option_map};
 ghost use Rattle.std.specs.List.{flat_map, list_all};
 ghost use Rattle.ick_source.specs.BodyTree.{body_tree_of, item_tree, read_out};
-ghost use Rattle.ick_source.specs.Trees.{statement_tree_of};
+ghost use Rattle.ick_source.specs.StatementTree.{statement_tree_of};
 ghost use Rattle.ick_source.specs.Programs.{trees_of};
 ghost use Rattle.ick_cli.specs.Run.{at_end, body_end, body_output, fault, is_mesh, is_passed, item_output, run_of};
 ghost use Rattle.ick_cli.specs.Stopped.{ran_of, stop_of};

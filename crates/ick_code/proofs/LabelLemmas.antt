@@ -3,8 +3,8 @@ use Rattle.std.proofs.Common.{◌≡◌, ℕ, suc, ◌+◌, ◌<◌, ◌≤◌, 
 use Rattle.std.specs.Prelude.{unwrap_or, option_map}
 use Rattle.std.proofs.lemmas.List.{length-map, map-append}
 use Rattle.ick_source.specs.declared.statements.Statement.{Statement}
-use Rattle.ick_source.specs.Trees.{statement_tree_of}
-use Rattle.ick_source.specs.Trees.{StatementTree}
+use Rattle.ick_source.specs.StatementTree.{statement_tree_of}
+use Rattle.ick_source.specs.StatementTree.{StatementTree}
 use Rattle.ick_code.specs.Control.{is_label, place_of}
 use Rattle.ick_code.specs.Labels.{first_place, with_place}
 use Rattle.ick_code.proofs.TakeLemmas.{take_with}

@@ -8,9 +8,9 @@ use Rattle.std.proofs.lemmas.Option.{slice_get-map, slice_get-get_or, slice_get_
 use Rattle.ick_source.specs.declared.statements.Statement.{Statement}
 use Rattle.ick_source.specs.declared.body.Body.{Body}
 use Rattle.ick_source.specs.declared.body.Body.TheVariants as body
-use Rattle.ick_source.specs.Trees.{StatementTree}
+use Rattle.ick_source.specs.StatementTree.{StatementTree}
 use Rattle.ick_source.specs.NameKinds.{is_statement_kinded}
-use Rattle.ick_source.specs.Trees.{statement_tree_of}
+use Rattle.ick_source.specs.StatementTree.{statement_tree_of}
 use Rattle.ick_code.specs.declared.op.Op.{Op}
 use Rattle.ick_code.specs.declared.op.Op.TheVariants.{Call, AbstainOne, ReinstateOne}
 use Rattle.ick_code.specs.declared.code.Line.{Line}

@@ -10,7 +10,7 @@ use Rattle.ick_source.specs.declared.tree.NameKind.TheVariants.{Onespot, Twospot
 use Rattle.ick_source.specs.declared.tree.UnaryOp.TheVariants.{And, Or, Xor}
 use Rattle.ick_source.specs.declared.tree.BinaryOp.TheVariants.{Mingle, Select}
 use Rattle.ick_source.specs.Tree.{mesh, scalar, element, unary, binary, none, more}
-use Rattle.ick_source.specs.Trees.{StatementTree}
+use Rattle.ick_source.specs.StatementTree.{StatementTree}
 use Rattle.ick_source.specs.BodyTree.{BodyTree, calculate, dimension, next, resume, stash, retrieve, ignore, remember, give_up, write_in, read_out}
 use Rattle.ick_code.specs.State.{State, Ending, gave_up, faulted}
 use Rattle.ick_code.specs.Move.{move, first_state}

@@ -10,7 +10,7 @@ use Rattle.ick_source.specs.declared.tree.NameKind.TheVariants.{Onespot, Tail}
 use Rattle.ick_source.specs.declared.tree.UnaryOp.TheVariants.{Or}
 use Rattle.ick_source.specs.declared.tree.BinaryOp.TheVariants.{Mingle, Select}
 use Rattle.ick_source.specs.Tree.{mesh, scalar, element, unary, binary, none, more}
-use Rattle.ick_source.specs.Trees.{StatementTree}
+use Rattle.ick_source.specs.StatementTree.{StatementTree}
 use Rattle.ick_source.specs.BodyTree.{give_up, write_in, calculate}
 use Rattle.ick_code.specs.State.{State, with_entry}
 use Rattle.ick_code.specs.Value.{value_of}

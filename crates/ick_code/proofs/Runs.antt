@@ -20,7 +20,7 @@ use Rattle.ick_source.specs.declared.body.Item.{Item}
 use Rattle.ick_source.specs.declared.body.Body.{Body}
 use Rattle.ick_source.specs.declared.body.Body.TheVariants as body
 use Rattle.ick_source.specs.Tree.{Tree, mesh, scalar, element, unary, binary, Trees, none, more, tree_of, trees_in}
-use Rattle.ick_source.specs.Trees.{StatementTree}
+use Rattle.ick_source.specs.StatementTree.{StatementTree}
 use Rattle.ick_source.specs.NameKinds.{is_array, count_in, are_few, is_kinded, are_kinded, is_body_kinded}
 use Rattle.ick_source.specs.BodyTree.{target_tree, item_tree, body_tree_of}
 use Rattle.ick_code.specs.declared.op.Op.{Op}

@@ -3,7 +3,7 @@ use Rattle.std.proofs.Common.{◌≡◌, ℕ, zero, suc, Bool, true, false, not,
 use Rattle.std.specs.Prelude.{filter, slice_get}
 use Rattle.std.specs.List.{list_all}
 use Rattle.ick_source.specs.declared.tree.Name.{Name}
-use Rattle.ick_source.specs.Trees.{StatementTree}
+use Rattle.ick_source.specs.StatementTree.{StatementTree}
 use Rattle.ick_source.specs.NameKinds.{is_array, is_body_kinded, is_statement_kinded}
 use Rattle.ick_code.specs.declared.op.SlotName.TheVariants.{Scalar, Array}
 use Rattle.ick_code.specs.State.{same_name}

@@ -12,7 +12,7 @@ use Rattle.ick_source.specs.declared.body.Body.{Body}
 use Rattle.ick_source.specs.declared.body.Body.TheVariants.{Dimension, WriteIn, ReadOut}
 use Rattle.ick_source.specs.declared.statements.Statement.{Statement}
 use Rattle.ick_source.specs.BodyTree.{target_tree, item_tree, body_tree_of}
-use Rattle.ick_source.specs.Trees.{statement_tree_of}
+use Rattle.ick_source.specs.StatementTree.{statement_tree_of}
 use Rattle.ick_source.specs.NameKinds.{is_array, count_in, are_few, is_kinded, are_kinded, is_body_kinded, is_statement_kinded}
 use Rattle.ick_code.specs.Do.{trees_from}
 use Rattle.ick_code.specs.Names.{names_of_tree, names_of_trees}

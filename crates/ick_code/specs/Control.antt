@@ -1,7 +1,7 @@
 -- NEXT, FORGET and RESUME over the list of entries, whose newest stands first.
 use Rattle.std.specs.Prelude.{ℕ, zero, suc, ◌+◌, ◌==◌, nat_lt, Bool, false, List, [], ◌∷◌, drop, length, Option, Some, None, if◌then◌else◌, slice_get}
 use Rattle.ick_bits.specs.declared.faults.FaultKind.TheVariants.{NextDepth, ResumeZero, Rupture}
-use Rattle.ick_source.specs.Trees.{StatementTree}
+use Rattle.ick_source.specs.StatementTree.{StatementTree}
 use Rattle.ick_code.specs.State.{State}
 use Rattle.ick_code.specs.Outcome.{Outcome, done, faults}
 

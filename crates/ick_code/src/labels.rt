@@ -3,7 +3,7 @@
 ghost use Rattle.std.specs.Prelude.{◌≡◌, ℕ, ◌≤◌, length, map, OnOk, IfOk};
 ghost use Rattle.std.specs.BTreeMap.{get};
 ghost use Rattle.std.specs.Ordering.{nat_cmp};
-ghost use Rattle.ick_source.specs.Trees.{statement_tree_of};
+ghost use Rattle.ick_source.specs.StatementTree.{statement_tree_of};
 ghost use Rattle.ick_code.specs.Control.{is_label, place_of};
 ghost use Rattle.ick_code.specs.Labels.{with_place, place_in};
 

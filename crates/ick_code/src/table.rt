@@ -4,7 +4,7 @@ ghost use Rattle.std.specs.Prelude.{◌≡◌, [], ◌∷◌, map, OnOk, IfOk};
 ghost use Rattle.std.specs.List.{flat_map};
 ghost use Rattle.ick_source.specs.Tree.{tree_of, trees_in};
 ghost use Rattle.ick_source.specs.BodyTree.{target_tree, item_tree, body_tree_of};
-ghost use Rattle.ick_source.specs.Trees.{statement_tree_of};
+ghost use Rattle.ick_source.specs.StatementTree.{statement_tree_of};
 ghost use Rattle.ick_code.specs.Names.{names_of_tree, names_of_trees, names_of_body, names_of, slot_name};
 ghost use Rattle.ick_code.specs.Tables.{table_slots, with_names, no_slots};
 

@@ -1,27 +1,27 @@
--- Words, numbers and gaps. In this crate a lemma `x_one` says that there is at most one x at a place, `x_is` and `x_or`
--- that there is one or none, `x_along` takes x to an equal place, `x_longer` and `x_order` say that it ends after it
+-- Words, numbers and gaps. In this crate a lemma `x_unique` says that there is at most one x at a position, `x_decided`
+-- that there is one or none, `x_exists` that there is one, `x_along` takes x to an equal position, `x_longer` and `x_order` say that it ends after it
 -- begins, and `x_inside` that it lies inside the text.
 use Rattle.std.proofs.Common.{Bool, IsTrue, List, [], add-one, add-zero, ap, arith, drop, false, get_or, inl, inr, length, refl, slice_range, subst, suc, sym, true, zero, ℕ, ◌*◌, ◌++◌, ◌+◌, ◌-◌, ◌<◌, ◌^◌, ◌∙◌, ◌∷◌, ◌≡◌, ◌≤◌, ◌⊎◌}
 use Rattle.std.proofs.Math.Nat.{pow-succ'}
 use Rattle.std.proofs.lemmas.Bool.{false≢true}
 use Rattle.std.proofs.lemmas.List.{get_or-drop, get_or_past, length-drop, length_push, take_more}
 use Rattle.ick_bits.specs.White.{is_white_byte}
-use Rattle.ick_source.specs.Bytes.{Gap, IsDigit, IsWhite, Number, Word, byte}
+use Rattle.ick_source.specs.Bytes.{IsGap, IsDigit, IsWhite, IsNumberIn, IsWordIn, byte}
 use Rattle.ick_source.specs.Token.{is_digit, value_of_digits}
-use Rattle.ick_source.proofs.PlaceLemmas.{digit-low}
+use Rattle.ick_source.proofs.PositionLemmas.{digit-low}
 
 pub less_or : (i j : ℕ) → ((i < j) ⊎ (j < i)) ⊎ (i ≡ j)
 less_or i j = grind arith
 
-pub gap_one : {s : List ℕ} {i j k l : ℕ} → Gap s i j → Gap s k l → i ≡ k → j ≡ l
-gap_one {s} {i} {j} {k} {l} g h e = elim (less_or j l) [
+pub gap_unique : {s : List ℕ} {i j k l : ℕ} → IsGap s i j → IsGap s k l → i ≡ k → j ≡ l
+gap_unique {s} {i} {j} {k} {l} g h e = elim (less_or j l) [
   | inl (inl lt) ↦ absurd (g.stops (h.white j (omega arith) lt))
   | inl (inr gt) ↦ absurd (h.stops (g.white l (omega arith) gt))
   | inr same ↦ same
 ]
 
-pub number_one : {s : List ℕ} {i j k l m n : ℕ} → Number s i j m → Number s k l n → i ≡ k → (j ≡ l) × (m ≡ n)
-number_one {s} {i} {j} {k} {l} g h e =
+pub number_in_unique : {s : List ℕ} {i j k l m n : ℕ} → IsNumberIn s i j m → IsNumberIn s k l n → i ≡ k → (j ≡ l) × (m ≡ n)
+number_in_unique {s} {i} {j} {k} {l} g h e =
     let same : j ≡ l = elim (less_or j l) [
       | inl (inl lt) ↦ absurd (g.stops (h.digits j (let some : i < j = g.some in omega arith) lt))
       | inl (inr gt) ↦ absurd (h.stops (g.digits l (let some : k < l = h.some in omega arith) gt))
@@ -29,7 +29,7 @@ number_one {s} {i} {j} {k} {l} g h e =
     ] in
     (same, cc)
 
--- Two words that differ do not stand at one place, shown by their first bytes.
+-- Two words that differ do not stand at one position, shown by their first bytes.
 pub differ : {A : Type 0} (s : List ℕ) {i k : ℕ} (a b : ℕ) → byte s i ≡ a → byte s k ≡ b → (a ≡ b → ⊥) → i ≡ k → A
 differ s a b x y n e = absurd (n (let f = ap (λ z. byte s z) e in omega (arith, f, x, y)))
 
@@ -40,12 +40,12 @@ inside s i h = elim (less_or i (length s)) [
   | inr same ↦ absurd (h (get_or_past s i 0 (omega arith)))
 ]
 
-pub Word-each : (s : List ℕ) (i : ℕ) (w : List ℕ) → Word s i w → (k : ℕ) → k < length w → byte s (i + k) ≡ get_or w k 0
+pub Word-each : (s : List ℕ) (i : ℕ) (w : List ℕ) → IsWordIn s i w → (k : ℕ) → k < length w → byte s (i + k) ≡ get_or w k 0
 Word-each s i [] h k lt = absurd (omega arith)
 Word-each s i (b ∷ bs) h zero lt = rw add-zero h.0
 Word-each s i (b ∷ bs) h (suc k) lt = let e : i + suc k ≡ (i + 1) + k = omega arith in rw e (Word-each s (i + 1) bs h.1 k (omega arith))
 
-pub Word-from_each : (s : List ℕ) (i : ℕ) (w : List ℕ) → ((k : ℕ) → k < length w → byte s (i + k) ≡ get_or w k 0) → Word s i w
+pub Word-from_each : (s : List ℕ) (i : ℕ) (w : List ℕ) → ((k : ℕ) → k < length w → byte s (i + k) ≡ get_or w k 0) → IsWordIn s i w
 Word-from_each s i [] h = tt
 Word-from_each s i (b ∷ bs) h = (rw add-zero at (h 0 (omega arith)), Word-from_each s (i + 1) bs (λ k lt. let e : i + suc k ≡ (i + 1) + k = omega arith in rw e at (h (suc k) (omega arith))))
 
@@ -87,15 +87,15 @@ le_or a b = grind arith
 pub not_white : {A : Type 0} {b c : ℕ} → b ≡ c → is_white_byte c ≡ false → IsWhite b → A
 not_white e f w = absurd (false≢true (sym f ∙ (ap is_white_byte (sym e) ∙ w)))
 
-true_or : (b : Bool) → IsTrue b ⊎ (IsTrue b → ⊥)
-true_or true = inl refl
-true_or false = inr false≢true
+true_decided : (b : Bool) → IsTrue b ⊎ (IsTrue b → ⊥)
+true_decided true = inl refl
+true_decided false = inr false≢true
 
-pub white_or : (b : ℕ) → IsWhite b ⊎ (IsWhite b → ⊥)
-white_or b = true_or (is_white_byte b)
+pub white_decided : (b : ℕ) → IsWhite b ⊎ (IsWhite b → ⊥)
+white_decided b = true_decided (is_white_byte b)
 
-digit_or : (b : ℕ) → IsDigit b ⊎ (IsDigit b → ⊥)
-digit_or b = true_or (is_digit b)
+digit_decided : (b : ℕ) → IsDigit b ⊎ (IsDigit b → ⊥)
+digit_decided b = true_decided (is_digit b)
 
 -- The byte past the end is no digit.
 end_no_digit : IsDigit 0 → ⊥
@@ -104,13 +104,13 @@ end_no_digit d = let low = digit-low 0 d in omega arith
 pub digit_inside : (s : List ℕ) (i : ℕ) → IsDigit (byte s i) → i < length s
 digit_inside s i d = inside s i (λ z. let low = digit-low (byte s i) d in omega arith)
 
-pub same_or : (a b : ℕ) → (a ≡ b) ⊎ (a ≡ b → ⊥)
-same_or a b = elim (less_or a b) [ inr e ↦ inl e | inl n ↦ inr (λ e. omega (arith, n, e)) ]
+pub equal_decided : (a b : ℕ) → (a ≡ b) ⊎ (a ≡ b → ⊥)
+equal_decided a b = elim (less_or a b) [ inr e ↦ inl e | inl n ↦ inr (λ e. omega (arith, n, e)) ]
 
 pub past : (s : List ℕ) (i : ℕ) → length s ≤ i → byte s i ≡ 0
 past s i l = get_or_past s i 0 l
 
--- All places from i on at which P holds, up to one at which it does not.
+-- All positions from i on at which P holds, up to one at which it does not.
 run : (s : List ℕ) (P : ℕ → Type 0) → ((b : ℕ) → P b ⊎ (P b → ⊥)) → (P 0 → ⊥) → (n i : ℕ) → length s ≤ i + n → (e : ℕ) × (i ≤ e) × ((k : ℕ) → i ≤ k → k < e → P (byte s k)) × (P (byte s e) → ⊥)
 run s P or zero_not zero i l = (i, omega arith, λ k a b. absurd (omega arith), λ p. zero_not (subst P (past s i (omega arith)) p))
 run s P or zero_not (suc n) i l = elim (or (byte s i)) [
@@ -127,34 +127,34 @@ run s P or zero_not (suc n) i l = elim (or (byte s i)) [
   )
 ]
 
-pub gap_is : (s : List ℕ) (i : ℕ) → (e : ℕ) × Gap s i e
-gap_is s i = let r = run s IsWhite white_or false≢true (length s) i (omega arith) in (r.0, record { order = r.1; white = r.2; stops = r.3 })
+pub gap_exists : (s : List ℕ) (i : ℕ) → (e : ℕ) × IsGap s i e
+gap_exists s i = let r = run s IsWhite white_decided false≢true (length s) i (omega arith) in (r.0, record { order = r.1; white = r.2; stops = r.3 })
 
-pub number_is : (s : List ℕ) (i : ℕ) → Finds (Number s i)
-number_is s i = let r = run s IsDigit digit_or end_no_digit (length s) i (omega arith) in elim (less_or i r.0) [
+pub number_in_decided : (s : List ℕ) (i : ℕ) → Finds (IsNumberIn s i)
+number_in_decided s i = let r = run s IsDigit digit_decided end_no_digit (length s) i (omega arith) in elim (less_or i r.0) [
   | inl (inl lt) ↦ inl (r.0, value_of_digits (slice_range s i r.0), record { some = lt; digits = r.2; stops = r.3; value = refl })
   | inl (inr gt) ↦ absurd (omega (arith, r.1))
   | inr e ↦ inr (λ j a x. r.3 (subst (λ z. IsDigit (byte s z)) e (x.digits i (omega arith) x.some)))
 ]
 
-pub word_or : (s : List ℕ) (i : ℕ) (w : List ℕ) → Word s i w ⊎ (Word s i w → ⊥)
-word_or s i [] = inl tt
-word_or s i (b ∷ bs) = elim (same_or (byte s i) b) [
+pub word_in_decided : (s : List ℕ) (i : ℕ) (w : List ℕ) → IsWordIn s i w ⊎ (IsWordIn s i w → ⊥)
+word_in_decided s i [] = inl tt
+word_in_decided s i (b ∷ bs) = elim (equal_decided (byte s i) b) [
   | inr n ↦ inr (λ x. n x.0)
-  | inl e ↦ elim (word_or s (i + 1) bs) [ inl w ↦ inl (e, w) | inr n ↦ inr (λ x. n x.1) ]
+  | inl e ↦ elim (word_in_decided s (i + 1) bs) [ inl w ↦ inl (e, w) | inr n ↦ inr (λ x. n x.1) ]
 ]
 
-pub number_along : {s : List ℕ} {i k j n : ℕ} → i ≡ k → Number s i j n → Number s k j n
-number_along {s} {j = j} {n = n} e x = subst (λ y. Number s y j n) e x
+pub number_in_along : {s : List ℕ} {i k j n : ℕ} → i ≡ k → IsNumberIn s i j n → IsNumberIn s k j n
+number_in_along {s} {j = j} {n = n} e x = subst (λ y. IsNumberIn s y j n) e x
 
 pub byte_along : {A : Type 0} (s : List ℕ) {i k b : ℕ} → i ≡ k → byte s i ≡ b → (byte s k ≡ b → A) → A
 byte_along s e x f = f (let h = ap (λ z. byte s z) e in cc)
 
-pub word_along : (s w : List ℕ) {i k : ℕ} → i ≡ k → Word s i w → Word s k w
-word_along s w e x = subst (λ y. Word s y w) e x
+pub word_in_along : (s w : List ℕ) {i k : ℕ} → i ≡ k → IsWordIn s i w → IsWordIn s k w
+word_in_along s w e x = subst (λ y. IsWordIn s y w) e x
 
-pub number_inside : {s : List ℕ} {i j n : ℕ} → Number s i j n → j ≤ length s
-number_inside {s} {i} {j} x = elim (le_or j (length s)) [
+pub number_in_inside : {s : List ℕ} {i j n : ℕ} → IsNumberIn s i j n → j ≤ length s
+number_in_inside {s} {i} {j} x = elim (le_or j (length s)) [
   | inl le ↦ le
   | inr gt ↦ absurd (let d = x.digits (j - 1) (let some : i < j = x.some in omega arith) (let some : i < j = x.some in omega arith) in let low = digit-low (byte s (j - 1)) d in let z = past s (j - 1) (omega arith) in omega (arith, low, z))
 ]

@@ -5,28 +5,28 @@ use Rattle.ick_source.specs.declared.tree.NameKind.{NameKind}
 use Rattle.ick_source.specs.declared.tree.UnaryOp.{UnaryOp}
 use Rattle.ick_source.specs.declared.tree.BinaryOp.{BinaryOp}
 use Rattle.ick_source.specs.declared.faults.Faults.{Faults}
-use Rattle.ick_source.specs.declared.lead.Mark.{Mark}
+use Rattle.ick_source.specs.declared.lead.Delimiter.{Delimiter}
 use Rattle.ick_source.specs.declared.lead.Lead.TheVariants.{Spot, Array, Hash, Group, Binary}
-use Rattle.ick_source.specs.declared.expression.FoundExpr.{FoundExpr}
-use Rattle.ick_source.specs.Place.{next_of, past_next}
+use Rattle.ick_source.specs.declared.expression.ParsedExpr.{ParsedExpr}
+use Rattle.ick_source.specs.Position.{next_lead, past_lead}
 use Rattle.ick_source.specs.Token.{unary_at, past_unary}
 use Rattle.ick_source.specs.Tree.{Tree, mesh, scalar, binary, under}
-use Rattle.ick_source.specs.Kept.{kept_tree, faults_of, both_faults}
+use Rattle.ick_source.specs.Clamped.{clamped_tree, faults_of, both_faults}
 use Rattle.ick_source.specs.Expression.{IsExpr, alone, joined, IsOperand, of_simple, of_element, IsSimple, spot, constant, group, IsElement, indexed}
-use Rattle.ick_source.specs.ExpressionAnswers.{Reading, AnswersTree, Stands, NoTree, IsNumbered, IsGroup}
-use Rattle.ick_source.proofs.KeptLemmas.{kept_tree-under, faults_of-under}
-use Rattle.ick_source.proofs.ExpressionOnce.{one_expr, one_operand}
+use Rattle.ick_source.specs.ExpressionAnswers.{Reading, AnswersTree, Stands, HasNoTree, IsNumbered, IsGroup}
+use Rattle.ick_source.proofs.ClampedLemmas.{clamped_tree-under, faults_of-under}
+use Rattle.ick_source.proofs.ExpressionUnique.{expr_unique, operand_unique}
 
 abbrev pub Answer : Type 0
-Answer = Result (Option FoundExpr) AllocError
+Answer = Result (Option ParsedExpr) AllocError
 
 -- what answers for one reading answers for another that holds of the same
-pub answers_as : {R S : Reading} (limit : ℕ) (text : List ℕ) (o : Option FoundExpr) →
+pub answers_as : {R S : Reading} (limit : ℕ) (text : List ℕ) (o : Option ParsedExpr) →
     ((to : List ℕ) (t : Tree) (h : ℕ) → R to t h → S to t h) → ((to : List ℕ) (t : Tree) (h : ℕ) → S to t h → R to t h) →
     AnswersTree R limit text o → AnswersTree S limit text o
 answers_as limit text None there back a = record { no_tree = λ to t h s low. a.no_tree to t h (back to t h s) low }
 answers_as limit text (Some x) there back a =
-    record { tree = a.tree; stands = there _ _ _ a.stands; low = a.low; is_kept = a.is_kept; are_faults = a.are_faults }
+    record { tree = a.tree; stands = there _ _ _ a.stands; low = a.low; is_clamped = a.is_clamped; are_faults = a.are_faults }
 
 pub if_ok_as : {R S : Reading} (limit : ℕ) (text : List ℕ) (r : Answer) →
     ((to : List ℕ) (t : Tree) (h : ℕ) → R to t h → S to t h) → ((to : List ℕ) (t : Tree) (h : ℕ) → S to t h → R to t h) →
@@ -39,58 +39,58 @@ pub if_ok_raised : {R : Reading} (limit : ℕ) (text : List ℕ) (r : Answer) �
     IfOk r (AnswersTree R 1 text) → IfOk r (AnswersTree R limit text)
 if_ok_raised limit text (Ok None) one some a = record { no_tree = λ to t h s low. a.no_tree to t h s (omega (arith, one to t h s)) }
 if_ok_raised limit text (Ok (Some x)) one some a =
-    record { tree = a.tree; stands = a.stands; low = omega (arith, a.low); is_kept = a.is_kept; are_faults = a.are_faults }
+    record { tree = a.tree; stands = a.stands; low = omega (arith, a.low); is_clamped = a.is_clamped; are_faults = a.are_faults }
 if_ok_raised limit text (Err e) one some a = a
 
-pub simple_is_no_array : {from to : List ℕ} {t : Tree} {h : ℕ} {k : NameKind} → IsSimple from to t h → next_of from ≡ Array k → ⊥
+pub simple_is_no_array : {from to : List ℕ} {t : Tree} {h : ℕ} {k : NameKind} → IsSimple from to t h → next_lead from ≡ Array k → ⊥
 simple_is_no_array (spot e n) f = cc
 simple_is_no_array (constant e n) f = cc
 simple_is_no_array (group e p c) f = cc
 
-operand_is_element : {m : Option Mark} {from to : List ℕ} {t : Tree} {h : ℕ} {k : NameKind} → next_of from ≡ Array k → IsOperand m from to t h → IsElement m from to t h
+operand_is_element : {m : Option Delimiter} {from to : List ℕ} {t : Tree} {h : ℕ} {k : NameKind} → next_lead from ≡ Array k → IsOperand m from to t h → IsElement m from to t h
 operand_is_element e (of_simple p) = absurd (simple_is_no_array p e)
 operand_is_element e (of_element p) = p
 
-pub element_is_array : {m : Option Mark} {from to : List ℕ} {t : Tree} {h : ℕ} → IsElement m from to t h → (k : NameKind) × (next_of from ≡ Array k)
+pub element_is_array : {m : Option Delimiter} {from to : List ℕ} {t : Tree} {h : ℕ} → IsElement m from to t h → (k : NameKind) × (next_lead from ≡ Array k)
 element_is_array (indexed {kind = kind} e n w s) = (kind, e)
 
-operand_is_simple : {m : Option Mark} {from to : List ℕ} {t : Tree} {h : ℕ} → ((k : NameKind) → next_of from ≢ Array k) → IsOperand m from to t h → IsSimple from to t h
+operand_is_simple : {m : Option Delimiter} {from to : List ℕ} {t : Tree} {h : ℕ} → ((k : NameKind) → next_lead from ≢ Array k) → IsOperand m from to t h → IsSimple from to t h
 operand_is_simple e (of_simple p) = p
 operand_is_simple e (of_element p) = let a = element_is_array p in absurd (e a.0 a.1)
 
-pub operand_of_element : (m : Option Mark) (from : List ℕ) (limit : ℕ) (text : List ℕ) (r : Answer) (k : NameKind) → next_of from ≡ Array k →
+pub operand_of_element : (m : Option Delimiter) (from : List ℕ) (limit : ℕ) (text : List ℕ) (r : Answer) (k : NameKind) → next_lead from ≡ Array k →
     IfOk r (AnswersTree (IsElement m from) limit text) → IfOk r (AnswersTree (IsOperand m from) limit text)
 operand_of_element m from limit text r k e = if_ok_as limit text r (λ to t h p. of_element p) (λ to t h p. operand_is_element e p)
 
-pub operand_of_simple : (m : Option Mark) (from : List ℕ) (limit : ℕ) (text : List ℕ) (r : Answer) → ((k : NameKind) → next_of from ≢ Array k) →
+pub operand_of_simple : (m : Option Delimiter) (from : List ℕ) (limit : ℕ) (text : List ℕ) (r : Answer) → ((k : NameKind) → next_lead from ≢ Array k) →
     IfOk r (AnswersTree (IsSimple from) limit text) → IfOk r (AnswersTree (IsOperand m from) limit text)
 operand_of_simple m from limit text r e = if_ok_as limit text r (λ to t h p. of_simple p) (λ to t h p. operand_is_simple e p)
 
 abbrev Scalar_of : NameKind → ℕ → Tree
 Scalar_of k n = scalar (record { kind = k; number = n })
 
-spot_there : {from to : List ℕ} {t : Tree} {h : ℕ} {k : NameKind} → next_of from ≡ Spot k → IsNumbered (Scalar_of k) (past_next from) to t h → IsSimple from to t h
+spot_there : {from to : List ℕ} {t : Tree} {h : ℕ} {k : NameKind} → next_lead from ≡ Spot k → IsNumbered (Scalar_of k) (past_lead from) to t h → IsSimple from to t h
 spot_there e p = rw (p.tree, p.height) (spot e p.is_number)
 
-spot_back : {from to : List ℕ} {t : Tree} {h : ℕ} {k : NameKind} → next_of from ≡ Spot k → IsSimple from to t h → IsNumbered (Scalar_of k) (past_next from) to t h
+spot_back : {from to : List ℕ} {t : Tree} {h : ℕ} {k : NameKind} → next_lead from ≡ Spot k → IsSimple from to t h → IsNumbered (Scalar_of k) (past_lead from) to t h
 spot_back {from} {k = k} e (spot {kind = k'} {n = n} f number) =
     let same : k' ≡ k = let g = sym f ∙ e in cc in
-    record { number = n; is_number = number; tree = ap (λ x. under (unary_at (past_next from)) (Scalar_of x n)) same; height = refl }
+    record { number = n; is_number = number; tree = ap (λ x. under (unary_at (past_lead from)) (Scalar_of x n)) same; height = refl }
 spot_back e (constant f n) = absurd (cc)
 spot_back e (group f p c) = absurd (cc)
 
-mesh_there : {from to : List ℕ} {t : Tree} {h : ℕ} → next_of from ≡ Hash → IsNumbered mesh (past_next from) to t h → IsSimple from to t h
+mesh_there : {from to : List ℕ} {t : Tree} {h : ℕ} → next_lead from ≡ Hash → IsNumbered mesh (past_lead from) to t h → IsSimple from to t h
 mesh_there e p = rw (p.tree, p.height) (constant e p.is_number)
 
-mesh_back : {from to : List ℕ} {t : Tree} {h : ℕ} → next_of from ≡ Hash → IsSimple from to t h → IsNumbered mesh (past_next from) to t h
+mesh_back : {from to : List ℕ} {t : Tree} {h : ℕ} → next_lead from ≡ Hash → IsSimple from to t h → IsNumbered mesh (past_lead from) to t h
 mesh_back e (spot f n) = absurd (cc)
 mesh_back e (constant {n = n} f number) = record { number = n; is_number = number; tree = refl; height = refl }
 mesh_back e (group f p c) = absurd (cc)
 
-group_there : {from to : List ℕ} {t : Tree} {h : ℕ} {q : Mark} → next_of from ≡ Group q → IsGroup q (past_next from) to t h → IsSimple from to t h
+group_there : {from to : List ℕ} {t : Tree} {h : ℕ} {q : Delimiter} → next_lead from ≡ Group q → IsGroup q (past_lead from) to t h → IsSimple from to t h
 group_there e p = rw (p.ends, p.tree, p.height) (group e p.is_expr p.closes)
 
-group_back : {from to : List ℕ} {t : Tree} {h : ℕ} {q : Mark} → next_of from ≡ Group q → IsSimple from to t h → IsGroup q (past_next from) to t h
+group_back : {from to : List ℕ} {t : Tree} {h : ℕ} {q : Delimiter} → next_lead from ≡ Group q → IsSimple from to t h → IsGroup q (past_lead from) to t h
 group_back e (spot f n) = absurd (cc)
 group_back e (constant f n) = absurd (cc)
 group_back {from} {q = q} e (group {mid = mid} {q = q'} {t = t} {h = h} f p c) =
@@ -99,43 +99,43 @@ group_back {from} {q = q} e (group {mid = mid} {q = q'} {t = t} {h = h} f p c) =
       mid = mid;
       inner = t;
       below = h;
-      is_expr = subst (λ x. IsExpr (Some x) (past_unary (past_next from)) mid t h) same p;
+      is_expr = subst (λ x. IsExpr (Some x) (past_unary (past_lead from)) mid t h) same p;
       closes = c ∙ ap Group same;
       ends = refl;
       tree = refl;
       height = refl;
     }
 
-pub simple_of_spot : (from past : List ℕ) (limit : ℕ) (text : List ℕ) (r : Answer) (k : NameKind) → next_of from ≡ Spot k → past ≡ past_next from → 0 < limit →
+pub simple_of_spot : (from past : List ℕ) (limit : ℕ) (text : List ℕ) (r : Answer) (k : NameKind) → next_lead from ≡ Spot k → past ≡ past_lead from → 0 < limit →
     IfOk r (AnswersTree (IsNumbered (Scalar_of k) past) 1 text) → IfOk r (AnswersTree (IsSimple from) limit text)
 simple_of_spot from past limit text r k e f some a =
     if_ok_as limit text r (λ to t h p. spot_there e p) (λ to t h p. spot_back e p)
     (if_ok_raised limit text r (λ to t h p. p.height) some (subst (λ x. IfOk r (AnswersTree (IsNumbered (Scalar_of k) x) 1 text)) f a))
 
-pub simple_of_mesh : (from past : List ℕ) (limit : ℕ) (text : List ℕ) (r : Answer) → next_of from ≡ Hash → past ≡ past_next from → 0 < limit →
+pub simple_of_mesh : (from past : List ℕ) (limit : ℕ) (text : List ℕ) (r : Answer) → next_lead from ≡ Hash → past ≡ past_lead from → 0 < limit →
     IfOk r (AnswersTree (IsNumbered mesh past) 1 text) → IfOk r (AnswersTree (IsSimple from) limit text)
 simple_of_mesh from past limit text r e f some a =
     if_ok_as limit text r (λ to t h p. mesh_there e p) (λ to t h p. mesh_back e p)
     (if_ok_raised limit text r (λ to t h p. p.height) some (subst (λ x. IfOk r (AnswersTree (IsNumbered mesh x) 1 text)) f a))
 
-pub simple_of_group : (from past : List ℕ) (limit : ℕ) (text : List ℕ) (r : Answer) (q : Mark) → next_of from ≡ Group q → past ≡ past_next from →
+pub simple_of_group : (from past : List ℕ) (limit : ℕ) (text : List ℕ) (r : Answer) (q : Delimiter) → next_lead from ≡ Group q → past ≡ past_lead from →
     IfOk r (AnswersTree (IsGroup q past) limit text) → IfOk r (AnswersTree (IsSimple from) limit text)
 simple_of_group from past limit text r q e f a =
     if_ok_as limit text r (λ to t h p. group_there e p) (λ to t h p. group_back e p)
     (subst (λ x. IfOk r (AnswersTree (IsGroup q x) limit text)) f a)
 
--- an expression stands in the group, and another mark than the group's comes after it
-pub group_stays_open : (q : Mark) (past inner to : List ℕ) (limit h : ℕ) (seen : Tree) (f : Faults) → inner ≡ past_unary past →
-    Stands (IsExpr (Some q) inner) (limit - 1) to seen h f → next_of to ≢ Group q → NoTree (IsGroup q past) limit
+-- an expression stands in the group, and another delimiter than the group's comes after it
+pub group_stays_open : (q : Delimiter) (past inner to : List ℕ) (limit h : ℕ) (seen : Tree) (f : Faults) → inner ≡ past_unary past →
+    Stands (IsExpr (Some q) inner) (limit - 1) to seen h f → next_lead to ≢ Group q → HasNoTree (IsGroup q past) limit
 group_stays_open q past inner to limit h seen f e w open_still =
     record {
       no_tree = λ to' t' h' g low.
-          let s = one_expr w.stands (subst (λ x. IsExpr (Some q) x g.mid g.inner g.below) (sym e) g.is_expr) in
-          open_still (ap next_of s.to ∙ g.closes);
+          let s = expr_unique w.stands (subst (λ x. IsExpr (Some q) x g.mid g.inner g.below) (sym e) g.is_expr) in
+          open_still (ap next_lead s.to ∙ g.closes);
     }
 
-pub group_closes : (q : Mark) (past inner to end : List ℕ) (limit h : ℕ) (o : Option UnaryOp) (inside seen : Tree) (f : Faults) → o ≡ unary_at past → inner ≡ past_unary past → 0 < limit →
-    Stands (IsExpr (Some q) inner) (limit - 1) to inside h f → next_of to ≡ Group q → end ≡ past_next to → seen ≡ under o inside →
+pub group_closes : (q : Delimiter) (past inner to end : List ℕ) (limit h : ℕ) (o : Option UnaryOp) (inside seen : Tree) (f : Faults) → o ≡ unary_at past → inner ≡ past_unary past → 0 < limit →
+    Stands (IsExpr (Some q) inner) (limit - 1) to inside h f → next_lead to ≡ Group q → end ≡ past_lead to → seen ≡ under o inside →
     Stands (IsGroup q past) limit end seen (h + 1) f
 group_closes q past inner to end limit h o inside seen f a e some w close ends shown =
     record {
@@ -151,34 +151,34 @@ group_closes q past inner to end limit h o inside seen f a e some w close ends s
         height = omega arith;
       };
       low = omega (arith, w.low);
-      is_kept = shown ∙ ap (under o) w.is_kept ∙ sym (kept_tree-under o w.tree);
+      is_clamped = shown ∙ ap (under o) w.is_clamped ∙ sym (clamped_tree-under o w.tree);
       are_faults = w.are_faults ∙ sym (faults_of-under o w.tree);
     }
 
-pub expr_alone : (m : Option Mark) (from to : List ℕ) (limit h : ℕ) (seen : Tree) (f : Faults) → Stands (IsOperand m from) limit to seen h f →
-    ((o : BinaryOp) → next_of to ≢ Binary o) → Stands (IsExpr m from) limit to seen h f
-expr_alone m from to limit h seen f w e = record { tree = w.tree; stands = alone w.stands e; low = w.low; is_kept = w.is_kept; are_faults = w.are_faults }
+pub expr_alone : (m : Option Delimiter) (from to : List ℕ) (limit h : ℕ) (seen : Tree) (f : Faults) → Stands (IsOperand m from) limit to seen h f →
+    ((o : BinaryOp) → next_lead to ≢ Binary o) → Stands (IsExpr m from) limit to seen h f
+expr_alone m from to limit h seen f w e = record { tree = w.tree; stands = alone w.stands e; low = w.low; is_clamped = w.is_clamped; are_faults = w.are_faults }
 
 -- what an expression whose operand ends before an operator consists of
-record Sides (m : Option Mark) (mid to : List ℕ) (j h : ℕ) : Type 0 where
+record Sides (m : Option Delimiter) (mid to : List ℕ) (j h : ℕ) : Type 0 where
   right : Tree
   k : ℕ
-  is_right : IsExpr m (past_next mid) to right k
+  is_right : IsExpr m (past_lead mid) to right k
   high : h ≡ suc (max j k)
 
-sides : {m : Option Mark} {from mid to : List ℕ} {a t : Tree} {o : BinaryOp} {j h : ℕ} → IsOperand m from mid a j → next_of mid ≡ Binary o → IsExpr m from to t h → Sides m mid to j h
-sides p e (alone q f) = let s = one_operand p q in absurd (f _ (ap next_of (sym s.to) ∙ e))
+sides : {m : Option Delimiter} {from mid to : List ℕ} {a t : Tree} {o : BinaryOp} {j h : ℕ} → IsOperand m from mid a j → next_lead mid ≡ Binary o → IsExpr m from to t h → Sides m mid to j h
+sides p e (alone q f) = let s = operand_unique p q in absurd (f _ (ap next_lead (sym s.to) ∙ e))
 sides {m} {to = to} {j = j} p e (joined {b = b} {k = k} q f r) =
-    let s = one_operand p q in
-    record { right = b; k = k; is_right = subst (λ x. IsExpr m (past_next x) to b k) (sym s.to) r; high = ap (λ x. suc (max x k)) (sym s.height) }
+    let s = operand_unique p q in
+    record { right = b; k = k; is_right = subst (λ x. IsExpr m (past_lead x) to b k) (sym s.to) r; high = ap (λ x. suc (max x k)) (sym s.height) }
 
-pub expr_too_high : (m : Option Mark) (from to : List ℕ) (limit l j : ℕ) (seen : Tree) (f : Faults) (o : BinaryOp) → Stands (IsOperand m from) l to seen j f →
-    next_of to ≡ Binary o → limit ≤ j → NoTree (IsExpr m from) limit
+pub expr_too_high : (m : Option Delimiter) (from to : List ℕ) (limit l j : ℕ) (seen : Tree) (f : Faults) (o : BinaryOp) → Stands (IsOperand m from) l to seen j f →
+    next_lead to ≡ Binary o → limit ≤ j → HasNoTree (IsExpr m from) limit
 expr_too_high m from to limit l j seen f o w e high =
     record { no_tree = λ to' t h x low. let s = sides w.stands e x in omega (arith, s.high) }
 
-pub expr_no_right : (m : Option Mark) (from to next : List ℕ) (limit l j : ℕ) (seen : Tree) (f : Faults) (o : BinaryOp) → Stands (IsOperand m from) l to seen j f →
-    next_of to ≡ Binary o → next ≡ past_next to → NoTree (IsExpr m next) (limit - 1) → NoTree (IsExpr m from) limit
+pub expr_no_right : (m : Option Delimiter) (from to next : List ℕ) (limit l j : ℕ) (seen : Tree) (f : Faults) (o : BinaryOp) → Stands (IsOperand m from) l to seen j f →
+    next_lead to ≡ Binary o → next ≡ past_lead to → HasNoTree (IsExpr m next) (limit - 1) → HasNoTree (IsExpr m from) limit
 expr_no_right m from to next limit l j seen f o w e g none_there =
     record {
       no_tree = λ to' t h x low.
@@ -186,15 +186,15 @@ expr_no_right m from to next limit l j seen f o w e g none_there =
           none_there.no_tree to' s.right s.k (subst (λ y. IsExpr m y to' s.right s.k) (sym g) s.is_right) (omega (arith, s.high));
     }
 
-pub expr_joined : (m : Option Mark) (from mid next to : List ℕ) (limit l j k h : ℕ) (a b seen : Tree) (f g all : Faults) (o : BinaryOp) → Stands (IsOperand m from) l mid a j f →
-    next_of mid ≡ Binary o → next ≡ past_next mid → Stands (IsExpr m next) (limit - 1) to b k g → j < limit →
+pub expr_joined : (m : Option Delimiter) (from mid next to : List ℕ) (limit l j k h : ℕ) (a b seen : Tree) (f g all : Faults) (o : BinaryOp) → Stands (IsOperand m from) l mid a j f →
+    next_lead mid ≡ Binary o → next ≡ past_lead mid → Stands (IsExpr m next) (limit - 1) to b k g → j < limit →
     seen ≡ binary o a b → h ≡ suc (max j k) → all ≡ both_faults f g → Stands (IsExpr m from) limit to seen h all
-unfolding kept_tree faults_of
+unfolding clamped_tree faults_of
 expr_joined m from mid next to limit l j k h a b seen f g all o w e n v low shown high faults =
     record {
       tree = binary o w.tree v.tree;
       stands = rw high (joined w.stands e (subst (λ x. IsExpr m x to v.tree k) n v.stands));
       low = omega (arith, v.low);
-      is_kept = shown ∙ rw (w.is_kept, v.is_kept) refl;
+      is_clamped = shown ∙ rw (w.is_clamped, v.is_clamped) refl;
       are_faults = faults ∙ rw (w.are_faults, v.are_faults) refl;
     }

@@ -4,7 +4,7 @@ use Rattle.std.proofs.Math.Seq.{take-append_seam}
 use Rattle.std.proofs.lemmas.List.{append-nil, take-append-drop}
 use Rattle.std.specs.List.{enumerate_from, flat_map}
 use Rattle.ick_source.specs.Listing.{line_of, listing}
-use Rattle.ick_source.specs.Trees.{StatementTree}
+use Rattle.ick_source.specs.StatementTree.{StatementTree}
 
 abbrev lines : ℕ → List StatementTree → List ℕ
 lines n trees = flat_map (λ p. line_of p.0 p.1) (enumerate_from n trees)

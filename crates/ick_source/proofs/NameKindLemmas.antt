@@ -1,4 +1,4 @@
--- What stands in a text has names of the kinds that it says, and no more members than the text has symbols.
+-- What stands in a text has names of the kinds that it says, and no more members than the text has characters.
 use Rattle.std.proofs.Common.{◌≡◌, ℕ, ◌+◌, ◌*◌, ◌<◌, ◌≤◌, Bool, true, false, not, nat_eq, nat_lt, List, [], ◌∷◌, length, length-append, length-drop, drop, Option, Some, None, refl, ap, subst, arith}
 use Rattle.std.specs.Prelude.{cond, codes}
 use Rattle.std.specs.List.{list_all}
@@ -8,24 +8,24 @@ use Rattle.ick_source.specs.declared.tree.NameKind.{NameKind}
 use Rattle.ick_source.specs.declared.tree.UnaryOp.{UnaryOp}
 use Rattle.ick_source.specs.declared.lead.Lead.{Lead}
 use Rattle.ick_source.specs.declared.lead.Lead.TheVariants.{Spot, Array}
-use Rattle.ick_source.specs.declared.lead.Mark.{Mark}
+use Rattle.ick_source.specs.declared.lead.Delimiter.{Delimiter}
 use Rattle.ick_source.specs.declared.form.Form.{Form}
 use Rattle.ick_source.specs.declared.verb.Verb.{Verb}
 use Rattle.ick_source.specs.Lead.{lead_of}
-use Rattle.ick_source.specs.Place.{symbols, symbols_of, first as lead_at, past_white, next_of, past_next}
+use Rattle.ick_source.specs.Position.{characters, characters_of, first_lead as lead_at, past_white, next_lead, past_lead}
 use Rattle.ick_source.specs.Token.{unary_at}
 use Rattle.ick_source.specs.Tree.{Tree, Trees, under}
-use Rattle.ick_source.specs.Expression.{IsExpr, alone, joined, IsOperand, of_simple, of_element, IsSimple, spot, constant, group, IsElement, indexed, IsSubs, nested, first, IsRest, nothing, last, further}
+use Rattle.ick_source.specs.Expression.{IsExpr, alone, joined, IsOperand, of_simple, of_element, IsSimple, spot, constant, group, IsElement, indexed, IsSubs, nested, simple_first, IsRest, nothing, last, further}
 use Rattle.ick_source.specs.BodyTree.{ItemTree, BodyTree}
 use Rattle.ick_source.specs.BodyGrammar.{Part, IsSeparated, only, and_more, IsWhole, IsTarget, to_spot, to_element, IsPlace, to_target, to_array, IsItem, of_place, of_mesh, IsAfter, forgets, resumes, stashes, retrieves, ignores, remembers, abstains_label, abstains_kinds, reinstates_label, reinstates_kinds, gives_up, writes_in, reads_out, IsBodyOf, calculates, dimensions, nexts, does}
-use Rattle.ick_source.specs.BodyPlaces.{IsBody}
-use Rattle.ick_source.specs.Trees.{StatementTree}
+use Rattle.ick_source.specs.BodyBytes.{IsBodyIn}
+use Rattle.ick_source.specs.StatementTree.{StatementTree}
 use Rattle.ick_source.specs.Statements.{Ends, recognised, unrecognised}
-use Rattle.ick_source.specs.Cut.{Cut, Front, nothing as no_front, something, Rest, done, next}
+use Rattle.ick_source.specs.Cut.{IsCut, IsFront, nothing as no_front, something, AreStatements, done, statement_then}
 use Rattle.ick_source.specs.Refusals.{longest}
 use Rattle.ick_source.specs.NameKinds.{is_array, is_tail, count_in, is_kinded, are_kinded, is_item_kinded, is_body_kinded, is_statement_kinded}
-use Rattle.ick_source.proofs.ExpressionShorter.{length-past_next, length-past_mark, number-shorter, word-shorter, simple-shorter, element-shorter, operand-shorter}
-use Rattle.ick_source.proofs.PartOnce.{target-shorter, place-shorter, item-shorter, whole-shorter, array-shorter, verb-shorter}
+use Rattle.ick_source.proofs.ExpressionShorter.{length-past_lead, length-past_operator, number-shorter, word-shorter, simple-shorter, element-shorter, operand-shorter}
+use Rattle.ick_source.proofs.PartUnique.{target-shorter, place-shorter, item-shorter, whole-shorter, array-shorter, verb-shorter}
 
 -- whether a spot has a spot's kind, and an array an array's
 names_its_kind : Lead → Bool
@@ -58,11 +58,11 @@ unfolding names_its_kind
 names_at [] = refl
 names_at (b ∷ l) = lead_names b
 
-spot_kind : (from : List ℕ) {k : NameKind} → next_of from ≡ Spot k → not (is_array k) ≡ true
+spot_kind : (from : List ℕ) {k : NameKind} → next_lead from ≡ Spot k → not (is_array k) ≡ true
 unfolding names_its_kind
 spot_kind from e = subst (λ l. names_its_kind l ≡ true) e (names_at (past_white from))
 
-array_kind : (from : List ℕ) {k : NameKind} → next_of from ≡ Array k → is_array k ≡ true
+array_kind : (from : List ℕ) {k : NameKind} → next_lead from ≡ Array k → is_array k ≡ true
 unfolding names_its_kind
 array_kind from e = subst (λ l. names_its_kind l ≡ true) e (names_at (past_white from))
 
@@ -73,48 +73,48 @@ under_kinded : (o : Option UnaryOp) (t : Tree) → is_kinded t ≡ true → is_k
 under_kinded None t p = p
 under_kinded (Some o) t p = p
 
-rest_count : {m : Option Mark} {from to : List ℕ} {ts : Trees} {h : ℕ} → IsRest m from to ts h → count_in ts + length to ≤ length from
+rest_count : {m : Option Delimiter} {from to : List ℕ} {ts : Trees} {h : ℕ} → IsRest m from to ts h → count_in ts + length to ≤ length from
 rest_count (nothing e) = omega arith
 rest_count (last p) = omega (arith, element-shorter p)
 rest_count (further e p r) = omega (arith, simple-shorter p, rest_count r)
 
-subs_count : {m : Option Mark} {from to : List ℕ} {ts : Trees} {h : ℕ} → IsSubs m from to ts h → count_in ts + length to ≤ length from
+subs_count : {m : Option Delimiter} {from to : List ℕ} {ts : Trees} {h : ℕ} → IsSubs m from to ts h → count_in ts + length to ≤ length from
 subs_count (nested p) = omega (arith, element-shorter p)
-subs_count (first p r) = omega (arith, simple-shorter p, rest_count r)
+subs_count (simple_first p r) = omega (arith, simple-shorter p, rest_count r)
 
--- fewer symbols are left than numbers of 32 bits
+-- fewer characters are left than numbers of 32 bits
 record Fits (from : List ℕ) : Type 0 where
   low : length from < 4294967296
 
 mutual
-  expr_kinded : {m : Option Mark} {from to : List ℕ} {t : Tree} {h : ℕ} → IsExpr m from to t h → Fits from → is_kinded t ≡ true
+  expr_kinded : {m : Option Delimiter} {from to : List ℕ} {t : Tree} {h : ℕ} → IsExpr m from to t h → Fits from → is_kinded t ≡ true
   expr_kinded (alone p e) f = operand_kinded p f
   expr_kinded (joined {mid = mid} p e r) f =
-      both_true (operand_kinded p f) (expr_kinded r (record { low = omega (arith, operand-shorter p, length-past_next mid) }))
+      both_true (operand_kinded p f) (expr_kinded r (record { low = omega (arith, operand-shorter p, length-past_lead mid) }))
 
-  operand_kinded : {m : Option Mark} {from to : List ℕ} {t : Tree} {h : ℕ} → IsOperand m from to t h → Fits from → is_kinded t ≡ true
+  operand_kinded : {m : Option Delimiter} {from to : List ℕ} {t : Tree} {h : ℕ} → IsOperand m from to t h → Fits from → is_kinded t ≡ true
   operand_kinded (of_simple p) f = simple_kinded p f
   operand_kinded (of_element p) f = element_kinded p f
 
   simple_kinded : {from to : List ℕ} {t : Tree} {h : ℕ} → IsSimple from to t h → Fits from → is_kinded t ≡ true
-  simple_kinded {from} (spot e n) f = under_kinded (unary_at (past_next from)) _ (spot_kind from e)
-  simple_kinded {from} (constant e n) f = under_kinded (unary_at (past_next from)) _ refl
+  simple_kinded {from} (spot e n) f = under_kinded (unary_at (past_lead from)) _ (spot_kind from e)
+  simple_kinded {from} (constant e n) f = under_kinded (unary_at (past_lead from)) _ refl
   simple_kinded {from} (group e p c) f =
-      under_kinded (unary_at (past_next from)) _
-      (expr_kinded p (record { low = omega (arith, length-past_mark (unary_at (past_next from)) (past_next from), length-past_next from) }))
+      under_kinded (unary_at (past_lead from)) _
+      (expr_kinded p (record { low = omega (arith, length-past_operator (unary_at (past_lead from)) (past_lead from), length-past_lead from) }))
 
-  element_kinded : {m : Option Mark} {from to : List ℕ} {t : Tree} {h : ℕ} → IsElement m from to t h → Fits from → is_kinded t ≡ true
+  element_kinded : {m : Option Delimiter} {from to : List ℕ} {t : Tree} {h : ℕ} → IsElement m from to t h → Fits from → is_kinded t ≡ true
   element_kinded {from = from} (indexed {sub = sub} {ts = ts} e n w s) f =
-      let left : length sub ≤ length from = omega (arith, number-shorter n, word-shorter w, length-past_next from) in
+      let left : length sub ≤ length from = omega (arith, number-shorter n, word-shorter w, length-past_lead from) in
       both_true (array_kind from e)
       (both_true (few (count_in ts) (omega (arith, subs_count s)))
       (subs_kinded s (record { low = omega arith })))
 
-  subs_kinded : {m : Option Mark} {from to : List ℕ} {ts : Trees} {h : ℕ} → IsSubs m from to ts h → Fits from → are_kinded ts ≡ true
+  subs_kinded : {m : Option Delimiter} {from to : List ℕ} {ts : Trees} {h : ℕ} → IsSubs m from to ts h → Fits from → are_kinded ts ≡ true
   subs_kinded (nested p) f = both_true (element_kinded p f) refl
-  subs_kinded (first p r) f = both_true (simple_kinded p f) (rest_kinded r (record { low = omega (arith, simple-shorter p) }))
+  subs_kinded (simple_first p r) f = both_true (simple_kinded p f) (rest_kinded r (record { low = omega (arith, simple-shorter p) }))
 
-  rest_kinded : {m : Option Mark} {from to : List ℕ} {ts : Trees} {h : ℕ} → IsRest m from to ts h → Fits from → are_kinded ts ≡ true
+  rest_kinded : {m : Option Delimiter} {from to : List ℕ} {ts : Trees} {h : ℕ} → IsRest m from to ts h → Fits from → are_kinded ts ≡ true
   rest_kinded (nothing e) f = refl
   rest_kinded (last p) f = both_true (element_kinded p f) refl
   rest_kinded (further e p r) f = both_true (simple_kinded p f) (rest_kinded r (record { low = omega (arith, simple-shorter p) }))
@@ -176,32 +176,32 @@ formed_kinded form {from} (dimensions {later = later} {es = es} p w d) f =
 formed_kinded form (nexts p w) f = refl
 formed_kinded form (does {v = v} w p) f = after_kinded v p (record { low = omega (arith, verb-shorter v w) })
 
-symbols_of-two : (b : ℕ) → length (symbols_of b) ≤ 2
-symbols_of-two b = grind (arith, nat_tests)
+characters_of-two : (b : ℕ) → length (characters_of b) ≤ 2
+characters_of-two b = grind (arith, nat_tests)
 
--- a byte is two symbols at most
-symbols-twice : (s : List ℕ) → length (symbols s) ≤ 2 * length s
-unfolding symbols
-symbols-twice [] = omega arith
-symbols-twice (b ∷ s) = omega (arith, symbols-twice s, symbols_of-two b, length-append (symbols_of b) (symbols s))
+-- a byte is two characters at most
+characters-twice : (s : List ℕ) → length (characters s) ≤ 2 * length s
+unfolding characters
+characters-twice [] = omega arith
+characters-twice (b ∷ s) = omega (arith, characters-twice s, characters_of-two b, length-append (characters_of b) (characters s))
 
-body_kinded : {s : List ℕ} {i j : ℕ} {b : BodyTree} → IsBody s i j b → length s ≤ longest → is_body_kinded (Some b) ≡ true
+body_kinded : {s : List ℕ} {i j : ℕ} {b : BodyTree} → IsBodyIn s i j b → length s ≤ longest → is_body_kinded (Some b) ≡ true
 body_kinded {s} {i} p low =
     let left : length (drop i s) ≤ length s = omega (arith, length-drop i s) in
-    formed_kinded p.stands.form p.stands.stands (record { low = omega (arith, symbols-twice (drop i s)) })
+    formed_kinded p.stands.form p.stands.stands (record { low = omega (arith, characters-twice (drop i s)) })
 
 ends_kinded : {s : List ℕ} {head from to : ℕ} {body : Option BodyTree} → Ends s head from to body → length s ≤ longest → is_body_kinded body ≡ true
 ends_kinded (recognised r) low = body_kinded r.body low
 ends_kinded (unrecognised none_there b) low = refl
 
-statements_kinded : {s : List ℕ} {from : ℕ} {trees : List StatementTree} → Rest s from trees → length s ≤ longest → list_all is_statement_kinded trees ≡ true
+statements_kinded : {s : List ℕ} {from : ℕ} {trees : List StatementTree} → AreStatements s from trees → length s ≤ longest → list_all is_statement_kinded trees ≡ true
 statements_kinded (done e) low = refl
-statements_kinded (next p r) low = both_true (ends_kinded p.ends low) (statements_kinded r low)
+statements_kinded (statement_then p r) low = both_true (ends_kinded p.ends low) (statements_kinded r low)
 
-front_kinded : {s : List ℕ} {from to : ℕ} {rest trees : List StatementTree} → Front s from to rest trees → list_all is_statement_kinded rest ≡ true → list_all is_statement_kinded trees ≡ true
+front_kinded : {s : List ℕ} {from to : ℕ} {rest trees : List StatementTree} → IsFront s from to rest trees → list_all is_statement_kinded rest ≡ true → list_all is_statement_kinded trees ≡ true
 front_kinded (no_front e) k = k
 front_kinded (something l t) k = both_true refl k
 
 -- Each statement of a text that is not too long is well-kinded.
-pub cut_kinded : {s : List ℕ} {trees : List StatementTree} → Cut s trees → length s ≤ longest → list_all is_statement_kinded trees ≡ true
+pub cut_kinded : {s : List ℕ} {trees : List StatementTree} → IsCut s trees → length s ≤ longest → list_all is_statement_kinded trees ≡ true
 cut_kinded g low = front_kinded g.front (statements_kinded g.statements low)

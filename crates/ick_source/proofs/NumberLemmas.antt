@@ -3,7 +3,7 @@ use Rattle.std.proofs.Common.{◌≡◌, ℕ, ◌+◌, ◌-◌, ◌*◌, ◌^◌
 use Rattle.std.proofs.Math.Nat.{add-mul, mul_assoc, pow-succ'}
 use Rattle.std.specs.Prelude.{if◌then◌else◌, ◌&&◌, cond}
 use Rattle.std.specs.List.{list_all}
-use Rattle.ick_source.specs.Place.{past_white}
+use Rattle.ick_source.specs.Position.{past_white}
 use Rattle.ick_source.specs.Token.{is_digit, begins_number, value_of_digits, IsNumber, digits}
 
 -- the digits at the front
@@ -74,12 +74,12 @@ and-right true b e = e
 and-right false b e = absurd (cc)
 
 -- digits and what begins with none are told apart in one way
-digits-once : (ds to : List ℕ) → list_all is_digit ds ≡ true → begins_number to ≡ false → (digits_of (ds ++ to) ≡ ds) × (past_digits (ds ++ to) ≡ to)
+digits-unique : (ds to : List ℕ) → list_all is_digit ds ≡ true → begins_number to ≡ false → (digits_of (ds ++ to) ≡ ds) × (past_digits (ds ++ to) ≡ to)
 unfolding digits_of past_digits
-digits-once [] [] all e = (refl, refl)
-digits-once [] (b ∷ to) all e = (rw e refl, rw e refl)
-digits-once (d ∷ ds) to all e =
-    let r = digits-once ds to (and-right (is_digit d) (list_all is_digit ds) all) e in
+digits-unique [] [] all e = (refl, refl)
+digits-unique [] (b ∷ to) all e = (rw e refl, rw e refl)
+digits-unique (d ∷ ds) to all e =
+    let r = digits-unique ds to (and-right (is_digit d) (list_all is_digit ds) all) e in
     let digit = and-left (is_digit d) (list_all is_digit ds) all in
     (rw (digit, r.0) refl, rw (digit, r.1) refl)
 
@@ -91,10 +91,10 @@ pub number-begins : {from to : List ℕ} {n : ℕ} → IsNumber from to n → be
 number-begins {to = to} (digits ds e some all ends) = ap begins_number e ∙ front ds to some all
 
 pub number-ends : {from to : List ℕ} {n : ℕ} → IsNumber from to n → to ≡ past_digits (past_white from)
-number-ends {to = to} (digits ds e some all ends) = sym (ap past_digits e ∙ (digits-once ds to all ends).1)
+number-ends {to = to} (digits ds e some all ends) = sym (ap past_digits e ∙ (digits-unique ds to all ends).1)
 
 pub number-value : {from to : List ℕ} {n : ℕ} → IsNumber from to n → n ≡ value_after 0 (digits_of (past_white from))
-number-value {to = to} (digits ds e some all ends) = sym (value-is ds) ∙ ap (value_after 0) (sym (ap digits_of e ∙ (digits-once ds to all ends).0))
+number-value {to = to} (digits ds e some all ends) = sym (value-is ds) ∙ ap (value_after 0) (sym (ap digits_of e ∙ (digits-unique ds to all ends).0))
 
 pub number-shorter : {from to : List ℕ} {n : ℕ} → IsNumber from to n → length to < length (past_white from)
 number-shorter {to = to} (digits ds e some all ends) = omega (arith, ap length e, length-append ds to)

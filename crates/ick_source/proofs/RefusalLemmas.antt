@@ -2,57 +2,57 @@
 use Rattle.std.proofs.Common.{List, None, Some, [], arith, inl, inr, length, refl, subst, suc, sym, zero, ℕ, ◌++◌, ◌+◌, ◌<◌, ◌∙◌, ◌∷◌, ◌≡◌, ◌≤◌, ◌⊎◌, ap}
 use Rattle.ick_bits.specs.declared.faults.FaultKind.{FaultKind}
 use Rattle.ick_bits.specs.declared.faults.FaultKind.TheVariants.{Fawning, Impolite, LabelRange, MeshTooLarge, NameRange, NoAbstainLabel, NoNextLabel, SameLabel, Unrecognised}
-use Rattle.ick_source.specs.ReadRefusals.{OnlyRefused}
+use Rattle.ick_source.specs.RefusalAnswers.{IsOnlyRefused}
 use Rattle.ick_source.specs.Ranges.{IsFirst}
-use Rattle.ick_source.specs.Refusals.{At, longest, Compiles, FaultAt, FawningAt, ImpoliteAt, IsFirstFault, IsSound, IsSoundBelow, Refused, rank}
-use Rattle.ick_source.specs.Trees.{StatementTree}
+use Rattle.ick_source.specs.Refusals.{HoldsAt, longest, Compiles, IsFaultAt, IsFawningAt, IsImpoliteAt, IsFirstFault, IsSound, IsSoundBelow, IsRefused, rank}
+use Rattle.ick_source.specs.StatementTree.{StatementTree}
 use Rattle.ick_source.proofs.ByteLemmas.{less_or}
-use Rattle.ick_source.proofs.CutLemmas.{cut_is, cut_one}
+use Rattle.ick_source.proofs.CutLemmas.{cut_exists, cut_unique}
 
-pub At-inside : (P : StatementTree → Type 0) (all : List StatementTree) (m : ℕ) → At P all m → m ≤ length all
-At-inside P all zero h = omega arith
-At-inside P [] (suc k) h = absurd h
-At-inside P (x ∷ xs) (suc zero) h = omega arith
-At-inside P (x ∷ xs) (suc (suc k)) h = let ih = At-inside P xs (suc k) h in omega arith
+pub HoldsAt-inside : (P : StatementTree → Type 0) (all : List StatementTree) (m : ℕ) → HoldsAt P all m → m ≤ length all
+HoldsAt-inside P all zero h = omega arith
+HoldsAt-inside P [] (suc k) h = absurd h
+HoldsAt-inside P (x ∷ xs) (suc zero) h = omega arith
+HoldsAt-inside P (x ∷ xs) (suc (suc k)) h = let ih = HoldsAt-inside P xs (suc k) h in omega arith
 
-At-earlier : (P : StatementTree → Type 0) (all : List StatementTree) (p : StatementTree) (m : ℕ) → At P all m → At P (all ++ p ∷ []) m
-At-earlier P all p zero h = h
-At-earlier P [] p (suc k) h = absurd h
-At-earlier P (x ∷ xs) p (suc zero) h = h
-At-earlier P (x ∷ xs) p (suc (suc k)) h = At-earlier P xs p (suc k) h
+HoldsAt-earlier : (P : StatementTree → Type 0) (all : List StatementTree) (p : StatementTree) (m : ℕ) → HoldsAt P all m → HoldsAt P (all ++ p ∷ []) m
+HoldsAt-earlier P all p zero h = h
+HoldsAt-earlier P [] p (suc k) h = absurd h
+HoldsAt-earlier P (x ∷ xs) p (suc zero) h = h
+HoldsAt-earlier P (x ∷ xs) p (suc (suc k)) h = HoldsAt-earlier P xs p (suc k) h
 
-At-here : (P : StatementTree → Type 0) (all : List StatementTree) (p : StatementTree) → P p → At P (all ++ p ∷ []) (suc (length all))
-At-here P [] p h = h
-At-here P (x ∷ xs) p h = At-here P xs p h
+HoldsAt-here : (P : StatementTree → Type 0) (all : List StatementTree) (p : StatementTree) → P p → HoldsAt P (all ++ p ∷ []) (suc (length all))
+HoldsAt-here P [] p h = h
+HoldsAt-here P (x ∷ xs) p h = HoldsAt-here P xs p h
 
-At-push : (P : StatementTree → Type 0) (all : List StatementTree) (p : StatementTree) (m : ℕ) → At P (all ++ p ∷ []) m → At P all m ⊎ ((m ≡ length all + 1) × P p)
-At-push P all p zero h = inl h
-At-push P [] p (suc zero) h = inr (refl, h)
-At-push P [] p (suc (suc k)) h = absurd h
-At-push P (x ∷ xs) p (suc zero) h = inl h
-At-push P (x ∷ xs) p (suc (suc k)) h = elim (At-push P xs p (suc k) h) [ inl g ↦ inl g | inr g ↦ inr (omega (arith, g.0), g.1) ]
+HoldsAt-push : (P : StatementTree → Type 0) (all : List StatementTree) (p : StatementTree) (m : ℕ) → HoldsAt P (all ++ p ∷ []) m → HoldsAt P all m ⊎ ((m ≡ length all + 1) × P p)
+HoldsAt-push P all p zero h = inl h
+HoldsAt-push P [] p (suc zero) h = inr (refl, h)
+HoldsAt-push P [] p (suc (suc k)) h = absurd h
+HoldsAt-push P (x ∷ xs) p (suc zero) h = inl h
+HoldsAt-push P (x ∷ xs) p (suc (suc k)) h = elim (HoldsAt-push P xs p (suc k) h) [ inl g ↦ inl g | inr g ↦ inr (omega (arith, g.0), g.1) ]
 
-pub first_earlier : (P : StatementTree → Type 0) (all : List StatementTree) (p : StatementTree) (n : ℕ) → IsFirst (At P all) (Some n) → IsFirst (At P (all ++ p ∷ [])) (Some n)
+pub first_earlier : (P : StatementTree → Type 0) (all : List StatementTree) (p : StatementTree) (n : ℕ) → IsFirst (HoldsAt P all) (Some n) → IsFirst (HoldsAt P (all ++ p ∷ [])) (Some n)
 first_earlier P all p n h = (
-  At-earlier P all p n h.0,
-  λ m lt f. elim (At-push P all p m f) [
+  HoldsAt-earlier P all p n h.0,
+  λ m lt f. elim (HoldsAt-push P all p m f) [
     | inl g ↦ h.1 m lt g
-    | inr g ↦ let k = At-inside P all n h.0 in omega (arith, g.0)
+    | inr g ↦ let k = HoldsAt-inside P all n h.0 in omega (arith, g.0)
   ],
 )
 
-pub first_here : (P : StatementTree → Type 0) (all : List StatementTree) (p : StatementTree) (n : ℕ) → n ≡ length all + 1 → IsFirst (At P all) None → P p → IsFirst (At P (all ++ p ∷ [])) (Some n)
+pub first_here : (P : StatementTree → Type 0) (all : List StatementTree) (p : StatementTree) (n : ℕ) → n ≡ length all + 1 → IsFirst (HoldsAt P all) None → P p → IsFirst (HoldsAt P (all ++ p ∷ [])) (Some n)
 first_here P all p n e h f =
     let same : suc (length all) ≡ n = omega arith in (
-      subst (λ x. At P (all ++ p ∷ []) x) same (At-here P all p f),
-      λ m lt g. elim (At-push P all p m g) [
+      subst (λ x. HoldsAt P (all ++ p ∷ []) x) same (HoldsAt-here P all p f),
+      λ m lt g. elim (HoldsAt-push P all p m g) [
         | inl x ↦ h m x
         | inr x ↦ omega (arith, x.0)
       ],
     )
 
-pub first_none : (P : StatementTree → Type 0) (all : List StatementTree) (p : StatementTree) → IsFirst (At P all) None → (P p → ⊥) → IsFirst (At P (all ++ p ∷ [])) None
-first_none P all p h n = λ m g. elim (At-push P all p m g) [ inl x ↦ h m x | inr x ↦ n x.1 ]
+pub first_none : (P : StatementTree → Type 0) (all : List StatementTree) (p : StatementTree) → IsFirst (HoldsAt P all) None → (P p → ⊥) → IsFirst (HoldsAt P (all ++ p ∷ [])) None
+first_none P all p h n = λ m g. elim (HoldsAt-push P all p m g) [ inl x ↦ h m x | inr x ↦ n x.1 ]
 
 -- The kinds that refuse a source are those of rank below 8, and each has a rank of its own.
 kind_at : ℕ → FaultKind
@@ -78,10 +78,10 @@ ranked Impolite lt = refl
 ranked Fawning lt = refl
 ranked _ lt = absurd (omega arith)
 
-rank_one : (kind other : FaultKind) → rank kind < 8 → rank other ≡ rank kind → other ≡ kind
-rank_one kind other lt e = ranked other (omega arith) ∙ ap kind_at e ∙ sym (ranked kind lt)
+rank_unique : (kind other : FaultKind) → rank kind < 8 → rank other ≡ rank kind → other ≡ kind
+rank_unique kind other lt e = ranked other (omega arith) ∙ ap kind_at e ∙ sym (ranked kind lt)
 
-pub fault_ranked : (kind : FaultKind) (all : List StatementTree) (n : ℕ) → FaultAt kind all n → rank kind < 8
+pub fault_ranked : (kind : FaultKind) (all : List StatementTree) (n : ℕ) → IsFaultAt kind all n → rank kind < 8
 fault_ranked MeshTooLarge all n h = omega arith
 fault_ranked NameRange all n h = omega arith
 fault_ranked LabelRange all n h = omega arith
@@ -96,12 +96,12 @@ pub sound_below_none : (all : List StatementTree) → IsSoundBelow 0 all
 sound_below_none all = record { none = λ kind n lt h. absurd (omega arith) }
 
 -- No fault of one more kind.
-pub sound_more : {all : List StatementTree} {limit : ℕ} (kind : FaultKind) → rank kind ≡ limit → limit < 8 → IsSoundBelow limit all → ((n : ℕ) → FaultAt kind all n → ⊥) → IsSoundBelow (limit + 1) all
+pub sound_more : {all : List StatementTree} {limit : ℕ} (kind : FaultKind) → rank kind ≡ limit → limit < 8 → IsSoundBelow limit all → ((n : ℕ) → IsFaultAt kind all n → ⊥) → IsSoundBelow (limit + 1) all
 sound_more {all} {limit} kind e lt below h = record {
   none = λ other n o f. elim (less_or (rank other) limit) [
     | inl (inl less) ↦ below.none other n less f
     | inl (inr more) ↦ absurd (omega arith)
-    | inr same ↦ h n (subst (λ k. FaultAt k all n) (rank_one kind other (omega arith) (omega arith)) f)
+    | inr same ↦ h n (subst (λ k. IsFaultAt k all n) (rank_unique kind other (omega arith) (omega arith)) f)
   ];
 }
 
@@ -112,36 +112,36 @@ first_fault_kind : {all : List StatementTree} {kind other : FaultKind} {n m : �
 first_fault_kind {all} {kind} {other} {n} {m} g h = elim (less_or (rank other) (rank kind)) [
   | inl (inl lt) ↦ absurd (g.least.none other m lt h.fault)
   | inl (inr gt) ↦ absurd (h.least.none kind n gt g.fault)
-  | inr same ↦ rank_one kind other (fault_ranked kind all n g.fault) same
+  | inr same ↦ rank_unique kind other (fault_ranked kind all n g.fault) same
 ]
 
 first_fault_number : {all : List StatementTree} {kind other : FaultKind} {n m : ℕ} → IsFirstFault all kind n → IsFirstFault all other m → other ≡ kind → m ≡ n
 first_fault_number {all} {kind} {other} {n} {m} g h e = elim (less_or m n) [
-  | inl (inl lt) ↦ absurd (g.first m lt (subst (λ k. FaultAt k all m) e h.fault))
-  | inl (inr gt) ↦ absurd (h.first n gt (subst (λ k. FaultAt k all n) (sym e) g.fault))
+  | inl (inl lt) ↦ absurd (g.first m lt (subst (λ k. IsFaultAt k all m) e h.fault))
+  | inl (inr gt) ↦ absurd (h.first n gt (subst (λ k. IsFaultAt k all n) (sym e) g.fault))
   | inr same ↦ same
 ]
 
-pub compiles_one : {s : List ℕ} {a b : List StatementTree} → Compiles s a → Compiles s b → a ≡ b
-compiles_one g h = cut_one g.cut h.cut
+pub compiles_unique : {s : List ℕ} {a b : List StatementTree} → Compiles s a → Compiles s b → a ≡ b
+compiles_unique g h = cut_unique g.cut h.cut
 
-pub refused_not : {s : List ℕ} {kind : FaultKind} {n : ℕ} → Refused s kind n → (all : List StatementTree) → Compiles s all → ⊥
-refused_not {kind = kind} {n = n} r all h = h.sound kind n (subst (λ x. FaultAt kind x n) (cut_one r.cut h.cut) r.first_fault.fault)
+pub refused_not : {s : List ℕ} {kind : FaultKind} {n : ℕ} → IsRefused s kind n → (all : List StatementTree) → Compiles s all → ⊥
+refused_not {kind = kind} {n = n} r all h = h.sound kind n (subst (λ x. IsFaultAt kind x n) (cut_unique r.cut h.cut) r.first_fault.fault)
 
-pub refused_one : {s : List ℕ} {kind other : FaultKind} {n m : ℕ} → Refused s kind n → Refused s other m → (other ≡ kind) × (m ≡ n)
-refused_one {s} {kind} {other} {n} {m} g h =
-    let there = subst (λ ts. IsFirstFault ts other m) (cut_one h.cut g.cut) h.first_fault in
+pub refused_unique : {s : List ℕ} {kind other : FaultKind} {n m : ℕ} → IsRefused s kind n → IsRefused s other m → (other ≡ kind) × (m ≡ n)
+refused_unique {s} {kind} {other} {n} {m} g h =
+    let there = subst (λ ts. IsFirstFault ts other m) (cut_unique h.cut g.cut) h.first_fault in
     let same = first_fault_kind g.first_fault there in
     (same, first_fault_number g.first_fault there same)
 
-pub refused_only : {s : List ℕ} {kind : FaultKind} {n : ℕ} → Refused s kind n → OnlyRefused s kind n
-refused_only r = record { refused = r; only = λ other m h. refused_one r h; no_program = refused_not r }
+pub refused_only : {s : List ℕ} {kind : FaultKind} {n : ℕ} → IsRefused s kind n → IsOnlyRefused s kind n
+refused_only r = record { refused = r; only = λ other m h. refused_unique r h; no_program = refused_not r }
 
 -- Statements whose manners were looked at last.
-pub judged : {all : List StatementTree} → IsSoundBelow (rank Impolite) all → ((n : ℕ) → ImpoliteAt all n → ⊥) → ((n : ℕ) → FawningAt all n → ⊥) → IsSound all
+pub judged : {all : List StatementTree} → IsSoundBelow (rank Impolite) all → ((n : ℕ) → IsImpoliteAt all n → ⊥) → ((n : ℕ) → IsFawningAt all n → ⊥) → IsSound all
 judged {all} below a b = sound_all (sound_more Fawning refl (omega arith) (sound_more Impolite refl (omega arith) below a) b)
 
-never_before : {all : List StatementTree} {kind : FaultKind} → ((n : ℕ) → IsFirstFault all kind n → ⊥) → IsSoundBelow (rank kind) all → (k m : ℕ) → m < k → FaultAt kind all m → ⊥
+never_before : {all : List StatementTree} {kind : FaultKind} → ((n : ℕ) → IsFirstFault all kind n → ⊥) → IsSoundBelow (rank kind) all → (k m : ℕ) → m < k → IsFaultAt kind all m → ⊥
 never_before never below zero m lt f = absurd (omega arith)
 never_before never below (suc k) m lt f = never m (record { fault = f; first = λ j l g. never_before never below k j (omega arith) g; least = below })
 
@@ -156,9 +156,9 @@ none_below {all} never (suc limit) = record {
   ];
 }
 
-pub answered : (text : List ℕ) → length text ≤ longest → ((trees : List StatementTree) → Compiles text trees → ⊥) → ((kind : FaultKind) (n : ℕ) → Refused text kind n → ⊥) → ⊥
+pub answered : (text : List ℕ) → length text ≤ longest → ((trees : List StatementTree) → Compiles text trees → ⊥) → ((kind : FaultKind) (n : ℕ) → IsRefused text kind n → ⊥) → ⊥
 answered text fits no_program no_refusal =
-    let cut = cut_is text in
+    let cut = cut_exists text in
     no_program cut.0 (record {
       cut = cut.1;
       fits = fits;

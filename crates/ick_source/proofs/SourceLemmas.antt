@@ -4,15 +4,15 @@ use Rattle.std.proofs.Common.{Bool, Err, IfErr, IfOk, IsErrAnd, List, Ok, Result
 use Rattle.std.proofs.lemmas.List.{append-nil, map-append}
 use Rattle.std.proofs.lemmas.List.Sums.{count_by-le-length, sum_by-append}
 use Rattle.ick_bits.specs.declared.faults.FaultKind.TheVariants.{LabelRange, MeshTooLarge, NameRange}
-use Rattle.ick_source.specs.ReadRefusals.{Refuses, RefusesFitting, RefusesTrees}
-use Rattle.ick_source.specs.Boundaries.{IsBoundary, IsStart, NextBoundary, at_end, at_start}
-use Rattle.ick_source.specs.Bytes.{Gap}
-use Rattle.ick_source.specs.Cut.{Cut, done, next, nothing, plain, something}
-use Rattle.ick_source.specs.ReadSources.{HasRead, ReadSoFar, ReadWhole}
+use Rattle.ick_source.specs.RefusalAnswers.{Refuses, RefusesFitting, RefusesTrees}
+use Rattle.ick_source.specs.Boundaries.{IsBoundary, IsStart, IsNextBoundary, at_end, at_start}
+use Rattle.ick_source.specs.Bytes.{IsGap}
+use Rattle.ick_source.specs.Cut.{IsCut, done, statement_then, nothing, plain, something}
+use Rattle.ick_source.specs.SourceAnswers.{HasRead, HasReadUpTo, HasReadAll}
 use Rattle.ick_source.specs.Ranges.{AreFirst, IsEmpty}
-use Rattle.ick_source.specs.Refusals.{Compiles, IsSoundBelow, Refused, longest}
-use Rattle.ick_source.specs.Statements.{IsStatement, Trimmed}
-use Rattle.ick_source.specs.Trees.{AreNumbered, StatementTree, polite_in, statement_tree_of}
+use Rattle.ick_source.specs.Refusals.{Compiles, IsSoundBelow, IsRefused, longest}
+use Rattle.ick_source.specs.Statements.{IsStatement, IsTrimmed}
+use Rattle.ick_source.specs.StatementTree.{AreNumbered, StatementTree, polite_in, statement_tree_of}
 use Rattle.ick_bits.specs.declared.faults.FaultKind.{FaultKind}
 use Rattle.ick_source.specs.Programs.{trees_of}
 use Rattle.ick_source.specs.declared.programs.Program.{Program}
@@ -23,24 +23,24 @@ use Rattle.ick_source.specs.declared.source.Reader.{Reader}
 use Rattle.ick_source.specs.declared.statements.Statement.{Statement}
 use Rattle.ick_source.proofs.BoundaryLemmas.{opening_solid}
 use Rattle.ick_source.proofs.ByteLemmas.{less_or}
-use Rattle.ick_source.proofs.RefusalLemmas.{compiles_one, refused_not, refused_only, sound_below_none, sound_more}
+use Rattle.ick_source.proofs.RefusalLemmas.{compiles_unique, refused_not, refused_only, sound_below_none, sound_more}
 use Rattle.ick_source.proofs.StatementLemmas.{statement_boundary}
 
-pub read_whole : {s : List ℕ} {at : ℕ} {x : Reader} (r : ReadSoFar s at x) → (IsStart s at → ⊥) → ReadWhole s x
+pub read_whole : {s : List ℕ} {at : ℕ} {x : Reader} (r : HasReadUpTo s at x) → (IsStart s at → ⊥) → HasReadAll s x
 read_whole {s} {at} r n = record { trees = r.front; reads = r.reads; cut = rw append-nil at (r.cut [] (done (end r.boundary))) } where
   end : IsBoundary s at → at ≡ length s
   end (at_start h) = absurd (n h)
   end (at_end e) = e
 
-pub read_more : {s : List ℕ} {at e : ℕ} {old new : Reader} {p : StatementTree} (r : ReadSoFar s at old) → IsStatement s at e p → HasRead new (r.front ++ p ∷ []) → ReadSoFar s e new
+pub read_more : {s : List ℕ} {at e : ℕ} {old new : Reader} {p : StatementTree} (r : HasReadUpTo s at old) → IsStatement s at e p → HasRead new (r.front ++ p ∷ []) → HasReadUpTo s e new
 read_more {p = p} r g h = record {
   front = r.front ++ p ∷ [];
   reads = h;
   boundary = statement_boundary g;
-  cut = λ rest x. rw (append_assoc r.front (p ∷ []) rest) (r.cut (p ∷ rest) (next g x));
+  cut = λ rest x. rw (append_assoc r.front (p ∷ []) rest) (r.cut (p ∷ rest) (statement_then g x));
 }
 
-pub read_nothing : {s : List ℕ} {a e : ℕ} {x : Reader} → Gap s 0 a → NextBoundary s 0 e → e ≤ a → a ≤ length s → HasRead x [] → ReadSoFar s e x
+pub read_nothing : {s : List ℕ} {a e : ℕ} {x : Reader} → IsGap s 0 a → IsNextBoundary s 0 e → e ≤ a → a ≤ length s → HasRead x [] → HasReadUpTo s e x
 read_nothing {s} {a} {e} g b le within h = record {
   front = [];
   reads = h;
@@ -55,7 +55,7 @@ read_nothing {s} {a} {e} g b le within h = record {
     | inr q ↦ sym q
   ]
 
-pub read_something : {s : List ℕ} {a e : ℕ} {x : Reader} {text : List ℕ} → Gap s 0 a → NextBoundary s 0 e → a < e → Trimmed s a e text → HasRead x (plain text ∷ []) → ReadSoFar s e x
+pub read_something : {s : List ℕ} {a e : ℕ} {x : Reader} {text : List ℕ} → IsGap s 0 a → IsNextBoundary s 0 e → a < e → IsTrimmed s a e text → HasRead x (plain text ∷ []) → HasReadUpTo s e x
 read_something {s} {a} {e} {text = text} g b lt t h = record {
   front = plain text ∷ [];
   reads = h;
@@ -78,7 +78,7 @@ pub on_error : {X : Type 0} (r : Result X Refusal) (P : Refusal → Type 0) (e :
 on_error (Ok x) P e h p = tt
 on_error (Err f) P e h p = subst P (sym h) p
 
-pub refused_cut : {s : List ℕ} {trees : List StatementTree} (e : Refusal) → Cut s trees → length s ≤ longest → RefusesTrees trees e → RefusesFitting s e
+pub refused_cut : {s : List ℕ} {trees : List StatementTree} (e : Refusal) → IsCut s trees → length s ≤ longest → RefusesTrees trees e → RefusesFitting s e
 refused_cut {trees = trees} (Fault kind n) g f h = record { trees = trees; cut = g; fits = f; first_fault = h }
 refused_cut TooLong g f h = absurd h
 refused_cut NoMemory g f h = tt
@@ -101,15 +101,15 @@ pub byte_of_test : (b : Bool) → bool_byte b ≡ cond b 1 0
 byte_of_test true = refl
 byte_of_test false = refl
 
-pub compiles_sound : (s : List ℕ) (r : Result Program Refusal) → IfOk r (λ p. Cut s (trees_of p)) → length s ≤ longest → IfOk r (λ p. Compiles s (trees_of p))
+pub compiles_sound : (s : List ℕ) (r : Result Program Refusal) → IfOk r (λ p. IsCut s (trees_of p)) → length s ≤ longest → IfOk r (λ p. Compiles s (trees_of p))
 compiles_sound s (Ok p) h f = record { cut = h; fits = f; sound = p.sound }
 compiles_sound s (Err e) h f = tt
 
 pub compiles_alone : (s : List ℕ) (r : Result Program Refusal) → IfOk r (λ p. Compiles s (trees_of p)) → IfOk r (λ p. (trees : List StatementTree) → Compiles s trees → trees ≡ trees_of p)
-compiles_alone s (Ok p) h = λ trees g. compiles_one g h
+compiles_alone s (Ok p) h = λ trees g. compiles_unique g h
 compiles_alone s (Err e) h = tt
 
-pub not_refused_sound : (s : List ℕ) (r : Result Program Refusal) → IfOk r (λ p. Compiles s (trees_of p)) → IfOk r (λ p. (kind : FaultKind) (n : ℕ) → Refused s kind n → ⊥)
+pub not_refused_sound : (s : List ℕ) (r : Result Program Refusal) → IfOk r (λ p. Compiles s (trees_of p)) → IfOk r (λ p. (kind : FaultKind) (n : ℕ) → IsRefused s kind n → ⊥)
 not_refused_sound s (Ok p) h = λ kind n g. refused_not g (trees_of p) h
 not_refused_sound s (Err e) h = tt
 

@@ -4,121 +4,121 @@ use Rattle.std.specs.declared.alloc.AllocError.{AllocError}
 use Rattle.std.specs.Prelude.{codes}
 use Rattle.ick_source.specs.declared.tree.NameKind.{NameKind}
 use Rattle.ick_source.specs.declared.faults.Faults.{Faults}
-use Rattle.ick_source.specs.declared.lead.Mark.{Mark}
+use Rattle.ick_source.specs.declared.lead.Delimiter.{Delimiter}
 use Rattle.ick_source.specs.declared.lead.Lead.TheVariants.{Array}
-use Rattle.ick_source.specs.declared.expression.FoundSubs.{FoundSubs}
-use Rattle.ick_source.specs.Place.{next_of, past_next}
+use Rattle.ick_source.specs.declared.expression.ParsedSubs.{ParsedSubs}
+use Rattle.ick_source.specs.Position.{next_lead, past_lead}
 use Rattle.ick_source.specs.Token.{IsNumber, IsWord, CappedNumber}
 use Rattle.ick_source.specs.Tree.{Tree, element, Trees, none, more, join, trees_in}
-use Rattle.ick_source.specs.Kept.{kept, kept_tree, kept_trees, faults_of, faults_in, both_faults, name_faults}
-use Rattle.ick_source.specs.Expression.{begins_sub, IsSimple, IsElement, indexed, IsSubs, nested, first, IsRest, nothing, last, further}
-use Rattle.ick_source.specs.ExpressionAnswers.{Readings, AnswersTrees, AnswersFrom, StandAll, NoTrees, Stands, NoTree, After, after}
-use Rattle.ick_source.proofs.KeptLemmas.{join_assoc, join-none, both_assoc, both-no, kept_trees-join, faults_in-join, name_faults-capped, kept-capped}
-use Rattle.ick_source.proofs.WordOnce.{same_word}
-use Rattle.ick_source.proofs.ExpressionOnce.{one_number, one_simple}
+use Rattle.ick_source.specs.Clamped.{clamped, clamped_tree, clamped_trees, faults_of, faults_in, both_faults, name_faults}
+use Rattle.ick_source.specs.Expression.{begins_sub, IsSimple, IsElement, indexed, IsSubs, nested, simple_first, IsRest, nothing, last, further}
+use Rattle.ick_source.specs.ExpressionAnswers.{Readings, AnswersTrees, AnswersFrom, AllStand, HasNoTrees, Stands, HasNoTree, GoesAfter, after}
+use Rattle.ick_source.proofs.ClampedLemmas.{join_assoc, join-none, both_assoc, both-no, clamped_trees-join, faults_in-join, name_faults-capped, clamped-capped}
+use Rattle.ick_source.proofs.WordUnique.{word_unique}
+use Rattle.ick_source.proofs.ExpressionUnique.{number_unique, simple_unique}
 use Rattle.ick_source.proofs.ExpressionReadings.{simple_is_no_array, element_is_array}
 
-pub element_stands : (m : Option Mark) (from past mid sub to : List ℕ) (limit h v n : ℕ) (k : NameKind) (subs : Trees) (seen : Tree) (f fs all : Faults) →
-    next_of from ≡ Array k → past ≡ past_next from → CappedNumber past mid v → IsWord (codes "SUB") mid sub → limit ≢ 0 →
-    StandAll (IsSubs m sub) (limit - 1) to subs h fs → seen ≡ element (record { kind = k; number = n }) subs → n ≡ kept v → f ≡ name_faults v → all ≡ both_faults f fs →
+pub element_stands : (m : Option Delimiter) (from past mid sub to : List ℕ) (limit h v n : ℕ) (k : NameKind) (subs : Trees) (seen : Tree) (f fs all : Faults) →
+    next_lead from ≡ Array k → past ≡ past_lead from → CappedNumber past mid v → IsWord (codes "SUB") mid sub → limit ≢ 0 →
+    AllStand (IsSubs m sub) (limit - 1) to subs h fs → seen ≡ element (record { kind = k; number = n }) subs → n ≡ clamped v → f ≡ name_faults v → all ≡ both_faults f fs →
     Stands (IsElement m from) limit to seen (h + 1) all
-unfolding kept_tree faults_of
-element_stands m from past mid sub to limit h v n k subs seen f fs all e p number word some w shown kept_is f_is all_is =
+unfolding clamped_tree faults_of
+element_stands m from past mid sub to limit h v n k subs seen f fs all e p number word some w shown clamped_is f_is all_is =
     let x = number.number in
-    let value : n ≡ kept x = kept_is ∙ ap kept number.capped ∙ kept-capped x in
+    let value : n ≡ clamped x = clamped_is ∙ ap clamped number.capped ∙ clamped-capped x in
     let next_number = subst (λ l. IsNumber l mid x) p number.is in
     let high : suc h ≡ h + 1 = omega arith in
     record {
       tree = element (record { kind = k; number = x }) w.trees;
       stands = subst (λ z. IsElement m from to (element (record { kind = k; number = x }) w.trees) z) high (indexed e next_number word w.stand);
       low = omega (arith, w.low);
-      is_kept = shown ∙ rw (value, w.are_kept) refl;
+      is_clamped = shown ∙ rw (value, w.are_clamped) refl;
       are_faults = all_is ∙ rw (f_is, number.capped, w.are_faults) (ap (λ z. both_faults z (faults_in w.trees)) (name_faults-capped x));
     }
 
 -- an element after its array and number
-element_sub : {m : Option Mark} {from past mid to : List ℕ} {v h : ℕ} {t : Tree} → past ≡ past_next from → CappedNumber past mid v → IsElement m from to t h → (later : List ℕ) × IsWord (codes "SUB") mid later
+element_sub : {m : Option Delimiter} {from past mid to : List ℕ} {v h : ℕ} {t : Tree} → past ≡ past_lead from → CappedNumber past mid v → IsElement m from to t h → (later : List ℕ) × IsWord (codes "SUB") mid later
 element_sub {from = from} {mid = mid} p number (indexed {mid = mid'} {sub = sub} e n w s) =
-    let same = one_number (subst (λ l. IsNumber l mid number.number) p number.is) n in
+    let same = number_unique (subst (λ l. IsNumber l mid number.number) p number.is) n in
     (sub, subst (λ l. IsWord (codes "SUB") l sub) (sym same.0) w)
 
-pub element_no_sub : (m : Option Mark) (from past mid : List ℕ) (limit v : ℕ) → past ≡ past_next from → CappedNumber past mid v → ((later : List ℕ) → IsWord (codes "SUB") mid later → ⊥) → NoTree (IsElement m from) limit
+pub element_no_sub : (m : Option Delimiter) (from past mid : List ℕ) (limit v : ℕ) → past ≡ past_lead from → CappedNumber past mid v → ((later : List ℕ) → IsWord (codes "SUB") mid later → ⊥) → HasNoTree (IsElement m from) limit
 element_no_sub m from past mid limit v p number no_sub = record { no_tree = λ to t h e low. let s = element_sub p number e in no_sub s.0 s.1 }
 
-element_subs : {m : Option Mark} {from past mid sub to : List ℕ} {v h : ℕ} {t : Tree} → past ≡ past_next from → CappedNumber past mid v → IsWord (codes "SUB") mid sub → IsElement m from to t h →
+element_subs : {m : Option Delimiter} {from past mid sub to : List ℕ} {v h : ℕ} {t : Tree} → past ≡ past_lead from → CappedNumber past mid v → IsWord (codes "SUB") mid sub → IsElement m from to t h →
     (ts : Trees) × (j : ℕ) × (IsSubs m sub to ts j) × (h ≡ suc j)
 element_subs {m} {from = from} {mid = mid} {to = to} p number word (indexed {sub = sub'} {ts = ts} {h = j} e n w s) =
-    let same = one_number (subst (λ l. IsNumber l mid number.number) p number.is) n in
-    let same_sub = same_word (codes "SUB") refl word (subst (λ l. IsWord (codes "SUB") l sub') (sym same.0) w) in
+    let same = number_unique (subst (λ l. IsNumber l mid number.number) p number.is) n in
+    let same_sub = word_unique (codes "SUB") refl word (subst (λ l. IsWord (codes "SUB") l sub') (sym same.0) w) in
     (ts, j, subst (λ l. IsSubs m l to ts j) (sym same_sub) s, refl)
 
-pub element_no_subs : (m : Option Mark) (from past mid sub : List ℕ) (limit v : ℕ) → past ≡ past_next from → CappedNumber past mid v → IsWord (codes "SUB") mid sub → NoTrees (IsSubs m sub) (limit - 1) →
-    NoTree (IsElement m from) limit
+pub element_no_subs : (m : Option Delimiter) (from past mid sub : List ℕ) (limit v : ℕ) → past ≡ past_lead from → CappedNumber past mid v → IsWord (codes "SUB") mid sub → HasNoTrees (IsSubs m sub) (limit - 1) →
+    HasNoTree (IsElement m from) limit
 element_no_subs m from past mid sub limit v p number word none_there =
     record { no_tree = λ to t h e low. let s = element_subs p number word e in none_there.no_trees to s.0 s.1 s.2 (omega (arith, s.3)) }
 
-element_high : {m : Option Mark} {from to : List ℕ} {t : Tree} {h : ℕ} → IsElement m from to t h → 0 < h
+element_high : {m : Option Delimiter} {from to : List ℕ} {t : Tree} {h : ℕ} → IsElement m from to t h → 0 < h
 element_high (indexed e n w s) = omega arith
 
-pub element_no_height : (m : Option Mark) (from : List ℕ) (limit : ℕ) → limit ≡ 0 → NoTree (IsElement m from) limit
+pub element_no_height : (m : Option Delimiter) (from : List ℕ) (limit : ℕ) → limit ≡ 0 → HasNoTree (IsElement m from) limit
 element_no_height m from limit e = record { no_tree = λ to t h x low. omega (arith, element_high x) }
 
 -- an element that is all the subscripts
-pub only_element : (m : Option Mark) (from to : List ℕ) (limit h h' : ℕ) (e : Tree) (seen : Trees) (f f' : Faults) → Stands (IsElement m from) limit to e h f →
-    seen ≡ more e none → h' ≡ h → f' ≡ f → StandAll (IsSubs m from) limit to seen h' f'
-unfolding kept_tree faults_of
+pub only_element : (m : Option Delimiter) (from to : List ℕ) (limit h h' : ℕ) (e : Tree) (seen : Trees) (f f' : Faults) → Stands (IsElement m from) limit to e h f →
+    seen ≡ more e none → h' ≡ h → f' ≡ f → AllStand (IsSubs m from) limit to seen h' f'
+unfolding clamped_tree faults_of
 only_element m from to limit h h' e seen f f' w shown high faults =
     record {
       trees = more w.tree none;
       stand = subst (λ z. IsSubs m from to (more w.tree none) z) (sym high) (nested w.stands);
       low = rw high w.low;
-      are_kept = shown ∙ rw (w.is_kept) refl;
+      are_clamped = shown ∙ rw (w.is_clamped) refl;
       are_faults = faults ∙ w.are_faults ∙ sym (both-no (faults_of w.tree));
     }
 
-begun_there : {m : Option Mark} {from mid to : List ℕ} {t : Tree} {all : Trees} {j h : ℕ} → IsSimple from mid t j → After (IsRest m mid) (more t none) j to all h → IsSubs m from to all h
-begun_there p (after r) = first p r
+begun_there : {m : Option Delimiter} {from mid to : List ℕ} {t : Tree} {all : Trees} {j h : ℕ} → IsSimple from mid t j → GoesAfter (IsRest m mid) (more t none) j to all h → IsSubs m from to all h
+begun_there p (after r) = simple_first p r
 
-begun_back : {m : Option Mark} {from mid to : List ℕ} {t : Tree} {all : Trees} {j h : ℕ} → IsSimple from mid t j → ((k : NameKind) → next_of from ≢ Array k) → IsSubs m from to all h →
-    After (IsRest m mid) (more t none) j to all h
+begun_back : {m : Option Delimiter} {from mid to : List ℕ} {t : Tree} {all : Trees} {j h : ℕ} → IsSimple from mid t j → ((k : NameKind) → next_lead from ≢ Array k) → IsSubs m from to all h →
+    GoesAfter (IsRest m mid) (more t none) j to all h
 begun_back p other (nested q) = let a = element_is_array q in absurd (other a.0 a.1)
-begun_back {m} {mid = mid} {to = to} {t = t} {j = j} p other (first {t = t'} {ts = ts} {j = j'} {k = k} q r) =
-    let s = one_simple p q in
+begun_back {m} {mid = mid} {to = to} {t = t} {j = j} p other (simple_first {t = t'} {ts = ts} {j = j'} {k = k} q r) =
+    let s = simple_unique p q in
     let r' = subst (λ x. IsRest m x to ts k) (sym s.to) r in
-    subst (λ x. After (IsRest m mid) (more t none) j to (more x ts) (max j' k)) s.tree
-    (subst (λ x. After (IsRest m mid) (more t none) j to (more t ts) (max x k)) s.height (after r'))
+    subst (λ x. GoesAfter (IsRest m mid) (more t none) j to (more x ts) (max j' k)) s.tree
+    (subst (λ x. GoesAfter (IsRest m mid) (more t none) j to (more t ts) (max x k)) s.height (after r'))
 
-begun_as : (m : Option Mark) (from mid : List ℕ) (limit j : ℕ) (t : Tree) (text : List ℕ) (o : Option FoundSubs) → IsSimple from mid t j → ((k : NameKind) → next_of from ≢ Array k) →
-    AnswersTrees (After (IsRest m mid) (more t none) j) limit text o → AnswersTrees (IsSubs m from) limit text o
+begun_as : (m : Option Delimiter) (from mid : List ℕ) (limit j : ℕ) (t : Tree) (text : List ℕ) (o : Option ParsedSubs) → IsSimple from mid t j → ((k : NameKind) → next_lead from ≢ Array k) →
+    AnswersTrees (GoesAfter (IsRest m mid) (more t none) j) limit text o → AnswersTrees (IsSubs m from) limit text o
 begun_as m from mid limit j t text None p other a = record { no_trees = λ to ts h x low. a.no_trees to ts h (begun_back p other x) low }
 begun_as m from mid limit j t text (Some s) p other a =
-    record { trees = a.trees; stand = begun_there p a.stand; low = a.low; are_kept = a.are_kept; are_faults = a.are_faults }
+    record { trees = a.trees; stand = begun_there p a.stand; low = a.low; are_clamped = a.are_clamped; are_faults = a.are_faults }
 
 -- subscripts that begin with a simple
-pub begun : (m : Option Mark) (from mid : List ℕ) (limit j : ℕ) (e : Tree) (f : Faults) (text : List ℕ) (s : FoundSubs) (r : Result (Option FoundSubs) AllocError) →
-    Stands (IsSimple from) limit mid e j f → ((k : NameKind) → next_of from ≢ Array k) →
+pub begun : (m : Option Delimiter) (from mid : List ℕ) (limit j : ℕ) (e : Tree) (f : Faults) (text : List ℕ) (s : ParsedSubs) (r : Result (Option ParsedSubs) AllocError) →
+    Stands (IsSimple from) limit mid e j f → ((k : NameKind) → next_lead from ≢ Array k) →
     trees_in s.subs.items ≡ more e none → s.height ≡ j → s.faults ≡ f →
     IfOk r (AnswersFrom (IsRest m mid) limit text s) → IfOk r (AnswersTrees (IsSubs m from) limit text)
-unfolding kept_tree faults_of
+unfolding clamped_tree faults_of
 begun m from mid limit j e f text s (Err x) w other shown high faults a = a
 begun m from mid limit j e f text s (Ok o) w other shown high faults a =
-    let answer = a (more w.tree none) (shown ∙ rw (w.is_kept) refl) (faults ∙ w.are_faults ∙ sym (both-no (faults_of w.tree))) (rw high w.low) in
-    let same = subst (λ x. AnswersTrees (After (IsRest m mid) (more w.tree none) x) limit text o) high answer in
+    let answer = a (more w.tree none) (shown ∙ rw (w.is_clamped) refl) (faults ∙ w.are_faults ∙ sym (both-no (faults_of w.tree))) (rw high w.low) in
+    let same = subst (λ x. AnswersTrees (GoesAfter (IsRest m mid) (more w.tree none) x) limit text o) high answer in
     begun_as m from mid limit j w.tree text o w.stands other same
 
 -- subscripts that were read from start to here, after those before: what goes on from here goes on from start
-pub record GoesOn (m : Option Mark) (limit : ℕ) (start here : List ℕ) (before seen : Trees) (below height : ℕ) (f f' : Faults) : Type 0 where
+pub record GoesOn (m : Option Delimiter) (limit : ℕ) (start here : List ℕ) (before seen : Trees) (below height : ℕ) (f f' : Faults) : Type 0 where
   pub done : Trees
   pub top : ℕ
-  pub shown : seen ≡ join before (kept_trees done)
+  pub shown : seen ≡ join before (clamped_trees done)
   pub high : height ≡ max below top
   pub faults : f' ≡ both_faults f (faults_in done)
   pub low : top ≤ limit
   pub on : (to : List ℕ) (ts : Trees) (k : ℕ) → IsRest m here to ts k → IsRest m start to (join done ts) (max top k)
   pub back : (to : List ℕ) (ts : Trees) (k : ℕ) → IsRest m start to ts k → k ≤ limit → (ts' : Trees) × (k' : ℕ) × (IsRest m here to ts' k') × (k' ≤ limit)
 
-pub goes_on-start : (m : Option Mark) (limit : ℕ) (start : List ℕ) (before : Trees) (below : ℕ) (f : Faults) → GoesOn m limit start start before before below below f f
-unfolding kept_tree faults_of
+pub goes_on-start : (m : Option Delimiter) (limit : ℕ) (start : List ℕ) (before : Trees) (below : ℕ) (f : Faults) → GoesOn m limit start start before before below below f f
+unfolding clamped_tree faults_of
 goes_on-start m limit start before below f =
     record {
       done = none;
@@ -131,24 +131,24 @@ goes_on-start m limit start before below f =
       back = λ to ts k r low. (ts, k, r, low);
     }
 
-further_back : {m : Option Mark} {here mid to : List ℕ} {t : Tree} {ts : Trees} {j k : ℕ} (limit : ℕ) → begins_sub m (next_of here) ≡ true → ((a : NameKind) → next_of here ≢ Array a) → IsSimple here mid t j →
+further_back : {m : Option Delimiter} {here mid to : List ℕ} {t : Tree} {ts : Trees} {j k : ℕ} (limit : ℕ) → begins_sub m (next_lead here) ≡ true → ((a : NameKind) → next_lead here ≢ Array a) → IsSimple here mid t j →
     IsRest m here to ts k → k ≤ limit → (ts' : Trees) × (k' : ℕ) × (IsRest m mid to ts' k') × (k' ≤ limit)
 further_back limit b other p (nothing e) low = absurd (cc)
 further_back limit b other p (last q) low = let a = element_is_array q in absurd (other a.0 a.1)
 further_back {m} {to = to} limit b other p (further {ts = ts} {k = k} e q r) low =
-    let s = one_simple p q in
+    let s = simple_unique p q in
     (ts, k, subst (λ x. IsRest m x to ts k) (sym s.to) r, omega arith)
 
-pub goes_on-further : (m : Option Mark) (limit : ℕ) (start here mid : List ℕ) (before seen seen' : Trees) (below height height' j : ℕ) (f g g' fe : Faults) (e : Tree) →
-    GoesOn m limit start here before seen below height f g → begins_sub m (next_of here) ≡ true → ((a : NameKind) → next_of here ≢ Array a) → Stands (IsSimple here) limit mid e j fe →
+pub goes_on-further : (m : Option Delimiter) (limit : ℕ) (start here mid : List ℕ) (before seen seen' : Trees) (below height height' j : ℕ) (f g g' fe : Faults) (e : Tree) →
+    GoesOn m limit start here before seen below height f g → begins_sub m (next_lead here) ≡ true → ((a : NameKind) → next_lead here ≢ Array a) → Stands (IsSimple here) limit mid e j fe →
     seen' ≡ join seen (more e none) → height' ≡ max height j → g' ≡ both_faults g fe → GoesOn m limit start mid before seen' below height' f g'
-unfolding kept_tree faults_of
+unfolding clamped_tree faults_of
 goes_on-further m limit start here mid before seen seen' below height height' j f g g' fe e w b other s shown high faults =
     let t = s.tree in
     record {
       done = join w.done (more t none);
       top = max w.top j;
-      shown = shown ∙ rw (w.shown, s.is_kept) (join_assoc before (kept_trees w.done) (more (kept_tree t) none) ∙ ap (join before) (sym (kept_trees-join w.done (more t none))));
+      shown = shown ∙ rw (w.shown, s.is_clamped) (join_assoc before (clamped_trees w.done) (more (clamped_tree t) none) ∙ ap (join before) (sym (clamped_trees-join w.done (more t none))));
       high = omega (arith, w.high);
       faults = faults ∙ rw (w.faults, s.are_faults) (both_assoc f (faults_in w.done) (faults_of t)
           ∙ ap (both_faults f) (ap (both_faults (faults_in w.done)) (sym (both-no (faults_of t))) ∙ sym (faults_in-join w.done (more t none))));
@@ -161,26 +161,26 @@ goes_on-further m limit start here mid before seen seen' below height height' j 
     }
 
 -- nothing more comes
-pub goes_on-ends : (m : Option Mark) (limit : ℕ) (start here : List ℕ) (before seen : Trees) (below height : ℕ) (f g : Faults) → GoesOn m limit start here before seen below height f g →
-    begins_sub m (next_of here) ≡ false → (others : Trees) → before ≡ kept_trees others → f ≡ faults_in others → below ≤ limit →
-    StandAll (After (IsRest m start) others below) limit here seen height g
+pub goes_on-ends : (m : Option Delimiter) (limit : ℕ) (start here : List ℕ) (before seen : Trees) (below height : ℕ) (f g : Faults) → GoesOn m limit start here before seen below height f g →
+    begins_sub m (next_lead here) ≡ false → (others : Trees) → before ≡ clamped_trees others → f ≡ faults_in others → below ≤ limit →
+    AllStand (GoesAfter (IsRest m start) others below) limit here seen height g
 goes_on-ends m limit start here before seen below height f g w b others e1 e2 low =
     let top : max w.top 0 ≡ w.top = omega arith in
     let r = subst (λ z. IsRest m start here z w.top) (join-none w.done) (subst (λ z. IsRest m start here (join w.done none) z) top (w.on here none 0 (nothing b))) in
     record {
       trees = join others w.done;
-      stand = subst (λ z. After (IsRest m start) others below here (join others w.done) z) (sym w.high) (after r);
+      stand = subst (λ z. GoesAfter (IsRest m start) others below here (join others w.done) z) (sym w.high) (after r);
       low = omega (arith, w.high, w.low);
-      are_kept = w.shown ∙ rw e1 (sym (kept_trees-join others w.done));
+      are_clamped = w.shown ∙ rw e1 (sym (clamped_trees-join others w.done));
       are_faults = w.faults ∙ rw e2 (sym (faults_in-join others w.done));
     }
 
 -- an element comes last
-pub goes_on-last : (m : Option Mark) (limit : ℕ) (start here to : List ℕ) (before seen seen' : Trees) (below height height' j : ℕ) (f g g' fe : Faults) (e : Tree) → GoesOn m limit start here before seen below height f g →
+pub goes_on-last : (m : Option Delimiter) (limit : ℕ) (start here to : List ℕ) (before seen seen' : Trees) (below height height' j : ℕ) (f g g' fe : Faults) (e : Tree) → GoesOn m limit start here before seen below height f g →
     Stands (IsElement m here) limit to e j fe → seen' ≡ join seen (more e none) → height' ≡ max height j → g' ≡ both_faults g fe →
-    (others : Trees) → before ≡ kept_trees others → f ≡ faults_in others → below ≤ limit →
-    StandAll (After (IsRest m start) others below) limit to seen' height' g'
-unfolding kept_tree faults_of
+    (others : Trees) → before ≡ clamped_trees others → f ≡ faults_in others → below ≤ limit →
+    AllStand (GoesAfter (IsRest m start) others below) limit to seen' height' g'
+unfolding clamped_tree faults_of
 goes_on-last m limit start here to before seen seen' below height height' j f g g' fe e w s shown high faults others e1 e2 low =
     let t = s.tree in
     let done = join w.done (more t none) in
@@ -188,31 +188,31 @@ goes_on-last m limit start here to before seen seen' below height height' j f g 
     let top : max below (max w.top j) ≡ height' = omega (arith, w.high) in
     record {
       trees = join others done;
-      stand = subst (λ z. After (IsRest m start) others below to (join others done) z) top (after r);
+      stand = subst (λ z. GoesAfter (IsRest m start) others below to (join others done) z) top (after r);
       low = omega (arith, w.high, w.low, s.low);
-      are_kept = shown ∙ rw (w.shown, s.is_kept, e1) (join_assoc (kept_trees others) (kept_trees w.done) (more (kept_tree t) none)
-          ∙ ap (join (kept_trees others)) (sym (kept_trees-join w.done (more t none))) ∙ sym (kept_trees-join others done));
+      are_clamped = shown ∙ rw (w.shown, s.is_clamped, e1) (join_assoc (clamped_trees others) (clamped_trees w.done) (more (clamped_tree t) none)
+          ∙ ap (join (clamped_trees others)) (sym (clamped_trees-join w.done (more t none))) ∙ sym (clamped_trees-join others done));
       are_faults = faults ∙ rw (w.faults, s.are_faults, e2) (both_assoc (faults_in others) (faults_in w.done) (faults_of t)
           ∙ ap (both_faults (faults_in others)) (ap (both_faults (faults_in w.done)) (sym (both-no (faults_of t))) ∙ sym (faults_in-join w.done (more t none)))
           ∙ sym (faults_in-join others done));
     }
 
-after_low : {R : Readings} {others : Trees} {below h limit : ℕ} {to : List ℕ} {all : Trees} → After R others below to all h → h ≤ limit → (ts : Trees) × (k : ℕ) × (R to ts k) × (k ≤ limit)
+after_low : {R : Readings} {others : Trees} {below h limit : ℕ} {to : List ℕ} {all : Trees} → GoesAfter R others below to all h → h ≤ limit → (ts : Trees) × (k : ℕ) × (R to ts k) × (k ≤ limit)
 after_low (after {ts = ts} {h = k} r) low = (ts, k, r, omega arith)
 
-no_element : {m : Option Mark} {here to : List ℕ} {ts : Trees} {k : ℕ} (limit : ℕ) (a : NameKind) → next_of here ≡ Array a → NoTree (IsElement m here) limit → IsRest m here to ts k → k ≤ limit → ⊥
+no_element : {m : Option Delimiter} {here to : List ℕ} {ts : Trees} {k : ℕ} (limit : ℕ) (a : NameKind) → next_lead here ≡ Array a → HasNoTree (IsElement m here) limit → IsRest m here to ts k → k ≤ limit → ⊥
 no_element {m} limit a e w (nothing b) low = let c = ap (begins_sub m) e in absurd (cc)
 no_element limit a e w (last q) low = w.no_tree _ _ _ q low
 no_element limit a e w (further b q r) low = simple_is_no_array q e
 
-no_simple : {m : Option Mark} {here to : List ℕ} {ts : Trees} {k : ℕ} (limit : ℕ) → begins_sub m (next_of here) ≡ true → ((a : NameKind) → next_of here ≢ Array a) → NoTree (IsSimple here) limit →
+no_simple : {m : Option Delimiter} {here to : List ℕ} {ts : Trees} {k : ℕ} (limit : ℕ) → begins_sub m (next_lead here) ≡ true → ((a : NameKind) → next_lead here ≢ Array a) → HasNoTree (IsSimple here) limit →
     IsRest m here to ts k → k ≤ limit → ⊥
 no_simple limit b other w (nothing e) low = absurd (cc)
 no_simple limit b other w (last q) low = let a = element_is_array q in absurd (other a.0 a.1)
 no_simple limit b other w (further e q r) low = w.no_tree _ _ _ q (omega arith)
 
-pub goes_on-no_element : (m : Option Mark) (limit : ℕ) (start here : List ℕ) (before seen : Trees) (below height : ℕ) (f g : Faults) (a : NameKind) → GoesOn m limit start here before seen below height f g →
-    next_of here ≡ Array a → NoTree (IsElement m here) limit → (others : Trees) → NoTrees (After (IsRest m start) others below) limit
+pub goes_on-no_element : (m : Option Delimiter) (limit : ℕ) (start here : List ℕ) (before seen : Trees) (below height : ℕ) (f g : Faults) (a : NameKind) → GoesOn m limit start here before seen below height f g →
+    next_lead here ≡ Array a → HasNoTree (IsElement m here) limit → (others : Trees) → HasNoTrees (GoesAfter (IsRest m start) others below) limit
 goes_on-no_element m limit start here before seen below height f g a w e no_tree others =
     record {
       no_trees = λ to ts h x low.
@@ -221,8 +221,8 @@ goes_on-no_element m limit start here before seen below height f g a w e no_tree
           no_element limit a e no_tree z.2 z.3;
     }
 
-pub goes_on-no_simple : (m : Option Mark) (limit : ℕ) (start here : List ℕ) (before seen : Trees) (below height : ℕ) (f g : Faults) → GoesOn m limit start here before seen below height f g →
-    begins_sub m (next_of here) ≡ true → ((a : NameKind) → next_of here ≢ Array a) → NoTree (IsSimple here) limit → (others : Trees) → NoTrees (After (IsRest m start) others below) limit
+pub goes_on-no_simple : (m : Option Delimiter) (limit : ℕ) (start here : List ℕ) (before seen : Trees) (below height : ℕ) (f g : Faults) → GoesOn m limit start here before seen below height f g →
+    begins_sub m (next_lead here) ≡ true → ((a : NameKind) → next_lead here ≢ Array a) → HasNoTree (IsSimple here) limit → (others : Trees) → HasNoTrees (GoesAfter (IsRest m start) others below) limit
 goes_on-no_simple m limit start here before seen below height f g w b other no_tree others =
     record {
       no_trees = λ to ts h x low.

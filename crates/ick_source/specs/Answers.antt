@@ -1,15 +1,15 @@
 -- What the reader of a part answers.
 use Rattle.std.specs.Prelude.{ℕ, ◌≡◌, List, Option, Some, None}
 use Rattle.ick_source.specs.declared.faults.Faults.{Faults}
-use Rattle.ick_source.specs.declared.found.Found.{Found}
-use Rattle.ick_source.specs.Place.{left_at}
+use Rattle.ick_source.specs.declared.parsed.Parsed.{Parsed}
+use Rattle.ick_source.specs.Position.{left_at}
 use Rattle.ick_source.specs.Nonterminal.{Nonterminal}
 
 -- A value stands there: what is kept of it, and its numbers out of range.
-pub record IsFound (N : Nonterminal) (from to : List ℕ) (seen : N.Kept) (faults : Faults) : Type 0 where
+pub record IsParsed (N : Nonterminal) (from to : List ℕ) (seen : N.Clamped) (faults : Faults) : Type 0 where
   pub value : N.Value
   pub stands : N.stands from to value
-  pub is_kept : seen ≡ N.kept value
+  pub is_clamped : seen ≡ N.clamped value
   pub are_faults : faults ≡ N.faults value
 
 -- Nothing stands there.
@@ -17,6 +17,6 @@ pub record IsAbsent (N : Nonterminal) (from : List ℕ) : Type 0 where
   pub nothing : (to : List ℕ) (x : N.Value) → N.stands from to x → ⊥
 
 -- What was found is seen as what its value stands for.
-abbrev pub Answers : (N : Nonterminal) → {T : Type 0} → (T → N.Kept) → List ℕ → List ℕ → Option (Found T) → Type 0
+abbrev pub Answers : (N : Nonterminal) → {T : Type 0} → (T → N.Clamped) → List ℕ → List ℕ → Option (Parsed T) → Type 0
 Answers N seen text from None = IsAbsent N from
-Answers N seen text from (Some r) = IsFound N from (left_at text r.to) (seen r.value) r.faults
+Answers N seen text from (Some r) = IsParsed N from (left_at text r.to) (seen r.value) r.faults

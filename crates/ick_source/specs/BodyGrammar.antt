@@ -1,4 +1,4 @@
--- The grammar of bodies. As in the grammar of expressions, `from` and `to` are places, each as the symbols that are
+-- The grammar of bodies. As in the grammar of expressions, `from` and `to` are positions, each as the characters that are
 -- left there.
 use Rattle.std.specs.Prelude.{ℕ, ◌≡◌, ◌≤◌, List, [], ◌∷◌, Some, None, codes}
 use Rattle.ick_source.specs.declared.tree.NameKind.{NameKind}
@@ -12,7 +12,7 @@ use Rattle.ick_source.specs.declared.form.Form.TheVariants.{Calculation, Dimensi
 use Rattle.ick_source.specs.declared.verb.Verb.{Verb}
 use Rattle.ick_source.specs.declared.verb.Verb.TheVariants.{Forget, Resume, Stash, Retrieve, Ignore, Remember}
 use Rattle.ick_source.specs.declared.verb.Verb.TheVariants.{Abstain, Reinstate, Give, Write, Read}
-use Rattle.ick_source.specs.Place.{next_of, past_next}
+use Rattle.ick_source.specs.Position.{next_lead, past_lead}
 use Rattle.ick_source.specs.Token.{IsNumber, IsWord}
 use Rattle.ick_source.specs.Tree.{Tree, mesh, scalar}
 use Rattle.ick_source.specs.Expression.{IsExpr, IsElement}
@@ -49,10 +49,10 @@ pub record IsWholeElement (from to : List ℕ) (t : Tree) : Type 0 where
   pub is_element : IsElement None from to t height
   pub low : height ≤ 256
 
--- a mark of this sort with its number
+-- a sigil of this sort with its number
 pub record IsNamed (leads : NameKind → Lead) (from to : List ℕ) (x : Name) : Type 0 where
-  pub begins : next_of from ≡ leads x.kind
-  pub number : IsNumber (past_next from) to x.number
+  pub begins : next_lead from ≡ leads x.kind
+  pub number : IsNumber (past_lead from) to x.number
 
 -- a name in a list of names: a spot or an array
 pub data IsName : List ℕ → List ℕ → Name → Type 0 where
@@ -92,8 +92,8 @@ pub data IsItem : List ℕ → List ℕ → ItemTree → Type 0 where
       IsPlace from to x →
       IsItem from to x
   of_mesh : {from to : List ℕ} {n : ℕ} →
-      next_of from ≡ Hash →
-      IsNumber (past_next from) to n →
+      next_lead from ≡ Hash →
+      IsNumber (past_lead from) to n →
       IsItem from to (single (mesh n))
 
 pub data IsGerund : List ℕ → List ℕ → Gerund → Type 0 where
@@ -197,7 +197,7 @@ pub data IsBodyOf : Form → List ℕ → List ℕ → BodyTree → Type 0 where
       IsAfter v mid to b →
       IsBodyOf Action from to b
 
-pub record IsAnyBody (from to : List ℕ) (b : BodyTree) : Type 0 where
+pub record IsBody (from to : List ℕ) (b : BodyTree) : Type 0 where
   pub form : Form
   pub stands : IsBodyOf form from to b
 

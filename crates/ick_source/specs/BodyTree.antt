@@ -14,7 +14,7 @@ use Rattle.ick_source.specs.declared.body.Item.TheVariants.{Mesh as ItemMesh, Ar
 use Rattle.ick_source.specs.declared.body.Body.{Body}
 use Rattle.ick_source.specs.declared.body.Body.TheVariants.{Calculate, Dimension, Next, Forget, Resume, Stash, Retrieve, Ignore, Remember, AbstainLabel, AbstainKinds, ReinstateLabel, ReinstateKinds, GiveUp, WriteIn, ReadOut, Unrecognised}
 use Rattle.ick_source.specs.Tree.{Tree, mesh, scalar, element, tree_of, trees_in}
-use Rattle.ick_source.specs.Kept.{kept, kept_name, kept_tree, no_faults, both_faults, name_faults, label_faults, faults_of}
+use Rattle.ick_source.specs.Clamped.{clamped, clamped_name, clamped_tree, no_faults, both_faults, name_faults, label_faults, faults_of}
 
 -- What WRITE IN stores into and READ OUT prints: a scalar, an element or, for READ OUT alone, a mesh, each as a tree; or
 -- a whole array, by its name.
@@ -77,27 +77,27 @@ body_tree_of (ReadOut xs) = Some (read_out (map item_tree xs.items))
 body_tree_of Unrecognised = None
 
 abbrev pub clamped_item : ItemTree → ItemTree
-clamped_item (single t) = single (kept_tree t)
-clamped_item (whole x) = whole (kept_name x)
+clamped_item (single t) = single (clamped_tree t)
+clamped_item (whole x) = whole (clamped_name x)
 
 -- the body with 65535 for each number above it
-abbrev pub kept_body : BodyTree → BodyTree
-kept_body (calculate t e) = calculate (kept_tree t) (kept_tree e)
-kept_body (dimension x es) = dimension (kept_name x) (map kept_tree es)
-kept_body (next n) = next (kept n)
-kept_body (forget e) = forget (kept_tree e)
-kept_body (resume e) = resume (kept_tree e)
-kept_body (stash xs) = stash (map kept_name xs)
-kept_body (retrieve xs) = retrieve (map kept_name xs)
-kept_body (ignore xs) = ignore (map kept_name xs)
-kept_body (remember xs) = remember (map kept_name xs)
-kept_body (abstain_label n) = abstain_label (kept n)
-kept_body (abstain_kinds gs) = abstain_kinds gs
-kept_body (reinstate_label n) = reinstate_label (kept n)
-kept_body (reinstate_kinds gs) = reinstate_kinds gs
-kept_body give_up = give_up
-kept_body (write_in xs) = write_in (map clamped_item xs)
-kept_body (read_out xs) = read_out (map clamped_item xs)
+abbrev pub clamped_body : BodyTree → BodyTree
+clamped_body (calculate t e) = calculate (clamped_tree t) (clamped_tree e)
+clamped_body (dimension x es) = dimension (clamped_name x) (map clamped_tree es)
+clamped_body (next n) = next (clamped n)
+clamped_body (forget e) = forget (clamped_tree e)
+clamped_body (resume e) = resume (clamped_tree e)
+clamped_body (stash xs) = stash (map clamped_name xs)
+clamped_body (retrieve xs) = retrieve (map clamped_name xs)
+clamped_body (ignore xs) = ignore (map clamped_name xs)
+clamped_body (remember xs) = remember (map clamped_name xs)
+clamped_body (abstain_label n) = abstain_label (clamped n)
+clamped_body (abstain_kinds gs) = abstain_kinds gs
+clamped_body (reinstate_label n) = reinstate_label (clamped n)
+clamped_body (reinstate_kinds gs) = reinstate_kinds gs
+clamped_body give_up = give_up
+clamped_body (write_in xs) = write_in (map clamped_item xs)
+clamped_body (read_out xs) = read_out (map clamped_item xs)
 
 -- the faults of all members of a list
 abbrev pub faults_along : {A : Type 0} → (A → Faults) → List A → Faults

@@ -1,10 +1,10 @@
--- Bytes of a text by their places. Places are counted from 0, and a part of a text runs from one
--- place up to another.
+-- Bytes of a text by their positions. Positions are counted from 0, and a part of a text runs from one
+-- position up to another.
 use Rattle.std.specs.Prelude.{◌≡◌, ℕ, ◌+◌, ◌<◌, ◌≤◌, List, [], ◌∷◌, slice_index, slice_range, IsTrue}
 use Rattle.ick_bits.specs.White.{is_white_byte}
 use Rattle.ick_source.specs.Token.{is_digit, value_of_digits}
 
--- The byte at a place. Past the end it is 0, which is no part of any word, mark, number or gap.
+-- The byte at a position. Past the end it is 0, which is no part of any word, sign, number or gap.
 abbrev pub byte : List ℕ → ℕ → ℕ
 byte text at = slice_index text at
 
@@ -15,19 +15,19 @@ abbrev pub IsDigit : ℕ → Type 0
 IsDigit b = IsTrue (is_digit b)
 
 -- All white bytes that stand here, none included.
-pub record Gap (text : List ℕ) (from to : ℕ) : Type 0 where
+pub record IsGap (text : List ℕ) (from to : ℕ) : Type 0 where
   pub order : from ≤ to
   pub white : (at : ℕ) → from ≤ at → at < to → IsWhite (byte text at)
   pub stops : IsWhite (byte text to) → ⊥
 
 -- All digits that stand here, of which there is one at least, spell the number.
-pub record Number (text : List ℕ) (from to number : ℕ) : Type 0 where
+pub record IsNumberIn (text : List ℕ) (from to number : ℕ) : Type 0 where
   pub some : from < to
   pub digits : (at : ℕ) → from ≤ at → at < to → IsDigit (byte text at)
   pub stops : IsDigit (byte text to) → ⊥
   pub value : number ≡ value_of_digits (slice_range text from to)
 
 -- A word stands here.
-abbrev pub Word : List ℕ → ℕ → List ℕ → Type 0
-Word text at [] = Unit {0}
-Word text at (b ∷ bs) = (byte text at ≡ b) × Word text (at + 1) bs
+abbrev pub IsWordIn : List ℕ → ℕ → List ℕ → Type 0
+IsWordIn text at [] = Unit {0}
+IsWordIn text at (b ∷ bs) = (byte text at ≡ b) × IsWordIn text (at + 1) bs

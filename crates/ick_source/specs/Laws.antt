@@ -1,29 +1,29 @@
 -- What holds of each text.
 use Rattle.std.specs.Prelude.{◌≡◌, ℕ, ◌≤◌, List, length, Option}
 use Rattle.ick_bits.specs.declared.faults.FaultKind.{FaultKind}
-use Rattle.ick_source.specs.declared.lead.Mark.{Mark}
+use Rattle.ick_source.specs.declared.lead.Delimiter.{Delimiter}
 use Rattle.ick_source.specs.Tree.{Tree}
-use Rattle.ick_source.specs.Expression.{IsExpr, Same}
+use Rattle.ick_source.specs.Expression.{IsExpr, IsSame}
 use Rattle.ick_source.specs.BodyTree.{BodyTree}
-use Rattle.ick_source.specs.BodyPlaces.{IsBody}
-use Rattle.ick_source.specs.Trees.{StatementTree}
-use Rattle.ick_source.specs.Cut.{Cut}
-use Rattle.ick_source.specs.Refusals.{Compiles, Refused, longest}
+use Rattle.ick_source.specs.BodyBytes.{IsBodyIn}
+use Rattle.ick_source.specs.StatementTree.{StatementTree}
+use Rattle.ick_source.specs.Cut.{IsCut}
+use Rattle.ick_source.specs.Refusals.{Compiles, IsRefused, longest}
 
--- From one place, under one mark, at most one expression stands: one end, one tree, one height.
+-- From one position, under one delimiter, at most one expression stands: one end, one tree, one height.
 abbrev pub OneReading : Type 0
-OneReading = (m : Option Mark) (from to to' : List ℕ) (t t' : Tree) (h h' : ℕ) →
-    IsExpr m from to t h → IsExpr m from to' t' h' → Same Tree to to' t t' h h'
+OneReading = (m : Option Delimiter) (from to to' : List ℕ) (t t' : Tree) (h h' : ℕ) →
+    IsExpr m from to t h → IsExpr m from to' t' h' → IsSame Tree to to' t t' h h'
 
 -- From one byte at most one body stands: one end, one tree.
 abbrev pub OneBody : Type 0
 OneBody = (text : List ℕ) (from to end : ℕ) (body other : BodyTree) →
-    IsBody text from to body → IsBody text from end other → (to ≡ end) × (body ≡ other)
+    IsBodyIn text from to body → IsBodyIn text from end other → (to ≡ end) × (body ≡ other)
 
 -- There is a cut, and any other is the same.
 abbrev pub OneCut : Type 0
 OneCut = (text : List ℕ) →
-    (trees : List StatementTree) × Cut text trees × ((others : List StatementTree) → Cut text others → others ≡ trees)
+    (trees : List StatementTree) × IsCut text trees × ((others : List StatementTree) → IsCut text others → others ≡ trees)
 
 -- Two programs of a text are the same, two refusals are the same, there is no program beside a refusal, and a text that
 -- is not too long is not without both: it compiles or is refused.
@@ -31,12 +31,12 @@ pub record HasOneAnswer (text : List ℕ) : Type 0 where
   pub compiles : (trees others : List StatementTree) →
       Compiles text trees → Compiles text others → others ≡ trees
   pub refused : (kind other : FaultKind) (n m : ℕ) →
-      Refused text kind n → Refused text other m → (other ≡ kind) × (m ≡ n)
+      IsRefused text kind n → IsRefused text other m → (other ≡ kind) × (m ≡ n)
   pub never_both : (trees : List StatementTree) (kind : FaultKind) (n : ℕ) →
-      Compiles text trees → Refused text kind n → ⊥
+      Compiles text trees → IsRefused text kind n → ⊥
   pub answered : length text ≤ longest →
       ((trees : List StatementTree) → Compiles text trees → ⊥) →
-      ((kind : FaultKind) (n : ℕ) → Refused text kind n → ⊥) → ⊥
+      ((kind : FaultKind) (n : ℕ) → IsRefused text kind n → ⊥) → ⊥
 
 abbrev pub OneRefusal : Type 0
 OneRefusal = (text : List ℕ) → HasOneAnswer text

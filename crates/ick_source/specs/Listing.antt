@@ -2,7 +2,7 @@
 use Rattle.std.specs.Prelude.{ℕ, List, ◌++◌, Option, Some, None, codes, decimal, if◌then◌else◌}
 use Rattle.std.specs.List.{flat_map, enumerate_from}
 use Rattle.ick_bits.specs.Quoted.{quoted}
-use Rattle.ick_source.specs.Trees.{StatementTree}
+use Rattle.ick_source.specs.StatementTree.{StatementTree}
 use Rattle.ick_source.specs.Kinds.{kind_of, kind_word}
 
 abbrev pub label_text : Option ℕ → List ℕ

@@ -9,7 +9,7 @@ use Rattle.ick_source.specs.Tree.{Tree, mesh, scalar, element, unary, binary, Tr
 use Rattle.ick_source.specs.BodyTree.{ItemTree, single, whole, BodyTree, calculate, dimension, next, forget, resume, stash}
 use Rattle.ick_source.specs.BodyTree.{retrieve, ignore, remember, abstain_label, abstain_kinds, reinstate_label, reinstate_kinds}
 use Rattle.ick_source.specs.BodyTree.{give_up, write_in, read_out}
-use Rattle.ick_source.specs.Trees.{StatementTree}
+use Rattle.ick_source.specs.StatementTree.{StatementTree}
 
 abbrev pub is_array : NameKind → Bool
 is_array Onespot = false

@@ -2,7 +2,7 @@
 use Rattle.std.specs.Prelude.{List}
 use Rattle.ick_source.specs.declared.programs.Program.{Program}
 use Rattle.ick_source.specs.declared.statements.Statement.{Statement}
-use Rattle.ick_source.specs.Trees.{StatementTree, statement_trees}
+use Rattle.ick_source.specs.StatementTree.{StatementTree, statement_trees}
 
 abbrev pub statements_of : Program → List Statement
 statements_of p = p.statements.items

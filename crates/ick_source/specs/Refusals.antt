@@ -4,26 +4,26 @@ use Rattle.ick_bits.specs.declared.faults.FaultKind.{FaultKind}
 use Rattle.ick_bits.specs.declared.faults.FaultKind.TheVariants.{MeshTooLarge, NameRange, LabelRange, SameLabel, NoNextLabel, NoAbstainLabel, Impolite, Fawning}
 use Rattle.ick_source.specs.declared.labels.LabelUse.{LabelUse}
 use Rattle.ick_source.specs.declared.labels.LabelUse.TheVariants.{Next, Abstain}
-use Rattle.ick_source.specs.Trees.{StatementTree, polite_in}
+use Rattle.ick_source.specs.StatementTree.{StatementTree, polite_in}
 use Rattle.ick_source.specs.BodyTree.{BodyTree, next, abstain_label, reinstate_label}
 use Rattle.ick_source.specs.StatementFaults.{faults_of_statement}
-use Rattle.ick_source.specs.Cut.{Cut}
+use Rattle.ick_source.specs.Cut.{IsCut}
 
 -- The statement with this number, counted from 1, is such.
-abbrev pub At : (StatementTree → Type 0) → List StatementTree → ℕ → Type 0
-At P trees zero = ⊥
-At P trees (suc k) = IsSomeAnd (slice_get trees k) P
+abbrev pub HoldsAt : (StatementTree → Type 0) → List StatementTree → ℕ → Type 0
+HoldsAt P trees zero = ⊥
+HoldsAt P trees (suc k) = IsSomeAnd (slice_get trees k) P
 
 abbrev pub HasLabel : ℕ → StatementTree → Type 0
 HasLabel label tree = tree.label ≡ Some label
 
 -- The statement with this number has a label that an earlier one has.
-pub record SameLabelAt (trees : List StatementTree) (n : ℕ) : Type 0 where
+pub record IsSameLabelAt (trees : List StatementTree) (n : ℕ) : Type 0 where
   pub label : ℕ
   pub earlier : ℕ
   pub before : earlier < n
-  pub first : At (HasLabel label) trees earlier
-  pub again : At (HasLabel label) trees n
+  pub first : HoldsAt (HasLabel label) trees earlier
+  pub again : HoldsAt (HasLabel label) trees n
 
 -- The label of a statement that a body goes on to, or that it abstains from or reinstates.
 abbrev pub used_label : LabelUse → BodyTree → Option ℕ
@@ -33,34 +33,34 @@ used_label Abstain (reinstate_label n) = Some n
 used_label _ _ = None
 
 -- The statement with this number uses a label that no statement has.
-pub record LostAt (how : LabelUse) (trees : List StatementTree) (n : ℕ) : Type 0 where
+pub record IsLostAt (how : LabelUse) (trees : List StatementTree) (n : ℕ) : Type 0 where
   pub label : ℕ
-  pub uses : At (λ t. option_and_then (used_label how) t.body ≡ Some label) trees n
-  pub nowhere : (m : ℕ) → At (HasLabel label) trees m → ⊥
+  pub uses : HoldsAt (λ t. option_and_then (used_label how) t.body ≡ Some label) trees n
+  pub nowhere : (m : ℕ) → HoldsAt (HasLabel label) trees m → ⊥
 
 -- This is the number of the last of at least three statements, and too few of them are polite.
-pub record ImpoliteAt (trees : List StatementTree) (n : ℕ) : Type 0 where
+pub record IsImpoliteAt (trees : List StatementTree) (n : ℕ) : Type 0 where
   pub last : n ≡ length trees
   pub enough : 3 ≤ n
   pub few : polite_in trees < n / 5
 
 -- This is the number of the last of at least three statements, and too many of them are polite.
-pub record FawningAt (trees : List StatementTree) (n : ℕ) : Type 0 where
+pub record IsFawningAt (trees : List StatementTree) (n : ℕ) : Type 0 where
   pub last : n ≡ length trees
   pub enough : 3 ≤ n
   pub many : n / 3 < polite_in trees
 
 -- The statement with this number has a fault of this kind, of those that refuse a source.
-abbrev pub FaultAt : FaultKind → List StatementTree → ℕ → Type 0
-FaultAt MeshTooLarge trees n = At (λ t. IsTrue (faults_of_statement t).mesh) trees n
-FaultAt NameRange trees n = At (λ t. IsTrue (faults_of_statement t).name) trees n
-FaultAt LabelRange trees n = At (λ t. IsTrue (faults_of_statement t).label) trees n
-FaultAt SameLabel trees n = SameLabelAt trees n
-FaultAt NoNextLabel trees n = LostAt Next trees n
-FaultAt NoAbstainLabel trees n = LostAt Abstain trees n
-FaultAt Impolite trees n = ImpoliteAt trees n
-FaultAt Fawning trees n = FawningAt trees n
-FaultAt _ trees n = ⊥
+abbrev pub IsFaultAt : FaultKind → List StatementTree → ℕ → Type 0
+IsFaultAt MeshTooLarge trees n = HoldsAt (λ t. IsTrue (faults_of_statement t).mesh) trees n
+IsFaultAt NameRange trees n = HoldsAt (λ t. IsTrue (faults_of_statement t).name) trees n
+IsFaultAt LabelRange trees n = HoldsAt (λ t. IsTrue (faults_of_statement t).label) trees n
+IsFaultAt SameLabel trees n = IsSameLabelAt trees n
+IsFaultAt NoNextLabel trees n = IsLostAt Next trees n
+IsFaultAt NoAbstainLabel trees n = IsLostAt Abstain trees n
+IsFaultAt Impolite trees n = IsImpoliteAt trees n
+IsFaultAt Fawning trees n = IsFawningAt trees n
+IsFaultAt _ trees n = ⊥
 
 -- The order in which faults are looked for: a kind with a lower rank comes first.
 abbrev pub rank : FaultKind → ℕ
@@ -76,16 +76,16 @@ rank _ = 8
 
 -- No fault of a kind of lower rank stands in these statements.
 pub record IsSoundBelow (limit : ℕ) (trees : List StatementTree) : Type 0 where
-  pub none : (kind : FaultKind) (n : ℕ) → rank kind < limit → FaultAt kind trees n → ⊥
+  pub none : (kind : FaultKind) (n : ℕ) → rank kind < limit → IsFaultAt kind trees n → ⊥
 
 -- No fault that refuses a source stands in these statements.
 abbrev pub IsSound : List StatementTree → Type 0
-IsSound trees = (kind : FaultKind) (n : ℕ) → FaultAt kind trees n → ⊥
+IsSound trees = (kind : FaultKind) (n : ℕ) → IsFaultAt kind trees n → ⊥
 
 -- This is the first kind of fault that any of these statements has, at the first that has it.
 pub record IsFirstFault (trees : List StatementTree) (kind : FaultKind) (n : ℕ) : Type 0 where
-  pub fault : FaultAt kind trees n
-  pub first : (m : ℕ) → m < n → FaultAt kind trees m → ⊥
+  pub fault : IsFaultAt kind trees n
+  pub first : (m : ℕ) → m < n → IsFaultAt kind trees m → ⊥
   pub least : IsSoundBelow (rank kind) trees
 
 -- A source may have this many bytes.
@@ -94,13 +94,13 @@ longest = 1048576
 
 -- The text compiles to these statements.
 pub record Compiles (text : List ℕ) (trees : List StatementTree) : Type 0 where
-  pub cut : Cut text trees
+  pub cut : IsCut text trees
   pub fits : length text ≤ longest
   pub sound : IsSound trees
 
 -- The text is refused with this kind of fault, of the statement with this number.
-pub record Refused (text : List ℕ) (kind : FaultKind) (n : ℕ) : Type 0 where
+pub record IsRefused (text : List ℕ) (kind : FaultKind) (n : ℕ) : Type 0 where
   pub trees : List StatementTree
-  pub cut : Cut text trees
+  pub cut : IsCut text trees
   pub fits : length text ≤ longest
   pub first_fault : IsFirstFault trees kind n

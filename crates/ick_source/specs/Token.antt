@@ -1,10 +1,10 @@
--- Numbers, words and the mark of a unary operator, each after any white bytes.
+-- Numbers, words and the sign of a unary operator, each after any white bytes.
 use Rattle.std.specs.Prelude.{ℕ, min, ◌≡◌, ◌+◌, ◌-◌, ◌*◌, ◌^◌, ◌<◌, Bool, true, false, ◌&&◌, nat_le, List, [], ◌∷◌, ◌++◌, length, Option, Some, None}
 use Rattle.std.specs.List.{list_all}
 use Rattle.ick_source.specs.declared.tree.UnaryOp.{UnaryOp}
 use Rattle.ick_source.specs.declared.lead.Lead.{Lead}
 use Rattle.ick_source.specs.declared.lead.Lead.TheVariants.{Unary}
-use Rattle.ick_source.specs.Place.{past_white, next_of, past_next}
+use Rattle.ick_source.specs.Position.{past_white, next_lead, past_lead}
 
 unfoldable pub is_digit : ℕ → Bool
 is_digit b = nat_le 48 b && nat_le b 57
@@ -26,20 +26,20 @@ pub data IsNumber (from : List ℕ) : List ℕ → ℕ → Type 0 where
 pub record IsWord (word from to : List ℕ) : Type 0 where
   pub spelled : past_white from ≡ word ++ to
 
-abbrev pub unary_mark : Lead → Option UnaryOp
-unary_mark (Unary o) = Some o
-unary_mark _ = None
+abbrev pub unary_of : Lead → Option UnaryOp
+unary_of (Unary o) = Some o
+unary_of _ = None
 
 -- the unary operator that stands there, if one does, and what is left after it
 abbrev pub unary_at : List ℕ → Option UnaryOp
-unary_at from = unary_mark (next_of from)
+unary_at from = unary_of (next_lead from)
 
-abbrev pub past_mark : Option UnaryOp → List ℕ → List ℕ
-past_mark None from = from
-past_mark (Some o) from = past_next from
+abbrev pub past_operator : Option UnaryOp → List ℕ → List ℕ
+past_operator None from = from
+past_operator (Some o) from = past_lead from
 
 abbrev pub past_unary : List ℕ → List ℕ
-past_unary from = past_mark (unary_at from) from
+past_unary from = past_operator (unary_at from) from
 
 -- a number, of which 65536 is kept where it is greater
 pub record CappedNumber (from to : List ℕ) (value : ℕ) : Type 0 where

@@ -1,10 +1,10 @@
 //! Where statements start and end.
 
 ghost use Rattle.std.specs.Prelude.{◌≡◌, ◌≤◌, ◌↔◌, length, IsTrue, IfSome};
-ghost use Rattle.ick_source.specs.Boundaries.{Identifier, Label, Opening, IsBoundary, NextBoundary};
-ghost use Rattle.ick_source.specs.Reading.{IsCapped, Parsed, ReadsOpening};
+ghost use Rattle.ick_source.specs.Boundaries.{IsIdentifier, IsLabelIn, IsOpening, IsBoundary, IsNextBoundary};
+ghost use Rattle.ick_source.specs.HeadAnswers.{IsCapped, Scans, ReadsOpening};
 
-use crate::bytes::{after_white, byte_at, number_at, stands};
+use crate::bytes::{after_white, byte_at, is_word_in, number_in};
 
 /// What a statement begins with.
 #[derive(Clone, Copy)]
@@ -13,36 +13,36 @@ pub struct Start {
     pub polite: bool,
 }
 
-/// The identifier here, whether it is polite, and the place after it.
+/// The identifier here, whether it is polite, and the position after it.
 fn identifier_at(text: &[u8], at: usize) -> Option<(bool, usize)>
     requires { at ≤ length text.now }
-    ensures identifier { Parsed (Identifier text.now at) (λ x p. x ≡ p) result }
+    ensures identifier { Scans (IsIdentifier text.now at) (λ x p. x ≡ p) result }
     ensures within { IfSome result (λ r. r.1 ≤ length text.now) }
 {
-    if stands(text, at, b"PLEASE") {
+    if is_word_in(text, at, b"PLEASE") {
         let next = after_white(text, at + 6);
-        if stands(text, next, b"DO") {
+        if is_word_in(text, next, b"DO") {
             Some((true, next + 2))
         } else {
             Some((true, at + 6))
         }
-    } else if stands(text, at, b"DO") {
+    } else if is_word_in(text, at, b"DO") {
         Some((false, at + 2))
     } else {
         None
     }
 }
 
-/// The label here, and the place after it.
-fn label_at(text: &[u8], at: usize) -> Option<(u32, usize)>
+/// The label here, and the position after it.
+fn label_in(text: &[u8], at: usize) -> Option<(u32, usize)>
     requires { at ≤ length text.now }
-    ensures label { Parsed (Label text.now at) IsCapped result }
+    ensures label { Scans (IsLabelIn text.now at) IsCapped result }
     ensures within { IfSome result (λ r. r.1 ≤ length text.now) }
 {
     if byte_at(text, at) != b'(' {
         return None;
     }
-    let (number, last) = number_at(text, after_white(text, at + 1))?;
+    let (number, last) = number_in(text, after_white(text, at + 1))?;
     let close = after_white(text, last);
     if byte_at(text, close) != b')' {
         return None;
@@ -50,10 +50,10 @@ fn label_at(text: &[u8], at: usize) -> Option<(u32, usize)>
     Some((number, close + 1))
 }
 
-/// The opening of a statement here, and the place after it.
+/// The opening of a statement here, and the position after it.
 pub fn opening_at(text: &[u8], at: usize) -> Option<(Start, usize)>
     requires { at ≤ length text.now }
-    ensures opening { Parsed (λ to a. Opening text.now at to a.0 a.1) ReadsOpening result }
+    ensures opening { Scans (λ to a. IsOpening text.now at to a.0 a.1) ReadsOpening result }
     ensures within { IfSome result (λ r. r.1 ≤ length text.now) }
 {
     if let Some((polite, end)) = identifier_at(text, at) {
@@ -63,7 +63,7 @@ pub fn opening_at(text: &[u8], at: usize) -> Option<(Start, usize)>
         };
         return Some((start, end));
     }
-    let (number, last) = label_at(text, at)?;
+    let (number, last) = label_in(text, at)?;
     let (polite, end) = identifier_at(text, after_white(text, last))?;
     let start = Start {
         label: Some(number),
@@ -83,7 +83,7 @@ pub fn is_boundary(text: &[u8], at: usize) -> bool
 /// The first boundary from here on.
 pub fn next_boundary(text: &[u8], from: usize) -> usize
     requires { from ≤ length text.now }
-    ensures { NextBoundary text.now from result }
+    ensures { IsNextBoundary text.now from result }
 {
     let mut at = from;
     while !is_boundary(text, at) {

@@ -1,14 +1,14 @@
-//! Bytes, gaps, words and numbers at places of a text.
+//! Bytes, gaps, words and numbers at positions of a text.
 
-ghost use Rattle.std.specs.Prelude.{◌≡◌, ◌+◌, ◌-◌, ◌<◌, ◌≤◌, ◌≢◌, ◌↔◌};
-ghost use Rattle.std.specs.Prelude.{length, slice_index, IsTrue, IfSome};
-ghost use Rattle.ick_source.specs.Bytes.{byte, Gap, Number, Word};
-ghost use Rattle.ick_source.specs.Reading.{IsCapped, Parsed};
+ghost use Rattle.std.specs.Prelude.{◌≡◌, ◌+◌, ◌-◌, ◌*◌, ◌<◌, ◌≤◌, ◌≢◌, ◌↔◌};
+ghost use Rattle.std.specs.Prelude.{length, min, slice_index, true, IsTrue, IfSome};
+ghost use Rattle.ick_source.specs.Bytes.{byte, IsGap, IsNumberIn, IsWordIn};
+ghost use Rattle.ick_source.specs.Token.{is_digit};
+ghost use Rattle.ick_source.specs.HeadAnswers.{IsCapped, Scans};
 
-use crate::token::{is_digit_byte, with_digit};
 use ick_bits::is_white;
 
-/// The byte at a place, and 0 past the end.
+/// The byte at a position, and 0 past the end.
 pub fn byte_at(text: &[u8], at: usize) -> u8
     ensures value { result ≡ byte text.now at }
     ensures inside { result ≢ 0 → at < length text.now }
@@ -16,10 +16,10 @@ pub fn byte_at(text: &[u8], at: usize) -> u8
     text.get(at).copied().unwrap_or(0)
 }
 
-/// The place after all white bytes that stand here.
+/// The position after all white bytes that stand here.
 pub fn after_white(text: &[u8], at: usize) -> usize
     requires { at ≤ length text.now }
-    ensures gap { Gap text.now at result }
+    ensures gap { IsGap text.now at result }
     ensures within { result ≤ length text.now }
 {
     let mut end = at;
@@ -30,9 +30,9 @@ pub fn after_white(text: &[u8], at: usize) -> usize
 }
 
 /// Whether a word stands here.
-pub fn stands(text: &[u8], at: usize, word: &[u8]) -> bool
+pub fn is_word_in(text: &[u8], at: usize, word: &[u8]) -> bool
     requires { at ≤ length text.now }
-    ensures word { IsTrue result ↔ Word text.now at word.now }
+    ensures word { IsTrue result ↔ IsWordIn text.now at word.now }
     ensures within { IsTrue result → 0 < slice_index word.now (length word.now - 1) →
         at + length word.now ≤ length text.now }
 {
@@ -44,10 +44,10 @@ pub fn stands(text: &[u8], at: usize, word: &[u8]) -> bool
     true
 }
 
-/// The number here, with all its digits, and the place after it. For each number above 65,535 it is
+/// The number here, with all its digits, and the position after it. For each number above 65,535 it is
 /// 65,536.
-pub fn number_at(text: &[u8], at: usize) -> Option<(u32, usize)>
-    ensures number { Parsed (Number text.now at) IsCapped result }
+pub fn number_in(text: &[u8], at: usize) -> Option<(u32, usize)>
+    ensures number { Scans (IsNumberIn text.now at) IsCapped result }
     ensures within { IfSome result (λ r. r.1 ≤ length text.now) }
 {
     let mut end = at;
@@ -57,4 +57,21 @@ pub fn number_at(text: &[u8], at: usize) -> Option<(u32, usize)>
         end += 1;
     }
     if end == at { None } else { Some((value, end)) }
+}
+
+/// Whether the byte is a digit.
+#[tactic(auto, unfolding(crate::specs::Token::is_digit))]
+pub fn is_digit_byte(byte: u8) -> bool
+    ensures { result ≡ is_digit byte }
+{
+    byte.is_ascii_digit()
+}
+
+/// The number with one more digit, up to 65536.
+pub fn with_digit(value: u32, digit: u8) -> u32
+    requires value { value ≤ 65536 }
+    requires digit { is_digit digit ≡ true }
+    ensures { result ≡ min (value * 10 + (digit - 48)) 65536 }
+{
+    (value * 10 + u32::from(digit - b'0')).min(65536)
 }

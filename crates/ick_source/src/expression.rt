@@ -1,25 +1,25 @@
-//! The reader of expressions. What the next symbol begins decides each step: no part is tried in two ways.
+//! The reader of expressions. What the next character begins decides each step: no part is tried in two ways.
 
 ghost use Rattle.std.specs.Prelude.{◌≡◌, ◌<◌, suc, max, IfOk, OnOk, IsTrue, ◌↔◌};
-ghost use Rattle.ick_source.specs.Place.{left_at};
+ghost use Rattle.ick_source.specs.Position.{left_at};
 ghost use Rattle.ick_source.specs.Tree.{tree_of, trees_in, under, scalar, mesh, element, binary, none, more, join};
-ghost use Rattle.ick_source.specs.Kept.{kept, both_faults};
+ghost use Rattle.ick_source.specs.Clamped.{both_faults};
 ghost use Rattle.ick_source.specs.Expression.{IsExpr, IsOperand, IsSimple, IsElement, IsSubs, IsRest, begins_sub};
 ghost use Rattle.ick_source.specs.ExpressionAnswers.{AnswersTree, AnswersTrees, AnswersFrom, IsNumbered, IsGroup};
 
-use crate::faults::Faults;
-use crate::lead::{Lead, Mark};
-use crate::place::{Place, next_at};
+use crate::faults::{Faults, clamped_number};
+use crate::lead::{Delimiter, Lead};
+use crate::position::{Position, lead_at};
 use crate::token::{number_at, prefix_at, word_at};
 use crate::tree::{BinaryOp, Element, Expr, Name, NameKind, UnaryOp};
 use std::alloc::{AllocError, Global};
 
-/// An expression that was read: its tree, its height, the place after it, and which of its numbers are out of range.
+/// An expression that was read: its tree, its height, the position after it, and which of its numbers are out of range.
 #[derive(Drop)]
-pub struct FoundExpr {
+pub struct ParsedExpr {
     pub expr: Expr,
     pub height: u16,
-    pub to: Place,
+    pub to: Position,
     pub faults: Faults,
 }
 
@@ -33,13 +33,6 @@ fn applied(alloc: Global, op: Option<UnaryOp>, expr: Expr) -> Result<Expr, Alloc
     }
 }
 
-/// The number as it is kept.
-pub fn kept_number(number: u32) -> u16
-    ensures { result ≡ kept number }
-{
-    number.min(65535) as u16
-}
-
 /// The element of the array at these subscripts.
 fn indexed(array: Name, subs: Vec<Expr>) -> Expr
     ensures { tree_of result ≡ element array (trees_in subs.items) }
@@ -47,13 +40,13 @@ fn indexed(array: Name, subs: Vec<Expr>) -> Expr
     Expr::Element(Element { array, subs })
 }
 
-/// A spot after its mark.
+/// A spot after its sigil.
 fn spot_at(
     alloc: Global,
     text: &[u8],
     kind: NameKind,
-    past: Place,
-) -> Result<Option<FoundExpr>, AllocError>
+    past: Position,
+) -> Result<Option<ParsedExpr>, AllocError>
     ensures { IfOk result (AnswersTree (IsNumbered (λ n. scalar (record { kind = kind; number = n })) (left_at text.now past)) 1 text.now) }
 {
     let prefix = prefix_at(text, past);
@@ -62,10 +55,10 @@ fn spot_at(
     };
     let name = Name {
         kind,
-        number: kept_number(found.value),
+        number: clamped_number(found.value),
     };
     let expr = applied(alloc, prefix.op, Expr::Scalar(name))?;
-    Ok(Some(FoundExpr {
+    Ok(Some(ParsedExpr {
         expr,
         height: 1,
         to: found.to,
@@ -73,16 +66,16 @@ fn spot_at(
     }))
 }
 
-/// A mesh after its mark.
-fn constant_at(alloc: Global, text: &[u8], past: Place) -> Result<Option<FoundExpr>, AllocError>
+/// A mesh after its sigil.
+fn constant_at(alloc: Global, text: &[u8], past: Position) -> Result<Option<ParsedExpr>, AllocError>
     ensures { IfOk result (AnswersTree (IsNumbered mesh (left_at text.now past)) 1 text.now) }
 {
     let prefix = prefix_at(text, past);
     let Some(found) = number_at(text, prefix.to) else {
         return Ok(None);
     };
-    let expr = applied(alloc, prefix.op, Expr::Mesh(kept_number(found.value)))?;
-    Ok(Some(FoundExpr {
+    let expr = applied(alloc, prefix.op, Expr::Mesh(clamped_number(found.value)))?;
+    Ok(Some(ParsedExpr {
         expr,
         height: 1,
         to: found.to,
@@ -90,27 +83,27 @@ fn constant_at(alloc: Global, text: &[u8], past: Place) -> Result<Option<FoundEx
     }))
 }
 
-/// A group after its opening mark: an expression, and the mark that closes it.
+/// A group after its opening delimiter: an expression, and the delimiter that closes it.
 #[cycle(reader)]
 fn group_at(
     alloc: Global,
     text: &[u8],
-    mark: Mark,
+    delimiter: Delimiter,
     limit: u16,
-    past: Place,
-) -> Result<Option<FoundExpr>, AllocError>
+    past: Position,
+) -> Result<Option<ParsedExpr>, AllocError>
     requires { 0 < limit }
-    ensures { IfOk result (AnswersTree (IsGroup mark (left_at text.now past)) limit text.now) }
+    ensures { IfOk result (AnswersTree (IsGroup delimiter (left_at text.now past)) limit text.now) }
 {
     let prefix = prefix_at(text, past);
-    let Some(inner) = expr_at(alloc, text, Some(mark), limit - 1, prefix.to)? else {
+    let Some(inner) = expr_at(alloc, text, Some(delimiter), limit - 1, prefix.to)? else {
         return Ok(None);
     };
-    let close = next_at(text, inner.to);
-    if !closes(mark, close.begins) {
+    let close = lead_at(text, inner.to);
+    if !closes(delimiter, close.begins) {
         return Ok(None);
     }
-    Ok(Some(FoundExpr {
+    Ok(Some(ParsedExpr {
         expr: applied(alloc, prefix.op, inner.expr)?,
         height: inner.height + 1,
         to: close.past,
@@ -124,28 +117,28 @@ fn simple_at(
     alloc: Global,
     text: &[u8],
     limit: u16,
-    from: Place,
-) -> Result<Option<FoundExpr>, AllocError>
+    from: Position,
+) -> Result<Option<ParsedExpr>, AllocError>
     ensures { IfOk result (AnswersTree (IsSimple (left_at text.now from)) limit text.now) }
 {
     if limit == 0 {
         return Ok(None);
     }
-    let next = next_at(text, from);
+    let next = lead_at(text, from);
     match next.begins {
         Lead::Spot(kind) => spot_at(alloc, text, kind, next.past),
         Lead::Hash => constant_at(alloc, text, next.past),
-        Lead::Group(mark) => group_at(alloc, text, mark, limit, next.past),
+        Lead::Group(delimiter) => group_at(alloc, text, delimiter, limit, next.past),
         _ => Ok(None),
     }
 }
 
-/// Subscripts that were read: their trees, the greatest height, the place after them, and which of their numbers are out of range.
+/// Subscripts that were read: their trees, the greatest height, the position after them, and which of their numbers are out of range.
 #[derive(Drop)]
-pub struct FoundSubs {
+pub struct ParsedSubs {
     pub subs: Vec<Expr>,
     pub height: u16,
-    pub to: Place,
+    pub to: Position,
     pub faults: Faults,
 }
 
@@ -154,37 +147,37 @@ pub struct FoundSubs {
 pub fn element_at(
     alloc: Global,
     text: &[u8],
-    mark: Option<Mark>,
+    delimiter: Option<Delimiter>,
     limit: u16,
-    from: Place,
-) -> Result<Option<FoundExpr>, AllocError>
-    ensures { IfOk result (AnswersTree (IsElement mark (left_at text.now from)) limit text.now) }
+    from: Position,
+) -> Result<Option<ParsedExpr>, AllocError>
+    ensures { IfOk result (AnswersTree (IsElement delimiter (left_at text.now from)) limit text.now) }
 {
-    let next = next_at(text, from);
+    let next = lead_at(text, from);
     let Lead::Array(kind) = next.begins else {
         return Ok(None);
     };
     let Some(found) = number_at(text, next.past) else {
         return Ok(None);
     };
-    let Some(place) = word_at(text, found.to, b"SUB") else {
+    let Some(later) = word_at(text, found.to, b"SUB") else {
         return Ok(None);
     };
     if limit == 0 {
         return Ok(None);
     }
-    let Some(all) = subs_at(alloc, text, mark, limit - 1, place)? else {
+    let Some(all) = subs_at(alloc, text, delimiter, limit - 1, later)? else {
         return Ok(None);
     };
     let array = Name {
         kind,
-        number: kept_number(found.value),
+        number: clamped_number(found.value),
     };
-    Ok(Some(FoundExpr {
+    Ok(Some(ParsedExpr {
         expr: indexed(array, all.subs),
         height: all.height + 1,
         to: all.to,
-        faults: Faults::of_name(found.value).and(all.faults),
+        faults: Faults::of_name(found.value).union(all.faults),
     }))
 }
 
@@ -193,14 +186,14 @@ pub fn element_at(
 fn subs_at(
     alloc: Global,
     text: &[u8],
-    mark: Option<Mark>,
+    delimiter: Option<Delimiter>,
     limit: u16,
-    from: Place,
-) -> Result<Option<FoundSubs>, AllocError>
-    ensures { IfOk result (AnswersTrees (IsSubs mark (left_at text.now from)) limit text.now) }
+    from: Position,
+) -> Result<Option<ParsedSubs>, AllocError>
+    ensures { IfOk result (AnswersTrees (IsSubs delimiter (left_at text.now from)) limit text.now) }
 {
-    if let Lead::Array(_) = next_at(text, from).begins {
-        let Some(only) = element_at(alloc, text, mark, limit, from)? else {
+    if let Lead::Array(_) = lead_at(text, from).begins {
+        let Some(only) = element_at(alloc, text, delimiter, limit, from)? else {
             return Ok(None);
         };
         return Ok(Some(started(alloc, only)?));
@@ -208,7 +201,7 @@ fn subs_at(
     let Some(begun) = simple_at(alloc, text, limit, from)? else {
         return Ok(None);
     };
-    rest_at(alloc, text, mark, limit, started(alloc, begun)?)
+    rest_at(alloc, text, delimiter, limit, started(alloc, begun)?)
 }
 
 /// Goes on with further subscripts.
@@ -216,19 +209,19 @@ fn subs_at(
 fn rest_at(
     alloc: Global,
     text: &[u8],
-    mark: Option<Mark>,
+    delimiter: Option<Delimiter>,
     limit: u16,
-    mut all: FoundSubs,
-) -> Result<Option<FoundSubs>, AllocError>
-    ensures { IfOk result (AnswersFrom (IsRest mark (left_at text.now all.to)) limit text.now all) }
+    mut all: ParsedSubs,
+) -> Result<Option<ParsedSubs>, AllocError>
+    ensures { IfOk result (AnswersFrom (IsRest delimiter (left_at text.now all.to)) limit text.now all) }
 {
     'further: loop {
-        let next = next_at(text, all.to);
-        if !may_begin_sub(mark, next.begins) {
+        let next = lead_at(text, all.to);
+        if !may_begin_sub(delimiter, next.begins) {
             return Ok(Some(all));
         }
         if let Lead::Array(_) = next.begins {
-            let Some(last) = element_at(alloc, text, mark, limit, all.to)? else {
+            let Some(last) = element_at(alloc, text, delimiter, limit, all.to)? else {
                 return Ok(None);
             };
             extend(&mut all, last)?;
@@ -246,40 +239,40 @@ fn rest_at(
 fn operand_at(
     alloc: Global,
     text: &[u8],
-    mark: Option<Mark>,
+    delimiter: Option<Delimiter>,
     limit: u16,
-    from: Place,
-) -> Result<Option<FoundExpr>, AllocError>
-    ensures { IfOk result (AnswersTree (IsOperand mark (left_at text.now from)) limit text.now) }
+    from: Position,
+) -> Result<Option<ParsedExpr>, AllocError>
+    ensures { IfOk result (AnswersTree (IsOperand delimiter (left_at text.now from)) limit text.now) }
 {
-    match next_at(text, from).begins {
-        Lead::Array(_) => element_at(alloc, text, mark, limit, from),
+    match lead_at(text, from).begins {
+        Lead::Array(_) => element_at(alloc, text, delimiter, limit, from),
         _ => simple_at(alloc, text, limit, from),
     }
 }
 
-/// The expression at the place: `mark` is the mark of the innermost open group, `limit` the greatest height.
+/// The expression at the position: `delimiter` is the one of the innermost open group, `limit` the greatest height.
 #[cycle(reader)]
 pub fn expr_at(
     alloc: Global,
     text: &[u8],
-    mark: Option<Mark>,
+    delimiter: Option<Delimiter>,
     limit: u16,
-    from: Place,
-) -> Result<Option<FoundExpr>, AllocError>
-    ensures { IfOk result (AnswersTree (IsExpr mark (left_at text.now from)) limit text.now) }
+    from: Position,
+) -> Result<Option<ParsedExpr>, AllocError>
+    ensures { IfOk result (AnswersTree (IsExpr delimiter (left_at text.now from)) limit text.now) }
 {
-    let Some(left) = operand_at(alloc, text, mark, limit, from)? else {
+    let Some(left) = operand_at(alloc, text, delimiter, limit, from)? else {
         return Ok(None);
     };
-    let next = next_at(text, left.to);
+    let next = lead_at(text, left.to);
     let Lead::Binary(op) = next.begins else {
         return Ok(Some(left));
     };
     if left.height >= limit {
         return Ok(None);
     }
-    let Some(right) = expr_at(alloc, text, mark, limit - 1, next.past)? else {
+    let Some(right) = expr_at(alloc, text, delimiter, limit - 1, next.past)? else {
         return Ok(None);
     };
     Ok(Some(joined(alloc, op, left, right)?))
@@ -289,9 +282,9 @@ pub fn expr_at(
 fn joined(
     alloc: Global,
     op: BinaryOp,
-    left: FoundExpr,
-    right: FoundExpr,
-) -> Result<FoundExpr, AllocError>
+    left: ParsedExpr,
+    right: ParsedExpr,
+) -> Result<ParsedExpr, AllocError>
     requires left { left.height < 65535 }
     requires right { right.height < 65535 }
     ensures tree { IfOk result (λ s. tree_of s.expr ≡ binary op (tree_of left.expr) (tree_of right.expr)) }
@@ -301,16 +294,16 @@ fn joined(
 {
     let left_expr = Box::new(alloc, left.expr)?;
     let right_expr = Box::new(alloc, right.expr)?;
-    Ok(FoundExpr {
+    Ok(ParsedExpr {
         expr: Expr::Binary(op, left_expr, right_expr),
         height: left.height.max(right.height) + 1,
         to: right.to,
-        faults: left.faults.and(right.faults),
+        faults: left.faults.union(right.faults),
     })
 }
 
 /// The list of one subscript.
-fn started(alloc: Global, only: FoundExpr) -> Result<FoundSubs, AllocError>
+fn started(alloc: Global, only: ParsedExpr) -> Result<ParsedSubs, AllocError>
     ensures subs { IfOk result (λ s. trees_in s.subs.items ≡ more (tree_of only.expr) none) }
     ensures height { IfOk result (λ s. s.height ≡ only.height) }
     ensures to { IfOk result (λ s. s.to ≡ only.to) }
@@ -318,7 +311,7 @@ fn started(alloc: Global, only: FoundExpr) -> Result<FoundSubs, AllocError>
 {
     let mut subs = Vec::new(alloc);
     subs.push(only.expr)?;
-    Ok(FoundSubs {
+    Ok(ParsedSubs {
         subs,
         height: only.height,
         to: only.to,
@@ -327,7 +320,7 @@ fn started(alloc: Global, only: FoundExpr) -> Result<FoundSubs, AllocError>
 }
 
 /// Puts one more subscript at the end.
-fn extend(all: &mut FoundSubs, one: FoundExpr) -> Result<(), AllocError>
+fn extend(all: &mut ParsedSubs, one: ParsedExpr) -> Result<(), AllocError>
     ensures subs { OnOk result (trees_in all.new.subs.items ≡ join (trees_in all.old.subs.items) (more (tree_of one.expr) none)) }
     ensures height { OnOk result (all.new.height ≡ max all.old.height one.height) }
     ensures to { OnOk result (all.new.to ≡ one.to) }
@@ -336,24 +329,24 @@ fn extend(all: &mut FoundSubs, one: FoundExpr) -> Result<(), AllocError>
     all.subs.push(one.expr)?;
     all.height = all.height.max(one.height);
     all.to = one.to;
-    all.faults = all.faults.and(one.faults);
+    all.faults = all.faults.union(one.faults);
     Ok(())
 }
 
-/// Whether this is the mark.
-fn closes(mark: Mark, begins: Lead) -> bool
-    ensures { IsTrue result ↔ (begins ≡ Lead.Group mark) }
+/// Whether this is the delimiter.
+fn closes(delimiter: Delimiter, begins: Lead) -> bool
+    ensures { IsTrue result ↔ (begins ≡ Lead.Group delimiter) }
 {
-    begins == Lead::Group(mark)
+    begins == Lead::Group(delimiter)
 }
 
 /// Whether a further subscript begins so.
-fn may_begin_sub(mark: Option<Mark>, begins: Lead) -> bool
-    ensures { result ≡ begins_sub mark begins }
+fn may_begin_sub(delimiter: Option<Delimiter>, begins: Lead) -> bool
+    ensures { result ≡ begins_sub delimiter begins }
 {
     match begins {
         Lead::Spot(_) | Lead::Array(_) | Lead::Hash => true,
-        Lead::Group(other) => mark != Some(other),
+        Lead::Group(other) => delimiter != Some(other),
         _ => false,
     }
 }

@@ -1,6 +1,7 @@
 //! Numbers out of range, which are noted while a text is read.
 
 ghost use Rattle.std.specs.Prelude.{◌≡◌};
+ghost use Rattle.ick_source.specs.Clamped.{clamped};
 
 /// Which numbers out of range were read: a mesh above 65535, a variable's number outside 1 to 65535, a label outside 1 to 65535.
 #[derive(Clone, Copy, Debug, PartialEq, Eq)]
@@ -11,7 +12,7 @@ pub struct Faults {
 }
 
 impl Faults {
-    ghost use Rattle.ick_source.specs.Kept.{both_faults, mesh_faults, name_faults, label_faults};
+    ghost use Rattle.ick_source.specs.Clamped.{both_faults, mesh_faults, name_faults, label_faults};
 
     /// No number out of range.
     pub const NONE: Faults = Faults {
@@ -21,7 +22,7 @@ impl Faults {
     };
 
     /// What stands in either of two parts.
-    pub fn and(self, other: Faults) -> Faults
+    pub fn union(self, other: Faults) -> Faults
         ensures { result ≡ both_faults self other }
     {
         Faults {
@@ -60,4 +61,11 @@ impl Faults {
             ..Faults::NONE
         }
     }
+}
+
+/// The number, and 65535 for each above it.
+pub fn clamped_number(number: u32) -> u16
+    ensures { result ≡ clamped number }
+{
+    number.min(65535) as u16
 }

@@ -3,11 +3,11 @@
 ghost use Rattle.std.specs.Prelude.{◌≡◌, ◌↔◌, ℕ, List, IsTrue};
 ghost use Rattle.ick_source.specs.BodyGrammar.{HasSubscripts, IsBodyOf};
 ghost use Rattle.ick_source.specs.BodyTree.{BodyTree};
-ghost use Rattle.ick_source.specs.Place.{left_at};
+ghost use Rattle.ick_source.specs.Position.{left_at};
 
 use crate::lead::Lead;
 use crate::part::name_at;
-use crate::place::{Place, next_at};
+use crate::position::{Position, lead_at};
 use crate::token::word_at;
 
 /// The form of a body.
@@ -23,11 +23,11 @@ pub enum Form {
     Action,
 }
 
-/// The only form that a body at the place can have.
-pub fn form_at(text: &[u8], from: Place) -> Form
+/// The only form that a body at the position can have.
+pub fn form_at(text: &[u8], from: Position) -> Form
     ensures { (form : Form) (to : List ℕ) (b : BodyTree) → IsBodyOf form (left_at text.now from) to b → form ≡ result }
 {
-    match next_at(text, from).begins {
+    match lead_at(text, from).begins {
         Lead::Spot(_) => Form::Calculation,
         Lead::Array(_) => {
             if has_subscripts(text, from) {
@@ -46,8 +46,8 @@ pub fn form_at(text: &[u8], from: Place) -> Form
     }
 }
 
-/// Whether a name with SUB stands at the place.
-fn has_subscripts(text: &[u8], from: Place) -> bool
+/// Whether a name with SUB stands at the position.
+fn has_subscripts(text: &[u8], from: Position) -> bool
     ensures { IsTrue result ↔ HasSubscripts (left_at text.now from) }
 {
     let Some(name) = name_at(text, from) else {

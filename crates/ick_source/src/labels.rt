@@ -2,9 +2,9 @@
 
 ghost use Rattle.std.specs.Prelude.{◌≡◌, ◌+◌, length, Option, option_and_then, IfOk, IfErr, OnOk};
 ghost use Rattle.ick_source.specs.BodyTree.{body_tree_of};
-ghost use Rattle.ick_source.specs.Trees.{statement_trees, AreNumbered};
+ghost use Rattle.ick_source.specs.StatementTree.{statement_trees, AreNumbered};
 ghost use Rattle.ick_source.specs.Refusals.{IsSoundBelow, rank, used_label};
-ghost use Rattle.ick_source.specs.ReadRefusals.{RefusesTrees};
+ghost use Rattle.ick_source.specs.RefusalAnswers.{RefusesTrees};
 ghost use Rattle.ick_source.specs.Labels.{HasLabels, fault_of_use};
 
 use crate::body::Body;

@@ -2,7 +2,7 @@
 
 ghost use Rattle.ick_source.specs.Laws.{OneBody, OneCut, OneReading, OneRefusal};
 
-/// From one place, under one mark, at most one expression stands.
+/// From one position, under one delimiter, at most one expression stands.
 pub fn one_reading()
     ensures { OneReading }
 {}

@@ -5,9 +5,9 @@ ghost use Rattle.ick_source.specs.Lead.{lead_of};
 
 use crate::tree::{BinaryOp, NameKind, UnaryOp};
 
-/// A mark that opens and closes a group.
+/// What opens and closes a group.
 #[derive(Clone, Copy, Debug, PartialEq, Eq)]
-pub enum Mark {
+pub enum Delimiter {
     /// `'`
     Spark,
     /// `"`
@@ -23,8 +23,8 @@ pub enum Lead {
     Array(NameKind),
     /// A mesh: `#`.
     Hash,
-    /// A group of this mark, or its end.
-    Group(Mark),
+    /// A group of this delimiter, or its end.
+    Group(Delimiter),
     Unary(UnaryOp),
     Binary(BinaryOp),
     /// Nothing of an expression.
@@ -42,8 +42,8 @@ pub fn begun_by(byte: u8) -> Lead
         b',' => Lead::Array(NameKind::Tail),
         b';' => Lead::Array(NameKind::Hybrid),
         b'#' => Lead::Hash,
-        b'\'' => Lead::Group(Mark::Spark),
-        b'"' => Lead::Group(Mark::Ears),
+        b'\'' => Lead::Group(Delimiter::Spark),
+        b'"' => Lead::Group(Delimiter::Ears),
         b'&' => Lead::Unary(UnaryOp::And),
         b'V' => Lead::Unary(UnaryOp::Or),
         b'?' => Lead::Unary(UnaryOp::Xor),

@@ -6,14 +6,14 @@
 //! - `statements`, `programs`: a statement, and the statements of a source in their order
 //! - `kinds`, `listing`: the kinds of statements, and their lines
 //!
-//! What stands at a place of a text:
+//! What stands at a position of a text:
 //!
 //! - `bytes`, `boundaries`, `qualifiers`: bytes, where statements may start and end, and their heads
-//! - `lead`, `place`, `token`: symbols, numbers and words, with `!` as two marks
+//! - `lead`, `position`, `token`: characters, numbers and words, with `!` as two characters
 //! - `expression`: expressions and elements
-//! - `found`, `part`, `list`: what readers find, the parts of bodies, and lists of them
-//! - `verb`, `form`, `recognise`, `draft`: bodies
-//! - `pieces`: a statement
+//! - `parsed`, `part`, `list`: what readers answer, the parts of bodies, and lists of them
+//! - `verb`, `form`, `body_reader`, `body_bytes`: bodies
+//! - `statement_reader`: a statement
 //! - `source`: the whole of a text
 //!
 //! What refuses a text:
@@ -25,29 +25,29 @@
 #![tactic(auto)]
 
 mod body;
+mod body_bytes;
+mod body_reader;
 mod boundaries;
 mod bytes;
-mod draft;
 mod expression;
 mod faults;
 mod form;
-mod found;
 mod kinds;
 mod labels;
 mod laws;
 mod lead;
 mod list;
 mod listing;
+mod parsed;
 mod part;
-mod pieces;
-mod place;
 mod politeness;
+mod position;
 mod programs;
 mod qualifiers;
 mod ranges;
-mod recognise;
 mod refusals;
 mod source;
+mod statement_reader;
 mod statements;
 mod token;
 mod tree;

@@ -3,28 +3,28 @@
 ghost use Rattle.std.specs.Prelude.{IfOk, codes, map};
 ghost use Rattle.ick_source.specs.Answers.{Answers};
 ghost use Rattle.ick_source.specs.BodyTree.{item_tree, place_tree};
-ghost use Rattle.ick_source.specs.Nonterminal.{StandsOnce, TakesSymbols, gerunds, items, listed, names, places, wholes};
-ghost use Rattle.ick_source.specs.Place.{left_at};
+ghost use Rattle.ick_source.specs.Nonterminal.{StandsOnce, TakesCharacters, gerunds, items, listed, names, places, wholes};
+ghost use Rattle.ick_source.specs.Position.{left_at};
 ghost use Rattle.ick_source.specs.Tree.{tree_of};
 
-use crate::body::{self, Gerund, Item};
+use crate::body::{Gerund, Item, Place};
 use crate::faults::Faults;
-use crate::found::Found;
+use crate::parsed::Parsed;
 use crate::part::Part;
-use crate::place::Place;
+use crate::position::Position;
 use crate::token::word_at;
 use crate::tree::{Expr, Name};
 use std::alloc::{AllocError, Global};
 
-/// The parts at the place, with the word between them.
+/// The parts at the position, with the word between them.
 fn list_at<P: Part>(
     alloc: Global,
     text: &[u8],
     separator: &[u8],
-    from: Place,
-) -> Result<Option<Found<Vec<P>>>, AllocError>
+    from: Position,
+) -> Result<Option<Parsed<Vec<P>>>, AllocError>
     requires once { StandsOnce P.nonterminal }
-    requires symbols { TakesSymbols P.nonterminal }
+    requires characters { TakesCharacters P.nonterminal }
     ensures { IfOk result (Answers (listed P.nonterminal separator.now) (λ parts. map P.seen parts.items) text.now (left_at text.now from)) }
 {
     let mut value = Vec::new(alloc);
@@ -35,9 +35,9 @@ fn list_at<P: Part>(
             return Ok(None);
         };
         value.push(one.value)?;
-        faults = faults.and(one.faults);
+        faults = faults.union(one.faults);
         let Some(later) = word_at(text, one.to, separator) else {
-            return Ok(Some(Found {
+            return Ok(Some(Parsed {
                 value,
                 to: one.to,
                 faults,
@@ -47,56 +47,56 @@ fn list_at<P: Part>(
     }
 }
 
-/// The names at the place, with `+` between them.
+/// The names at the position, with `+` between them.
 pub fn names_at(
     alloc: Global,
     text: &[u8],
-    from: Place,
-) -> Result<Option<Found<Vec<Name>>>, AllocError>
+    from: Position,
+) -> Result<Option<Parsed<Vec<Name>>>, AllocError>
     ensures { IfOk result (Answers (listed names (codes "+")) (λ list. list.items) text.now (left_at text.now from)) }
 {
     list_at(alloc, text, b"+", from)
 }
 
-/// The gerunds at the place, with `+` between them.
+/// The gerunds at the position, with `+` between them.
 pub fn gerunds_at(
     alloc: Global,
     text: &[u8],
-    from: Place,
-) -> Result<Option<Found<Vec<Gerund>>>, AllocError>
+    from: Position,
+) -> Result<Option<Parsed<Vec<Gerund>>>, AllocError>
     ensures { IfOk result (Answers (listed gerunds (codes "+")) (λ list. list.items) text.now (left_at text.now from)) }
 {
     list_at(alloc, text, b"+", from)
 }
 
-/// What WRITE IN stores into, from the place on, with `+` between them.
+/// What WRITE IN stores into, from the position on, with `+` between them.
 pub fn places_at(
     alloc: Global,
     text: &[u8],
-    from: Place,
-) -> Result<Option<Found<Vec<body::Place>>>, AllocError>
+    from: Position,
+) -> Result<Option<Parsed<Vec<Place>>>, AllocError>
     ensures { IfOk result (Answers (listed places (codes "+")) (λ list. map place_tree list.items) text.now (left_at text.now from)) }
 {
     list_at(alloc, text, b"+", from)
 }
 
-/// The items at the place, with `+` between them.
+/// The items at the position, with `+` between them.
 pub fn items_at(
     alloc: Global,
     text: &[u8],
-    from: Place,
-) -> Result<Option<Found<Vec<Item>>>, AllocError>
+    from: Position,
+) -> Result<Option<Parsed<Vec<Item>>>, AllocError>
     ensures { IfOk result (Answers (listed items (codes "+")) (λ list. map item_tree list.items) text.now (left_at text.now from)) }
 {
     list_at(alloc, text, b"+", from)
 }
 
-/// The dimensions at the place, with `BY` between them.
+/// The dimensions at the position, with `BY` between them.
 pub fn dimensions_at(
     alloc: Global,
     text: &[u8],
-    from: Place,
-) -> Result<Option<Found<Vec<Expr>>>, AllocError>
+    from: Position,
+) -> Result<Option<Parsed<Vec<Expr>>>, AllocError>
     ensures { IfOk result (Answers (listed wholes (codes "BY")) (λ list. map tree_of list.items) text.now (left_at text.now from)) }
 {
     list_at(alloc, text, b"BY", from)

@@ -1,9 +1,9 @@
 //! How polite a program has to be, and may be.
 
 ghost use Rattle.std.specs.Prelude.{◌≡◌, ◌≤◌, length, IfErr, OnOk};
-ghost use Rattle.ick_source.specs.Trees.{statement_trees, polite_in};
+ghost use Rattle.ick_source.specs.StatementTree.{statement_trees, polite_in};
 ghost use Rattle.ick_source.specs.Refusals.{IsSound, IsSoundBelow, rank};
-ghost use Rattle.ick_source.specs.ReadRefusals.{RefusesTrees};
+ghost use Rattle.ick_source.specs.RefusalAnswers.{RefusesTrees};
 
 use crate::refusals::Refusal;
 use crate::statements::Statement;

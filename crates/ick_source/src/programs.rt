@@ -3,9 +3,9 @@
 ghost use Rattle.std.specs.Prelude.{◌≡◌, ◌≤◌, length, true, IfOk, IfErr};
 ghost use Rattle.std.specs.List.{list_all};
 ghost use Rattle.ick_source.specs.NameKinds.{is_statement_kinded};
-ghost use Rattle.ick_source.specs.Trees.{statement_trees, AreNumbered, polite_in};
+ghost use Rattle.ick_source.specs.StatementTree.{statement_trees, AreNumbered, polite_in};
 ghost use Rattle.ick_source.specs.Refusals.{IsSound, IsSoundBelow, rank};
-ghost use Rattle.ick_source.specs.ReadRefusals.{RefusesTrees};
+ghost use Rattle.ick_source.specs.RefusalAnswers.{RefusesTrees};
 
 use crate::labels::{LabelUse, check_use, labels_of};
 use crate::politeness::check_politeness;

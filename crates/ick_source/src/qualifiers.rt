@@ -1,10 +1,10 @@
 //! What stands between the opening and the body of a statement.
 
 ghost use Rattle.std.specs.Prelude.{◌≡◌, ◌+◌, ◌≤◌, ◌↔◌, length, IfSome, IsTrue};
-ghost use Rattle.ick_source.specs.Qualifiers.{Negation, Negated, Percentage, Chance};
-ghost use Rattle.ick_source.specs.Reading.{Parsed, ReadsQualifiers};
+ghost use Rattle.ick_source.specs.Qualifiers.{IsNegation, IsNegated, IsPercentage, IsChance};
+ghost use Rattle.ick_source.specs.HeadAnswers.{Scans, ReadsQualifiers};
 
-use crate::bytes::{after_white, byte_at, number_at, stands};
+use crate::bytes::{after_white, byte_at, is_word_in, number_in};
 
 /// Whether a statement is abstained from at the start, and its chance of being done.
 #[derive(Clone, Copy)]
@@ -16,16 +16,16 @@ pub struct Qualifiers {
 /// Whether NOT or N'T stands here.
 fn is_negation(text: &[u8], at: usize) -> bool
     requires { at ≤ length text.now }
-    ensures negation { IsTrue result ↔ Negation text.now at }
+    ensures negation { IsTrue result ↔ IsNegation text.now at }
     ensures within { IsTrue result → at + 3 ≤ length text.now }
 {
-    stands(text, at, b"NOT") || stands(text, at, b"N'T")
+    is_word_in(text, at, b"NOT") || is_word_in(text, at, b"N'T")
 }
 
-/// Whether NOT or N'T stands here after white bytes, and the place after it, or else this place.
+/// Whether NOT or N'T stands here after white bytes, and the position after it, or else this position.
 fn negated_at(text: &[u8], at: usize) -> (bool, usize)
     requires { at ≤ length text.now }
-    ensures negated { Negated text.now at result.1 result.0 }
+    ensures negated { IsNegated text.now at result.1 result.0 }
     ensures within { result.1 ≤ length text.now }
 {
     let next = after_white(text, at);
@@ -36,17 +36,17 @@ fn negated_at(text: &[u8], at: usize) -> (bool, usize)
     }
 }
 
-/// The percentage here, and the place after it.
+/// The percentage here, and the position after it.
 fn percentage_at(text: &[u8], at: usize) -> Option<(u8, usize)>
     requires { at ≤ length text.now }
-    ensures percentage { Parsed (Percentage text.now at) (λ x n. x ≡ n) result }
+    ensures percentage { Scans (IsPercentage text.now at) (λ x n. x ≡ n) result }
     ensures small { IfSome result (λ r. r.0 ≤ 100) }
     ensures within { IfSome result (λ r. r.1 ≤ length text.now) }
 {
     if byte_at(text, at) != b'%' {
         return None;
     }
-    let (number, end) = number_at(text, after_white(text, at + 1))?;
+    let (number, end) = number_in(text, after_white(text, at + 1))?;
     if number <= 100 {
         Some((number as u8, end))
     } else {
@@ -54,10 +54,10 @@ fn percentage_at(text: &[u8], at: usize) -> Option<(u8, usize)>
     }
 }
 
-/// The percentage that stands here after white bytes, and the place after it, or else this place.
+/// The percentage that stands here after white bytes, and the position after it, or else this position.
 fn chance_at(text: &[u8], at: usize) -> (Option<u8>, usize)
     requires { at ≤ length text.now }
-    ensures chance { Chance text.now at result.1 result.0 }
+    ensures chance { IsChance text.now at result.1 result.0 }
     ensures small { IfSome result.0 (λ n. n ≤ 100) }
     ensures within { result.1 ≤ length text.now }
 {
@@ -67,7 +67,7 @@ fn chance_at(text: &[u8], at: usize) -> (Option<u8>, usize)
     }
 }
 
-/// The qualifiers here, and the place after them.
+/// The qualifiers here, and the position after them.
 pub fn qualifiers_at(text: &[u8], at: usize) -> (Qualifiers, usize)
     requires { at ≤ length text.now }
     ensures qualifiers { ReadsQualifiers text.now at result.1 result.0 }

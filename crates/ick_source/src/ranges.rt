@@ -1,8 +1,8 @@
 //! The first statements whose numbers are out of range.
 
 ghost use Rattle.std.specs.Prelude.{◌≡◌, ◌+◌, ◌++◌, ◌∷◌, [], List, Bool, length, OnOk, IfErr, IfNone, IsTrue, false};
-ghost use Rattle.ick_source.specs.Trees.{StatementTree};
-ghost use Rattle.ick_source.specs.Refusals.{At};
+ghost use Rattle.ick_source.specs.StatementTree.{StatementTree};
+ghost use Rattle.ick_source.specs.Refusals.{HoldsAt};
 ghost use Rattle.ick_source.specs.Ranges.{IsFirst};
 
 use crate::faults::Faults;
@@ -18,9 +18,9 @@ pub struct OutOfRange {
 }
 
 impl OutOfRange {
-    ghost use Rattle.ick_source.specs.Kept.{no_faults};
+    ghost use Rattle.ick_source.specs.Clamped.{no_faults};
     ghost use Rattle.ick_source.specs.StatementFaults.{faults_of_statement};
-    ghost use Rattle.ick_source.specs.ReadRefusals.{RefusesTrees};
+    ghost use Rattle.ick_source.specs.RefusalAnswers.{RefusesTrees};
     ghost use Rattle.ick_source.specs.Ranges.{AreFirst, IsEmpty};
 
     /// Of no statement.
@@ -35,7 +35,7 @@ impl OutOfRange {
     }
 
     /// With one more statement, which has this number.
-    pub fn and(self, number: u32, faults: Faults) -> OutOfRange
+    pub fn noting(self, number: u32, faults: Faults) -> OutOfRange
         ensures first { (trees : List StatementTree) (t : StatementTree) →
             number ≡ length trees + 1 → AreFirst self trees → faults ≡ faults_of_statement t →
             AreFirst result (trees ++ t ∷ []) }
@@ -71,8 +71,8 @@ impl OutOfRange {
 /// has the fault.
 fn first_of(earlier: Option<u32>, number: u32, has: bool) -> Option<u32>
     ensures first { (p : StatementTree → Bool) (trees : List StatementTree) (t : StatementTree) →
-        number ≡ length trees + 1 → has ≡ p t → IsFirst (At (λ x. IsTrue (p x)) trees) earlier →
-        IsFirst (At (λ x. IsTrue (p x)) (trees ++ t ∷ [])) result }
+        number ≡ length trees + 1 → has ≡ p t → IsFirst (HoldsAt (λ x. IsTrue (p x)) trees) earlier →
+        IsFirst (HoldsAt (λ x. IsTrue (p x)) (trees ++ t ∷ [])) result }
     ensures none { IfNone result ((earlier ≡ None) × (has ≡ false)) }
 {
     match earlier {

@@ -3,22 +3,22 @@
 ghost use Rattle.std.specs.Prelude.{◌≡◌, ℕ, ◌+◌, ◌-◌, ◌*◌, ◌^◌, ◌<◌, ◌≤◌, List, [], ◌∷◌, ◌++◌, ◌↔◌};
 ghost use Rattle.std.specs.Prelude.{length, IfOk, IfErr, OnOk, IsErrOf};
 ghost use Rattle.ick_bits.specs.declared.faults.FaultKind.{FaultKind};
-ghost use Rattle.ick_source.specs.Trees.{StatementTree};
-ghost use Rattle.ick_source.specs.Cut.{Cut};
-ghost use Rattle.ick_source.specs.Refusals.{Compiles, Refused, longest};
+ghost use Rattle.ick_source.specs.StatementTree.{StatementTree};
+ghost use Rattle.ick_source.specs.Cut.{IsCut};
+ghost use Rattle.ick_source.specs.Refusals.{Compiles, IsRefused, longest};
 ghost use Rattle.ick_source.specs.Programs.{trees_of};
-ghost use Rattle.ick_source.specs.ReadRefusals.{Refuses, RefusesFitting};
-ghost use Rattle.ick_source.specs.ReadStatements.{ReadsStatement};
-ghost use Rattle.ick_source.specs.ReadSources.{HasRead, ReadSoFar, ReadWhole};
+ghost use Rattle.ick_source.specs.RefusalAnswers.{Refuses, RefusesFitting};
+ghost use Rattle.ick_source.specs.StatementAnswers.{ReadsStatement};
+ghost use Rattle.ick_source.specs.SourceAnswers.{HasRead, HasReadUpTo, HasReadAll};
 
 use crate::body::Body;
 use crate::boundaries::next_boundary;
 use crate::bytes::after_white;
 use crate::faults::Faults;
-use crate::pieces::{Candidate, statement_at, trimmed};
 use crate::programs::Program;
 use crate::ranges::OutOfRange;
 use crate::refusals::Refusal;
+use crate::statement_reader::{Candidate, statement_at, trimmed};
 use crate::statements::Statement;
 use std::alloc::{AllocError, Global};
 
@@ -58,15 +58,15 @@ impl<'a> Reader<'a> {
         self.statements.push(candidate.statement)?;
         self.count += 1;
         self.polite += u32::from(polite);
-        self.out_of_range = self.out_of_range.and(self.count, candidate.faults);
+        self.out_of_range = self.out_of_range.noting(self.count, candidate.faults);
         Ok(())
     }
 }
 
-/// A reader that has read the bytes before the first start, and the place of that start or of the
+/// A reader that has read the bytes before the first start, and the position of that start or of the
 /// end of the text.
 fn front_of(alloc: Global, text: &[u8]) -> Result<(Reader<'_>, usize), AllocError>
-    ensures read { IfOk result (λ r. ReadSoFar text.now r.1 r.0) }
+    ensures read { IfOk result (λ r. HasReadUpTo text.now r.1 r.0) }
     ensures count { IfOk result (λ r. 2 * r.0.count ≤ r.1 + 1) }
 {
     let mut reader = Reader::new(alloc);
@@ -94,7 +94,7 @@ fn front_of(alloc: Global, text: &[u8]) -> Result<(Reader<'_>, usize), AllocErro
 /// A reader that has read the whole text.
 fn whole_of(alloc: Global, text: &[u8]) -> Result<Reader<'_>, AllocError>
     requires { length text.now ≤ longest }
-    ensures read { IfOk result (ReadWhole text.now) }
+    ensures read { IfOk result (HasReadAll text.now) }
     ensures count { IfOk result (λ r. 2 * r.count ≤ length text.now + 1) }
 {
     let (mut reader, mut at) = front_of(alloc, text)?;
@@ -108,7 +108,7 @@ fn whole_of(alloc: Global, text: &[u8]) -> Result<Reader<'_>, AllocError>
 /// The program of a source that is not too long, unless a fault stands in it.
 fn program_of(alloc: Global, text: &[u8]) -> Result<Program<'_>, Refusal>
     requires { length text.now ≤ longest }
-    ensures ok { IfOk result (λ p. Cut text.now (trees_of p)) }
+    ensures ok { IfOk result (λ p. IsCut text.now (trees_of p)) }
     ensures err { IfErr result (RefusesFitting text.now) }
 {
     let Reader {
@@ -143,7 +143,7 @@ pub fn read_source<'a>(alloc: Global, text: &'a [u8]) -> Result<Program<'a>, Ref
     ensures only { IfOk result (λ p.
         (trees : List StatementTree) → Compiles text.now trees → trees ≡ trees_of p) }
     ensures not_refused { IfOk result (λ p.
-        (kind : FaultKind) (n : ℕ) → Refused text.now kind n → ⊥) }
+        (kind : FaultKind) (n : ℕ) → IsRefused text.now kind n → ⊥) }
 
     // A fault is the only one of the text, and is found at the first statement that has it.
     ensures refused { IfErr result (λ e. Refuses text.now e) }

@@ -1,11 +1,11 @@
 //! The words that bodies begin with.
 
 ghost use Rattle.std.specs.Prelude.{◌≡◌, List, ℕ, MatchOption};
-ghost use Rattle.ick_source.specs.Place.{left_at};
+ghost use Rattle.ick_source.specs.Position.{left_at};
 ghost use Rattle.ick_source.specs.Token.{IsWord};
 ghost use Rattle.ick_source.specs.Verb.{verb_word};
 
-use crate::place::Place;
+use crate::position::Position;
 use crate::token::word_at;
 
 /// The first word of a body.
@@ -60,8 +60,8 @@ impl Verb {
     }
 }
 
-/// The verb at the place, and the place after it.
-pub fn verb_at(text: &[u8], from: Place) -> Option<(Verb, Place)>
+/// The verb at the position, and the position after it.
+pub fn verb_at(text: &[u8], from: Position) -> Option<(Verb, Position)>
     ensures { MatchOption result ((v : Verb) (to : List ℕ) → IsWord (verb_word v) (left_at text.now from) to → ⊥) (λ r. IsWord (verb_word r.0) (left_at text.now from) (left_at text.now r.1)) }
 {
     for verb in Verb::ALL {

@@ -1,6 +1,6 @@
 //! Devices that fail.
 use super::fakes::{ALWAYS, NamedFile, Shelf, WornSink, WornSource};
-use super::table::ROW_ONE;
+use super::table::PRINTS_ONE;
 use crate::{SliceSource, VecSink, serve};
 use std::alloc::Global;
 use std::process::Abort;
@@ -29,7 +29,7 @@ fn assert_not_read(rt: &impl Abort, alloc: Global, words: &[&str], good: u32) {
     let mut files = Shelf {
         files: &[NamedFile {
             name: "f",
-            bytes: ROW_ONE,
+            bytes: PRINTS_ONE,
         }],
         rest: b"",
         good,
@@ -75,7 +75,7 @@ fn assert_worn(rt: &impl Abort, alloc: Global, worn: &Worn<'_>) {
         failures: 0,
     };
     let mut reader = WornSource {
-        rest: ROW_ONE,
+        rest: PRINTS_ONE,
         good: worn.reads,
         failures: 0,
     };

@@ -1,11 +1,11 @@
 //! Programs that are run.
-use super::table::{ROW_ONE, Row, assert_row};
+use super::table::{PRINTS_ONE, Row, assert_row};
 
 #[test]
 fn runs_sources(rt: HostRuntime) {
     for row in [
         Row {
-            source: ROW_ONE,
+            source: PRINTS_ONE,
             output: b"\nI\n",
             error_text: b"",
             code: 0,

@@ -5,7 +5,7 @@ use std::alloc::Global;
 use std::process::Abort;
 
 /// The source that prints one numeral.
-pub const ROW_ONE: &[u8] = b"DO READ OUT #1\nPLEASE GIVE UP\n";
+pub const PRINTS_ONE: &[u8] = b"DO READ OUT #1\nPLEASE GIVE UP\n";
 
 /// A source, and what is left of a job over it.
 #[derive(Clone, Copy)]

@@ -1,6 +1,6 @@
 //! Words that ask for no job.
 use super::fakes::{ALWAYS, Shelf};
-use super::table::ROW_ONE;
+use super::table::PRINTS_ONE;
 use crate::{SliceSource, VecSink, serve};
 
 #[test]
@@ -24,7 +24,7 @@ fn refuses_words(rt: HostRuntime) {
             good: ALWAYS,
             failures: 0,
         };
-        let mut reader = SliceSource::new(ROW_ONE);
+        let mut reader = SliceSource::new(PRINTS_ONE);
         let mut writer = VecSink::new(rt.alloc());
         let mut errors = VecSink::new(rt.alloc());
         let status = serve(
@@ -38,7 +38,7 @@ fn refuses_words(rt: HostRuntime) {
         assert!(rt; status.code() == 64, "{words:?}");
         assert!(rt; writer.bytes().is_empty());
         assert!(rt; errors.bytes().starts_with(b"error: "), "{words:?}");
-        assert!(rt; reader.left().len() == ROW_ONE.len());
+        assert!(rt; reader.left().len() == PRINTS_ONE.len());
     }
 }
 

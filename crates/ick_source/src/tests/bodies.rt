@@ -1,24 +1,29 @@
 //! Worked bodies, shown as text: `(op a b)` for operators, `[name subscripts]` for an element, then the byte where the
 //! body ends and `M`, `N`, `L` where a mesh, a name or a label is out of range. `-` is no body.
 
-use crate::draft::body_at;
+use crate::body_bytes::body_in;
 use crate::*;
 use std::alloc::{AllocError, Global};
 use std::test::Fail;
 
-fn push_number(alloc: Global, out: &mut String, mark: &str, number: u16) -> Result<(), AllocError> {
-    let shown = format!(in alloc; "{mark}{number}")?;
+fn push_number(
+    alloc: Global,
+    out: &mut String,
+    sigil: &str,
+    number: u16,
+) -> Result<(), AllocError> {
+    let shown = format!(in alloc; "{sigil}{number}")?;
     out.push_str(shown.as_str())
 }
 
 fn push_name(alloc: Global, out: &mut String, name: &Name) -> Result<(), AllocError> {
-    let mark = match name.kind {
+    let sigil = match name.kind {
         NameKind::Onespot => ".",
         NameKind::Twospot => ":",
         NameKind::Tail => ",",
         NameKind::Hybrid => ";",
     };
-    push_number(alloc, out, mark, name.number)
+    push_number(alloc, out, sigil, name.number)
 }
 
 fn push_element(alloc: Global, out: &mut String, element: &Element) -> Result<(), AllocError> {
@@ -57,22 +62,22 @@ fn shown_expression(alloc: Global, expression: &Expr) -> Result<String, AllocErr
             Ok(shown)
         }
         Expr::Unary(op, inner) => {
-            let mark = match op {
+            let sign = match op {
                 UnaryOp::And => '&',
                 UnaryOp::Or => 'V',
                 UnaryOp::Xor => '?',
             };
             let inner = shown_expression(alloc, inner)?;
-            format!(in alloc; "({mark} {inner})")
+            format!(in alloc; "({sign} {inner})")
         }
         Expr::Binary(op, left, right) => {
-            let mark = match op {
+            let sign = match op {
                 BinaryOp::Mingle => '$',
                 BinaryOp::Select => '~',
             };
             let left = shown_expression(alloc, left)?;
             let right = shown_expression(alloc, right)?;
-            format!(in alloc; "({mark} {left} {right})")
+            format!(in alloc; "({sign} {left} {right})")
         }
     }
 }
@@ -196,13 +201,13 @@ fn shown_body(alloc: Global, body: &Body) -> Result<String, AllocError> {
 }
 
 fn shown_at(alloc: Global, text: &[u8]) -> Result<String, AllocError> {
-    let Some(draft) = body_at(alloc, text, 0)? else {
+    let Some(draft) = body_in(alloc, text, 0)? else {
         return String::from_str(alloc, "-");
     };
     let mut shown = shown_body(alloc, &draft.body)?;
     let end = draft.end;
-    let place = format!(in alloc; " {end}")?;
-    shown.push_str(place.as_str())?;
+    let position = format!(in alloc; " {end}")?;
+    shown.push_str(position.as_str())?;
     if draft.faults.mesh {
         shown.push_str(" M")?;
     }
@@ -402,9 +407,9 @@ fn the_height_is_at_most_256(rt: HostRuntime) -> Result<(), Fail> {
     let alloc = rt.alloc();
     let shown = shown_at(alloc, grouped(alloc, 255)?.as_slice())?;
     assert_eq!(rt; shown.as_str(), "CALCULATE .1 #1 518");
-    assert!(rt; body_at(alloc, grouped(alloc, 256)?.as_slice(), 0)?.is_none());
-    assert!(rt; body_at(alloc, chained(alloc, 256)?.as_slice(), 0)?.is_some());
-    assert!(rt; body_at(alloc, chained(alloc, 257)?.as_slice(), 0)?.is_none());
+    assert!(rt; body_in(alloc, grouped(alloc, 256)?.as_slice(), 0)?.is_none());
+    assert!(rt; body_in(alloc, chained(alloc, 256)?.as_slice(), 0)?.is_some());
+    assert!(rt; body_in(alloc, chained(alloc, 257)?.as_slice(), 0)?.is_none());
     Ok(())
 }
 
@@ -418,7 +423,7 @@ fn a_body_is_read_at_a_byte(rt: HostRuntime) -> Result<(), Fail> {
         (10, None),
         (11, None),
     ] {
-        let end = body_at(rt.alloc(), text, at)?.map(|draft| draft.end);
+        let end = body_in(rt.alloc(), text, at)?.map(|draft| draft.end);
         assert_eq!(rt; end, wanted, "at {at}");
     }
     Ok(())

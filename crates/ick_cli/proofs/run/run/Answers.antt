@@ -4,7 +4,7 @@ use Rattle.std.proofs.lemmas.Option.{slice_get-map, slice_get_read}
 use Rattle.std.proofs.lemmas.List.{length-map}
 use Rattle.ick_source.specs.declared.statements.Statement.{Statement}
 use Rattle.ick_source.specs.BodyTree.{body_tree_of}
-use Rattle.ick_source.specs.Trees.{AreNumbered, statement_tree_of}
+use Rattle.ick_source.specs.StatementTree.{AreNumbered, statement_tree_of}
 use Rattle.ick_cli.specs.Run.{Ran, Stop, at_end, body_end}
 use Rattle.ick_cli.specs.Stopped.{stop_of}
 use Rattle.ick_cli.proofs.RunLemmas.{HasCome, comes_on, comes_over, stops_done, stops_off, stops_wanting}

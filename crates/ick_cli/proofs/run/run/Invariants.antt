@@ -1,5 +1,5 @@
 use Rattle.std.proofs.Common.{◌≡◌, ◌+◌, ℕ, map}
-use Rattle.ick_source.specs.Trees.{statement_tree_of}
+use Rattle.ick_source.specs.StatementTree.{statement_tree_of}
 use Rattle.ick_cli.specs.Run.{behind, run_from, run_of, standing}
 use Rattle.ick_cli.proofs.run.run.Given as goal
 

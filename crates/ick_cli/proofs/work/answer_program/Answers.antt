@@ -1,7 +1,7 @@
 use Rattle.std.proofs.Common.{◌≤◌, arith, length}
 use Rattle.std.proofs.lemmas.List.{length-map}
 use Rattle.ick_source.specs.Programs.{trees_of}
-use Rattle.ick_source.specs.Trees.{statement_tree_of}
+use Rattle.ick_source.specs.StatementTree.{statement_tree_of}
 use Rattle.ick_cli.specs.Tool.{usual_limit}
 use Rattle.ick_cli.proofs.Answered.{below_limit}
 use Rattle.ick_cli.proofs.work.answer_program.Goals as goal

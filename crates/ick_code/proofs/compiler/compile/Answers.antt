@@ -1,7 +1,7 @@
 use Rattle.std.proofs.Common.{◌≡◌, ℕ, max, map, sym, ap, ◌∙◌}
 use Rattle.std.specs.Prelude.{slice_range}
 use Rattle.ick_source.specs.Programs.{trees_of}
-use Rattle.ick_source.specs.Trees.{statement_tree_of}
+use Rattle.ick_source.specs.StatementTree.{statement_tree_of}
 use Rattle.ick_code.specs.Control.{place_of}
 use Rattle.ick_code.specs.Labels.{place_in}
 use Rattle.ick_code.specs.Names.{names_of, slots_of}

@@ -1,5 +1,5 @@
 use Rattle.std.proofs.Common.{◌+◌, ◌*◌, length}
-use Rattle.ick_source.specs.Place.{left_at}
+use Rattle.ick_source.specs.Position.{left_at}
 use Rattle.ick_source.specs.Tree.{trees_in}
 use Rattle.ick_source.proofs.SubscriptReadings.{GoesOn}
 use Rattle.ick_source.proofs.expression.+reader.Given as goal
@@ -27,7 +27,7 @@ decreases-rest_at l = 8 * l.limit + 5
 
 abbrev pub invariant-rest_at-further : goal.invariant-rest_at-further
 invariant-rest_at-further l =
-    GoesOn l.mark l.limit (left_at l.text l.initial.all.to) (left_at l.text l.all.to) (trees_in l.initial.all.subs.items) (trees_in l.all.subs.items)
+    GoesOn l.delimiter l.limit (left_at l.text l.initial.all.to) (left_at l.text l.all.to) (trees_in l.initial.all.subs.items) (trees_in l.all.subs.items)
     l.initial.all.height l.all.height l.initial.all.faults l.all.faults
 
 abbrev pub decreases-rest_at-further : goal.decreases-rest_at-further

@@ -1,4 +1,4 @@
-use Rattle.ick_source.proofs.FormOnce.{subscripts_told}
+use Rattle.ick_source.proofs.FormUnique.{subscripts_told}
 use Rattle.ick_source.proofs.form.has_subscripts.Goals as goal
 
 pub returns : goal.returns

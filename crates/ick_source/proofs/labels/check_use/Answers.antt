@@ -1,8 +1,8 @@
 use Rattle.std.proofs.Common.{arith, map, refl, sym, ◌∙◌, subst}
 use Rattle.std.proofs.lemmas.List.{length-map}
 use Rattle.std.proofs.lemmas.Option.{slice_get_read}
-use Rattle.ick_source.specs.Refusals.{IsFirstFault, LostAt}
-use Rattle.ick_source.specs.Trees.{statement_tree_of}
+use Rattle.ick_source.specs.Refusals.{IsFirstFault, IsLostAt}
+use Rattle.ick_source.specs.StatementTree.{statement_tree_of}
 use Rattle.ick_source.proofs.LabelLemmas.{lost_first, lost_kept, lost_sound, lost_stay, one_more, tree_read}
 use Rattle.ick_source.proofs.labels.check_use.Goals as goal
 
@@ -11,7 +11,7 @@ loop-statement-preserved-in_default c =
     let trees = map statement_tree_of c.args.statements.now in
     let index = c.loop-statement.statement-index in
     let stands = tree_read c.args.statements.now index c.statement-item.result c.loop-statement-test.true c.statement-item.is in
-    one_more (λ m. LostAt c.args.how trees m → ⊥) index c.loop-statement.invariant (lost_stay index c.args.how stands c.in_default.ensures)
+    one_more (λ m. IsLostAt c.args.how trees m → ⊥) index c.loop-statement.invariant (lost_stay index c.args.how stands c.in_default.ensures)
 
 pub returns-then-not-contains-clause-err : goal.returns-then-not-contains-clause-err
 returns-then-not-contains-clause-err c =
@@ -29,7 +29,7 @@ loop-statement-preserved c =
     let trees = map statement_tree_of c.args.statements.now in
     let index = c.loop-statement.statement-index in
     let stands = tree_read c.args.statements.now index c.statement-item.result c.loop-statement-test.true c.statement-item.is in
-    one_more (λ m. LostAt c.args.how trees m → ⊥) index c.loop-statement.invariant
+    one_more (λ m. IsLostAt c.args.how trees m → ⊥) index c.loop-statement.invariant
     (lost_kept index c.args.how stands c.requires.labels c.in-Some.label c.in-Some.ensures (sym c.contains.ensures ∙ c.if-not-contains.false))
 
 pub returns-clause-ok : goal.returns-clause-ok

@@ -1,8 +1,8 @@
 use Rattle.std.proofs.Common.{arith, refl, map}
 use Rattle.std.proofs.lemmas.Option.{slice_get_read}
 use Rattle.std.proofs.lemmas.List.{length-map}
-use Rattle.ick_source.specs.Trees.{statement_tree_of}
-use Rattle.ick_source.specs.Refusals.{SameLabelAt}
+use Rattle.ick_source.specs.StatementTree.{statement_tree_of}
+use Rattle.ick_source.specs.Refusals.{IsSameLabelAt}
 use Rattle.ick_source.proofs.LabelLemmas.{apart_more, apart_stay, labels_more, labels_sound, labels_stay, one_more, same_label_first, tree_read, was_not_there, was_there}
 use Rattle.ick_source.proofs.labels.labels_of.Goals as goal
 
@@ -12,7 +12,7 @@ loop-statement-preserved-in_default c =
     let stands = tree_read c.args.statements.now c.loop-statement.statement-index c.statement-item.result c.loop-statement-test.true c.statement-item.is in
     record {
       labels = labels_stay has stands c.in_default.is;
-      apart = one_more (λ m. SameLabelAt (map statement_tree_of c.args.statements.now) m → ⊥) c.loop-statement.statement-index c.loop-statement.invariant.apart (apart_stay has stands c.in_default.is);
+      apart = one_more (λ m. IsSameLabelAt (map statement_tree_of c.args.statements.now) m → ⊥) c.loop-statement.statement-index c.loop-statement.invariant.apart (apart_stay has stands c.in_default.is);
     }
 
 pub returns-then-not-branch-clause-err : goal.returns-then-not-branch-clause-err
@@ -29,7 +29,7 @@ loop-statement-preserved c =
     let stands = tree_read c.args.statements.now c.loop-statement.statement-index c.statement-item.result c.loop-statement-test.true c.statement-item.is in
     record {
       labels = labels_more has stands c.insert.new.self c.in-Some.label c.in-Some.is c.in_ok-insert.ensures.updates;
-      apart = one_more (λ m. SameLabelAt (map statement_tree_of c.args.statements.now) m → ⊥) c.loop-statement.statement-index c.loop-statement.invariant.apart (apart_more has stands c.in-Some.label c.in-Some.is (was_not_there c.in_ok-insert.ensures.added c.if-not-branch.false));
+      apart = one_more (λ m. IsSameLabelAt (map statement_tree_of c.args.statements.now) m → ⊥) c.loop-statement.statement-index c.loop-statement.invariant.apart (apart_more has stands c.in-Some.label c.in-Some.is (was_not_there c.in_ok-insert.ensures.added c.if-not-branch.false));
     }
 
 pub returns-clause-ok : goal.returns-clause-ok

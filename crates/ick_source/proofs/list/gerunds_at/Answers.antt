@@ -1,8 +1,8 @@
-use Rattle.ick_source.proofs.PartOnce.{one_gerund, gerund-shorter}
+use Rattle.ick_source.proofs.PartUnique.{gerund_unique, gerund-shorter}
 use Rattle.ick_source.proofs.list.gerunds_at.Goals as goal
 
 pub list_at-requires-clause-once : goal.list_at-requires-clause-once
-list_at-requires-clause-once c = one_gerund
+list_at-requires-clause-once c = gerund_unique
 
-pub list_at-requires-clause-symbols : goal.list_at-requires-clause-symbols
-list_at-requires-clause-symbols c = gerund-shorter
+pub list_at-requires-clause-characters : goal.list_at-requires-clause-characters
+list_at-requires-clause-characters c = gerund-shorter

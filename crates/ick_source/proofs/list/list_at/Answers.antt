@@ -13,15 +13,15 @@ pub returns-in_default-word_at : goal.returns-in_default-word_at
 returns-in_default-word_at g c =
     let found = rw c.in-Some.is at c.in_ok-one.ensures in
     so_far-ends _ _ _ _ _ _ _ _ _ _ _ c.more.invariant found c.in_default-word_at.ensures
-    (map-push g.P.Part.seen _ _ _ c.in_ok-push.ensures.items) c.and-faults.ensures
+    (map-push g.P.Part.seen _ _ _ c.in_ok-push.ensures.items) c.union-faults.ensures
 
 pub more-smaller : goal.more-smaller
 more-smaller g c =
     let found = rw c.in-Some.is at c.in_ok-one.ensures in
-    so_far-shorter g.P.Part.nonterminal _ _ _ _ _ c.requires.symbols found.stands c.in-Some-word_at.ensures
+    so_far-shorter g.P.Part.nonterminal _ _ _ _ _ c.requires.characters found.stands c.in-Some-word_at.ensures
 
 pub more-preserved : goal.more-preserved
 more-preserved g c =
     let found = rw c.in-Some.is at c.in_ok-one.ensures in
     so_far-more _ _ c.requires.once _ _ _ _ _ _ _ _ _ _ c.more.invariant found c.in-Some-word_at.ensures
-    (map-push g.P.Part.seen _ _ _ c.in_ok-push.ensures.items) c.and-faults.ensures
+    (map-push g.P.Part.seen _ _ _ c.in_ok-push.ensures.items) c.union-faults.ensures

@@ -1,5 +1,5 @@
 use Rattle.std.proofs.Common.{length, map}
-use Rattle.ick_source.specs.Place.{left_at}
+use Rattle.ick_source.specs.Position.{left_at}
 use Rattle.ick_source.proofs.ListReadings.{SoFar}
 use Rattle.ick_source.proofs.list.list_at.Given as goal
 

@@ -1,8 +1,8 @@
 use Rattle.std.proofs.Common.{ℕ, List, arith}
 use Rattle.ick_source.specs.Gerund.{gerund_word}
-use Rattle.ick_source.specs.Place.{left_at}
+use Rattle.ick_source.specs.Position.{left_at}
 use Rattle.ick_source.specs.Token.{IsWord}
-use Rattle.ick_source.proofs.WordOnce.{each_gerund}
+use Rattle.ick_source.proofs.WordUnique.{each_gerund}
 use Rattle.ick_source.proofs.part.gerund_word_at.Goals as goal
 
 pub returns : goal.returns

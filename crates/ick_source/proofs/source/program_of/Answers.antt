@@ -1,4 +1,4 @@
-use Rattle.ick_source.specs.ReadRefusals.{RefusesFitting}
+use Rattle.ick_source.specs.RefusalAnswers.{RefusesFitting}
 use Rattle.ick_source.proofs.NameKindLemmas.{cut_kinded}
 use Rattle.ick_source.proofs.SourceLemmas.{on_error, refused_cut}
 use Rattle.ick_source.proofs.source.program_of.Goals as goal

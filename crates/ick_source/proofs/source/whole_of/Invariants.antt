@@ -1,11 +1,11 @@
 use Rattle.std.proofs.Common.{◌+◌, ◌-◌, ◌*◌, ◌≤◌, length}
 use Rattle.ick_source.specs.Refusals.{longest}
-use Rattle.ick_source.specs.ReadSources.{ReadSoFar}
+use Rattle.ick_source.specs.SourceAnswers.{HasReadUpTo}
 use Rattle.ick_source.proofs.source.whole_of.Given as goal
 
 abbrev pub invariant-loop-reader : goal.invariant-loop-reader
 invariant-loop-reader l = record {
-  read : ReadSoFar l.text l.at l.reader;
+  read : HasReadUpTo l.text l.at l.reader;
   count : 2 * l.reader.count ≤ l.at + 1;
   fits : length l.text ≤ longest;
 }

@@ -1,34 +1,34 @@
 use Rattle.std.proofs.Common.{◌≡◌, ◌+◌, ◌-◌, ◌*◌, ◌≤◌, min, true, false, sym, ap, ◌∙◌, arith}
-use Rattle.ick_source.specs.Place.{left_at}
+use Rattle.ick_source.specs.Position.{left_at}
 use Rattle.ick_source.specs.Token.{is_digit, begins_number}
 use Rattle.ick_source.proofs.NumberLemmas.{digits_of, number-begins}
-use Rattle.ick_source.proofs.PlaceLemmas.{past_digits-step, past_digits-stop, past_digits-end, value-step, value-stop, value-end, value-capped, capped_number}
+use Rattle.ick_source.proofs.PositionLemmas.{past_digits-step, past_digits-stop, past_digits-end, value-step, value-stop, value-end, value-capped, capped_number}
 use Rattle.ick_source.proofs.token.number_at.Goals as goal
 
 pub loop-next-preserved : goal.loop-next-preserved
 loop-next-preserved c =
     let v = c.loop-next.value in
-    let b = c.in-Some-symbol_at.next.byte in
+    let b = c.in-Some-character_at.next.byte in
     let digit : is_digit b ≡ true = cc in
     let low : c.with_digit-value.result ≤ 65536 = omega arith in
     let same : min c.with_digit-value.result 65536 ≡ min (v * 10 + (b - 48)) 65536 = omega arith in (
       low,
-      sym (past_digits-step c.in-Some-symbol_at.ensures digit) ∙ c.loop-next.invariant.1,
-      value-capped (digits_of (left_at c.args.text.now c.in-Some-symbol_at.next.past)) _ _ same ∙ ap (λ n. min n 65536) (sym (value-step v c.in-Some-symbol_at.ensures digit)) ∙ c.loop-next.invariant.2,
+      sym (past_digits-step c.in-Some-character_at.ensures digit) ∙ c.loop-next.invariant.1,
+      value-capped (digits_of (left_at c.args.text.now c.in-Some-character_at.next.past)) _ _ same ∙ ap (λ n. min n 65536) (sym (value-step v c.in-Some-character_at.ensures digit)) ∙ c.loop-next.invariant.2,
     )
 
 pub returns-then-not-is_digit_byte-2 : goal.returns-then-not-is_digit_byte-2
 returns-then-not-is_digit_byte-2 c =
     let first : is_digit c.in-Some.first.byte ≡ true = cc in
-    let stop : is_digit c.in-Some-symbol_at.next.byte ≡ false = cc in
-    capped_number _ _ _ _ _ _ c.skip_white-to.ensures c.in-Some.ensures first c.loop-next.invariant.1 (past_digits-stop c.in-Some-symbol_at.ensures stop) c.loop-next.invariant.2
-    (value-stop c.loop-next.value c.in-Some-symbol_at.ensures stop) c.loop-next.invariant.0
+    let stop : is_digit c.in-Some-character_at.next.byte ≡ false = cc in
+    capped_number _ _ _ _ _ _ c.skip_white-to.ensures c.in-Some.ensures first c.loop-next.invariant.1 (past_digits-stop c.in-Some-character_at.ensures stop) c.loop-next.invariant.2
+    (value-stop c.loop-next.value c.in-Some-character_at.ensures stop) c.loop-next.invariant.0
 
-pub returns-in_default-symbol_at : goal.returns-in_default-symbol_at
-returns-in_default-symbol_at c =
+pub returns-in_default-character_at : goal.returns-in_default-character_at
+returns-in_default-character_at c =
     let first : is_digit c.in-Some.first.byte ≡ true = cc in
-    capped_number _ _ _ _ _ _ c.skip_white-to.ensures c.in-Some.ensures first c.loop-next.invariant.1 (past_digits-end _ c.in_default-symbol_at.ensures) c.loop-next.invariant.2
-    (value-end _ c.loop-next.value c.in_default-symbol_at.ensures) c.loop-next.invariant.0
+    capped_number _ _ _ _ _ _ c.skip_white-to.ensures c.in-Some.ensures first c.loop-next.invariant.1 (past_digits-end _ c.in_default-character_at.ensures) c.loop-next.invariant.2
+    (value-end _ c.loop-next.value c.in_default-character_at.ensures) c.loop-next.invariant.0
 
 pub returns-in_default : goal.returns-in_default
 returns-in_default c to n p =

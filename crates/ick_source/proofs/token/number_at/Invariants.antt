@@ -1,5 +1,5 @@
 use Rattle.std.proofs.Common.{◌≡◌, ◌≤◌, min, length}
-use Rattle.ick_source.specs.Place.{left_at}
+use Rattle.ick_source.specs.Position.{left_at}
 use Rattle.ick_source.proofs.NumberLemmas.{value_after, digits_of, past_digits}
 use Rattle.ick_source.proofs.token.number_at.Given as goal
 

@@ -1,5 +1,5 @@
 use Rattle.std.proofs.Common.{◌≡◌, ℕ, List, ◌++◌, drop, ◌↔◌}
-use Rattle.ick_source.specs.Place.{left_at, past_white}
+use Rattle.ick_source.specs.Position.{left_at, past_white}
 use Rattle.ick_source.proofs.token.word_at.Given as goal
 
 abbrev pub invariant-loop-letter : goal.invariant-loop-letter

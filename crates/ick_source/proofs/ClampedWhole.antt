@@ -1,0 +1,52 @@
+-- A tree with no number out of range is kept as it is.
+use Rattle.std.proofs.Common.{◌≡◌, ℕ, Bool, true, false, ◌||◌, nat_lt, nat_eq, refl, ap, arith}
+use Rattle.std.proofs.lemmas.Bool.Decides.{nat_tests}
+use Rattle.ick_source.specs.declared.tree.Name.{Name}
+use Rattle.ick_source.specs.declared.faults.Faults.{Faults}
+use Rattle.ick_source.specs.Tree.{Tree, mesh, scalar, element, unary, binary, Trees, none, more}
+use Rattle.ick_source.specs.Clamped.{clamped, clamped_name, clamped_tree, clamped_trees, no_faults, both_faults, name_faults, faults_of, faults_in}
+
+or_left : (a b : Bool) → (a || b) ≡ false → a ≡ false
+or_left true b e = cc
+or_left false b e = refl
+
+pub or_right : (a b : Bool) → (a || b) ≡ false → b ≡ false
+or_right true b e = absurd (cc)
+or_right false b e = e
+
+pub low_clamped : (n : ℕ) → nat_lt 65535 n ≡ false → clamped n ≡ n
+low_clamped n e = grind (arith, nat_tests)
+
+pub left_fine : (a b : Faults) → both_faults a b ≡ no_faults → a ≡ no_faults
+left_fine a b e = let x = or_left a.mesh b.mesh (ap (λ f. f.mesh) e) in let y = or_left a.name b.name (ap (λ f. f.name) e) in let z = or_left a.label b.label (ap (λ f. f.label) e) in λ i. record { mesh = x i; name = y i; label = z i }
+
+pub right_fine : (a b : Faults) → both_faults a b ≡ no_faults → b ≡ no_faults
+right_fine a b e = let x = or_right a.mesh b.mesh (ap (λ f. f.mesh) e) in let y = or_right a.name b.name (ap (λ f. f.name) e) in let z = or_right a.label b.label (ap (λ f. f.label) e) in λ i. record { mesh = x i; name = y i; label = z i }
+
+pub name_clamped : (x : Name) → name_faults x.number ≡ no_faults → clamped_name x ≡ x
+name_clamped x e =
+    let n = low_clamped x.number (or_right (nat_eq x.number 0) (nat_lt 65535 x.number) (ap (λ f. f.name) e)) in
+    λ i. record { kind = x.kind; number = n i }
+
+mutual
+  unfolding clamped_tree faults_of
+
+  pub tree_clamped : (t : Tree) → faults_of t ≡ no_faults → clamped_tree t ≡ t
+  tree_clamped (mesh n) e = ap mesh (low_clamped n (ap (λ f. f.mesh) e))
+  tree_clamped (scalar x) e = ap scalar (name_clamped x e)
+  tree_clamped (element x ts) e =
+      let a = name_clamped x (left_fine (name_faults x.number) (faults_in ts) e) in
+      let b = trees_clamped ts (right_fine (name_faults x.number) (faults_in ts) e) in
+      λ i. element (a i) (b i)
+  tree_clamped (unary o t) e = ap (unary o) (tree_clamped t e)
+  tree_clamped (binary o a b) e =
+      let x = tree_clamped a (left_fine (faults_of a) (faults_of b) e) in
+      let y = tree_clamped b (right_fine (faults_of a) (faults_of b) e) in
+      λ i. binary o (x i) (y i)
+
+  pub trees_clamped : (ts : Trees) → faults_in ts ≡ no_faults → clamped_trees ts ≡ ts
+  trees_clamped none e = refl
+  trees_clamped (more t ts) e =
+      let x = tree_clamped t (left_fine (faults_of t) (faults_in ts) e) in
+      let y = trees_clamped ts (right_fine (faults_of t) (faults_in ts) e) in
+      λ i. more (x i) (y i)

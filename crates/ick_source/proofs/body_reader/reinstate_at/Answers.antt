@@ -1,0 +1,17 @@
+use Rattle.std.proofs.Common.{rules}
+use Rattle.std.specs.Prelude.{codes}
+use Rattle.ick_source.specs.Position.{left_at}
+use Rattle.ick_source.specs.BodyTree.{body_tree_of}
+use Rattle.ick_source.proofs.WordUnique.{word_stands, no_word_stands}
+use Rattle.ick_source.proofs.BodyReadings.{made_as, reinstate_label_made, reinstate_kinds_made}
+use Rattle.ick_source.proofs.body_reader.reinstate_at.Goals as goal
+
+pub returns-then-is_some : goal.returns-then-is_some
+returns-then-is_some c =
+    let o = word_stands (codes "(") (left_at c.args.text.now c.args.from) c.args.text.now c.word_at.result c.word_at.ensures c.if-is_some.ensures in
+    made_as (reinstate_label_made _ _ o.1) (λ n. n) body_tree_of (λ v b e. search rules) c.args.text.now c.made.ensures c.label_at.ensures
+
+pub returns : goal.returns
+returns c =
+    let o = no_word_stands (codes "(") (left_at c.args.text.now c.args.from) c.args.text.now c.word_at.result c.word_at.ensures c.if-is_some.ensures in
+    made_as (reinstate_kinds_made _ o) (λ gs. gs.items) body_tree_of (λ v b e. search rules) c.args.text.now c.made-2.ensures c.in_ok-kinds.ensures

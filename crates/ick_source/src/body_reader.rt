@@ -1,0 +1,231 @@
+//! The readers of bodies: each by what it begins with, and none where no form of body stands.
+
+ghost use Rattle.std.specs.Prelude.{IfOk};
+ghost use Rattle.ick_source.specs.Answers.{Answers};
+ghost use Rattle.ick_source.specs.BodyTree.{body_tree_of};
+ghost use Rattle.ick_source.specs.Made.{IsMade};
+ghost use Rattle.ick_source.specs.Nonterminal.{after, bodies, formed};
+ghost use Rattle.ick_source.specs.Position.{left_at};
+
+use crate::body::Body;
+use crate::faults::Faults;
+use crate::form::{Form, form_at};
+use crate::lead::Lead;
+use crate::list::{dimensions_at, gerunds_at, items_at, names_at, places_at};
+use crate::parsed::Parsed;
+use crate::part::{label_at, name_at, target_at, whole_at};
+use crate::position::{Position, lead_at};
+use crate::token::word_at;
+use crate::verb::{Verb, verb_at};
+use std::alloc::{AllocError, Global};
+
+/// The body made of what was found, if something was.
+fn made<T: Drop, F: FnOnce(T) -> Body + Drop>(
+    part: Option<Parsed<T>>,
+    make: F,
+) -> Option<Parsed<Body>>
+    requires { (x : _) → F.pre make x }
+    ensures { IsMade T (F.post make) part result }
+{
+    match part {
+        None => None,
+        Some(part) => Some(Parsed {
+            value: make(part.value),
+            to: part.to,
+            faults: part.faults,
+        }),
+    }
+}
+
+/// What follows ABSTAIN (Revised Manual, 4.4.9).
+fn abstain_at(
+    alloc: Global,
+    text: &[u8],
+    from: Position,
+) -> Result<Option<Parsed<Body>>, AllocError>
+    ensures { IfOk result (Answers (after Verb.Abstain) body_tree_of text.now (left_at text.now from)) }
+{
+    let Some(from) = word_at(text, from, b"FROM") else {
+        return Ok(None);
+    };
+    if word_at(text, from, b"(").is_some() {
+        return Ok(made(label_at(text, from), Body::AbstainLabel));
+    }
+    let kinds = gerunds_at(alloc, text, from)?;
+    Ok(made(kinds, Body::AbstainKinds))
+}
+
+/// What follows REINSTATE (Revised Manual, 4.4.10).
+fn reinstate_at(
+    alloc: Global,
+    text: &[u8],
+    from: Position,
+) -> Result<Option<Parsed<Body>>, AllocError>
+    ensures { IfOk result (Answers (after Verb.Reinstate) body_tree_of text.now (left_at text.now from)) }
+{
+    if word_at(text, from, b"(").is_some() {
+        return Ok(made(label_at(text, from), Body::ReinstateLabel));
+    }
+    let kinds = gerunds_at(alloc, text, from)?;
+    Ok(made(kinds, Body::ReinstateKinds))
+}
+
+/// What follows GIVE (Revised Manual, 4.4.11).
+fn give_up_at(text: &[u8], from: Position) -> Option<Parsed<Body>>
+    ensures { Answers (after Verb.Give) body_tree_of text.now (left_at text.now from) result }
+{
+    let to = word_at(text, from, b"UP")?;
+    Some(Parsed {
+        value: Body::GiveUp,
+        to,
+        faults: Faults::NONE,
+    })
+}
+
+/// What follows WRITE (Revised Manual, 4.4.12 and 5.2).
+fn write_in_at(
+    alloc: Global,
+    text: &[u8],
+    from: Position,
+) -> Result<Option<Parsed<Body>>, AllocError>
+    ensures { IfOk result (Answers (after Verb.Write) body_tree_of text.now (left_at text.now from)) }
+{
+    let Some(from) = word_at(text, from, b"IN") else {
+        return Ok(None);
+    };
+    let places = places_at(alloc, text, from)?;
+    Ok(made(places, Body::WriteIn))
+}
+
+/// What follows READ (Revised Manual, 4.4.13 and 5.2).
+fn read_out_at(
+    alloc: Global,
+    text: &[u8],
+    from: Position,
+) -> Result<Option<Parsed<Body>>, AllocError>
+    ensures { IfOk result (Answers (after Verb.Read) body_tree_of text.now (left_at text.now from)) }
+{
+    let Some(from) = word_at(text, from, b"OUT") else {
+        return Ok(None);
+    };
+    let items = items_at(alloc, text, from)?;
+    Ok(made(items, Body::ReadOut))
+}
+
+/// What follows the verb.
+fn after_verb_at(
+    alloc: Global,
+    text: &[u8],
+    verb: Verb,
+    from: Position,
+) -> Result<Option<Parsed<Body>>, AllocError>
+    ensures { IfOk result (Answers (after verb) body_tree_of text.now (left_at text.now from)) }
+{
+    match verb {
+        Verb::Forget => Ok(made(whole_at(alloc, text, from)?, Body::Forget)),
+        Verb::Resume => Ok(made(whole_at(alloc, text, from)?, Body::Resume)),
+        Verb::Stash => Ok(made(names_at(alloc, text, from)?, Body::Stash)),
+        Verb::Retrieve => Ok(made(names_at(alloc, text, from)?, Body::Retrieve)),
+        Verb::Ignore => Ok(made(names_at(alloc, text, from)?, Body::Ignore)),
+        Verb::Remember => Ok(made(names_at(alloc, text, from)?, Body::Remember)),
+        Verb::Abstain => abstain_at(alloc, text, from),
+        Verb::Reinstate => reinstate_at(alloc, text, from),
+        Verb::Give => Ok(give_up_at(text, from)),
+        Verb::Write => write_in_at(alloc, text, from),
+        Verb::Read => read_out_at(alloc, text, from),
+    }
+}
+
+/// A calculation: a target, `<-` and an expression (Revised Manual, 4.4.1).
+fn calculation_at(
+    alloc: Global,
+    text: &[u8],
+    from: Position,
+) -> Result<Option<Parsed<Body>>, AllocError>
+    ensures { IfOk result (Answers (formed Form.Calculation) body_tree_of text.now (left_at text.now from)) }
+{
+    let Some(target) = target_at(alloc, text, from)? else {
+        return Ok(None);
+    };
+    let Some(later) = word_at(text, target.to, b"<-") else {
+        return Ok(None);
+    };
+    let Some(value) = whole_at(alloc, text, later)? else {
+        return Ok(None);
+    };
+    Ok(Some(Parsed {
+        value: Body::Calculate(target.value, value.value),
+        to: value.to,
+        faults: target.faults.union(value.faults),
+    }))
+}
+
+/// A dimensioning: an array, `<-` and its dimensions with `BY` between them (Revised Manual, 4.4.1).
+fn dimensioning_at(
+    alloc: Global,
+    text: &[u8],
+    from: Position,
+) -> Result<Option<Parsed<Body>>, AllocError>
+    ensures { IfOk result (Answers (formed Form.Dimensioning) body_tree_of text.now (left_at text.now from)) }
+{
+    let Lead::Array(_) = lead_at(text, from).begins else {
+        return Ok(None);
+    };
+    let Some(array) = name_at(text, from) else {
+        return Ok(None);
+    };
+    let Some(later) = word_at(text, array.to, b"<-") else {
+        return Ok(None);
+    };
+    let Some(dimensions) = dimensions_at(alloc, text, later)? else {
+        return Ok(None);
+    };
+    Ok(Some(Parsed {
+        value: Body::Dimension(array.value, dimensions.value),
+        to: dimensions.to,
+        faults: array.faults.union(dimensions.faults),
+    }))
+}
+
+/// A label and NEXT (Revised Manual, 4.4.2).
+fn call_at(text: &[u8], from: Position) -> Option<Parsed<Body>>
+    ensures { Answers (formed Form.Call) body_tree_of text.now (left_at text.now from) result }
+{
+    let Some(label) = label_at(text, from) else {
+        return None;
+    };
+    let Some(to) = word_at(text, label.to, b"NEXT") else {
+        return None;
+    };
+    Some(Parsed {
+        value: Body::Next(label.value),
+        to,
+        faults: label.faults,
+    })
+}
+
+/// A verb and what follows it.
+fn action_at(alloc: Global, text: &[u8], from: Position) -> Result<Option<Parsed<Body>>, AllocError>
+    ensures { IfOk result (Answers (formed Form.Action) body_tree_of text.now (left_at text.now from)) }
+{
+    let Some((verb, past)) = verb_at(text, from) else {
+        return Ok(None);
+    };
+    after_verb_at(alloc, text, verb, past)
+}
+
+/// The body at the position (Revised Manual, 4.4). The character after the part that was read last decides what is read next.
+pub fn body_at(
+    alloc: Global,
+    text: &[u8],
+    from: Position,
+) -> Result<Option<Parsed<Body>>, AllocError>
+    ensures { IfOk result (Answers bodies body_tree_of text.now (left_at text.now from)) }
+{
+    match form_at(text, from) {
+        Form::Calculation => calculation_at(alloc, text, from),
+        Form::Dimensioning => dimensioning_at(alloc, text, from),
+        Form::Call => Ok(call_at(text, from)),
+        Form::Action => action_at(alloc, text, from),
+    }
+}
