@@ -8,6 +8,7 @@ use Rattle.ick_source.specs.declared.lead.Lead.TheVariants.{Array}
 use Rattle.ick_source.specs.declared.body.Body.{Body}
 use Rattle.ick_source.specs.declared.body.Gerund.{Gerund}
 use Rattle.ick_source.specs.declared.parsed.Parsed.{Parsed}
+use Rattle.ick_source.specs.declared.position.Position.{Position}
 use Rattle.ick_source.specs.declared.form.Form.{Form}
 use Rattle.ick_source.specs.declared.form.Form.TheVariants.{Calculation, Dimensioning, Call, Action}
 use Rattle.ick_source.specs.declared.verb.Verb.{Verb}
@@ -27,7 +28,7 @@ use Rattle.ick_source.proofs.PartUnique.{target_unique, name_unique, label_uniqu
 use Rattle.ick_source.proofs.PartReadings.{Makes, found_as, absent_as}
 
 -- what is made of a part answers for what it makes
-pub made_as : {N M : Nonterminal} {value : N.Value → M.Value} {change : N.Clamped → M.Clamped} {from from' : List ℕ} {T : Type 0} {gives : T → Body → Type 0} {p : Option (Parsed T)} {b : Option (Parsed Body)} →
+pub made_as : {N M : Nonterminal} {value : N.Value → M.Value} {change : N.Clamped → M.Clamped} {from from' : List ℕ} {T : Type 0} {gives : T → Body → Type 0} {p : Option (Parsed T Position)} {b : Option (Parsed Body Position)} →
     Makes N M value change from from' → (seen : T → N.Clamped) (seen' : Body → M.Clamped) → ((v : T) (w : Body) → gives v w → seen' w ≡ change (seen v)) → (text : List ℕ) →
     IsMade T gives p b → Answers N seen text from p → Answers M seen' text from' b
 made_as m seen seen' same text of_none a = absent_as m a

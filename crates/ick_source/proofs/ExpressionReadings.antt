@@ -7,7 +7,8 @@ use Rattle.ick_source.specs.declared.tree.BinaryOp.{BinaryOp}
 use Rattle.ick_source.specs.declared.faults.Faults.{Faults}
 use Rattle.ick_source.specs.declared.lead.Delimiter.{Delimiter}
 use Rattle.ick_source.specs.declared.lead.Lead.TheVariants.{Spot, Array, Hash, Group, Binary}
-use Rattle.ick_source.specs.declared.expression.ParsedExpr.{ParsedExpr}
+use Rattle.ick_source.specs.declared.parsed.Measured.{Measured}
+use Rattle.ick_source.specs.declared.tree.Expr.{Expr}
 use Rattle.ick_source.specs.Position.{next_lead, past_lead}
 use Rattle.ick_source.specs.Token.{unary_at, past_unary}
 use Rattle.ick_source.specs.Tree.{Tree, mesh, scalar, binary, under}
@@ -18,10 +19,10 @@ use Rattle.ick_source.proofs.ClampedLemmas.{clamped_tree-under, faults_of-under}
 use Rattle.ick_source.proofs.ExpressionUnique.{expr_unique, operand_unique}
 
 abbrev pub Answer : Type 0
-Answer = Result (Option ParsedExpr) AllocError
+Answer = Result (Option (Measured Expr)) AllocError
 
 -- what answers for one reading answers for another that holds of the same
-pub answers_as : {R S : Reading} (limit : ℕ) (text : List ℕ) (o : Option ParsedExpr) →
+pub answers_as : {R S : Reading} (limit : ℕ) (text : List ℕ) (o : Option (Measured Expr)) →
     ((to : List ℕ) (t : Tree) (h : ℕ) → R to t h → S to t h) → ((to : List ℕ) (t : Tree) (h : ℕ) → S to t h → R to t h) →
     AnswersTree R limit text o → AnswersTree S limit text o
 answers_as limit text None there back a = record { no_tree = λ to t h s low. a.no_tree to t h (back to t h s) low }

@@ -8,6 +8,7 @@ use Rattle.ick_source.specs.declared.faults.Faults.{Faults}
 use Rattle.ick_source.specs.declared.lead.Lead.TheVariants.{Spot, Array, Hash}
 use Rattle.std.specs.declared.alloc.AllocError.{AllocError}
 use Rattle.ick_source.specs.declared.parsed.Parsed.{Parsed}
+use Rattle.ick_source.specs.declared.position.Position.{Position}
 use Rattle.ick_source.specs.Position.{left_at, next_lead, past_lead}
 use Rattle.ick_source.specs.Token.{IsNumber, IsWord, CappedNumber}
 use Rattle.ick_source.specs.Tree.{Tree, Trees, mesh, scalar, element}
@@ -164,13 +165,13 @@ items_by_numbers from past e f = record {
     number_back {to = to} (of_mesh {n = n} g p) = (n, subst (λ l. IsNumber l to n) (sym f) p)
 
 pub answers_as : {N M : Nonterminal} {value : N.Value → M.Value} {change : N.Clamped → M.Clamped} {from from' : List ℕ} {T : Type 0} → Makes N M value change from from' → (seen : T → N.Clamped) (seen' : T → M.Clamped) →
-    ((v : T) → seen' v ≡ change (seen v)) → (text : List ℕ) (o : Option (Parsed T)) → Answers N seen text from o → Answers M seen' text from' o
+    ((v : T) → seen' v ≡ change (seen v)) → (text : List ℕ) (o : Option (Parsed T Position)) → Answers N seen text from o → Answers M seen' text from' o
 answers_as m seen seen' same text None a = absent_as m a
 answers_as {M = M} {from' = from'} m seen seen' same text (Some r) a =
     subst (λ k. IsParsed M from' (left_at text r.to) k r.faults) (sym (same r.value)) (found_as m a)
 
 pub if_ok_as : {N M : Nonterminal} {value : N.Value → M.Value} {change : N.Clamped → M.Clamped} {from from' : List ℕ} {T : Type 0} → Makes N M value change from from' → (seen : T → N.Clamped) (seen' : T → M.Clamped) →
-    ((v : T) → seen' v ≡ change (seen v)) → (text : List ℕ) (r : Result (Option (Parsed T)) AllocError) → IfOk r (Answers N seen text from) → IfOk r (Answers M seen' text from')
+    ((v : T) → seen' v ≡ change (seen v)) → (text : List ℕ) (r : Result (Option (Parsed T Position)) AllocError) → IfOk r (Answers N seen text from) → IfOk r (Answers M seen' text from')
 if_ok_as m seen seen' same text (Ok o) a = answers_as m seen seen' same text o a
 if_ok_as m seen seen' same text (Err e) a = a
 

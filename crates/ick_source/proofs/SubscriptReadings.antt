@@ -1,12 +1,14 @@
 -- From what the parts of an element answer to what the whole answers.
 use Rattle.std.proofs.Common.{◌≡◌, ◌≢◌, ℕ, suc, ◌+◌, ◌-◌, ◌<◌, ◌≤◌, max, true, false, List, Option, Some, None, Result, Ok, Err, IfOk, refl, sym, ap, subst, ◌∙◌, arith}
 use Rattle.std.specs.declared.alloc.AllocError.{AllocError}
+use Rattle.std.specs.Global.{Vec}
 use Rattle.std.specs.Prelude.{codes}
 use Rattle.ick_source.specs.declared.tree.NameKind.{NameKind}
 use Rattle.ick_source.specs.declared.faults.Faults.{Faults}
 use Rattle.ick_source.specs.declared.lead.Delimiter.{Delimiter}
 use Rattle.ick_source.specs.declared.lead.Lead.TheVariants.{Array}
-use Rattle.ick_source.specs.declared.expression.ParsedSubs.{ParsedSubs}
+use Rattle.ick_source.specs.declared.parsed.Measured.{Measured}
+use Rattle.ick_source.specs.declared.tree.Expr.{Expr}
 use Rattle.ick_source.specs.Position.{next_lead, past_lead}
 use Rattle.ick_source.specs.Token.{IsNumber, IsWord, CappedNumber}
 use Rattle.ick_source.specs.Tree.{Tree, element, Trees, none, more, join, trees_in}
@@ -88,16 +90,16 @@ begun_back {m} {mid = mid} {to = to} {t = t} {j = j} p other (simple_first {t = 
     subst (λ x. GoesAfter (IsRest m mid) (more t none) j to (more x ts) (max j' k)) s.tree
     (subst (λ x. GoesAfter (IsRest m mid) (more t none) j to (more t ts) (max x k)) s.height (after r'))
 
-begun_as : (m : Option Delimiter) (from mid : List ℕ) (limit j : ℕ) (t : Tree) (text : List ℕ) (o : Option ParsedSubs) → IsSimple from mid t j → ((k : NameKind) → next_lead from ≢ Array k) →
+begun_as : (m : Option Delimiter) (from mid : List ℕ) (limit j : ℕ) (t : Tree) (text : List ℕ) (o : Option (Measured (Vec Expr))) → IsSimple from mid t j → ((k : NameKind) → next_lead from ≢ Array k) →
     AnswersTrees (GoesAfter (IsRest m mid) (more t none) j) limit text o → AnswersTrees (IsSubs m from) limit text o
 begun_as m from mid limit j t text None p other a = record { no_trees = λ to ts h x low. a.no_trees to ts h (begun_back p other x) low }
 begun_as m from mid limit j t text (Some s) p other a =
     record { trees = a.trees; stand = begun_there p a.stand; low = a.low; are_clamped = a.are_clamped; are_faults = a.are_faults }
 
 -- subscripts that begin with a simple
-pub begun : (m : Option Delimiter) (from mid : List ℕ) (limit j : ℕ) (e : Tree) (f : Faults) (text : List ℕ) (s : ParsedSubs) (r : Result (Option ParsedSubs) AllocError) →
+pub begun : (m : Option Delimiter) (from mid : List ℕ) (limit j : ℕ) (e : Tree) (f : Faults) (text : List ℕ) (s : Measured (Vec Expr)) (r : Result (Option (Measured (Vec Expr))) AllocError) →
     Stands (IsSimple from) limit mid e j f → ((k : NameKind) → next_lead from ≢ Array k) →
-    trees_in s.subs.items ≡ more e none → s.height ≡ j → s.faults ≡ f →
+    trees_in s.value.items ≡ more e none → s.height ≡ j → s.faults ≡ f →
     IfOk r (AnswersFrom (IsRest m mid) limit text s) → IfOk r (AnswersTrees (IsSubs m from) limit text)
 unfolding clamped_tree faults_of
 begun m from mid limit j e f text s (Err x) w other shown high faults a = a

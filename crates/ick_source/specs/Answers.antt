@@ -2,6 +2,7 @@
 use Rattle.std.specs.Prelude.{ℕ, ◌≡◌, List, Option, Some, None}
 use Rattle.ick_source.specs.declared.faults.Faults.{Faults}
 use Rattle.ick_source.specs.declared.parsed.Parsed.{Parsed}
+use Rattle.ick_source.specs.declared.position.Position.{Position}
 use Rattle.ick_source.specs.Position.{left_at}
 use Rattle.ick_source.specs.Nonterminal.{Nonterminal}
 
@@ -17,6 +18,6 @@ pub record IsAbsent (N : Nonterminal) (from : List ℕ) : Type 0 where
   pub nothing : (to : List ℕ) (x : N.Value) → N.stands from to x → ⊥
 
 -- What was found is seen as what its value stands for.
-abbrev pub Answers : (N : Nonterminal) → {T : Type 0} → (T → N.Clamped) → List ℕ → List ℕ → Option (Parsed T) → Type 0
+abbrev pub Answers : (N : Nonterminal) → {T : Type 0} → (T → N.Clamped) → List ℕ → List ℕ → Option (Parsed T Position) → Type 0
 Answers N seen text from None = IsAbsent N from
 Answers N seen text from (Some r) = IsParsed N from (left_at text r.to) (seen r.value) r.faults

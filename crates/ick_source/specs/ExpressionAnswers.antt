@@ -1,10 +1,11 @@
 -- What the readers of expressions and of their parts answer.
 use Rattle.std.specs.Prelude.{ℕ, suc, max, ◌≡◌, ◌≤◌, List, Option, Some, None}
+use Rattle.std.specs.Global.{Vec}
 use Rattle.ick_source.specs.declared.faults.Faults.{Faults}
 use Rattle.ick_source.specs.declared.lead.Delimiter.{Delimiter}
 use Rattle.ick_source.specs.declared.lead.Lead.TheVariants.{Group}
-use Rattle.ick_source.specs.declared.expression.ParsedExpr.{ParsedExpr}
-use Rattle.ick_source.specs.declared.expression.ParsedSubs.{ParsedSubs}
+use Rattle.ick_source.specs.declared.parsed.Measured.{Measured}
+use Rattle.ick_source.specs.declared.tree.Expr.{Expr}
 use Rattle.ick_source.specs.Position.{left_at, next_lead, past_lead}
 use Rattle.ick_source.specs.Token.{IsNumber, unary_at, past_unary}
 use Rattle.ick_source.specs.Tree.{Tree, Trees, under, join, tree_of, trees_in}
@@ -27,9 +28,9 @@ pub record Stands (R : Reading) (limit : ℕ) (to : List ℕ) (seen : Tree) (hei
 pub record HasNoTree (R : Reading) (limit : ℕ) : Type 0 where
   pub no_tree : (to : List ℕ) (t : Tree) (h : ℕ) → R to t h → h ≤ limit → ⊥
 
-abbrev pub AnswersTree : Reading → ℕ → List ℕ → Option ParsedExpr → Type 0
+abbrev pub AnswersTree : Reading → ℕ → List ℕ → Option (Measured Expr) → Type 0
 AnswersTree R limit text None = HasNoTree R limit
-AnswersTree R limit text (Some s) = Stands R limit (left_at text s.to) (tree_of s.expr) s.height s.faults
+AnswersTree R limit text (Some s) = Stands R limit (left_at text s.to) (tree_of s.value) s.height s.faults
 
 -- a number and what is made of it, after the sigil
 pub record IsNumbered (leaf : ℕ → Tree) (past to : List ℕ) (t : Tree) (h : ℕ) : Type 0 where
@@ -63,16 +64,16 @@ pub record AllStand (R : Readings) (limit : ℕ) (to : List ℕ) (seen : Trees) 
 pub record HasNoTrees (R : Readings) (limit : ℕ) : Type 0 where
   pub no_trees : (to : List ℕ) (ts : Trees) (h : ℕ) → R to ts h → h ≤ limit → ⊥
 
-abbrev pub AnswersTrees : Readings → ℕ → List ℕ → Option ParsedSubs → Type 0
+abbrev pub AnswersTrees : Readings → ℕ → List ℕ → Option (Measured (Vec Expr)) → Type 0
 AnswersTrees R limit text None = HasNoTrees R limit
-AnswersTrees R limit text (Some s) = AllStand R limit (left_at text s.to) (trees_in s.subs.items) s.height s.faults
+AnswersTrees R limit text (Some s) = AllStand R limit (left_at text s.to) (trees_in s.value.items) s.height s.faults
 
 -- these after others
 pub data GoesAfter (R : Readings) (others : Trees) (below : ℕ) : List ℕ → Trees → ℕ → Type 0 where
   after : {to : List ℕ} {ts : Trees} {h : ℕ} → R to ts h → GoesAfter R others below to (join others ts) (max below h)
 
 -- Whatever the subscripts before are, what is answered goes on from them.
-abbrev pub AnswersFrom : Readings → ℕ → List ℕ → ParsedSubs → Option ParsedSubs → Type 0
+abbrev pub AnswersFrom : Readings → ℕ → List ℕ → Measured (Vec Expr) → Option (Measured (Vec Expr)) → Type 0
 AnswersFrom R limit text before answer =
-    (others : Trees) → trees_in before.subs.items ≡ clamped_trees others → before.faults ≡ faults_in others → before.height ≤ limit →
+    (others : Trees) → trees_in before.value.items ≡ clamped_trees others → before.faults ≡ faults_in others → before.height ≤ limit →
     AnswersTrees (GoesAfter R others before.height) limit text answer

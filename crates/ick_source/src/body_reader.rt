@@ -21,9 +21,9 @@ use std::alloc::{AllocError, Global};
 
 /// The body made of what was found, if something was.
 fn made<T: Drop, F: FnOnce(T) -> Body + Drop>(
-    part: Option<Parsed<T>>,
+    part: Option<Parsed<T, Position>>,
     make: F,
-) -> Option<Parsed<Body>>
+) -> Option<Parsed<Body, Position>>
     requires { (x : _) → F.pre make x }
     ensures { IsMade T (F.post make) part result }
 {
@@ -42,7 +42,7 @@ fn abstain_at(
     alloc: Global,
     text: &[u8],
     from: Position,
-) -> Result<Option<Parsed<Body>>, AllocError>
+) -> Result<Option<Parsed<Body, Position>>, AllocError>
     ensures { IfOk result (Answers (after Verb.Abstain) body_tree_of text.now (left_at text.now from)) }
 {
     let Some(from) = word_at(text, from, b"FROM") else {
@@ -60,7 +60,7 @@ fn reinstate_at(
     alloc: Global,
     text: &[u8],
     from: Position,
-) -> Result<Option<Parsed<Body>>, AllocError>
+) -> Result<Option<Parsed<Body, Position>>, AllocError>
     ensures { IfOk result (Answers (after Verb.Reinstate) body_tree_of text.now (left_at text.now from)) }
 {
     if word_at(text, from, b"(").is_some() {
@@ -71,7 +71,7 @@ fn reinstate_at(
 }
 
 /// What follows GIVE (Revised Manual, 4.4.11).
-fn give_up_at(text: &[u8], from: Position) -> Option<Parsed<Body>>
+fn give_up_at(text: &[u8], from: Position) -> Option<Parsed<Body, Position>>
     ensures { Answers (after Verb.Give) body_tree_of text.now (left_at text.now from) result }
 {
     let to = word_at(text, from, b"UP")?;
@@ -87,7 +87,7 @@ fn write_in_at(
     alloc: Global,
     text: &[u8],
     from: Position,
-) -> Result<Option<Parsed<Body>>, AllocError>
+) -> Result<Option<Parsed<Body, Position>>, AllocError>
     ensures { IfOk result (Answers (after Verb.Write) body_tree_of text.now (left_at text.now from)) }
 {
     let Some(from) = word_at(text, from, b"IN") else {
@@ -102,7 +102,7 @@ fn read_out_at(
     alloc: Global,
     text: &[u8],
     from: Position,
-) -> Result<Option<Parsed<Body>>, AllocError>
+) -> Result<Option<Parsed<Body, Position>>, AllocError>
     ensures { IfOk result (Answers (after Verb.Read) body_tree_of text.now (left_at text.now from)) }
 {
     let Some(from) = word_at(text, from, b"OUT") else {
@@ -118,7 +118,7 @@ fn after_verb_at(
     text: &[u8],
     verb: Verb,
     from: Position,
-) -> Result<Option<Parsed<Body>>, AllocError>
+) -> Result<Option<Parsed<Body, Position>>, AllocError>
     ensures { IfOk result (Answers (after verb) body_tree_of text.now (left_at text.now from)) }
 {
     match verb {
@@ -141,7 +141,7 @@ fn calculation_at(
     alloc: Global,
     text: &[u8],
     from: Position,
-) -> Result<Option<Parsed<Body>>, AllocError>
+) -> Result<Option<Parsed<Body, Position>>, AllocError>
     ensures { IfOk result (Answers (formed Form.Calculation) body_tree_of text.now (left_at text.now from)) }
 {
     let Some(target) = target_at(alloc, text, from)? else {
@@ -165,10 +165,10 @@ fn dimensioning_at(
     alloc: Global,
     text: &[u8],
     from: Position,
-) -> Result<Option<Parsed<Body>>, AllocError>
+) -> Result<Option<Parsed<Body, Position>>, AllocError>
     ensures { IfOk result (Answers (formed Form.Dimensioning) body_tree_of text.now (left_at text.now from)) }
 {
-    let Lead::Array(_) = lead_at(text, from).begins else {
+    let Lead::Array(_) = lead_at(text, from).value else {
         return Ok(None);
     };
     let Some(array) = name_at(text, from) else {
@@ -188,7 +188,7 @@ fn dimensioning_at(
 }
 
 /// A label and NEXT (Revised Manual, 4.4.2).
-fn call_at(text: &[u8], from: Position) -> Option<Parsed<Body>>
+fn call_at(text: &[u8], from: Position) -> Option<Parsed<Body, Position>>
     ensures { Answers (formed Form.Call) body_tree_of text.now (left_at text.now from) result }
 {
     let Some(label) = label_at(text, from) else {
@@ -205,13 +205,17 @@ fn call_at(text: &[u8], from: Position) -> Option<Parsed<Body>>
 }
 
 /// A verb and what follows it.
-fn action_at(alloc: Global, text: &[u8], from: Position) -> Result<Option<Parsed<Body>>, AllocError>
+fn action_at(
+    alloc: Global,
+    text: &[u8],
+    from: Position,
+) -> Result<Option<Parsed<Body, Position>>, AllocError>
     ensures { IfOk result (Answers (formed Form.Action) body_tree_of text.now (left_at text.now from)) }
 {
-    let Some((verb, past)) = verb_at(text, from) else {
+    let Some(verb) = verb_at(text, from) else {
         return Ok(None);
     };
-    after_verb_at(alloc, text, verb, past)
+    after_verb_at(alloc, text, verb.value, verb.to)
 }
 
 /// The body at the position (Revised Manual, 4.4). The character after the part that was read last decides what is read next.
@@ -219,7 +223,7 @@ pub fn body_at(
     alloc: Global,
     text: &[u8],
     from: Position,
-) -> Result<Option<Parsed<Body>>, AllocError>
+) -> Result<Option<Parsed<Body, Position>>, AllocError>
     ensures { IfOk result (Answers bodies body_tree_of text.now (left_at text.now from)) }
 {
     match form_at(text, from) {

@@ -9,19 +9,11 @@ ghost use Rattle.ick_source.specs.ExpressionAnswers.{AnswersTree, AnswersTrees, 
 
 use crate::faults::{Faults, clamped_number};
 use crate::lead::{Delimiter, Lead};
+use crate::parsed::Measured;
 use crate::position::{Position, lead_at};
 use crate::token::{number_at, prefix_at, word_at};
 use crate::tree::{BinaryOp, Element, Expr, Name, NameKind, UnaryOp};
 use std::alloc::{AllocError, Global};
-
-/// An expression that was read: its tree, its height, the position after it, and which of its numbers are out of range.
-#[derive(Drop)]
-pub struct ParsedExpr {
-    pub expr: Expr,
-    pub height: u16,
-    pub to: Position,
-    pub faults: Faults,
-}
 
 /// The operator applied to the expression, where there is one.
 fn applied(alloc: Global, op: Option<UnaryOp>, expr: Expr) -> Result<Expr, AllocError>
@@ -46,7 +38,7 @@ fn spot_at(
     text: &[u8],
     kind: NameKind,
     past: Position,
-) -> Result<Option<ParsedExpr>, AllocError>
+) -> Result<Option<Measured<Expr>>, AllocError>
     ensures { IfOk result (AnswersTree (IsNumbered (λ n. scalar (record { kind = kind; number = n })) (left_at text.now past)) 1 text.now) }
 {
     let prefix = prefix_at(text, past);
@@ -57,9 +49,8 @@ fn spot_at(
         kind,
         number: clamped_number(found.value),
     };
-    let expr = applied(alloc, prefix.op, Expr::Scalar(name))?;
-    Ok(Some(ParsedExpr {
-        expr,
+    Ok(Some(Measured {
+        value: applied(alloc, prefix.value, Expr::Scalar(name))?,
         height: 1,
         to: found.to,
         faults: Faults::of_name(found.value),
@@ -67,16 +58,20 @@ fn spot_at(
 }
 
 /// A mesh after its sigil.
-fn constant_at(alloc: Global, text: &[u8], past: Position) -> Result<Option<ParsedExpr>, AllocError>
+fn constant_at(
+    alloc: Global,
+    text: &[u8],
+    past: Position,
+) -> Result<Option<Measured<Expr>>, AllocError>
     ensures { IfOk result (AnswersTree (IsNumbered mesh (left_at text.now past)) 1 text.now) }
 {
     let prefix = prefix_at(text, past);
     let Some(found) = number_at(text, prefix.to) else {
         return Ok(None);
     };
-    let expr = applied(alloc, prefix.op, Expr::Mesh(clamped_number(found.value)))?;
-    Ok(Some(ParsedExpr {
-        expr,
+    let mesh = Expr::Mesh(clamped_number(found.value));
+    Ok(Some(Measured {
+        value: applied(alloc, prefix.value, mesh)?,
         height: 1,
         to: found.to,
         faults: Faults::of_mesh(found.value),
@@ -91,7 +86,7 @@ fn group_at(
     delimiter: Delimiter,
     limit: u16,
     past: Position,
-) -> Result<Option<ParsedExpr>, AllocError>
+) -> Result<Option<Measured<Expr>>, AllocError>
     requires { 0 < limit }
     ensures { IfOk result (AnswersTree (IsGroup delimiter (left_at text.now past)) limit text.now) }
 {
@@ -100,13 +95,13 @@ fn group_at(
         return Ok(None);
     };
     let close = lead_at(text, inner.to);
-    if !closes(delimiter, close.begins) {
+    if !closes(delimiter, close.value) {
         return Ok(None);
     }
-    Ok(Some(ParsedExpr {
-        expr: applied(alloc, prefix.op, inner.expr)?,
+    Ok(Some(Measured {
+        value: applied(alloc, prefix.value, inner.value)?,
         height: inner.height + 1,
-        to: close.past,
+        to: close.to,
         faults: inner.faults,
     }))
 }
@@ -118,28 +113,19 @@ fn simple_at(
     text: &[u8],
     limit: u16,
     from: Position,
-) -> Result<Option<ParsedExpr>, AllocError>
+) -> Result<Option<Measured<Expr>>, AllocError>
     ensures { IfOk result (AnswersTree (IsSimple (left_at text.now from)) limit text.now) }
 {
     if limit == 0 {
         return Ok(None);
     }
     let next = lead_at(text, from);
-    match next.begins {
-        Lead::Spot(kind) => spot_at(alloc, text, kind, next.past),
-        Lead::Hash => constant_at(alloc, text, next.past),
-        Lead::Group(delimiter) => group_at(alloc, text, delimiter, limit, next.past),
+    match next.value {
+        Lead::Spot(kind) => spot_at(alloc, text, kind, next.to),
+        Lead::Hash => constant_at(alloc, text, next.to),
+        Lead::Group(delimiter) => group_at(alloc, text, delimiter, limit, next.to),
         _ => Ok(None),
     }
-}
-
-/// Subscripts that were read: their trees, the greatest height, the position after them, and which of their numbers are out of range.
-#[derive(Drop)]
-pub struct ParsedSubs {
-    pub subs: Vec<Expr>,
-    pub height: u16,
-    pub to: Position,
-    pub faults: Faults,
 }
 
 /// An array, `SUB` and its subscripts.
@@ -150,14 +136,14 @@ pub fn element_at(
     delimiter: Option<Delimiter>,
     limit: u16,
     from: Position,
-) -> Result<Option<ParsedExpr>, AllocError>
+) -> Result<Option<Measured<Expr>>, AllocError>
     ensures { IfOk result (AnswersTree (IsElement delimiter (left_at text.now from)) limit text.now) }
 {
     let next = lead_at(text, from);
-    let Lead::Array(kind) = next.begins else {
+    let Lead::Array(kind) = next.value else {
         return Ok(None);
     };
-    let Some(found) = number_at(text, next.past) else {
+    let Some(found) = number_at(text, next.to) else {
         return Ok(None);
     };
     let Some(later) = word_at(text, found.to, b"SUB") else {
@@ -173,8 +159,8 @@ pub fn element_at(
         kind,
         number: clamped_number(found.value),
     };
-    Ok(Some(ParsedExpr {
-        expr: indexed(array, all.subs),
+    Ok(Some(Measured {
+        value: indexed(array, all.value),
         height: all.height + 1,
         to: all.to,
         faults: Faults::of_name(found.value).union(all.faults),
@@ -189,10 +175,10 @@ fn subs_at(
     delimiter: Option<Delimiter>,
     limit: u16,
     from: Position,
-) -> Result<Option<ParsedSubs>, AllocError>
+) -> Result<Option<Measured<Vec<Expr>>>, AllocError>
     ensures { IfOk result (AnswersTrees (IsSubs delimiter (left_at text.now from)) limit text.now) }
 {
-    if let Lead::Array(_) = lead_at(text, from).begins {
+    if let Lead::Array(_) = lead_at(text, from).value {
         let Some(only) = element_at(alloc, text, delimiter, limit, from)? else {
             return Ok(None);
         };
@@ -211,16 +197,16 @@ fn rest_at(
     text: &[u8],
     delimiter: Option<Delimiter>,
     limit: u16,
-    mut all: ParsedSubs,
-) -> Result<Option<ParsedSubs>, AllocError>
+    mut all: Measured<Vec<Expr>>,
+) -> Result<Option<Measured<Vec<Expr>>>, AllocError>
     ensures { IfOk result (AnswersFrom (IsRest delimiter (left_at text.now all.to)) limit text.now all) }
 {
     'further: loop {
         let next = lead_at(text, all.to);
-        if !may_begin_sub(delimiter, next.begins) {
+        if !may_begin_sub(delimiter, next.value) {
             return Ok(Some(all));
         }
-        if let Lead::Array(_) = next.begins {
+        if let Lead::Array(_) = next.value {
             let Some(last) = element_at(alloc, text, delimiter, limit, all.to)? else {
                 return Ok(None);
             };
@@ -242,10 +228,10 @@ fn operand_at(
     delimiter: Option<Delimiter>,
     limit: u16,
     from: Position,
-) -> Result<Option<ParsedExpr>, AllocError>
+) -> Result<Option<Measured<Expr>>, AllocError>
     ensures { IfOk result (AnswersTree (IsOperand delimiter (left_at text.now from)) limit text.now) }
 {
-    match lead_at(text, from).begins {
+    match lead_at(text, from).value {
         Lead::Array(_) => element_at(alloc, text, delimiter, limit, from),
         _ => simple_at(alloc, text, limit, from),
     }
@@ -259,20 +245,20 @@ pub fn expr_at(
     delimiter: Option<Delimiter>,
     limit: u16,
     from: Position,
-) -> Result<Option<ParsedExpr>, AllocError>
+) -> Result<Option<Measured<Expr>>, AllocError>
     ensures { IfOk result (AnswersTree (IsExpr delimiter (left_at text.now from)) limit text.now) }
 {
     let Some(left) = operand_at(alloc, text, delimiter, limit, from)? else {
         return Ok(None);
     };
     let next = lead_at(text, left.to);
-    let Lead::Binary(op) = next.begins else {
+    let Lead::Binary(op) = next.value else {
         return Ok(Some(left));
     };
     if left.height >= limit {
         return Ok(None);
     }
-    let Some(right) = expr_at(alloc, text, delimiter, limit - 1, next.past)? else {
+    let Some(right) = expr_at(alloc, text, delimiter, limit - 1, next.to)? else {
         return Ok(None);
     };
     Ok(Some(joined(alloc, op, left, right)?))
@@ -282,20 +268,20 @@ pub fn expr_at(
 fn joined(
     alloc: Global,
     op: BinaryOp,
-    left: ParsedExpr,
-    right: ParsedExpr,
-) -> Result<ParsedExpr, AllocError>
+    left: Measured<Expr>,
+    right: Measured<Expr>,
+) -> Result<Measured<Expr>, AllocError>
     requires left { left.height < 65535 }
     requires right { right.height < 65535 }
-    ensures tree { IfOk result (λ s. tree_of s.expr ≡ binary op (tree_of left.expr) (tree_of right.expr)) }
+    ensures tree { IfOk result (λ s. tree_of s.value ≡ binary op (tree_of left.value) (tree_of right.value)) }
     ensures height { IfOk result (λ s. s.height ≡ suc (max left.height right.height)) }
     ensures to { IfOk result (λ s. s.to ≡ right.to) }
     ensures faults { IfOk result (λ s. s.faults ≡ both_faults left.faults right.faults) }
 {
-    let left_expr = Box::new(alloc, left.expr)?;
-    let right_expr = Box::new(alloc, right.expr)?;
-    Ok(ParsedExpr {
-        expr: Expr::Binary(op, left_expr, right_expr),
+    let left_value = Box::new(alloc, left.value)?;
+    let right_value = Box::new(alloc, right.value)?;
+    Ok(Measured {
+        value: Expr::Binary(op, left_value, right_value),
         height: left.height.max(right.height) + 1,
         to: right.to,
         faults: left.faults.union(right.faults),
@@ -303,16 +289,16 @@ fn joined(
 }
 
 /// The list of one subscript.
-fn started(alloc: Global, only: ParsedExpr) -> Result<ParsedSubs, AllocError>
-    ensures subs { IfOk result (λ s. trees_in s.subs.items ≡ more (tree_of only.expr) none) }
+fn started(alloc: Global, only: Measured<Expr>) -> Result<Measured<Vec<Expr>>, AllocError>
+    ensures subs { IfOk result (λ s. trees_in s.value.items ≡ more (tree_of only.value) none) }
     ensures height { IfOk result (λ s. s.height ≡ only.height) }
     ensures to { IfOk result (λ s. s.to ≡ only.to) }
     ensures faults { IfOk result (λ s. s.faults ≡ only.faults) }
 {
-    let mut subs = Vec::new(alloc);
-    subs.push(only.expr)?;
-    Ok(ParsedSubs {
-        subs,
+    let mut value = Vec::new(alloc);
+    value.push(only.value)?;
+    Ok(Measured {
+        value,
         height: only.height,
         to: only.to,
         faults: only.faults,
@@ -320,13 +306,13 @@ fn started(alloc: Global, only: ParsedExpr) -> Result<ParsedSubs, AllocError>
 }
 
 /// Puts one more subscript at the end.
-fn extend(all: &mut ParsedSubs, one: ParsedExpr) -> Result<(), AllocError>
-    ensures subs { OnOk result (trees_in all.new.subs.items ≡ join (trees_in all.old.subs.items) (more (tree_of one.expr) none)) }
+fn extend(all: &mut Measured<Vec<Expr>>, one: Measured<Expr>) -> Result<(), AllocError>
+    ensures subs { OnOk result (trees_in all.new.value.items ≡ join (trees_in all.old.value.items) (more (tree_of one.value) none)) }
     ensures height { OnOk result (all.new.height ≡ max all.old.height one.height) }
     ensures to { OnOk result (all.new.to ≡ one.to) }
     ensures faults { OnOk result (all.new.faults ≡ both_faults all.old.faults one.faults) }
 {
-    all.subs.push(one.expr)?;
+    all.value.push(one.value)?;
     all.height = all.height.max(one.height);
     all.to = one.to;
     all.faults = all.faults.union(one.faults);

@@ -27,7 +27,7 @@ pub enum Form {
 pub fn form_at(text: &[u8], from: Position) -> Form
     ensures { (form : Form) (to : List ℕ) (b : BodyTree) → IsBodyOf form (left_at text.now from) to b → form ≡ result }
 {
-    match lead_at(text, from).begins {
+    match lead_at(text, from).value {
         Lead::Spot(_) => Form::Calculation,
         Lead::Array(_) => {
             if has_subscripts(text, from) {

@@ -22,7 +22,7 @@ fn list_at<P: Part>(
     text: &[u8],
     separator: &[u8],
     from: Position,
-) -> Result<Option<Parsed<Vec<P>>>, AllocError>
+) -> Result<Option<Parsed<Vec<P>, Position>>, AllocError>
     requires once { StandsOnce P.nonterminal }
     requires characters { TakesCharacters P.nonterminal }
     ensures { IfOk result (Answers (listed P.nonterminal separator.now) (λ parts. map P.seen parts.items) text.now (left_at text.now from)) }
@@ -52,7 +52,7 @@ pub fn names_at(
     alloc: Global,
     text: &[u8],
     from: Position,
-) -> Result<Option<Parsed<Vec<Name>>>, AllocError>
+) -> Result<Option<Parsed<Vec<Name>, Position>>, AllocError>
     ensures { IfOk result (Answers (listed names (codes "+")) (λ list. list.items) text.now (left_at text.now from)) }
 {
     list_at(alloc, text, b"+", from)
@@ -63,7 +63,7 @@ pub fn gerunds_at(
     alloc: Global,
     text: &[u8],
     from: Position,
-) -> Result<Option<Parsed<Vec<Gerund>>>, AllocError>
+) -> Result<Option<Parsed<Vec<Gerund>, Position>>, AllocError>
     ensures { IfOk result (Answers (listed gerunds (codes "+")) (λ list. list.items) text.now (left_at text.now from)) }
 {
     list_at(alloc, text, b"+", from)
@@ -74,7 +74,7 @@ pub fn places_at(
     alloc: Global,
     text: &[u8],
     from: Position,
-) -> Result<Option<Parsed<Vec<Place>>>, AllocError>
+) -> Result<Option<Parsed<Vec<Place>, Position>>, AllocError>
     ensures { IfOk result (Answers (listed places (codes "+")) (λ list. map place_tree list.items) text.now (left_at text.now from)) }
 {
     list_at(alloc, text, b"+", from)
@@ -85,7 +85,7 @@ pub fn items_at(
     alloc: Global,
     text: &[u8],
     from: Position,
-) -> Result<Option<Parsed<Vec<Item>>>, AllocError>
+) -> Result<Option<Parsed<Vec<Item>, Position>>, AllocError>
     ensures { IfOk result (Answers (listed items (codes "+")) (λ list. map item_tree list.items) text.now (left_at text.now from)) }
 {
     list_at(alloc, text, b"+", from)
@@ -96,7 +96,7 @@ pub fn dimensions_at(
     alloc: Global,
     text: &[u8],
     from: Position,
-) -> Result<Option<Parsed<Vec<Expr>>>, AllocError>
+) -> Result<Option<Parsed<Vec<Expr>, Position>>, AllocError>
     ensures { IfOk result (Answers (listed wholes (codes "BY")) (λ list. map tree_of list.items) text.now (left_at text.now from)) }
 {
     list_at(alloc, text, b"BY", from)

@@ -14,7 +14,7 @@ use crate::body::{Gerund, Item, Place, Target};
 use crate::expression::{element_at, expr_at};
 use crate::faults::{Faults, clamped_number};
 use crate::lead::Lead;
-use crate::parsed::Parsed;
+use crate::parsed::{Parsed, Scanned};
 use crate::position::{Position, lead_at};
 use crate::token::{number_at, word_at};
 use crate::tree::{Expr, Name, NameKind};
@@ -34,7 +34,7 @@ pub trait Part: Drop {
         alloc: Global,
         text: &[u8],
         from: Position,
-    ) -> Result<Option<Parsed<Self>>, AllocError>
+    ) -> Result<Option<Parsed<Self, Position>>, AllocError>
         ensures { IfOk result (Answers nonterminal seen text.now (left_at text.now from)) };
 }
 
@@ -43,14 +43,14 @@ pub fn whole_at(
     alloc: Global,
     text: &[u8],
     from: Position,
-) -> Result<Option<Parsed<Expr>>, AllocError>
+) -> Result<Option<Parsed<Expr, Position>>, AllocError>
     ensures { IfOk result (Answers wholes tree_of text.now (left_at text.now from)) }
 {
     let Some(found) = expr_at(alloc, text, None, MAX_HEIGHT, from)? else {
         return Ok(None);
     };
     Ok(Some(Parsed {
-        value: found.expr,
+        value: found.value,
         to: found.to,
         faults: found.faults,
     }))
@@ -61,13 +61,13 @@ pub fn whole_element_at(
     alloc: Global,
     text: &[u8],
     from: Position,
-) -> Result<Option<Parsed<Target>>, AllocError>
+) -> Result<Option<Parsed<Target, Position>>, AllocError>
     ensures { IfOk result (Answers elements target_tree text.now (left_at text.now from)) }
 {
     let Some(found) = element_at(alloc, text, None, MAX_HEIGHT, from)? else {
         return Ok(None);
     };
-    let Some(element) = found.expr.into_element() else {
+    let Some(element) = found.value.into_element() else {
         return Ok(None);
     };
     Ok(Some(Parsed {
@@ -78,15 +78,15 @@ pub fn whole_element_at(
 }
 
 /// The name at the position, of a variable or of an array (Revised Manual, 3.1 and 3.3).
-pub fn name_at(text: &[u8], from: Position) -> Option<Parsed<Name>>
+pub fn name_at(text: &[u8], from: Position) -> Option<Parsed<Name, Position>>
     ensures { Answers names (λ name. name) text.now (left_at text.now from) result }
 {
     let next = lead_at(text, from);
-    let kind = match next.begins {
+    let kind = match next.value {
         Lead::Spot(kind) | Lead::Array(kind) => kind,
         _ => return None,
     };
-    let found = number_at(text, next.past)?;
+    let found = number_at(text, next.to)?;
     let value = Name {
         kind,
         number: clamped_number(found.value),
@@ -103,10 +103,10 @@ pub fn target_at(
     alloc: Global,
     text: &[u8],
     from: Position,
-) -> Result<Option<Parsed<Target>>, AllocError>
+) -> Result<Option<Parsed<Target, Position>>, AllocError>
     ensures { IfOk result (Answers targets target_tree text.now (left_at text.now from)) }
 {
-    if let Lead::Array(_) = lead_at(text, from).begins {
+    if let Lead::Array(_) = lead_at(text, from).value {
         return whole_element_at(alloc, text, from);
     }
     let Some(found) = name_at(text, from) else {
@@ -120,10 +120,10 @@ pub fn target_at(
 }
 
 /// The whole array at the position: a tail's name with no SUB after it (Revised Manual, 5.2).
-fn tail_at(text: &[u8], from: Position) -> Option<Parsed<Name>>
+fn tail_at(text: &[u8], from: Position) -> Option<Parsed<Name, Position>>
     ensures { Answers tails (λ name. name) text.now (left_at text.now from) result }
 {
-    if lead_at(text, from).begins != Lead::Array(NameKind::Tail) {
+    if lead_at(text, from).value != Lead::Array(NameKind::Tail) {
         return None;
     }
     let Some(found) = name_at(text, from) else {
@@ -140,7 +140,7 @@ pub fn place_at(
     alloc: Global,
     text: &[u8],
     from: Position,
-) -> Result<Option<Parsed<Place>>, AllocError>
+) -> Result<Option<Parsed<Place, Position>>, AllocError>
     ensures { IfOk result (Answers places place_tree text.now (left_at text.now from)) }
 {
     if let Some(found) = tail_at(text, from) {
@@ -175,12 +175,12 @@ pub fn item_at(
     alloc: Global,
     text: &[u8],
     from: Position,
-) -> Result<Option<Parsed<Item>>, AllocError>
+) -> Result<Option<Parsed<Item, Position>>, AllocError>
     ensures { IfOk result (Answers items item_tree text.now (left_at text.now from)) }
 {
     let next = lead_at(text, from);
-    if let Lead::Hash = next.begins {
-        return Ok(mesh_item_at(text, next.past));
+    if let Lead::Hash = next.value {
+        return Ok(mesh_item_at(text, next.to));
     }
     let Some(found) = place_at(alloc, text, from)? else {
         return Ok(None);
@@ -193,7 +193,7 @@ pub fn item_at(
 }
 
 /// A mesh after its sigil, as an item.
-fn mesh_item_at(text: &[u8], past: Position) -> Option<Parsed<Item>>
+fn mesh_item_at(text: &[u8], past: Position) -> Option<Parsed<Item, Position>>
     ensures { Answers numbers item_tree text.now (left_at text.now past) result }
 {
     let found = number_at(text, past)?;
@@ -216,35 +216,35 @@ fn printed(place: Place) -> Item
 }
 
 /// The first word of a gerund at the position, and the position after it.
-fn gerund_word_at(text: &[u8], from: Position) -> Option<(Gerund, Position)>
-    ensures { MatchOption result ((g : Gerund) (to : List ℕ) → IsWord (gerund_word g) (left_at text.now from) to → ⊥) (λ r. IsWord (gerund_word r.0) (left_at text.now from) (left_at text.now r.1)) }
+fn gerund_word_at(text: &[u8], from: Position) -> Option<Scanned<Gerund, Position>>
+    ensures { MatchOption result ((g : Gerund) (to : List ℕ) → IsWord (gerund_word g) (left_at text.now from) to → ⊥) (λ r. IsWord (gerund_word r.value) (left_at text.now from) (left_at text.now r.to)) }
 {
     for gerund in Gerund::ALL {
         if let Some(to) = word_at(text, from, gerund.word()) {
-            return Some((gerund, to));
+            return Some(Scanned { value: gerund, to });
         }
     }
     None
 }
 
 /// The gerund at the position (Revised Manual, 4.4.9). White bytes may stand between its two words, or none.
-pub fn gerund_at(text: &[u8], from: Position) -> Option<Parsed<Gerund>>
+pub fn gerund_at(text: &[u8], from: Position) -> Option<Parsed<Gerund, Position>>
     ensures { Answers gerunds (λ gerund. gerund) text.now (left_at text.now from) result }
 {
-    let (value, past) = gerund_word_at(text, from)?;
-    let to = match value.second_word() {
-        None => past,
-        Some(word) => word_at(text, past, word)?,
+    let first = gerund_word_at(text, from)?;
+    let to = match first.value.second_word() {
+        None => first.to,
+        Some(word) => word_at(text, first.to, word)?,
     };
     Some(Parsed {
-        value,
+        value: first.value,
         to,
         faults: Faults::NONE,
     })
 }
 
 /// The label at the position, in its parentheses (Revised Manual, 4.2).
-pub fn label_at(text: &[u8], from: Position) -> Option<Parsed<u16>>
+pub fn label_at(text: &[u8], from: Position) -> Option<Parsed<u16, Position>>
     ensures { Answers labels (λ label. label) text.now (left_at text.now from) result }
 {
     let inner = word_at(text, from, b"(")?;
@@ -268,7 +268,7 @@ impl Part for Expr {
         alloc: Global,
         text: &[u8],
         from: Position,
-    ) -> Result<Option<Parsed<Self>>, AllocError> {
+    ) -> Result<Option<Parsed<Self, Position>>, AllocError> {
         whole_at(alloc, text, from)
     }
 }
@@ -282,7 +282,7 @@ impl Part for Name {
         _alloc: Global,
         text: &[u8],
         from: Position,
-    ) -> Result<Option<Parsed<Self>>, AllocError> {
+    ) -> Result<Option<Parsed<Self, Position>>, AllocError> {
         Ok(name_at(text, from))
     }
 }
@@ -296,7 +296,7 @@ impl Part for Place {
         alloc: Global,
         text: &[u8],
         from: Position,
-    ) -> Result<Option<Parsed<Self>>, AllocError> {
+    ) -> Result<Option<Parsed<Self, Position>>, AllocError> {
         place_at(alloc, text, from)
     }
 }
@@ -310,7 +310,7 @@ impl Part for Item {
         alloc: Global,
         text: &[u8],
         from: Position,
-    ) -> Result<Option<Parsed<Self>>, AllocError> {
+    ) -> Result<Option<Parsed<Self, Position>>, AllocError> {
         item_at(alloc, text, from)
     }
 }
@@ -324,7 +324,7 @@ impl Part for Gerund {
         _alloc: Global,
         text: &[u8],
         from: Position,
-    ) -> Result<Option<Parsed<Self>>, AllocError> {
+    ) -> Result<Option<Parsed<Self, Position>>, AllocError> {
         Ok(gerund_at(text, from))
     }
 }

@@ -4,6 +4,7 @@ ghost use Rattle.std.specs.Prelude.{◌≡◌, ◌∷◌, [], MatchOption};
 ghost use Rattle.ick_source.specs.Position.{left_at, past_white, next_lead, past_lead};
 
 use crate::lead::{Lead, begun_by};
+use crate::parsed::Scanned;
 use ick_bits::is_white;
 
 /// A position of a text: before the byte `at`, or between the two characters of the `!` before it.
@@ -13,45 +14,37 @@ pub struct Position {
     pub between: bool,
 }
 
-/// A character, and the position after it.
-#[derive(Clone, Copy, Debug, PartialEq, Eq)]
-pub struct Character {
-    pub byte: u8,
-    pub past: Position,
-}
-
-/// What the next character after white bytes begins, and the position after it.
-#[derive(Clone, Copy, Debug, PartialEq, Eq)]
-pub struct Next {
-    pub begins: Lead,
-    pub past: Position,
-}
-
 /// The character at the position.
-pub fn character_at(text: &[u8], position: Position) -> Option<Character>
-    ensures { MatchOption result (left_at text.now position ≡ []) (λ s. left_at text.now position ≡ s.byte ∷ left_at text.now s.past) }
+pub fn character_at(text: &[u8], position: Position) -> Option<Scanned<u8, Position>>
+    ensures { MatchOption result (left_at text.now position ≡ []) (λ c. left_at text.now position ≡ c.value ∷ left_at text.now c.to) }
 {
     let at = position.at;
     if position.between {
-        let past = Position { at, between: false };
-        return Some(Character { byte: b'.', past });
+        return Some(Scanned {
+            value: b'.',
+            to: Position { at, between: false },
+        });
     }
     if at >= text.len() {
         return None;
     }
     let byte = text[at];
     if byte == b'!' {
-        let past = Position {
-            at: at + 1,
-            between: true,
-        };
-        return Some(Character { byte: b'\'', past });
+        return Some(Scanned {
+            value: b'\'',
+            to: Position {
+                at: at + 1,
+                between: true,
+            },
+        });
     }
-    let past = Position {
-        at: at + 1,
-        between: false,
-    };
-    Some(Character { byte, past })
+    Some(Scanned {
+        value: byte,
+        to: Position {
+            at: at + 1,
+            between: false,
+        },
+    })
 }
 
 /// The position after any white bytes.
@@ -59,28 +52,28 @@ pub fn skip_white(text: &[u8], mut position: Position) -> Position
     ensures { left_at text.now result ≡ past_white (left_at text.now position) }
 {
     while let Some(next) = character_at(text, position) {
-        if !is_white(next.byte) {
+        if !is_white(next.value) {
             break;
         }
-        position = next.past;
+        position = next.to;
     }
     position
 }
 
 /// What the next character after white bytes begins; at the end of the text nothing.
-pub fn lead_at(text: &[u8], position: Position) -> Next
-    ensures begins { result.begins ≡ next_lead (left_at text.now position) }
-    ensures past { left_at text.now result.past ≡ past_lead (left_at text.now position) }
+pub fn lead_at(text: &[u8], position: Position) -> Scanned<Lead, Position>
+    ensures lead { result.value ≡ next_lead (left_at text.now position) }
+    ensures to { left_at text.now result.to ≡ past_lead (left_at text.now position) }
 {
     let position = skip_white(text, position);
     match character_at(text, position) {
-        None => Next {
-            begins: Lead::Other,
-            past: position,
+        None => Scanned {
+            value: Lead::Other,
+            to: position,
         },
-        Some(next) => Next {
-            begins: begun_by(next.byte),
-            past: next.past,
+        Some(next) => Scanned {
+            value: begun_by(next.value),
+            to: next.to,
         },
     }
 }

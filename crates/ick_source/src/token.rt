@@ -6,43 +6,30 @@ ghost use Rattle.ick_source.specs.Token.{IsNumber, IsWord, unary_at, past_unary,
 
 use crate::bytes::{is_digit_byte, with_digit};
 use crate::lead::Lead;
+use crate::parsed::Scanned;
 use crate::position::{Position, character_at, lead_at, skip_white};
 use crate::tree::UnaryOp;
 
-/// A number, or 65536 for any greater one, and the position after it.
-#[derive(Clone, Copy, Debug, PartialEq, Eq)]
-pub struct Number {
-    pub value: u32,
-    pub to: Position,
-}
-
-/// A unary operator or none, and the position after it.
-#[derive(Clone, Copy, Debug, PartialEq, Eq)]
-pub struct Prefix {
-    pub op: Option<UnaryOp>,
-    pub to: Position,
-}
-
 /// The number at the position, after any white bytes.
-pub fn number_at(text: &[u8], from: Position) -> Option<Number>
+pub fn number_at(text: &[u8], from: Position) -> Option<Scanned<u32, Position>>
     ensures { MatchOption result ((to : List ℕ) (n : ℕ) → IsNumber (left_at text.now from) to n → ⊥) (λ r. CappedNumber (left_at text.now from) (left_at text.now r.to) r.value) }
 {
     let mut to = skip_white(text, from);
     let Some(first) = character_at(text, to) else {
         return None;
     };
-    if !is_digit_byte(first.byte) {
+    if !is_digit_byte(first.value) {
         return None;
     }
     let mut value = 0u32;
     while let Some(next) = character_at(text, to) {
-        if !is_digit_byte(next.byte) {
+        if !is_digit_byte(next.value) {
             break;
         }
-        value = with_digit(value, next.byte);
-        to = next.past;
+        value = with_digit(value, next.value);
+        to = next.to;
     }
-    Some(Number { value, to })
+    Some(Scanned { value, to })
 }
 
 /// The word at the position, after any white bytes.
@@ -54,25 +41,28 @@ pub fn word_at(text: &[u8], from: Position, word: &[u8]) -> Option<Position>
         let Some(next) = character_at(text, to) else {
             return None;
         };
-        if next.byte != *letter {
+        if next.value != *letter {
             return None;
         }
-        to = next.past;
+        to = next.to;
     }
     Some(to)
 }
 
 /// The unary operator at the position, if there is one.
-pub fn prefix_at(text: &[u8], from: Position) -> Prefix
-    ensures op { result.op ≡ unary_at (left_at text.now from) }
+pub fn prefix_at(text: &[u8], from: Position) -> Scanned<Option<UnaryOp>, Position>
+    ensures op { result.value ≡ unary_at (left_at text.now from) }
     ensures to { left_at text.now result.to ≡ past_unary (left_at text.now from) }
 {
     let next = lead_at(text, from);
-    match next.begins {
-        Lead::Unary(op) => Prefix {
-            op: Some(op),
-            to: next.past,
+    match next.value {
+        Lead::Unary(op) => Scanned {
+            value: Some(op),
+            to: next.to,
         },
-        _ => Prefix { op: None, to: from },
+        _ => Scanned {
+            value: None,
+            to: from,
+        },
     }
 }

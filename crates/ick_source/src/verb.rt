@@ -5,6 +5,7 @@ ghost use Rattle.ick_source.specs.Position.{left_at};
 ghost use Rattle.ick_source.specs.Token.{IsWord};
 ghost use Rattle.ick_source.specs.Verb.{verb_word};
 
+use crate::parsed::Scanned;
 use crate::position::Position;
 use crate::token::word_at;
 
@@ -61,12 +62,12 @@ impl Verb {
 }
 
 /// The verb at the position, and the position after it.
-pub fn verb_at(text: &[u8], from: Position) -> Option<(Verb, Position)>
-    ensures { MatchOption result ((v : Verb) (to : List ℕ) → IsWord (verb_word v) (left_at text.now from) to → ⊥) (λ r. IsWord (verb_word r.0) (left_at text.now from) (left_at text.now r.1)) }
+pub fn verb_at(text: &[u8], from: Position) -> Option<Scanned<Verb, Position>>
+    ensures { MatchOption result ((v : Verb) (to : List ℕ) → IsWord (verb_word v) (left_at text.now from) to → ⊥) (λ r. IsWord (verb_word r.value) (left_at text.now from) (left_at text.now r.to)) }
 {
     for verb in Verb::ALL {
         if let Some(to) = word_at(text, from, verb.word()) {
-            return Some((verb, to));
+            return Some(Scanned { value: verb, to });
         }
     }
     None

@@ -16,4 +16,4 @@ returns-in_default-2 c =
 pub returns : goal.returns
 returns c =
     let values = rw c.in-Some-2.is at c.in_ok-dimensions.ensures in
-    rw c.union.ensures (dimensioning_found (sym c.lead_at.ensures.begins ∙ c.in-Array.is) c.in-Some.ensures c.in-Some-word_at.ensures values)
+    rw c.union.ensures (dimensioning_found (sym c.lead_at.ensures.lead ∙ c.in-Array.is) c.in-Some.ensures c.in-Some-word_at.ensures values)

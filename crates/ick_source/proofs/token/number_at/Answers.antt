@@ -8,25 +8,25 @@ use Rattle.ick_source.proofs.token.number_at.Goals as goal
 pub loop-next-preserved : goal.loop-next-preserved
 loop-next-preserved c =
     let v = c.loop-next.value in
-    let b = c.in-Some-character_at.next.byte in
+    let b = c.in-Some-character_at.next.value in
     let digit : is_digit b ≡ true = cc in
     let low : c.with_digit-value.result ≤ 65536 = omega arith in
     let same : min c.with_digit-value.result 65536 ≡ min (v * 10 + (b - 48)) 65536 = omega arith in (
       low,
       sym (past_digits-step c.in-Some-character_at.ensures digit) ∙ c.loop-next.invariant.1,
-      value-capped (digits_of (left_at c.args.text.now c.in-Some-character_at.next.past)) _ _ same ∙ ap (λ n. min n 65536) (sym (value-step v c.in-Some-character_at.ensures digit)) ∙ c.loop-next.invariant.2,
+      value-capped (digits_of (left_at c.args.text.now c.in-Some-character_at.next.to)) _ _ same ∙ ap (λ n. min n 65536) (sym (value-step v c.in-Some-character_at.ensures digit)) ∙ c.loop-next.invariant.2,
     )
 
 pub returns-then-not-is_digit_byte-2 : goal.returns-then-not-is_digit_byte-2
 returns-then-not-is_digit_byte-2 c =
-    let first : is_digit c.in-Some.first.byte ≡ true = cc in
-    let stop : is_digit c.in-Some-character_at.next.byte ≡ false = cc in
+    let first : is_digit c.in-Some.first.value ≡ true = cc in
+    let stop : is_digit c.in-Some-character_at.next.value ≡ false = cc in
     capped_number _ _ _ _ _ _ c.skip_white-to.ensures c.in-Some.ensures first c.loop-next.invariant.1 (past_digits-stop c.in-Some-character_at.ensures stop) c.loop-next.invariant.2
     (value-stop c.loop-next.value c.in-Some-character_at.ensures stop) c.loop-next.invariant.0
 
 pub returns-in_default-character_at : goal.returns-in_default-character_at
 returns-in_default-character_at c =
-    let first : is_digit c.in-Some.first.byte ≡ true = cc in
+    let first : is_digit c.in-Some.first.value ≡ true = cc in
     capped_number _ _ _ _ _ _ c.skip_white-to.ensures c.in-Some.ensures first c.loop-next.invariant.1 (past_digits-end _ c.in_default-character_at.ensures) c.loop-next.invariant.2
     (value-end _ c.loop-next.value c.in_default-character_at.ensures) c.loop-next.invariant.0
 
