@@ -63,7 +63,7 @@ body_within {s} {to = to} {i = i} e w inside = record {
 }
 
 pub body_stands : {s from to : List ℕ} {i j : ℕ} {body : Body} {f : Faults} → from ≡ characters (drop i s) → IsParsed bodies from to (body_tree_of body) f → j ≤ length s → characters (drop j s) ≡ to →
-    IsParsedBody s i (record { body = body; end = j; faults = f })
+    IsParsedBody s i (record { value = body; to = j; faults = f })
 body_stands {s} {from} {to} {i} {j} e w inside ends = record {
   tree = w.value;
   stands = record { stands = subst (λ l. IsBody l (characters (drop j s)) w.value) e (subst (λ l. IsBody from l w.value) (sym ends) w.stands); inside = inside };

@@ -5,6 +5,7 @@ use Rattle.ick_source.specs.Boundaries.{IsIdentifier, IsBoundary, IsStart, IsLab
 use Rattle.ick_source.specs.Bytes.{IsGap, IsWhite, IsWordIn, byte}
 use Rattle.ick_source.specs.HeadAnswers.{Scans, ReadsOpening}
 use Rattle.ick_source.specs.declared.boundaries.Start.{Start}
+use Rattle.ick_source.specs.declared.parsed.Scanned.{Scanned}
 use Rattle.ick_source.proofs.ByteLemmas.{Finds, byte_along, differ, gap_exists, gap_unique, inside, less_or, not_white, number_in_along, number_in_decided, number_in_unique, equal_decided, word_in_decided}
 
 identifier_first : {s : List ℕ} {i j : ℕ} {p : Bool} → IsIdentifier s i j p → (byte s i ≡ 80) ⊎ (byte s i ≡ 68)
@@ -95,12 +96,12 @@ pub opening_unfinished : {s : List ℕ} {i m n b : ℕ} → ((j : ℕ) (p : Bool
 opening_unfinished bare l g none (unlabelled x) = bare _ _ x
 opening_unfinished bare l g none (labelled k h x) = none _ _ (identifier_along (gap_unique h g (label_in_unique k l refl).0) x)
 
-pub boundary_found : (s : List ℕ) (i : ℕ) (r : Option (Start × ℕ)) → Scans (λ j (a : Option ℕ × Bool). IsOpening s i j a.0 a.1) ReadsOpening r → (i ≡ length s → ⊥) → IsTrue (is_some r) ↔ IsBoundary s i
+pub boundary_found : (s : List ℕ) (i : ℕ) (r : Option (Scanned Start ℕ)) → Scans (λ j (a : Option ℕ × Bool). IsOpening s i j a.0 a.1) ReadsOpening r → (i ≡ length s → ⊥) → IsTrue (is_some r) ↔ IsBoundary s i
 boundary_found s i None h n = (λ f. absurd (false≢true f), λ b. absurd (never b)) where
   never : IsBoundary s i → ⊥
   never (at_start x) = h x.end (x.label, x.polite) x.opening
   never (at_end e) = n e
-boundary_found s i (Some r) h n = (λ t. at_start (record { end = r.1; label = h.0.0; polite = h.0.1; opening = h.1 }), λ b. refl)
+boundary_found s i (Some r) h n = (λ t. at_start (record { end = r.to; label = h.0.0; polite = h.0.1; opening = h.1 }), λ b. refl)
 
 no_identifier : {s : List ℕ} {i j : ℕ} {p : Bool} → (IsWordIn s i (codes "PLEASE") → ⊥) → (IsWordIn s i (codes "DO") → ⊥) → IsIdentifier s i j p → ⊥
 no_identifier a b (please_do w g d) = a w

@@ -1,6 +1,7 @@
 -- Negations and percentages.
 use Rattle.std.proofs.Common.{Bool, List, None, Option, Some, ap, arith, codes, false, inl, inr, length, refl, subst, sym, true, ℕ, ◌+◌, ◌≡◌, ◌≤◌, ◌⊎◌}
 use Rattle.std.proofs.lemmas.Bool.{false≢true}
+use Rattle.ick_source.specs.declared.parsed.Scanned.{Scanned}
 use Rattle.ick_source.specs.Bytes.{byte}
 use Rattle.ick_source.specs.Qualifiers.{IsChance, IsNegated, IsNegation, IsPercentage, AreQualifiers, affirmed, certain, given, negated, negation_first, neither, percentage_first}
 use Rattle.ick_source.proofs.ByteLemmas.{Finds, differ, gap_exists, gap_unique, inside, le_or, number_in_along, number_in_inside, number_in_decided, number_in_unique, equal_decided, word_in_decided}
@@ -118,8 +119,8 @@ qualifiers_inside (negation_first d c) l = chance_inside c (negated_inside d l)
 qualifiers_inside (percentage_first c d) l = negated_inside d (chance_inside c l)
 qualifiers_inside (neither d c) l = l
 
-pub negation_read : {s : List ℕ} {i j k : ℕ} {d : Bool} {c : Option ℕ} (x : Bool × ℕ) → d ≡ true → IsNegated s i j d → IsChance s j k c → x ≡ (true, k) → AreQualifiers s i x.1 x.0 c
+pub negation_read : {s : List ℕ} {i j k : ℕ} {d : Bool} {c : Option ℕ} (x : Scanned Bool ℕ) → d ≡ true → IsNegated s i j d → IsChance s j k c → x ≡ record { value = true; to = k } → AreQualifiers s i x.to x.value c
 negation_read {s} {i} {j} x first a b e = rw e (negation_first (subst (λ d. IsNegated s i j d) first a) b)
 
-pub percentage_read : {s : List ℕ} {i j k : ℕ} {d : Bool} {c : Option ℕ} (x r : Bool × ℕ) → d ≡ false → IsNegated s i j d → IsChance s j k c → IsNegated s k r.1 r.0 → x ≡ r → AreQualifiers s i x.1 x.0 c
+pub percentage_read : {s : List ℕ} {i j k : ℕ} {d : Bool} {c : Option ℕ} (x r : Scanned Bool ℕ) → d ≡ false → IsNegated s i j d → IsChance s j k c → IsNegated s k r.to r.value → x ≡ r → AreQualifiers s i x.to x.value c
 percentage_read {s} {i} {j} x r first a b d e = rw e (qualifiers_after (subst (λ d. IsNegated s i j d) first a) b d)

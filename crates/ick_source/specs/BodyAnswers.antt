@@ -1,18 +1,19 @@
 -- What the reader of a body at a byte of a text answers.
 use Rattle.std.specs.Prelude.{ℕ, ◌≡◌, List, Option, Some, None}
-use Rattle.ick_source.specs.declared.body_bytes.ParsedBody.{ParsedBody}
+use Rattle.ick_source.specs.declared.body.Body.{Body}
+use Rattle.ick_source.specs.declared.parsed.Parsed.{Parsed}
 use Rattle.ick_source.specs.Clamped.{no_faults}
 use Rattle.ick_source.specs.BodyTree.{BodyTree, body_tree_of, clamped_body, faults_of_body}
 use Rattle.ick_source.specs.BodyBytes.{IsBodyIn, HasNoBody}
 
--- A body stands there, up to the draft's end: what is kept of it, and its numbers out of range. Without any, it is kept as it is.
-pub record IsParsedBody (s : List ℕ) (i : ℕ) (draft : ParsedBody) : Type 0 where
+-- a body stands there, up to the end of what was parsed: it is clamped, with its numbers out of range, and exact without any
+pub record IsParsedBody (s : List ℕ) (i : ℕ) (body : Parsed Body ℕ) : Type 0 where
   pub tree : BodyTree
-  pub stands : IsBodyIn s i draft.end tree
-  pub is_clamped : body_tree_of draft.body ≡ Some (clamped_body tree)
-  pub are_faults : draft.faults ≡ faults_of_body tree
-  pub is_exact : draft.faults ≡ no_faults → body_tree_of draft.body ≡ Some tree
+  pub stands : IsBodyIn s i body.to tree
+  pub is_clamped : body_tree_of body.value ≡ Some (clamped_body tree)
+  pub are_faults : body.faults ≡ faults_of_body tree
+  pub is_exact : body.faults ≡ no_faults → body_tree_of body.value ≡ Some tree
 
-abbrev pub AnswersBody : List ℕ → ℕ → Option ParsedBody → Type 0
+abbrev pub AnswersBody : List ℕ → ℕ → Option (Parsed Body ℕ) → Type 0
 AnswersBody s i None = HasNoBody s i
-AnswersBody s i (Some draft) = IsParsedBody s i draft
+AnswersBody s i (Some body) = IsParsedBody s i body

@@ -1,6 +1,7 @@
 -- What the parts of the reader answer.
 use Rattle.std.specs.Prelude.{◌≡◌, ℕ, min, Bool, List, Option, Some, None, unwrap_or}
 use Rattle.ick_source.specs.declared.boundaries.Start.{Start}
+use Rattle.ick_source.specs.declared.parsed.Scanned.{Scanned}
 use Rattle.ick_source.specs.declared.qualifiers.Qualifiers as qualifiers
 use Rattle.ick_source.specs.Qualifiers.{AreQualifiers}
 
@@ -10,9 +11,9 @@ IsCapped value number = value ≡ min number 65536
 
 -- R to a says that a stands at a position and ends at `to`. Some answers an end and, seen through Q, a value;
 -- None says that nothing stands there.
-abbrev pub Scans : {X A : Type 0} → (ℕ → A → Type 0) → (X → A → Type 0) → Option (X × ℕ) → Type 0
+abbrev pub Scans : {X A : Type 0} → (ℕ → A → Type 0) → (X → A → Type 0) → Option (Scanned X ℕ) → Type 0
 Scans {X} {A} R Q None = (to : ℕ) (a : A) → R to a → ⊥
-Scans {X} {A} R Q (Some r) = (a : A) × R r.1 a × Q r.0 a
+Scans {X} {A} R Q (Some r) = (a : A) × R r.to a × Q r.value a
 
 abbrev pub ReadsLabel : Option ℕ → Option ℕ → Type 0
 ReadsLabel None None = Unit {0}

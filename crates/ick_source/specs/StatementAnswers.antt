@@ -1,7 +1,9 @@
 -- What the reader of a statement answers.
 use Rattle.std.specs.Prelude.{◌≡◌, ℕ, List, Option, Some, None}
-use Rattle.ick_source.specs.declared.body_bytes.ParsedBody.{ParsedBody}
-use Rattle.ick_source.specs.declared.statement_reader.Candidate.{Candidate}
+use Rattle.ick_source.specs.declared.body.Body.{Body}
+use Rattle.ick_source.specs.declared.faults.Faults.{Faults}
+use Rattle.ick_source.specs.declared.parsed.Parsed.{Parsed}
+use Rattle.ick_source.specs.declared.statements.Statement.{Statement}
 use Rattle.ick_source.specs.declared.statement_reader.ClampedLabel.{ClampedLabel}
 use Rattle.ick_source.specs.Bytes.{IsGap}
 use Rattle.ick_source.specs.BodyTree.{BodyTree, body_tree_of}
@@ -10,33 +12,33 @@ use Rattle.ick_source.specs.Clamped.{no_faults}
 use Rattle.ick_source.specs.StatementFaults.{faults_of_recognised, faults_of_label, faults_of_statement}
 use Rattle.ick_source.specs.Statements.{IsRecognised, Ends}
 
-pub record ReadsBody (x : ParsedBody) (body : Option BodyTree) : Type 0 where
-  pub faults : x.faults ≡ faults_of_recognised body
-  pub same : x.faults ≡ no_faults → body_tree_of x.body ≡ body
+pub record ReadsBody (body : Body) (found : Faults) (tree : Option BodyTree) : Type 0 where
+  pub faults : found ≡ faults_of_recognised tree
+  pub same : found ≡ no_faults → body_tree_of body ≡ tree
 
--- A body that goes up to a boundary, which is the draft's end.
-pub record ReadsRecognised (text : List ℕ) (from : ℕ) (x : ParsedBody) : Type 0 where
+-- a body that goes up to a boundary, which is the end of what was parsed
+pub record ReadsRecognised (text : List ℕ) (from : ℕ) (x : Parsed Body ℕ) : Type 0 where
   pub tree : BodyTree
-  pub recognised : IsRecognised text from x.end tree
-  pub reads : ReadsBody x (Some tree)
+  pub recognised : IsRecognised text from x.to tree
+  pub reads : ReadsBody x.value x.faults (Some tree)
 
-abbrev pub AnswersRecognised : List ℕ → ℕ → Option ParsedBody → Type 0
+abbrev pub AnswersRecognised : List ℕ → ℕ → Option (Parsed Body ℕ) → Type 0
 AnswersRecognised text from None = (to : ℕ) (tree : BodyTree) → IsRecognised text from to tree → ⊥
 AnswersRecognised text from (Some x) = ReadsRecognised text from x
 
--- What stands after a head, up to the draft's end.
-pub record EndsAt (text : List ℕ) (head : ℕ) (x : ParsedBody) : Type 0 where
+-- what stands after a head, up to the end of what was parsed
+pub record EndsAt (text : List ℕ) (head : ℕ) (x : Parsed Body ℕ) : Type 0 where
   pub begin : ℕ
   pub body : Option BodyTree
   pub gap : IsGap text head begin
-  pub ends : Ends text head begin x.end body
-  pub reads : ReadsBody x body
+  pub ends : Ends text head begin x.to body
+  pub reads : ReadsBody x.value x.faults body
 
 pub record ClampsLabel (x : ClampedLabel) (label : Option ℕ) : Type 0 where
   pub faults : x.faults ≡ faults_of_label label
   pub same : x.faults ≡ no_faults → x.label ≡ label
 
-pub record ReadsStatement (x : Candidate) (tree : StatementTree) : Type 0 where
-  pub faults : x.faults ≡ faults_of_statement tree
-  pub polite : x.statement.polite ≡ tree.polite
-  pub same : x.faults ≡ no_faults → statement_tree_of x.statement ≡ tree
+pub record ReadsStatement (statement : Statement) (found : Faults) (tree : StatementTree) : Type 0 where
+  pub faults : found ≡ faults_of_statement tree
+  pub polite : statement.polite ≡ tree.polite
+  pub same : found ≡ no_faults → statement_tree_of statement ≡ tree

@@ -6,34 +6,30 @@ ghost use Rattle.ick_source.specs.Position.{left_at, characters};
 
 use crate::body::Body;
 use crate::body_reader::body_at;
-use crate::faults::Faults;
+use crate::parsed::Parsed;
 use crate::position::Position;
 use std::alloc::{AllocError, Global};
-
-/// A body that was read, the byte where it ends, and its numbers out of range. Without such numbers the body is the text's.
-#[derive(Drop)]
-pub struct ParsedBody {
-    pub body: Body,
-    pub end: usize,
-    pub faults: Faults,
-}
 
 /// The body that begins at the byte `at`, of which there is at most one (Revised Manual, 4.4).
 ///
 /// `None` where no body stands there, or none that ends at a byte: a `!` is two characters, and what ends between them is no body (this profile).
-pub fn body_in(alloc: Global, text: &[u8], at: usize) -> Result<Option<ParsedBody>, AllocError>
+pub fn body_in(
+    alloc: Global,
+    text: &[u8],
+    at: usize,
+) -> Result<Option<Parsed<Body, usize>>, AllocError>
     ensures { IfOk result (AnswersBody text.now at) }
 {
     let from = Position { at, between: false };
     let Some(found) = body_at(alloc, text, from)? else {
         return Ok(None);
     };
-    let Some(end) = byte_position(text, found.to) else {
+    let Some(to) = byte_position(text, found.to) else {
         return Ok(None);
     };
-    Ok(Some(ParsedBody {
-        body: found.value,
-        end,
+    Ok(Some(Parsed {
+        value: found.value,
+        to,
         faults: found.faults,
     }))
 }

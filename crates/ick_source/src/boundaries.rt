@@ -5,6 +5,7 @@ ghost use Rattle.ick_source.specs.Boundaries.{IsIdentifier, IsLabelIn, IsOpening
 ghost use Rattle.ick_source.specs.HeadAnswers.{IsCapped, Scans, ReadsOpening};
 
 use crate::bytes::{after_white, byte_at, is_word_in, number_in};
+use crate::parsed::Scanned;
 
 /// What a statement begins with.
 #[derive(Clone, Copy)]
@@ -14,62 +15,80 @@ pub struct Start {
 }
 
 /// The identifier here, whether it is polite, and the position after it.
-fn identifier_at(text: &[u8], at: usize) -> Option<(bool, usize)>
+fn identifier_at(text: &[u8], at: usize) -> Option<Scanned<bool, usize>>
     requires { at ≤ length text.now }
     ensures identifier { Scans (IsIdentifier text.now at) (λ x p. x ≡ p) result }
-    ensures within { IfSome result (λ r. r.1 ≤ length text.now) }
+    ensures within { IfSome result (λ r. r.to ≤ length text.now) }
 {
     if is_word_in(text, at, b"PLEASE") {
         let next = after_white(text, at + 6);
         if is_word_in(text, next, b"DO") {
-            Some((true, next + 2))
+            Some(Scanned {
+                value: true,
+                to: next + 2,
+            })
         } else {
-            Some((true, at + 6))
+            Some(Scanned {
+                value: true,
+                to: at + 6,
+            })
         }
     } else if is_word_in(text, at, b"DO") {
-        Some((false, at + 2))
+        Some(Scanned {
+            value: false,
+            to: at + 2,
+        })
     } else {
         None
     }
 }
 
 /// The label here, and the position after it.
-fn label_in(text: &[u8], at: usize) -> Option<(u32, usize)>
+fn label_in(text: &[u8], at: usize) -> Option<Scanned<u32, usize>>
     requires { at ≤ length text.now }
     ensures label { Scans (IsLabelIn text.now at) IsCapped result }
-    ensures within { IfSome result (λ r. r.1 ≤ length text.now) }
+    ensures within { IfSome result (λ r. r.to ≤ length text.now) }
 {
     if byte_at(text, at) != b'(' {
         return None;
     }
-    let (number, last) = number_in(text, after_white(text, at + 1))?;
-    let close = after_white(text, last);
+    let number = number_in(text, after_white(text, at + 1))?;
+    let close = after_white(text, number.to);
     if byte_at(text, close) != b')' {
         return None;
     }
-    Some((number, close + 1))
+    Some(Scanned {
+        value: number.value,
+        to: close + 1,
+    })
 }
 
 /// The opening of a statement here, and the position after it.
-pub fn opening_at(text: &[u8], at: usize) -> Option<(Start, usize)>
+pub fn opening_at(text: &[u8], at: usize) -> Option<Scanned<Start, usize>>
     requires { at ≤ length text.now }
     ensures opening { Scans (λ to a. IsOpening text.now at to a.0 a.1) ReadsOpening result }
-    ensures within { IfSome result (λ r. r.1 ≤ length text.now) }
+    ensures within { IfSome result (λ r. r.to ≤ length text.now) }
 {
-    if let Some((polite, end)) = identifier_at(text, at) {
-        let start = Start {
+    if let Some(polite) = identifier_at(text, at) {
+        let value = Start {
             label: None,
-            polite,
+            polite: polite.value,
         };
-        return Some((start, end));
+        return Some(Scanned {
+            value,
+            to: polite.to,
+        });
     }
-    let (number, last) = label_in(text, at)?;
-    let (polite, end) = identifier_at(text, after_white(text, last))?;
-    let start = Start {
-        label: Some(number),
-        polite,
+    let label = label_in(text, at)?;
+    let polite = identifier_at(text, after_white(text, label.to))?;
+    let value = Start {
+        label: Some(label.value),
+        polite: polite.value,
     };
-    Some((start, end))
+    Some(Scanned {
+        value,
+        to: polite.to,
+    })
 }
 
 /// Whether a statement starts here, or the text ends.

@@ -6,6 +6,7 @@ ghost use Rattle.ick_source.specs.Bytes.{byte, IsGap, IsNumberIn, IsWordIn};
 ghost use Rattle.ick_source.specs.Token.{is_digit};
 ghost use Rattle.ick_source.specs.HeadAnswers.{IsCapped, Scans};
 
+use crate::parsed::Scanned;
 use ick_bits::is_white;
 
 /// The byte at a position, and 0 past the end.
@@ -46,9 +47,9 @@ pub fn is_word_in(text: &[u8], at: usize, word: &[u8]) -> bool
 
 /// The number here, with all its digits, and the position after it. For each number above 65,535 it is
 /// 65,536.
-pub fn number_in(text: &[u8], at: usize) -> Option<(u32, usize)>
+pub fn number_in(text: &[u8], at: usize) -> Option<Scanned<u32, usize>>
     ensures number { Scans (IsNumberIn text.now at) IsCapped result }
-    ensures within { IfSome result (λ r. r.1 ≤ length text.now) }
+    ensures within { IfSome result (λ r. r.to ≤ length text.now) }
 {
     let mut end = at;
     let mut value = 0u32;
@@ -56,7 +57,10 @@ pub fn number_in(text: &[u8], at: usize) -> Option<(u32, usize)>
         value = with_digit(value, byte_at(text, end));
         end += 1;
     }
-    if end == at { None } else { Some((value, end)) }
+    if end == at {
+        return None;
+    }
+    Some(Scanned { value, to: end })
 }
 
 /// Whether the byte is a digit.

@@ -5,6 +5,7 @@ ghost use Rattle.ick_source.specs.Qualifiers.{IsNegation, IsNegated, IsPercentag
 ghost use Rattle.ick_source.specs.HeadAnswers.{Scans, ReadsQualifiers};
 
 use crate::bytes::{after_white, byte_at, is_word_in, number_in};
+use crate::parsed::Scanned;
 
 /// Whether a statement is abstained from at the start, and its chance of being done.
 #[derive(Clone, Copy)]
@@ -23,64 +24,87 @@ fn is_negation(text: &[u8], at: usize) -> bool
 }
 
 /// Whether NOT or N'T stands here after white bytes, and the position after it, or else this position.
-fn negated_at(text: &[u8], at: usize) -> (bool, usize)
+fn negated_at(text: &[u8], at: usize) -> Scanned<bool, usize>
     requires { at ≤ length text.now }
-    ensures negated { IsNegated text.now at result.1 result.0 }
-    ensures within { result.1 ≤ length text.now }
+    ensures negated { IsNegated text.now at result.to result.value }
+    ensures within { result.to ≤ length text.now }
 {
     let next = after_white(text, at);
     if is_negation(text, next) {
-        (true, next + 3)
+        Scanned {
+            value: true,
+            to: next + 3,
+        }
     } else {
-        (false, at)
+        Scanned {
+            value: false,
+            to: at,
+        }
     }
 }
 
 /// The percentage here, and the position after it.
-fn percentage_at(text: &[u8], at: usize) -> Option<(u8, usize)>
+fn percentage_at(text: &[u8], at: usize) -> Option<Scanned<u8, usize>>
     requires { at ≤ length text.now }
     ensures percentage { Scans (IsPercentage text.now at) (λ x n. x ≡ n) result }
-    ensures small { IfSome result (λ r. r.0 ≤ 100) }
-    ensures within { IfSome result (λ r. r.1 ≤ length text.now) }
+    ensures small { IfSome result (λ r. r.value ≤ 100) }
+    ensures within { IfSome result (λ r. r.to ≤ length text.now) }
 {
     if byte_at(text, at) != b'%' {
         return None;
     }
-    let (number, end) = number_in(text, after_white(text, at + 1))?;
-    if number <= 100 {
-        Some((number as u8, end))
-    } else {
-        None
+    let number = number_in(text, after_white(text, at + 1))?;
+    if number.value > 100 {
+        return None;
     }
+    Some(Scanned {
+        value: number.value as u8,
+        to: number.to,
+    })
 }
 
 /// The percentage that stands here after white bytes, and the position after it, or else this position.
-fn chance_at(text: &[u8], at: usize) -> (Option<u8>, usize)
+fn chance_at(text: &[u8], at: usize) -> Scanned<Option<u8>, usize>
     requires { at ≤ length text.now }
-    ensures chance { IsChance text.now at result.1 result.0 }
-    ensures small { IfSome result.0 (λ n. n ≤ 100) }
-    ensures within { result.1 ≤ length text.now }
+    ensures chance { IsChance text.now at result.to result.value }
+    ensures small { IfSome result.value (λ n. n ≤ 100) }
+    ensures within { result.to ≤ length text.now }
 {
     match percentage_at(text, after_white(text, at)) {
-        Some((percentage, end)) => (Some(percentage), end),
-        None => (None, at),
+        Some(given) => Scanned {
+            value: Some(given.value),
+            to: given.to,
+        },
+        None => Scanned {
+            value: None,
+            to: at,
+        },
     }
 }
 
 /// The qualifiers here, and the position after them.
-pub fn qualifiers_at(text: &[u8], at: usize) -> (Qualifiers, usize)
+pub fn qualifiers_at(text: &[u8], at: usize) -> Scanned<Qualifiers, usize>
     requires { at ≤ length text.now }
-    ensures qualifiers { ReadsQualifiers text.now at result.1 result.0 }
-    ensures small { result.0.chance ≤ 100 }
-    ensures within { result.1 ≤ length text.now }
+    ensures qualifiers { ReadsQualifiers text.now at result.to result.value }
+    ensures small { result.value.chance ≤ 100 }
+    ensures within { result.to ≤ length text.now }
 {
-    let (before, middle) = negated_at(text, at);
-    let (percentage, last) = chance_at(text, middle);
-    let (abstained, end) = if before {
-        (true, last)
+    let before = negated_at(text, at);
+    let percentage = chance_at(text, before.to);
+    let after = if before.value {
+        Scanned {
+            value: true,
+            to: percentage.to,
+        }
     } else {
-        negated_at(text, last)
+        negated_at(text, percentage.to)
     };
-    let chance = percentage.unwrap_or(100);
-    (Qualifiers { abstained, chance }, end)
+    let value = Qualifiers {
+        abstained: after.value,
+        chance: percentage.value.unwrap_or(100),
+    };
+    Scanned {
+        value,
+        to: after.to,
+    }
 }

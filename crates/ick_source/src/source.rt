@@ -15,10 +15,11 @@ use crate::body::Body;
 use crate::boundaries::next_boundary;
 use crate::bytes::after_white;
 use crate::faults::Faults;
+use crate::parsed::Scanned;
 use crate::programs::Program;
 use crate::ranges::OutOfRange;
 use crate::refusals::Refusal;
-use crate::statement_reader::{Candidate, statement_at, trimmed};
+use crate::statement_reader::{statement_at, trimmed};
 use crate::statements::Statement;
 use std::alloc::{AllocError, Global};
 
@@ -45,35 +46,38 @@ impl<'a> Reader<'a> {
         }
     }
 
-    fn add(&mut self, candidate: Candidate<'a>) -> Result<(), AllocError>
+    fn add(&mut self, statement: Statement<'a>, faults: Faults) -> Result<(), AllocError>
         requires room { self.old.count < 2 ^ 32 - 1 }
         requires polite { self.old.polite ≤ self.old.count }
-        requires number { candidate.statement.number ≡ self.old.count + 1 }
+        requires number { statement.number ≡ self.old.count + 1 }
         ensures added { OnOk result ((trees : List StatementTree) (tree : StatementTree) →
-            HasRead self.old trees → ReadsStatement candidate.entry tree →
+            HasRead self.old trees → ReadsStatement statement.entry faults tree →
             HasRead self.new (trees ++ tree ∷ [])) }
         ensures count { OnOk result (self.new.count ≡ self.old.count + 1) }
     {
-        let polite = candidate.statement.polite;
-        self.statements.push(candidate.statement)?;
+        let polite = statement.polite;
+        self.statements.push(statement)?;
         self.count += 1;
         self.polite += u32::from(polite);
-        self.out_of_range = self.out_of_range.noting(self.count, candidate.faults);
+        self.out_of_range = self.out_of_range.noting(self.count, faults);
         Ok(())
     }
 }
 
 /// A reader that has read the bytes before the first start, and the position of that start or of the
 /// end of the text.
-fn front_of(alloc: Global, text: &[u8]) -> Result<(Reader<'_>, usize), AllocError>
-    ensures read { IfOk result (λ r. HasReadUpTo text.now r.1 r.0) }
-    ensures count { IfOk result (λ r. 2 * r.0.count ≤ r.1 + 1) }
+fn front_of(alloc: Global, text: &[u8]) -> Result<Scanned<Reader<'_>, usize>, AllocError>
+    ensures read { IfOk result (λ r. HasReadUpTo text.now r.to r.value) }
+    ensures count { IfOk result (λ r. 2 * r.value.count ≤ r.to + 1) }
 {
     let mut reader = Reader::new(alloc);
     let begin = after_white(text, 0);
     let start = next_boundary(text, 0);
     if begin >= start {
-        return Ok((reader, start));
+        return Ok(Scanned {
+            value: reader,
+            to: start,
+        });
     }
     let statement = Statement {
         label: None,
@@ -84,11 +88,11 @@ fn front_of(alloc: Global, text: &[u8]) -> Result<(Reader<'_>, usize), AllocErro
         text: trimmed(text, begin, start),
         number: 1,
     };
-    reader.add(Candidate {
-        statement,
-        faults: Faults::NONE,
-    })?;
-    Ok((reader, start))
+    reader.add(statement, Faults::NONE)?;
+    Ok(Scanned {
+        value: reader,
+        to: start,
+    })
 }
 
 /// A reader that has read the whole text.
@@ -97,10 +101,12 @@ fn whole_of(alloc: Global, text: &[u8]) -> Result<Reader<'_>, AllocError>
     ensures read { IfOk result (HasReadAll text.now) }
     ensures count { IfOk result (λ r. 2 * r.count ≤ length text.now + 1) }
 {
-    let (mut reader, mut at) = front_of(alloc, text)?;
-    while let Some((candidate, end)) = statement_at(alloc, text, at, reader.count + 1)? {
-        reader.add(candidate)?;
-        at = end;
+    let front = front_of(alloc, text)?;
+    let mut reader = front.value;
+    let mut at = front.to;
+    while let Some(statement) = statement_at(alloc, text, at, reader.count + 1)? {
+        reader.add(statement.value, statement.faults)?;
+        at = statement.to;
     }
     Ok(reader)
 }

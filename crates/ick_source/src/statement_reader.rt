@@ -9,30 +9,24 @@ ghost use Rattle.ick_source.specs.HeadAnswers.{ReadsLabel};
 ghost use Rattle.ick_source.specs.StatementAnswers.{AnswersRecognised, EndsAt, ClampsLabel, ReadsStatement};
 
 use crate::body::Body;
-use crate::body_bytes::{ParsedBody, body_in};
+use crate::body_bytes::body_in;
 use crate::boundaries::{is_boundary, next_boundary, opening_at};
 use crate::bytes::{after_white, byte_at};
 use crate::faults::{Faults, clamped_number};
+use crate::parsed::Parsed;
 use crate::qualifiers::qualifiers_at;
 use crate::statements::Statement;
 use ick_bits::is_white;
 use std::alloc::{AllocError, Global};
 
-/// A statement as far as it can be kept: where it has a fault it is not the one of the text.
-#[derive(Drop)]
-pub struct Candidate<'a> {
-    pub statement: Statement<'a>,
-    pub faults: Faults,
-}
-
-/// A label as far as it can be kept.
+/// The label of a statement, clamped, and whether it is out of range.
 #[derive(Clone, Copy)]
 struct ClampedLabel {
     label: Option<u16>,
     faults: Faults,
 }
 
-/// What is kept of a label.
+/// The label that was read, clamped.
 fn clamped_label(label: Option<u32>) -> ClampedLabel
     ensures { (read : Option ℕ) → ReadsLabel label read → ClampsLabel result read }
 {
@@ -63,31 +57,35 @@ pub fn trimmed(text: &[u8], from: usize, to: usize) -> &[u8]
 }
 
 /// The body here, where it goes up to a boundary, with that boundary as its end.
-fn recognised_at(alloc: Global, text: &[u8], at: usize) -> Result<Option<ParsedBody>, AllocError>
+fn recognised_at(
+    alloc: Global,
+    text: &[u8],
+    at: usize,
+) -> Result<Option<Parsed<Body, usize>>, AllocError>
     requires { at ≤ length text.now }
     ensures { IfOk result (AnswersRecognised text.now at) }
 {
-    let Some(mut draft) = body_in(alloc, text, at)? else {
+    let Some(mut body) = body_in(alloc, text, at)? else {
         return Ok(None);
     };
-    draft.end = after_white(text, draft.end);
-    if !is_boundary(text, draft.end) {
+    body.to = after_white(text, body.to);
+    if !is_boundary(text, body.to) {
         return Ok(None);
     }
-    Ok(Some(draft))
+    Ok(Some(body))
 }
 
 /// What stands after a head, up to the end of its statement.
-fn ending_at(alloc: Global, text: &[u8], head: usize) -> Result<ParsedBody, AllocError>
+fn ending_at(alloc: Global, text: &[u8], head: usize) -> Result<Parsed<Body, usize>, AllocError>
     requires { head ≤ length text.now }
     ensures { IfOk result (EndsAt text.now head) }
 {
     let begin = after_white(text, head);
     match recognised_at(alloc, text, begin)? {
-        Some(draft) => Ok(draft),
-        None => Ok(ParsedBody {
-            body: Body::Unrecognised,
-            end: next_boundary(text, head),
+        Some(body) => Ok(body),
+        None => Ok(Parsed {
+            value: Body::Unrecognised,
+            to: next_boundary(text, head),
             faults: Faults::NONE,
         }),
     }
@@ -99,31 +97,30 @@ pub fn statement_at<'a>(
     text: &'a [u8],
     at: usize,
     number: u32,
-) -> Result<Option<(Candidate<'a>, usize)>, AllocError>
+) -> Result<Option<Parsed<Statement<'a>, usize>>, AllocError>
     requires { at ≤ length text.now }
     ensures { IfOk result (λ r. MatchOption r (IsStart text.now at → ⊥) (λ x.
-        ((t : StatementTree) × IsStatement text.now at x.1 t × ReadsStatement x.0 t)
-        × (x.0.statement.number ≡ number))) }
+        ((t : StatementTree) × IsStatement text.now at x.to t × ReadsStatement x.value x.faults t)
+        × (x.value.number ≡ number))) }
 {
-    let Some((start, after)) = opening_at(text, at) else {
+    let Some(start) = opening_at(text, at) else {
         return Ok(None);
     };
-    let (qualifiers, head) = qualifiers_at(text, after);
-    let draft = ending_at(alloc, text, head)?;
-    let end = draft.end;
-    let label = clamped_label(start.label);
+    let qualifiers = qualifiers_at(text, start.to);
+    let body = ending_at(alloc, text, qualifiers.to)?;
+    let label = clamped_label(start.value.label);
     let statement = Statement {
         label: label.label,
-        polite: start.polite,
-        abstained: qualifiers.abstained,
-        chance: qualifiers.chance,
-        body: draft.body,
-        text: trimmed(text, at, end),
+        polite: start.value.polite,
+        abstained: qualifiers.value.abstained,
+        chance: qualifiers.value.chance,
+        body: body.value,
+        text: trimmed(text, at, body.to),
         number,
     };
-    let candidate = Candidate {
-        statement,
-        faults: label.faults.union(draft.faults),
-    };
-    Ok(Some((candidate, end)))
+    Ok(Some(Parsed {
+        value: statement,
+        to: body.to,
+        faults: label.faults.union(body.faults),
+    }))
 }

@@ -201,20 +201,20 @@ fn shown_body(alloc: Global, body: &Body) -> Result<String, AllocError> {
 }
 
 fn shown_at(alloc: Global, text: &[u8]) -> Result<String, AllocError> {
-    let Some(draft) = body_in(alloc, text, 0)? else {
+    let Some(found) = body_in(alloc, text, 0)? else {
         return String::from_str(alloc, "-");
     };
-    let mut shown = shown_body(alloc, &draft.body)?;
-    let end = draft.end;
+    let mut shown = shown_body(alloc, &found.value)?;
+    let end = found.to;
     let position = format!(in alloc; " {end}")?;
     shown.push_str(position.as_str())?;
-    if draft.faults.mesh {
+    if found.faults.mesh {
         shown.push_str(" M")?;
     }
-    if draft.faults.name {
+    if found.faults.name {
         shown.push_str(" N")?;
     }
-    if draft.faults.label {
+    if found.faults.label {
         shown.push_str(" L")?;
     }
     Ok(shown)
@@ -423,7 +423,7 @@ fn a_body_is_read_at_a_byte(rt: HostRuntime) -> Result<(), Fail> {
         (10, None),
         (11, None),
     ] {
-        let end = body_in(rt.alloc(), text, at)?.map(|draft| draft.end);
+        let end = body_in(rt.alloc(), text, at)?.map(|found| found.to);
         assert_eq!(rt; end, wanted, "at {at}");
     }
     Ok(())

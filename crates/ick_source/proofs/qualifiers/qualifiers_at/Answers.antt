@@ -7,10 +7,10 @@ returns-clause-qualifiers c =
     let first = c.negated_at-before.ensures.negated in
     let second = c.chance_at-percentage.ensures.chance in
     record {
-      percentage = c.chance_at-percentage.result.0;
+      percentage = c.chance_at-percentage.result.value;
       stand = elim c.if-before.branch [
-        | then-before w ↦ negation_read _ w.if-before.true first second w.abstained-is
-        | else-before w ↦ percentage_read _ _ w.if-before.false first second w.negated_at.ensures.negated w.abstained-is
+        | then-before w ↦ negation_read _ w.if-before.true first second w.after-is
+        | else-before w ↦ percentage_read _ _ w.if-before.false first second w.negated_at-after.ensures.negated w.after-is
       ];
-      chance = c.unwrap_or-chance.ensures;
+      chance = c.unwrap_or.ensures;
     }

@@ -14,7 +14,7 @@ statement_at-requires c = boundary_inside c.loop-reader.invariant.read.boundary
 
 pub add-requires : goal.add-requires
 add-requires c =
-    let found = rw c.in-Some.is at c.in_ok-candidate.ensures in
+    let found = rw c.in-Some.is at c.in_ok-statement.ensures in
     let read = c.loop-reader.invariant in
     record {
       room = omega (arith, boundary_inside read.read.boundary, read.count, read.fits);
@@ -24,12 +24,12 @@ add-requires c =
 
 pub loop-reader-smaller : goal.loop-reader-smaller
 loop-reader-smaller c =
-    let found = rw c.in-Some.is at c.in_ok-candidate.ensures in
+    let found = rw c.in-Some.is at c.in_ok-statement.ensures in
     omega (arith, statement_longer found.0.1, statement_start found.0.1)
 
 pub loop-reader-preserved : goal.loop-reader-preserved
 loop-reader-preserved c =
-    let found = rw c.in-Some.is at c.in_ok-candidate.ensures in
+    let found = rw c.in-Some.is at c.in_ok-statement.ensures in
     let read = c.loop-reader.invariant in
     record {
       read = read_more read.read found.0.1 (c.in_ok-add.ensures.added read.read.front found.0.0 read.read.reads found.0.2);
@@ -38,7 +38,7 @@ loop-reader-preserved c =
     }
 
 pub returns-clause-read : goal.returns-clause-read
-returns-clause-read c = read_whole c.loop-reader.invariant.read (rw c.in_default.is at c.in_ok-candidate.ensures)
+returns-clause-read c = read_whole c.loop-reader.invariant.read (rw c.in_default.is at c.in_ok-statement.ensures)
 
 pub returns-clause-count : goal.returns-clause-count
 returns-clause-count c = let read = c.loop-reader.invariant in omega (arith, read.count, boundary_inside read.read.boundary)

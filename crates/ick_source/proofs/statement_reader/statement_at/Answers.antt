@@ -11,11 +11,11 @@ returns-in_default c = λ x. c.in_default.ensures.opening x.end (x.label, x.poli
 
 pub trimmed-requires-clause-some : goal.trimmed-requires-clause-some
 trimmed-requires-clause-some c =
-    let ends = c.in_ok-draft.ensures in
-    omega (arith, opening_longer c.in-Some.ensures.opening.1, qualifiers_order c.qualifiers_at-head.ensures.qualifiers.stand, ends_order ends.gap ends.ends)
+    let ends = c.in_ok-body.ensures in
+    omega (arith, opening_longer c.in-Some.ensures.opening.1, qualifiers_order c.qualifiers_at-qualifiers.ensures.qualifiers.stand, ends_order ends.gap ends.ends)
 
 pub trimmed-requires-clause-within : goal.trimmed-requires-clause-within
-trimmed-requires-clause-within c = ends_inside c.in_ok-draft.ensures.ends
+trimmed-requires-clause-within c = ends_inside c.in_ok-body.ensures.ends
 
 pub trimmed-requires-clause-solid : goal.trimmed-requires-clause-solid
 trimmed-requires-clause-solid c = opening_solid c.in-Some.ensures.opening.1
@@ -23,23 +23,23 @@ trimmed-requires-clause-solid c = opening_solid c.in-Some.ensures.opening.1
 pub returns : goal.returns
 returns c =
     let opening = c.in-Some.ensures.opening in
-    let qualifiers = c.qualifiers_at-head.ensures.qualifiers in
-    let ends = c.in_ok-draft.ensures in
+    let qualifiers = c.qualifiers_at-qualifiers.ensures.qualifiers in
+    let ends = c.in_ok-body.ensures in
     let label = c.clamped_label-label.ensures opening.0.0 opening.2.0 in
     let t : StatementTree = record {
       label = opening.0.0;
       polite = opening.0.1;
-      abstained = c.qualifiers_at-head.result.0.abstained;
-      chance = c.qualifiers_at-head.result.0.chance;
+      abstained = c.qualifiers_at-qualifiers.result.value.abstained;
+      chance = c.qualifiers_at-qualifiers.result.value.chance;
       body = ends.body;
       text = c.trimmed.result.now;
     } in (
       (
         t,
         record {
-          head = c.qualifiers_at-head.result.1;
+          head = c.qualifiers_at-qualifiers.result.to;
           begin = ends.begin;
-          says = record { after = c.in-Some.after; percentage = qualifiers.percentage; opening = opening.1; qualifiers = qualifiers.stand; chance = qualifiers.chance };
+          says = record { after = c.in-Some.start.to; percentage = qualifiers.percentage; opening = opening.1; qualifiers = qualifiers.stand; chance = qualifiers.chance };
           gap = ends.gap;
           ends = ends.ends;
           trimmed = c.trimmed.ensures;
