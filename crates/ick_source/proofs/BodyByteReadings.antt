@@ -1,5 +1,6 @@
 -- From the body that is found between characters to the body between bytes.
 use Rattle.std.proofs.Common.{◌≡◌, ℕ, ◌≤◌, List, [], ◌∷◌, Option, Some, length, drop, map, nat_eq, nat_lt, false, refl, sym, ap, subst, ◌∙◌}
+use Rattle.std.proofs.lemmas.Bool.{or_parts}
 use Rattle.ick_source.specs.declared.faults.Faults.{Faults}
 use Rattle.ick_source.specs.declared.body.Body.{Body}
 use Rattle.ick_source.specs.Position.{characters, left_at}
@@ -10,7 +11,7 @@ use Rattle.ick_source.specs.BodyBytes.{HasNoBody}
 use Rattle.ick_source.specs.BodyAnswers.{IsParsedBody}
 use Rattle.ick_source.specs.Nonterminal.{bodies}
 use Rattle.ick_source.specs.Answers.{IsParsed, IsAbsent}
-use Rattle.ick_source.proofs.ClampedWhole.{low_clamped, or_right, left_fine, right_fine, name_clamped, tree_clamped}
+use Rattle.ick_source.proofs.ClampedWhole.{low_clamped, left_fine, right_fine, name_clamped, tree_clamped}
 use Rattle.ick_source.proofs.BodyUnique.{body_unique}
 
 all_clamped : {A : Type 0} (change : A → A) (faults : A → Faults) → ((x : A) → faults x ≡ no_faults → change x ≡ x) → (xs : List A) → faults_along faults xs ≡ no_faults → map change xs ≡ xs
@@ -21,7 +22,7 @@ all_clamped change faults each (x ∷ xs) e =
     λ i. a i ∷ b i
 
 label_clamped : (n : ℕ) → label_faults n ≡ no_faults → clamped n ≡ n
-label_clamped n e = low_clamped n (or_right (nat_eq n 0) (nat_lt 65535 n) (ap (λ f. f.label) e))
+label_clamped n e = low_clamped n (or_parts (nat_eq n 0) (nat_lt 65535 n) (ap (λ f. f.label) e)).1
 
 item_clamped : (x : ItemTree) → faults_of_item x ≡ no_faults → clamped_item x ≡ x
 item_clamped (single t) f = ap single (tree_clamped t f)

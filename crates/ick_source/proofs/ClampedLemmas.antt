@@ -1,5 +1,6 @@
 -- What is kept of a tree.
 use Rattle.std.proofs.Common.{◌≡◌, ℕ, min, Bool, true, false, ◌||◌, nat_lt, nat_eq, List, [], ◌∷◌, ◌++◌, Option, Some, None, refl, sym, ap, ◌∙◌, arith}
+use Rattle.std.proofs.Math.Bool.{or-false, or_assoc}
 use Rattle.std.proofs.lemmas.Bool.Decides.{nat_tests}
 use Rattle.ick_source.specs.declared.tree.NameKind.{NameKind}
 use Rattle.ick_source.specs.declared.tree.UnaryOp.{UnaryOp}
@@ -46,19 +47,11 @@ unfolding faults_of
 faults_of-under None t = refl
 faults_of-under (Some o) t = refl
 
-or_assoc : (a b c : Bool) → ((a || b) || c) ≡ (a || (b || c))
-or_assoc true b c = refl
-or_assoc false b c = refl
-
-or_false : (a : Bool) → (a || false) ≡ a
-or_false true = refl
-or_false false = refl
-
 pub both_assoc : (a b c : Faults) → both_faults (both_faults a b) c ≡ both_faults a (both_faults b c)
 both_assoc a b c = rw (or_assoc a.mesh b.mesh c.mesh, or_assoc a.name b.name c.name, or_assoc a.label b.label c.label) refl
 
 pub both-no : (a : Faults) → both_faults a no_faults ≡ a
-both-no a = rw (or_false a.mesh, or_false a.name, or_false a.label) refl
+both-no a = rw (or-false a.mesh, or-false a.name, or-false a.label) refl
 
 pub clamped_trees-join : (a b : Trees) → clamped_trees (join a b) ≡ join (clamped_trees a) (clamped_trees b)
 unfolding clamped_tree

@@ -1,11 +1,12 @@
 -- Each text has exactly one cut.
 use Rattle.std.proofs.Common.{List, [], arith, inl, inr, length, refl, suc, zero, ℕ, ◌+◌, ◌<◌, ◌∷◌, ◌≡◌}
+use Rattle.std.proofs.lemmas.Bool.{cases_order}
 use Rattle.ick_source.specs.Boundaries.{IsBoundary, IsNextBoundary, at_end, at_start}
 use Rattle.ick_source.specs.Bytes.{IsGap}
 use Rattle.ick_source.specs.Cut.{IsCut, IsFront, AreStatements, done, statement_then, nothing, plain, something}
 use Rattle.ick_source.specs.StatementTree.{StatementTree}
 use Rattle.ick_source.proofs.BoundaryLemmas.{next_boundary_exists, next_boundary_unique, opening_solid, start_inside}
-use Rattle.ick_source.proofs.ByteLemmas.{gap_exists, gap_unique, less_or, not_white, past}
+use Rattle.ick_source.proofs.ByteLemmas.{gap_exists, gap_unique, not_white, past}
 use Rattle.ick_source.proofs.StatementLemmas.{statement_boundary, statement_exists, statement_longer, statement_unique, statement_start, trimmed_exists, trimmed_unique}
 
 statements_unique : {s : List ℕ} {i j : ℕ} {ps qs : List StatementTree} → AreStatements s i ps → AreStatements s j qs → i ≡ j → ps ≡ qs
@@ -49,8 +50,8 @@ cut_exists s =
     let g = gap_exists s 0 in
     let b = next_boundary_exists s (length s) 0 (omega arith) in
     let rest = statements_exist s (suc (length s)) b.0 (omega arith) b.1.boundary in
-    elim (less_or g.0 b.0) [
-      | inl (inl lt) ↦ (let text = trimmed_exists s g.0 b.0 g.1.stops lt in (plain text.0 ∷ rest.0, record { begin = g.0; start = b.0; rest = rest.0; gap = g.1; first = b.1; front = something lt text.1; statements = rest.1 }))
-      | inl (inr gt) ↦ absurd (front_order g.1 b.1 gt)
-      | inr e ↦ (rest.0, record { begin = g.0; start = b.0; rest = rest.0; gap = g.1; first = b.1; front = nothing e; statements = rest.1 })
+    elim (cases_order g.0 b.0) [
+      | inr (inl lt) ↦ (let text = trimmed_exists s g.0 b.0 g.1.stops lt in (plain text.0 ∷ rest.0, record { begin = g.0; start = b.0; rest = rest.0; gap = g.1; first = b.1; front = something lt text.1; statements = rest.1 }))
+      | inr (inr gt) ↦ absurd (front_order g.1 b.1 gt)
+      | inl e ↦ (rest.0, record { begin = g.0; start = b.0; rest = rest.0; gap = g.1; first = b.1; front = nothing e; statements = rest.1 })
     ]

@@ -1,6 +1,6 @@
 -- The labels of statements, one statement after another.
 use Rattle.std.proofs.Common.{Bool, IsTrue, List, None, Some, add-one, ap, arith, false, get_or, inl, inr, length, map, not, option_and_then, refl, slice_get, subst, sym, true, ℕ, ◌+◌, ◌<◌, ◌∙◌, ◌≡◌, ◌≤◌}
-use Rattle.std.proofs.lemmas.Bool.{false≢true}
+use Rattle.std.proofs.lemmas.Bool.{cases_order, false≢true}
 use Rattle.std.proofs.lemmas.Option.{slice_get-map, slice_get_read}
 use Rattle.std.specs.BTreeSet.{BTreeSet, Updates, contains}
 use Rattle.std.specs.Ordering.{is_eq, nat_cmp}
@@ -12,7 +12,7 @@ use Rattle.ick_source.specs.declared.labels.LabelUse.{LabelUse}
 use Rattle.ick_source.specs.declared.labels.LabelUse.TheVariants.{Abstain, Next}
 use Rattle.ick_source.specs.StatementTree.{StatementTree, statement_tree_of}
 use Rattle.ick_source.specs.declared.statements.Statement.{Statement}
-use Rattle.ick_source.proofs.ByteLemmas.{less_or, equal_decided}
+use Rattle.ick_source.proofs.ByteLemmas.{equal_decided}
 use Rattle.ick_source.proofs.RefusalLemmas.{HoldsAt-inside, sound_more}
 
 -- The tree of the statement at an index.
@@ -30,10 +30,10 @@ HoldsAt-stands P all i t e h = rw (add-one, e) h
 
 -- One statement further.
 pub one_more : (P : ℕ → Type 0) (i : ℕ) → ((m : ℕ) → m ≤ i → P m) → P (i + 1) → (m : ℕ) → m ≤ i + 1 → P m
-one_more P i before here m le = elim (less_or m (i + 1)) [
-  | inl (inl lt) ↦ before m (omega arith)
-  | inl (inr gt) ↦ absurd (omega arith)
-  | inr same ↦ subst P (sym same) here
+one_more P i before here m le = elim (cases_order m (i + 1)) [
+  | inr (inl lt) ↦ before m (omega arith)
+  | inr (inr gt) ↦ absurd (omega arith)
+  | inl same ↦ subst P (sym same) here
 ]
 
 -- Which labels the set has after one label was added.

@@ -1,10 +1,10 @@
 -- Negations and percentages.
 use Rattle.std.proofs.Common.{Bool, List, None, Option, Some, ap, arith, codes, false, inl, inr, length, refl, subst, sym, true, ℕ, ◌+◌, ◌≡◌, ◌≤◌, ◌⊎◌}
-use Rattle.std.proofs.lemmas.Bool.{false≢true}
+use Rattle.std.proofs.lemmas.Bool.{cases_lt, false≢true}
 use Rattle.ick_source.specs.declared.parsed.Scanned.{Scanned}
 use Rattle.ick_source.specs.Bytes.{byte}
 use Rattle.ick_source.specs.Qualifiers.{IsChance, IsNegated, IsNegation, IsPercentage, AreQualifiers, affirmed, certain, given, negated, negation_first, neither, percentage_first}
-use Rattle.ick_source.proofs.ByteLemmas.{Finds, differ, gap_exists, gap_unique, inside, le_or, number_in_along, number_in_inside, number_in_decided, number_in_unique, equal_decided, word_in_decided}
+use Rattle.ick_source.proofs.ByteLemmas.{Finds, differ, gap_exists, gap_unique, inside, number_in_along, number_in_inside, number_in_decided, number_in_unique, equal_decided, word_in_decided}
 
 negation_along : (s : List ℕ) {i k : ℕ} → i ≡ k → IsNegation s i → IsNegation s k
 negation_along s e d = subst (λ x. IsNegation s x) e d
@@ -79,9 +79,9 @@ percentage_decided s i = elim (equal_decided (byte s i) 37) [
   | inr n ↦ inr (λ j a x. n x.sign)
   | inl o ↦ let a = gap_exists s (i + 1) in elim (number_in_decided s a.0) [
     | inr n ↦ inr (λ j m x. n _ _ (number_in_along (gap_unique x.gap a.1 refl) x.digits))
-    | inl m ↦ elim (le_or m.1 100) [
-      | inl le ↦ inl (m.0, m.1, record { first = a.0; sign = o; gap = a.1; digits = m.2; most = le })
-      | inr gt ↦ inr (λ j k x. omega (arith, (number_in_unique x.digits m.2 (gap_unique x.gap a.1 refl)).1, x.most, gt))
+    | inl m ↦ elim (cases_lt 100 m.1) [
+      | inr le ↦ inl (m.0, m.1, record { first = a.0; sign = o; gap = a.1; digits = m.2; most = le })
+      | inl gt ↦ inr (λ j k x. omega (arith, (number_in_unique x.digits m.2 (gap_unique x.gap a.1 refl)).1, x.most, gt))
     ]
   ]
 ]

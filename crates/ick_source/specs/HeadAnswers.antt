@@ -3,11 +3,12 @@ use Rattle.std.specs.Prelude.{◌≡◌, ℕ, min, Bool, List, Option, Some, Non
 use Rattle.ick_source.specs.declared.boundaries.Start.{Start}
 use Rattle.ick_source.specs.declared.parsed.Scanned.{Scanned}
 use Rattle.ick_source.specs.declared.qualifiers.Qualifiers as qualifiers
+use Rattle.ick_source.specs.Token.{cap}
 use Rattle.ick_source.specs.Qualifiers.{AreQualifiers}
 
--- A capped number: 65536 stands for every greater one.
+-- a number, capped
 abbrev pub IsCapped : ℕ → ℕ → Type 0
-IsCapped value number = value ≡ min number 65536
+IsCapped value number = value ≡ min number cap
 
 -- R to a says that a stands at a position and ends at `to`. Some answers an end and, seen through Q, a value;
 -- None says that nothing stands there.

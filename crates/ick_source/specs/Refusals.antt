@@ -88,9 +88,13 @@ pub record IsFirstFault (trees : List StatementTree) (kind : FaultKind) (n : ℕ
   pub first : (m : ℕ) → m < n → IsFaultAt kind trees m → ⊥
   pub least : IsSoundBelow (rank kind) trees
 
--- A source may have this many bytes.
+-- a source may have this many bytes
 abbrev pub longest : ℕ
 longest = 1048576
+
+-- a program has at most this many statements: each takes two bytes of its source at least
+abbrev pub most_statements : ℕ
+most_statements = 524288
 
 -- The text compiles to these statements.
 pub record Compiles (text : List ℕ) (trees : List StatementTree) : Type 0 where

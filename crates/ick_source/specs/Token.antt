@@ -41,8 +41,12 @@ past_operator (Some o) from = past_lead from
 abbrev pub past_unary : List ℕ → List ℕ
 past_unary from = past_operator (unary_at from) from
 
--- a number, of which 65536 is kept where it is greater
+-- numbers are read up to this one, which stands for every greater one
+abbrev pub cap : ℕ
+cap = 65536
+
+-- a number, capped
 pub record CappedNumber (from to : List ℕ) (value : ℕ) : Type 0 where
   pub number : ℕ
   pub is : IsNumber from to number
-  pub capped : value ≡ min number 65536
+  pub capped : value ≡ min number cap

@@ -4,7 +4,7 @@ ghost use Rattle.std.specs.Prelude.{◌≡◌, ◌≤◌, length, true, IfOk, If
 ghost use Rattle.std.specs.List.{list_all};
 ghost use Rattle.ick_source.specs.NameKinds.{is_statement_kinded};
 ghost use Rattle.ick_source.specs.StatementTree.{statement_trees, AreNumbered, polite_in};
-ghost use Rattle.ick_source.specs.Refusals.{IsSound, IsSoundBelow, rank};
+ghost use Rattle.ick_source.specs.Refusals.{IsSound, IsSoundBelow, most_statements, rank};
 ghost use Rattle.ick_source.specs.RefusalAnswers.{RefusesTrees};
 
 use crate::labels::{LabelUse, check_use, labels_of};
@@ -27,7 +27,7 @@ pub struct Program<'a> {
     pub ghost numbered: { AreNumbered statements.items },
     pub ghost sound: { IsSound (statement_trees statements.items) },
     pub ghost counted: { polite ≡ polite_in (statement_trees statements.items) },
-    pub ghost size: { length statements.items ≤ 524288 },
+    pub ghost size: { length statements.items ≤ most_statements },
     pub ghost kinded: { list_all is_statement_kinded (statement_trees statements.items) ≡ true },
 }
 
@@ -42,7 +42,7 @@ impl<'a> Program<'a> {
     ) -> Result<Self, Refusal>
         requires numbered { AreNumbered statements.items }
         requires counted { polite ≡ polite_in (statement_trees statements.items) }
-        requires size { length statements.items ≤ 524288 }
+        requires size { length statements.items ≤ most_statements }
         requires kinded { list_all is_statement_kinded (statement_trees statements.items) ≡ true }
         requires ranges { IsSoundBelow (rank FaultKind.SameLabel) (statement_trees statements.items) }
         ensures ok { IfOk result (λ p. statements_of p ≡ statements.entry.items) }
