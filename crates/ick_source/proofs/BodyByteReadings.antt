@@ -4,7 +4,7 @@ use Rattle.std.proofs.lemmas.Bool.{or_parts}
 use Rattle.ick_source.specs.declared.faults.Faults.{Faults}
 use Rattle.ick_source.specs.declared.body.Body.{Body}
 use Rattle.ick_source.specs.Position.{characters, left_at}
-use Rattle.ick_source.specs.Clamped.{clamped, clamped_name, clamped_tree, no_faults, label_faults, faults_of}
+use Rattle.ick_source.specs.Clamped.{greatest, clamped, clamped_name, clamped_tree, no_faults, label_faults, faults_of}
 use Rattle.ick_source.specs.BodyTree.{ItemTree, single, whole, clamped_item, faults_of_item, BodyTree, calculate, dimension, next, forget, resume, stash, retrieve, ignore, remember, abstain_label, abstain_kinds, reinstate_label, reinstate_kinds, give_up, write_in, read_out, body_tree_of, clamped_body, faults_along, faults_of_name, faults_of_body}
 use Rattle.ick_source.specs.BodyGrammar.{IsBody}
 use Rattle.ick_source.specs.BodyBytes.{HasNoBody}
@@ -22,7 +22,7 @@ all_clamped change faults each (x ∷ xs) e =
     λ i. a i ∷ b i
 
 label_clamped : (n : ℕ) → label_faults n ≡ no_faults → clamped n ≡ n
-label_clamped n e = low_clamped n (or_parts (nat_eq n 0) (nat_lt 65535 n) (ap (λ f. f.label) e)).1
+label_clamped n e = low_clamped n (or_parts (nat_eq n 0) (nat_lt greatest n) (ap (λ f. f.label) e)).1
 
 item_clamped : (x : ItemTree) → faults_of_item x ≡ no_faults → clamped_item x ≡ x
 item_clamped (single t) f = ap single (tree_clamped t f)

@@ -54,7 +54,7 @@ pub boundary_inside : {s : List ℕ} {i : ℕ} → IsBoundary s i → i ≤ leng
 boundary_inside (at_start h) = let k = start_inside h in omega arith
 boundary_inside (at_end e) = omega arith
 
--- Between two boundaries of which the first is no start there is nothing.
+-- between two boundaries of which the first is no start there is nothing
 boundary_last : {s : List ℕ} {i j : ℕ} → IsBoundary s i → IsBoundary s j → i < j → IsStart s i
 boundary_last (at_start h) b lt = h
 boundary_last (at_end e) b lt = absurd (let k = boundary_inside b in omega arith)

@@ -26,7 +26,7 @@ number_in_unique {s} {i} {j} {k} {l} g h e =
     ] in
     (same, cc)
 
--- Two words that differ do not stand at one position, shown by their first bytes.
+-- two words that differ do not stand at one position, shown by their first bytes
 pub differ : {A : Type 0} (s : List ℕ) {i k : ℕ} (a b : ℕ) → byte s i ≡ a → byte s k ≡ b → (a ≡ b → ⊥) → i ≡ k → A
 differ s a b x y n e = absurd (n (let f = ap (λ z. byte s z) e in omega (arith, f, x, y)))
 
@@ -73,11 +73,11 @@ between_more P a b h here k x y = elim (cases_order k b) [
   | inl same ↦ subst P (sym same) here
 ]
 
--- Either a value and an end, or none.
+-- either a value and an end, or none
 abbrev pub Finds : {A : Type 0} → (ℕ → A → Type 0) → Type 0
 Finds {A} R = ((j : ℕ) × (a : A) × R j a) ⊎ ((j : ℕ) (a : A) → R j a → ⊥)
 
--- A byte that is known and not white.
+-- a byte that is known and not white
 pub not_white : {A : Type 0} {b c : ℕ} → b ≡ c → is_white_byte c ≡ false → IsWhite b → A
 not_white e f w = absurd (false≢true (sym f ∙ (ap is_white_byte (sym e) ∙ w)))
 
@@ -91,7 +91,7 @@ white_decided b = true_decided (is_white_byte b)
 digit_decided : (b : ℕ) → IsDigit b ⊎ (IsDigit b → ⊥)
 digit_decided b = true_decided (is_digit b)
 
--- The byte past the end is no digit.
+-- the byte past the end is no digit
 end_no_digit : IsDigit 0 → ⊥
 end_no_digit d = let low = digit-low 0 d in omega arith
 
@@ -104,7 +104,7 @@ equal_decided a b = elim (cases_order a b) [ inl e ↦ inl e | inr n ↦ inr (λ
 pub past : (s : List ℕ) (i : ℕ) → length s ≤ i → byte s i ≡ 0
 past s i l = get_or_past s i 0 l
 
--- All positions from i on at which P holds, up to one at which it does not.
+-- all positions from i on at which P holds, up to one at which it does not
 run : (s : List ℕ) (P : ℕ → Type 0) → ((b : ℕ) → P b ⊎ (P b → ⊥)) → (P 0 → ⊥) → (n i : ℕ) → length s ≤ i + n → (e : ℕ) × (i ≤ e) × ((k : ℕ) → i ≤ k → k < e → P (byte s k)) × (P (byte s e) → ⊥)
 run s P or zero_not zero i l = (i, omega arith, λ k a b. absurd (omega arith), λ p. zero_not (subst P (past s i (omega arith)) p))
 run s P or zero_not (suc n) i l = elim (or (byte s i)) [
@@ -153,7 +153,7 @@ number_in_inside {s} {i} {j} x = elim (cases_lt (length s) j) [
   | inl gt ↦ absurd (let d = x.digits (j - 1) (let some : i < j = x.some in omega arith) (let some : i < j = x.some in omega arith) in let low = digit-low (byte s (j - 1)) d in let z = past s (j - 1) (omega arith) in omega (arith, low, z))
 ]
 
--- No digits.
+-- no digits
 pub value_none : (s : List ℕ) (i : ℕ) → value_of_digits (slice_range s i i) ≡ 0
 unfolding value_of_digits
 value_none s i = let none : i - i ≡ 0 = omega arith in rw none refl

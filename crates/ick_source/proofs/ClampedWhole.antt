@@ -1,13 +1,13 @@
 -- A tree with no number out of range is kept as it is.
-use Rattle.std.proofs.Common.{◌≡◌, ℕ, Bool, true, false, ◌||◌, nat_lt, nat_eq, refl, ap, arith}
+use Rattle.std.proofs.Common.{◌≡◌, ℕ, false, nat_lt, nat_eq, refl, ap, arith}
 use Rattle.std.proofs.lemmas.Bool.{or_parts}
 use Rattle.std.proofs.lemmas.Bool.Decides.{nat_tests}
 use Rattle.ick_source.specs.declared.tree.Name.{Name}
 use Rattle.ick_source.specs.declared.faults.Faults.{Faults}
 use Rattle.ick_source.specs.Tree.{Tree, mesh, scalar, element, unary, binary, Trees, none, more}
-use Rattle.ick_source.specs.Clamped.{clamped, clamped_name, clamped_tree, clamped_trees, no_faults, both_faults, name_faults, faults_of, faults_in}
+use Rattle.ick_source.specs.Clamped.{greatest, clamped, clamped_name, clamped_tree, clamped_trees, no_faults, both_faults, name_faults, faults_of, faults_in}
 
-pub low_clamped : (n : ℕ) → nat_lt 65535 n ≡ false → clamped n ≡ n
+pub low_clamped : (n : ℕ) → nat_lt greatest n ≡ false → clamped n ≡ n
 low_clamped n e = grind (arith, nat_tests)
 
 pub left_fine : (a b : Faults) → both_faults a b ≡ no_faults → a ≡ no_faults
@@ -26,7 +26,7 @@ right_fine a b e =
 
 pub name_clamped : (x : Name) → name_faults x.number ≡ no_faults → clamped_name x ≡ x
 name_clamped x e =
-    let n = low_clamped x.number (or_parts (nat_eq x.number 0) (nat_lt 65535 x.number) (ap (λ f. f.name) e)).1 in
+    let n = low_clamped x.number (or_parts (nat_eq x.number 0) (nat_lt greatest x.number) (ap (λ f. f.name) e)).1 in
     λ i. record { kind = x.kind; number = n i }
 
 mutual

@@ -17,7 +17,7 @@ statements_unique (statement_then g r) (statement_then h t) e =
     let one = statement_unique g h e in
     let rest = statements_unique r t one.0 in cc
 
--- One text has at most one cut.
+-- one text has at most one cut
 pub cut_unique : {s : List ℕ} {ps qs : List StatementTree} → IsCut s ps → IsCut s qs → ps ≡ qs
 cut_unique g h =
     let begin = gap_unique g.gap h.gap refl in
@@ -29,7 +29,7 @@ cut_unique g h =
       front_unique (something y t) (nothing x) p q r = absurd (omega arith)
       front_unique (something x t) (something y u) p q r = let text = trimmed_unique t u p q in cc
 
--- At most n bytes are left.
+-- at most n bytes are left
 statements_exist : (s : List ℕ) (n i : ℕ) → length s < i + n → IsBoundary s i → (ps : List StatementTree) × AreStatements s i ps
 statements_exist s zero i l (at_start x) = absurd (let k = start_inside x in omega arith)
 statements_exist s n i l (at_end e) = ([], done e)
@@ -44,7 +44,7 @@ front_order {s} {a} {e} g b lt = clash b.boundary where
   clash (at_start x) = opening_solid x.opening (g.white e (omega arith) lt)
   clash (at_end f) = not_white (past s e (omega arith)) refl (g.white e (omega arith) lt)
 
--- Each text has a cut.
+-- each text has a cut
 pub cut_exists : (s : List ℕ) → (trees : List StatementTree) × IsCut s trees
 cut_exists s =
     let g = gap_exists s 0 in

@@ -202,6 +202,6 @@ front_kinded : {s : List ℕ} {from to : ℕ} {rest trees : List StatementTree} 
 front_kinded (no_front e) k = k
 front_kinded (something l t) k = both_true refl k
 
--- Each statement of a text that is not too long is well-kinded.
+-- each statement of a text that is not too long is well-kinded
 pub cut_kinded : {s : List ℕ} {trees : List StatementTree} → IsCut s trees → length s ≤ longest → list_all is_statement_kinded trees ≡ true
 cut_kinded g low = front_kinded g.front (statements_kinded g.statements low)

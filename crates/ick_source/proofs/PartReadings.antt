@@ -15,7 +15,7 @@ use Rattle.ick_source.specs.Tree.{Tree, Trees, mesh, scalar, element}
 use Rattle.ick_source.specs.Clamped.{clamped, clamped_tree, clamped_name, clamped_trees, name_faults, faults_of}
 use Rattle.ick_source.specs.Expression.{IsElement, indexed}
 use Rattle.ick_source.specs.BodyTree.{ItemTree, single, whole}
-use Rattle.ick_source.specs.BodyGrammar.{IsName, a_spot, an_array, IsNamed, IsTarget, to_spot, to_element, IsTail, IsPlace, to_target, to_array, IsItem, of_place, of_mesh, IsWholeElement}
+use Rattle.ick_source.specs.BodyGrammar.{IsName, a_spot, an_array, IsTarget, to_spot, to_element, IsTail, IsPlace, to_target, to_array, IsItem, of_place, of_mesh, IsWholeElement}
 use Rattle.ick_source.specs.Nonterminal.{Nonterminal, elements, names, targets, tails, places, items, numbers, labels}
 use Rattle.ick_source.specs.ExpressionAnswers.{Stands}
 use Rattle.ick_source.specs.Answers.{IsParsed, IsAbsent, Answers}
@@ -24,7 +24,7 @@ use Rattle.ick_source.proofs.ExpressionUnique.{number_unique}
 use Rattle.ick_source.proofs.WordUnique.{word_unique}
 use Rattle.ick_source.proofs.PartUnique.{spot_is_no_array, name_unique, element_leads, target_is_no_tail, place_is_no_mesh}
 
--- What stands at the one position for N stands at the other, made into another value, for M, and nothing else does.
+-- what stands at the one position for N stands at the other, made into another value, for M, and nothing else does
 pub record Makes (N M : Nonterminal) (value : N.Value → M.Value) (seen : N.Clamped → M.Clamped) (from from' : List ℕ) : Type 0 where
   pub there : (to : List ℕ) (x : N.Value) → N.stands from to x → M.stands from' to (value x)
   pub back : (to : List ℕ) (y : M.Value) → M.stands from' to y → (x : N.Value) × N.stands from to x

@@ -18,7 +18,7 @@ use Rattle.ick_source.specs.Expression.{IsElement, indexed}
 use Rattle.ick_source.specs.BodyTree.{ItemTree, single, whole}
 use Rattle.ick_source.specs.Gerund.{gerund_word, second_word}
 use Rattle.ick_source.specs.BodyGrammar.{IsSeparated, only, and_more, IsWholeElement, IsNamed, a_spot, an_array, IsTarget, to_spot, to_element, IsTail, IsPlace, to_target, to_array, of_place, of_mesh, one_word, two_words}
-use Rattle.ick_source.specs.Nonterminal.{Nonterminal, IsSameEnd, StandsOnce, TakesCharacters, wholes, elements, names, arrays, targets, tails, places, items, gerunds, labels}
+use Rattle.ick_source.specs.Nonterminal.{Nonterminal, IsSameEnd, StandsOnce, TakesCharacters, wholes, elements, names, arrays, targets, places, items, gerunds, labels}
 use Rattle.ick_source.proofs.ExpressionUnique.{number_unique, expr_unique, element_unique}
 use Rattle.ick_source.proofs.ExpressionShorter.{length-past_white, length-past_lead, number-shorter, word-shorter, expr-shorter, element-shorter}
 use Rattle.ick_source.proofs.ExpressionReadings.{element_is_array}

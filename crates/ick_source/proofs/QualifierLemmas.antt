@@ -27,7 +27,7 @@ chance_unique (given g p) (certain h n) e = absurd (n _ _ (percentage_along (gap
 chance_unique (certain h n) (given g p) e = absurd (n _ _ (percentage_along (gap_unique g h (sym e)) p))
 chance_unique (certain g n) (certain h m) e = (e, refl)
 
--- N is no %.
+-- N is no %
 negation_or_percentage : {A : Type 0} {s : List ℕ} {i j k l n : ℕ} → IsNegated s i j true → IsChance s k l (Some n) → i ≡ k → A
 negation_or_percentage {s = s} (negated g (inl w)) (given h p) e = differ s 78 37 w.0 p.sign (omega arith) (gap_unique g h e)
 negation_or_percentage {s = s} (negated g (inr w)) (given h p) e = differ s 78 37 w.0 p.sign (omega arith) (gap_unique g h e)
@@ -92,7 +92,7 @@ chance_exists s i = let g = gap_exists s i in elim (percentage_decided s g.0) [
   | inr n ↦ (i, None, certain g.1 n)
 ]
 
--- Where no negation stands, the qualifiers are a percentage and a negation after it, or none.
+-- where no negation stands, the qualifiers are a percentage and a negation after it, or none
 qualifiers_after : {s : List ℕ} {i j k l : ℕ} {d : Bool} {c : Option ℕ} → IsNegated s i j false → IsChance s j k c → IsNegated s k l d → AreQualifiers s i l d c
 qualifiers_after (affirmed g n) (given h p) d = percentage_first (given h p) d
 qualifiers_after (affirmed g n) (certain h m) (affirmed k x) = neither (affirmed g n) (certain h m)

@@ -54,7 +54,7 @@ first_here P all p n e h f =
 pub first_none : (P : StatementTree → Type 0) (all : List StatementTree) (p : StatementTree) → IsFirst (HoldsAt P all) None → (P p → ⊥) → IsFirst (HoldsAt P (all ++ p ∷ [])) None
 first_none P all p h n = λ m g. elim (HoldsAt-push P all p m g) [ inl x ↦ h m x | inr x ↦ n x.1 ]
 
--- The kinds that refuse a source are those of rank below 8, and each has a rank of its own.
+-- the kinds that refuse a source are those of rank below 8, and each has a rank of its own
 kind_at : ℕ → FaultKind
 kind_at zero = MeshTooLarge
 kind_at (suc zero) = NameRange
@@ -95,7 +95,7 @@ fault_ranked _ all n h = absurd h
 pub sound_below_none : (all : List StatementTree) → IsSoundBelow 0 all
 sound_below_none all = record { none = λ kind n lt h. absurd (omega arith) }
 
--- No fault of one more kind.
+-- no fault of one more kind
 pub sound_more : {all : List StatementTree} {limit : ℕ} (kind : FaultKind) → rank kind ≡ limit → limit < 8 → IsSoundBelow limit all → ((n : ℕ) → IsFaultAt kind all n → ⊥) → IsSoundBelow (limit + 1) all
 sound_more {all} {limit} kind e lt below h = record {
   none = λ other n o f. elim (cases_order (rank other) limit) [
@@ -137,7 +137,7 @@ refused_unique {s} {kind} {other} {n} {m} g h =
 pub refused_only : {s : List ℕ} {kind : FaultKind} {n : ℕ} → IsRefused s kind n → IsOnlyRefused s kind n
 refused_only r = record { refused = r; only = λ other m h. refused_unique r h; no_program = refused_not r }
 
--- Statements whose manners were looked at last.
+-- statements whose manners were looked at last
 pub judged : {all : List StatementTree} → IsSoundBelow (rank Impolite) all → ((n : ℕ) → IsImpoliteAt all n → ⊥) → ((n : ℕ) → IsFawningAt all n → ⊥) → IsSound all
 judged {all} below a b = sound_all (sound_more Fawning refl (omega arith) (sound_more Impolite refl (omega arith) below a) b)
 
@@ -145,7 +145,7 @@ never_before : {all : List StatementTree} {kind : FaultKind} → ((n : ℕ) → 
 never_before never below zero m lt f = absurd (omega arith)
 never_before never below (suc k) m lt f = never m (record { fault = f; first = λ j l g. never_before never below k j (omega arith) g; least = below })
 
--- Statements without a first fault have no fault.
+-- statements without a first fault have no fault
 none_below : {all : List StatementTree} → ((kind : FaultKind) (n : ℕ) → IsFirstFault all kind n → ⊥) → (limit : ℕ) → IsSoundBelow limit all
 none_below {all} never zero = sound_below_none all
 none_below {all} never (suc limit) = record {

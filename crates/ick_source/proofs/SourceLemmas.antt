@@ -66,7 +66,7 @@ read_something {s} {a} {e} {text = text} g b lt t h = record {
 pub added : {x : Reader} {all : List StatementTree} {p : StatementTree} (st : Statement) → HasRead x all → (items : List Statement) → items ≡ x.statements.items ++ st ∷ [] → IsEmpty x.out_of_range → statement_tree_of st ≡ p → map statement_tree_of items ≡ all ++ p ∷ []
 added {x} {all} {p} st h items e m q = rw (e, map-append statement_tree_of x.statements.items (st ∷ []), h.same m, q) refl
 
--- Where no number is out of range, the first three kinds of fault do not stand.
+-- where no number is out of range, the first three kinds of fault do not stand
 pub sound_ranges : {x : OutOfRange} {all : List StatementTree} → AreFirst x all → IsEmpty x → IsSoundBelow 3 all
 sound_ranges {all = all} h e =
     sound_more LabelRange refl (omega arith)

@@ -1,5 +1,5 @@
--- The grammar of bodies. As in the grammar of expressions, `from` and `to` are positions, each as the characters that are
--- left there.
+-- The grammar of bodies. As in the grammar of expressions, `from` and `to` are positions, each as the characters that
+-- are left there.
 use Rattle.std.specs.Prelude.{ℕ, ◌≡◌, ◌≤◌, List, [], ◌∷◌, Some, None, codes}
 use Rattle.ick_source.specs.declared.tree.NameKind.{NameKind}
 use Rattle.ick_source.specs.declared.tree.NameKind.TheVariants.{Tail}
@@ -18,14 +18,16 @@ use Rattle.ick_source.specs.Tree.{Tree, mesh, scalar}
 use Rattle.ick_source.specs.Expression.{IsExpr, IsElement}
 use Rattle.ick_source.specs.Gerund.{gerund_word, second_word}
 use Rattle.ick_source.specs.Verb.{verb_word}
-use Rattle.ick_source.specs.BodyTree.{ItemTree, single, whole, BodyTree, calculate, dimension, next, forget, resume, stash}
-use Rattle.ick_source.specs.BodyTree.{retrieve, ignore, remember, abstain_label, abstain_kinds, reinstate_label, reinstate_kinds}
+use Rattle.ick_source.specs.BodyTree.{ItemTree, single, whole, BodyTree, calculate, dimension, next, forget, resume}
+use Rattle.ick_source.specs.BodyTree.{stash}
+use Rattle.ick_source.specs.BodyTree.{retrieve, ignore, remember, abstain_label, abstain_kinds, reinstate_label}
+use Rattle.ick_source.specs.BodyTree.{reinstate_kinds}
 use Rattle.ick_source.specs.BodyTree.{give_up, write_in, read_out}
 
 abbrev pub Part : Type 0 → Type 1
 Part A = List ℕ → List ℕ → A → Type 0
 
--- One or more parts, with the word between them. A further part is there exactly where the word stands.
+-- one or more parts, with the word between them; a further part is there exactly where the word stands
 pub data IsSeparated (A : Type 0) (part : Part A) (separator : List ℕ) : List ℕ → List ℕ → List A → Type 0 where
   only : {from to : List ℕ} {x : A} →
       part from to x →

@@ -12,17 +12,21 @@ use Rattle.ick_source.specs.declared.body.Item.{Item}
 use Rattle.ick_source.specs.declared.body.Item.TheVariants.{Scalar as ItemScalar, Element as ItemElement}
 use Rattle.ick_source.specs.declared.body.Item.TheVariants.{Mesh as ItemMesh, Array as ItemArray}
 use Rattle.ick_source.specs.declared.body.Body.{Body}
-use Rattle.ick_source.specs.declared.body.Body.TheVariants.{Calculate, Dimension, Next, Forget, Resume, Stash, Retrieve, Ignore, Remember, AbstainLabel, AbstainKinds, ReinstateLabel, ReinstateKinds, GiveUp, WriteIn, ReadOut, Unrecognised}
+use Rattle.ick_source.specs.declared.body.Body.TheVariants.{Calculate, Dimension, Next, Forget, Resume, Stash, Retrieve}
+use Rattle.ick_source.specs.declared.body.Body.TheVariants.{Ignore, Remember, AbstainLabel, AbstainKinds}
+use Rattle.ick_source.specs.declared.body.Body.TheVariants.{ReinstateLabel, ReinstateKinds, GiveUp, WriteIn, ReadOut}
+use Rattle.ick_source.specs.declared.body.Body.TheVariants.{Unrecognised}
 use Rattle.ick_source.specs.Tree.{Tree, mesh, scalar, element, tree_of, trees_in}
-use Rattle.ick_source.specs.Clamped.{clamped, clamped_name, clamped_tree, no_faults, both_faults, name_faults, label_faults, faults_of}
+use Rattle.ick_source.specs.Clamped.{clamped, clamped_name, clamped_tree, no_faults, both_faults, name_faults}
+use Rattle.ick_source.specs.Clamped.{label_faults, faults_of}
 
--- What WRITE IN stores into and READ OUT prints: a scalar, an element or, for READ OUT alone, a mesh, each as a tree; or
--- a whole array, by its name.
+-- what WRITE IN stores into and READ OUT prints: a scalar, an element or, for READ OUT alone, a mesh, each as a tree;
+-- or a whole array, by its name
 pub data ItemTree : Type 0 where
   single : Tree → ItemTree
   whole : Name → ItemTree
 
--- Targets are trees: a scalar or an element.
+-- targets are trees: a scalar or an element
 pub data BodyTree : Type 0 where
   calculate : Tree → Tree → BodyTree
   dimension : Name → List Tree → BodyTree

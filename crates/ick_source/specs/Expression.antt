@@ -12,7 +12,8 @@ use Rattle.ick_source.specs.Position.{next_lead, past_lead}
 use Rattle.ick_source.specs.Token.{IsNumber, IsWord, unary_at, past_unary}
 use Rattle.ick_source.specs.Tree.{Tree, mesh, scalar, element, binary, Trees, none, more, under}
 
--- whether the group of the delimiter q may open where a further subscript may stand and the innermost open group has the delimiter m
+-- whether the group of the delimiter q may open where a further subscript may stand and the innermost open group has
+-- the delimiter m
 abbrev pub may_open : Option Delimiter → Delimiter → Bool
 may_open None q = true
 may_open (Some Spark) Spark = false

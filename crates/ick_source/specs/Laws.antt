@@ -10,23 +10,25 @@ use Rattle.ick_source.specs.StatementTree.{StatementTree}
 use Rattle.ick_source.specs.Cut.{IsCut}
 use Rattle.ick_source.specs.Refusals.{Compiles, IsRefused, longest}
 
--- From one position, under one delimiter, at most one expression stands: one end, one tree, one height.
+-- from one position, under one delimiter, at most one expression stands: one end, one tree, one height
 abbrev pub OneReading : Type 0
 OneReading = (m : Option Delimiter) (from to to' : List ℕ) (t t' : Tree) (h h' : ℕ) →
     IsExpr m from to t h → IsExpr m from to' t' h' → IsSame Tree to to' t t' h h'
 
--- From one byte at most one body stands: one end, one tree.
+-- from one byte at most one body stands: one end, one tree
 abbrev pub OneBody : Type 0
 OneBody = (text : List ℕ) (from to end : ℕ) (body other : BodyTree) →
     IsBodyIn text from to body → IsBodyIn text from end other → (to ≡ end) × (body ≡ other)
 
--- There is a cut, and any other is the same.
+-- there is a cut, and any other is the same
 abbrev pub OneCut : Type 0
 OneCut = (text : List ℕ) →
-    (trees : List StatementTree) × IsCut text trees × ((others : List StatementTree) → IsCut text others → others ≡ trees)
+    (trees : List StatementTree)
+    × IsCut text trees
+    × ((others : List StatementTree) → IsCut text others → others ≡ trees)
 
--- Two programs of a text are the same, two refusals are the same, there is no program beside a refusal, and a text that
--- is not too long is not without both: it compiles or is refused.
+-- two programs of a text are the same, two refusals are the same, there is no program beside a refusal, and a text
+-- that is not too long is not without both: it compiles or is refused
 pub record HasOneAnswer (text : List ℕ) : Type 0 where
   pub compiles : (trees others : List StatementTree) →
       Compiles text trees → Compiles text others → others ≡ trees

@@ -6,8 +6,10 @@ use Rattle.std.specs.List.{list_all}
 use Rattle.ick_source.specs.declared.tree.NameKind.{NameKind}
 use Rattle.ick_source.specs.declared.tree.NameKind.TheVariants.{Onespot, Twospot, Tail, Hybrid}
 use Rattle.ick_source.specs.Tree.{Tree, mesh, scalar, element, unary, binary, Trees, none, more}
-use Rattle.ick_source.specs.BodyTree.{ItemTree, single, whole, BodyTree, calculate, dimension, next, forget, resume, stash}
-use Rattle.ick_source.specs.BodyTree.{retrieve, ignore, remember, abstain_label, abstain_kinds, reinstate_label, reinstate_kinds}
+use Rattle.ick_source.specs.BodyTree.{ItemTree, single, whole, BodyTree, calculate, dimension, next, forget, resume}
+use Rattle.ick_source.specs.BodyTree.{stash}
+use Rattle.ick_source.specs.BodyTree.{retrieve, ignore, remember, abstain_label, abstain_kinds, reinstate_label}
+use Rattle.ick_source.specs.BodyTree.{reinstate_kinds}
 use Rattle.ick_source.specs.BodyTree.{give_up, write_in, read_out}
 use Rattle.ick_source.specs.StatementTree.{StatementTree}
 
@@ -47,11 +49,12 @@ abbrev pub is_item_kinded : ItemTree → Bool
 is_item_kinded (single t) = is_kinded t
 is_item_kinded (whole name) = is_tail name.kind
 
--- A statement that is not recognised has no body.
+-- a statement that is not recognised has no body
 abbrev pub is_body_kinded : Option BodyTree → Bool
 is_body_kinded None = true
 is_body_kinded (Some (calculate target e)) = is_kinded target && is_kinded e
-is_body_kinded (Some (dimension name es)) = is_array name.kind && (nat_lt (length es) 4294967296 && list_all is_kinded es)
+is_body_kinded (Some (dimension name es)) =
+    is_array name.kind && (nat_lt (length es) 4294967296 && list_all is_kinded es)
 is_body_kinded (Some (next label)) = true
 is_body_kinded (Some (forget e)) = is_kinded e
 is_body_kinded (Some (resume e)) = is_kinded e

@@ -90,7 +90,8 @@ impl Gerund {
 
     /// The second of its two words, where it has two.
     pub fn second_word(self) -> Option<&'static [u8]>
-        ensures { MatchOption result (second_word self ≡ None) (λ word. second_word self ≡ Some word.now) }
+        ensures { MatchOption result
+            (second_word self ≡ None) (λ word. second_word self ≡ Some word.now) }
     {
         match self {
             Gerund::WritingIn => Some(b"IN"),

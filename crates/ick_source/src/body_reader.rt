@@ -43,7 +43,8 @@ fn abstain_at(
     text: &[u8],
     from: Position,
 ) -> Result<Option<Parsed<Body, Position>>, AllocError>
-    ensures { IfOk result (Answers (after Verb.Abstain) body_tree_of text.now (left_at text.now from)) }
+    ensures { IfOk result
+        (Answers (after Verb.Abstain) body_tree_of text.now (left_at text.now from)) }
 {
     let Some(from) = word_at(text, from, b"FROM") else {
         return Ok(None);
@@ -61,7 +62,8 @@ fn reinstate_at(
     text: &[u8],
     from: Position,
 ) -> Result<Option<Parsed<Body, Position>>, AllocError>
-    ensures { IfOk result (Answers (after Verb.Reinstate) body_tree_of text.now (left_at text.now from)) }
+    ensures { IfOk result
+        (Answers (after Verb.Reinstate) body_tree_of text.now (left_at text.now from)) }
 {
     if word_at(text, from, b"(").is_some() {
         return Ok(made(label_at(text, from), Body::ReinstateLabel));
@@ -88,7 +90,8 @@ fn write_in_at(
     text: &[u8],
     from: Position,
 ) -> Result<Option<Parsed<Body, Position>>, AllocError>
-    ensures { IfOk result (Answers (after Verb.Write) body_tree_of text.now (left_at text.now from)) }
+    ensures { IfOk result
+        (Answers (after Verb.Write) body_tree_of text.now (left_at text.now from)) }
 {
     let Some(from) = word_at(text, from, b"IN") else {
         return Ok(None);
@@ -103,7 +106,8 @@ fn read_out_at(
     text: &[u8],
     from: Position,
 ) -> Result<Option<Parsed<Body, Position>>, AllocError>
-    ensures { IfOk result (Answers (after Verb.Read) body_tree_of text.now (left_at text.now from)) }
+    ensures { IfOk result
+        (Answers (after Verb.Read) body_tree_of text.now (left_at text.now from)) }
 {
     let Some(from) = word_at(text, from, b"OUT") else {
         return Ok(None);
@@ -142,7 +146,8 @@ fn calculation_at(
     text: &[u8],
     from: Position,
 ) -> Result<Option<Parsed<Body, Position>>, AllocError>
-    ensures { IfOk result (Answers (formed Form.Calculation) body_tree_of text.now (left_at text.now from)) }
+    ensures { IfOk result
+        (Answers (formed Form.Calculation) body_tree_of text.now (left_at text.now from)) }
 {
     let Some(target) = target_at(alloc, text, from)? else {
         return Ok(None);
@@ -160,13 +165,15 @@ fn calculation_at(
     }))
 }
 
-/// A dimensioning: an array, `<-` and its dimensions with `BY` between them (Revised Manual, 4.4.1).
+/// A dimensioning: an array, `<-` and its dimensions with `BY` between them (Revised Manual,
+/// 4.4.1).
 fn dimensioning_at(
     alloc: Global,
     text: &[u8],
     from: Position,
 ) -> Result<Option<Parsed<Body, Position>>, AllocError>
-    ensures { IfOk result (Answers (formed Form.Dimensioning) body_tree_of text.now (left_at text.now from)) }
+    ensures { IfOk result
+        (Answers (formed Form.Dimensioning) body_tree_of text.now (left_at text.now from)) }
 {
     let Lead::Array(_) = lead_at(text, from).value else {
         return Ok(None);
@@ -210,7 +217,8 @@ fn action_at(
     text: &[u8],
     from: Position,
 ) -> Result<Option<Parsed<Body, Position>>, AllocError>
-    ensures { IfOk result (Answers (formed Form.Action) body_tree_of text.now (left_at text.now from)) }
+    ensures { IfOk result
+        (Answers (formed Form.Action) body_tree_of text.now (left_at text.now from)) }
 {
     let Some(verb) = verb_at(text, from) else {
         return Ok(None);
@@ -218,7 +226,8 @@ fn action_at(
     after_verb_at(alloc, text, verb.value, verb.to)
 }
 
-/// The body at the position (Revised Manual, 4.4). The character after the part that was read last decides what is read next.
+/// The body at the position (Revised Manual, 4.4). The character after the part that was read last
+/// decides what is read next.
 pub fn body_at(
     alloc: Global,
     text: &[u8],

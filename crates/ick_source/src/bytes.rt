@@ -1,4 +1,5 @@
-//! Bytes, gaps, words and numbers at positions of a text.
+//! Bytes, gaps, words and numbers between bytes of a text. The grammar reads words and numbers
+//! between characters instead (`token`): where both have a reader, the one here ends in `_in`.
 
 ghost use Rattle.std.specs.Prelude.{◌≡◌, ◌+◌, ◌-◌, ◌*◌, ◌<◌, ◌≤◌, ◌≢◌, ◌↔◌};
 ghost use Rattle.std.specs.Prelude.{length, min, slice_index, true, IsTrue, IfSome};

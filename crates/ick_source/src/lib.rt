@@ -8,7 +8,8 @@
 //!
 //! What stands at a position of a text:
 //!
-//! - `bytes`, `boundaries`, `qualifiers`: bytes, where statements may start and end, and their heads
+//! - `bytes`, `boundaries`, `qualifiers`: bytes, where statements may start and end, and their
+//!   heads
 //! - `lead`, `position`, `token`: characters, numbers and words, with `!` as two characters
 //! - `expression`: expressions and elements
 //! - `parsed`, `part`, `list`: what readers answer, the parts of bodies, and lists of them

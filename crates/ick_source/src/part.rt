@@ -5,7 +5,8 @@ ghost use Rattle.std.specs.Prelude.{◌≡◌, ℕ, List, IfOk, MatchOption};
 ghost use Rattle.ick_source.specs.Answers.{Answers};
 ghost use Rattle.ick_source.specs.BodyTree.{item_tree, place_tree, single, target_tree};
 ghost use Rattle.ick_source.specs.Gerund.{gerund_word};
-ghost use Rattle.ick_source.specs.Nonterminal.{Nonterminal, elements, gerunds, items, labels, names, numbers, places, tails, targets, wholes};
+ghost use Rattle.ick_source.specs.Nonterminal.{Nonterminal, elements, gerunds, items, labels};
+ghost use Rattle.ick_source.specs.Nonterminal.{names, numbers, places, tails, targets, wholes};
 ghost use Rattle.ick_source.specs.Position.{left_at};
 ghost use Rattle.ick_source.specs.Token.{IsWord};
 ghost use Rattle.ick_source.specs.Tree.{tree_of};
@@ -217,7 +218,9 @@ fn printed(place: Place) -> Item
 
 /// The first word of a gerund at the position, and the position after it.
 fn gerund_word_at(text: &[u8], from: Position) -> Option<Scanned<Gerund, Position>>
-    ensures { MatchOption result ((g : Gerund) (to : List ℕ) → IsWord (gerund_word g) (left_at text.now from) to → ⊥) (λ r. IsWord (gerund_word r.value) (left_at text.now from) (left_at text.now r.to)) }
+    ensures { MatchOption result
+        ((g : Gerund) (to : List ℕ) → IsWord (gerund_word g) (left_at text.now from) to → ⊥)
+        (λ r. IsWord (gerund_word r.value) (left_at text.now from) (left_at text.now r.to)) }
 {
     for gerund in Gerund::ALL {
         if let Some(to) = word_at(text, from, gerund.word()) {
@@ -227,7 +230,8 @@ fn gerund_word_at(text: &[u8], from: Position) -> Option<Scanned<Gerund, Positio
     None
 }
 
-/// The gerund at the position (Revised Manual, 4.4.9). White bytes may stand between its two words, or none.
+/// The gerund at the position (Revised Manual, 4.4.9). White bytes may stand between its two words,
+/// or none.
 pub fn gerund_at(text: &[u8], from: Position) -> Option<Parsed<Gerund, Position>>
     ensures { Answers gerunds (λ gerund. gerund) text.now (left_at text.now from) result }
 {

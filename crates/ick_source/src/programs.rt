@@ -16,10 +16,10 @@ use std::alloc::Global;
 
 /// The statements of a source text, as `read_source` alone makes them.
 ///
-/// No fault for which a source is refused stands in a program. Its statements are numbered from 1, and
-/// there are at most 524,288 of them: each takes two bytes of the source at least. Each scalar is a
-/// onespot or a twospot, each array with subscripts or dimensions a tail or a hybrid, and a `u32` counts
-/// these subscripts or dimensions (Revised Manual, 3.1 and 3.3).
+/// No fault for which a source is refused stands in a program. Its statements are numbered from 1,
+/// and there are at most 524,288 of them: each takes two bytes of the source at least. Each scalar
+/// is a onespot or a twospot, each array with subscripts or dimensions a tail or a hybrid, and a
+/// `u32` counts these subscripts or dimensions (Revised Manual, 3.1 and 3.3).
 #[derive(Debug, PartialEq, Eq, Drop)]
 pub struct Program<'a> {
     statements: Vec<Statement<'a>>,
@@ -34,7 +34,8 @@ pub struct Program<'a> {
 impl<'a> Program<'a> {
     ghost use Rattle.ick_source.specs.Programs.{statements_of, trees_of};
 
-    /// The program of these statements, whose numbers are within their ranges, unless they are refused.
+    /// The program of these statements, whose numbers are within their ranges, unless they are
+    /// refused.
     pub(crate) fn checked(
         alloc: Global,
         statements: Vec<Statement<'a>>,
@@ -44,7 +45,8 @@ impl<'a> Program<'a> {
         requires counted { polite ≡ polite_in (statement_trees statements.items) }
         requires size { length statements.items ≤ most_statements }
         requires kinded { list_all is_statement_kinded (statement_trees statements.items) ≡ true }
-        requires ranges { IsSoundBelow (rank FaultKind.SameLabel) (statement_trees statements.items) }
+        requires ranges { IsSoundBelow
+            (rank FaultKind.SameLabel) (statement_trees statements.items) }
         ensures ok { IfOk result (λ p. statements_of p ≡ statements.entry.items) }
         ensures err { IfErr result (RefusesTrees (statement_trees statements.entry.items)) }
     {

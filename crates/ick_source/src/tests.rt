@@ -37,15 +37,19 @@ fn sources_are_cut(rt: HostRuntime) -> Result<(), Fail> {
     let rows: [(&[u8], &[u8]); 14] = [
         (
             b"DO READ OUT #1\nPLEASE GIVE UP\n",
-            b"1 - DO - 100 READ-OUT \"DO READ OUT #1\"\n2 - PLEASE - 100 GIVE-UP \"PLEASE GIVE UP\"\n",
+            b"1 - DO - 100 READ-OUT \"DO READ OUT #1\"\n\
+              2 - PLEASE - 100 GIVE-UP \"PLEASE GIVE UP\"\n",
         ),
         (
             b"DO READOUT #1\nPLEASE GIVE UP\n",
-            b"1 - DO - 100 READ-OUT \"DO READOUT #1\"\n2 - PLEASE - 100 GIVE-UP \"PLEASE GIVE UP\"\n",
+            b"1 - DO - 100 READ-OUT \"DO READOUT #1\"\n\
+              2 - PLEASE - 100 GIVE-UP \"PLEASE GIVE UP\"\n",
         ),
         (
             b"PLEASE NOTE THAT THIS WOULD DO NOTHING\nDO GIVE UP\n",
-            b"1 - PLEASE NOT 100 UNRECOGNISED \"PLEASE NOTE THAT THIS WOULD\"\n2 - DO NOT 100 UNRECOGNISED \"DO NOTHING\"\n3 - DO - 100 GIVE-UP \"DO GIVE UP\"\n",
+            b"1 - PLEASE NOT 100 UNRECOGNISED \"PLEASE NOTE THAT THIS WOULD\"\n\
+              2 - DO NOT 100 UNRECOGNISED \"DO NOTHING\"\n\
+              3 - DO - 100 GIVE-UP \"DO GIVE UP\"\n",
         ),
         (b"", b""),
         (b"\t\n\x0b\x0c\r ", b""),
@@ -68,19 +72,25 @@ fn sources_are_cut(rt: HostRuntime) -> Result<(), Fail> {
         ),
         (
             b"(1) DO %50 (1) NEXT\nPLEASE GIVE UP\n",
-            b"1 (1) DO - 50 NEXT \"(1) DO %50 (1) NEXT\"\n2 - PLEASE - 100 GIVE-UP \"PLEASE GIVE UP\"\n",
+            b"1 (1) DO - 50 NEXT \"(1) DO %50 (1) NEXT\"\n\
+              2 - PLEASE - 100 GIVE-UP \"PLEASE GIVE UP\"\n",
         ),
         (
             b"DO ABSTAIN FROM (5) DO READ OUT #1 (5) DO READ OUT #2 PLEASE GIVE UP",
-            b"1 - DO - 100 ABSTAIN \"DO ABSTAIN FROM (5)\"\n2 - DO - 100 READ-OUT \"DO READ OUT #1\"\n3 (5) DO - 100 READ-OUT \"(5) DO READ OUT #2\"\n4 - PLEASE - 100 GIVE-UP \"PLEASE GIVE UP\"\n",
+            b"1 - DO - 100 ABSTAIN \"DO ABSTAIN FROM (5)\"\n\
+              2 - DO - 100 READ-OUT \"DO READ OUT #1\"\n\
+              3 (5) DO - 100 READ-OUT \"(5) DO READ OUT #2\"\n\
+              4 - PLEASE - 100 GIVE-UP \"PLEASE GIVE UP\"\n",
         ),
         (
             b"(5) PLEASE ABSTAIN FROM (5) (6) DO REINSTATE (6)",
-            b"1 (5) PLEASE - 100 ABSTAIN \"(5) PLEASE ABSTAIN FROM (5)\"\n2 (6) DO - 100 REINSTATE \"(6) DO REINSTATE (6)\"\n",
+            b"1 (5) PLEASE - 100 ABSTAIN \"(5) PLEASE ABSTAIN FROM (5)\"\n\
+              2 (6) DO - 100 REINSTATE \"(6) DO REINSTATE (6)\"\n",
         ),
         (
             b"DO ABSTAIN FROM (5) X (5) DO Y",
-            b"1 - DO - 100 UNRECOGNISED \"DO ABSTAIN FROM (5) X\"\n2 (5) DO - 100 UNRECOGNISED \"(5) DO Y\"\n",
+            b"1 - DO - 100 UNRECOGNISED \"DO ABSTAIN FROM (5) X\"\n\
+              2 (5) DO - 100 UNRECOGNISED \"(5) DO Y\"\n",
         ),
     ];
     for (source, lines) in rows {
@@ -168,8 +178,9 @@ fn kinds_are_told(rt: HostRuntime) -> Result<(), Fail> {
 
 #[test]
 fn gerunds_name_kinds(rt: HostRuntime) -> Result<(), Fail> {
-    let source =
-        b"DO ABSTAIN FROM CALCULATING + NEXTING + FORGETTING + RESUMING + STASHING + RETRIEVING + IGNORING + REMEMBERING + ABSTAINING + REINSTATING + WRITING IN + READING OUT";
+    let source = b"DO ABSTAIN FROM CALCULATING + NEXTING + FORGETTING + RESUMING \
+          + STASHING + RETRIEVING + IGNORING + REMEMBERING + ABSTAINING + REINSTATING \
+          + WRITING IN + READING OUT";
     let words: [&[u8]; 12] = [
         b"CALCULATE",
         b"NEXT",

@@ -1,5 +1,6 @@
-//! Worked bodies, shown as text: `(op a b)` for operators, `[name subscripts]` for an element, then the byte where the
-//! body ends and `M`, `N`, `L` where a mesh, a name or a label is out of range. `-` is no body.
+//! Worked bodies, shown as text: `(op a b)` for operators, `[name subscripts]` for an element, then
+//! the byte where the body ends and `M`, `N`, `L` where a mesh, a name or a label is out of range.
+//! `-` is no body.
 
 use crate::body_bytes::body_in;
 use crate::*;
@@ -327,11 +328,11 @@ fn bodies_are_read(rt: HostRuntime) -> Result<(), Fail> {
 
 #[test]
 fn each_gerund_is_read(rt: HostRuntime) -> Result<(), Fail> {
-    let text =
-        b"ABSTAIN FROM CALCULATING+NEXTING+FORGETTING+RESUMING+STASHING+RETRIEVING+IGNORING+REMEMBERING+ABSTAINING+REINSTATING+WRITING IN+READING\n\tOUT";
+    let text = b"ABSTAIN FROM CALCULATING+NEXTING+FORGETTING+RESUMING+STASHING+RETRIEVING+IGNORING+\
+          REMEMBERING+ABSTAINING+REINSTATING+WRITING IN+READING\n\tOUT";
     let shown = shown_at(rt.alloc(), text)?;
-    let wanted =
-        "ABSTAIN Calculating Nexting Forgetting Resuming Stashing Retrieving Ignoring Remembering Abstaining Reinstating WritingIn ReadingOut 140";
+    let wanted = "ABSTAIN Calculating Nexting Forgetting Resuming Stashing Retrieving \
+          Ignoring Remembering Abstaining Reinstating WritingIn ReadingOut 140";
     assert_eq!(rt; shown.as_str(), wanted);
     Ok(())
 }
@@ -344,7 +345,8 @@ fn white_bytes_may_stand_between_all_tokens(rt: HostRuntime) -> Result<(), Fail>
             "CALCULATE [,1 #2] ($ (& #77) [,3 .4 (V (~ :5 #6))]) 31",
         ),
         (
-            b"\t,\n1\x0bSUB\x0c#\r2 <- \t\n#\x0b\x0c&\r 77 $\t'\n,\x0b3\x0cSUB\r. 4\t\"\nV\x0b:\x0c5\r~ #\t6\n\"\x0b'\x0c",
+            b"\t,\n1\x0bSUB\x0c#\r2 <- \t\n#\x0b\x0c&\r 77 $\t'\n\
+              ,\x0b3\x0cSUB\r. 4\t\"\nV\x0b:\x0c5\r~ #\t6\n\"\x0b'\x0c",
             "CALCULATE [,1 #2] ($ (& #77) [,3 .4 (V (~ :5 #6))]) 60",
         ),
     ];
