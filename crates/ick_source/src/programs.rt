@@ -19,7 +19,8 @@ use std::alloc::Global;
 /// No fault for which a source is refused stands in a program. Its statements are numbered from 1,
 /// and there are at most 524,288 of them: each takes two bytes of the source at least. Each scalar
 /// is a onespot or a twospot, each array with subscripts or dimensions a tail or a hybrid, and a
-/// `u32` counts these subscripts or dimensions (Revised Manual, 3.1 and 3.3).
+/// `u32` counts these subscripts or dimensions (Revised Manual, 3.1 and 3.3). Each array that is
+/// read in or printed whole is a tail (5.2).
 #[derive(Debug, PartialEq, Eq, Drop)]
 pub struct Program<'a> {
     statements: Vec<Statement<'a>>,
