@@ -1,7 +1,7 @@
 -- Bodies between positions of a text: characters that are left tell the position.
 use Rattle.std.proofs.Common.{◌≡◌, ◌≢◌, ℕ, suc, zero, ◌+◌, ◌-◌, ◌<◌, ◌≤◌, ◌⊎◌, inl, inr, min, Bool, true, false, nat_eq, List, [], ◌∷◌, ◌++◌, length, length-append, get_or, drop, drop_of_length-le, not, refl, sym, ap, subst, ◌∙◌, arith}
 use Rattle.std.specs.Prelude.{cond}
-use Rattle.std.proofs.lemmas.Bool.{cases_lt, cases_order}
+use Rattle.std.proofs.lemmas.Bool.{cases_lt, cases_order, not-false, not-true}
 use Rattle.std.proofs.lemmas.Bool.Decides.{nat_tests}
 use Rattle.ick_source.specs.declared.position.Position.{Position}
 use Rattle.ick_source.specs.Position.{characters, characters_of, left_at}
@@ -127,20 +127,12 @@ body_in_decided s i = elim (body_decided (characters (drop i s))) [
   ]
 ]
 
-not_true : (b : Bool) → not b ≡ true → b ≡ false
-not_true true e = sym e
-not_true false e = refl
-
-not_false : (b : Bool) → not b ≡ false → b ≡ true
-not_false true e = refl
-not_false false e = sym e
-
 -- what is left at a byte
 pub left_at-before : (s : List ℕ) (p : Position) → not p.between ≡ true → characters (drop (min p.at (length s)) s) ≡ left_at s p
 unfolding left_at
-left_at-before s p e = rw (not_true p.between e) (ap characters (sym (drop-clamped s p.at)))
+left_at-before s p e = rw (not-true p.between e) (ap characters (sym (drop-clamped s p.at)))
 
 -- what is left at the second character of a `!`
 pub left_at-within : (s : List ℕ) (p : Position) → not p.between ≡ false → 46 ∷ characters (drop (min p.at (length s)) s) ≡ left_at s p
 unfolding left_at
-left_at-within s p e = rw (not_false p.between e) (ap (λ l. 46 ∷ characters l) (sym (drop-clamped s p.at)))
+left_at-within s p e = rw (not-false p.between e) (ap (λ l. 46 ∷ characters l) (sym (drop-clamped s p.at)))

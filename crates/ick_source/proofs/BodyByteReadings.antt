@@ -1,16 +1,17 @@
 -- From the body that is found between characters to the body between bytes.
 use Rattle.std.proofs.Common.{◌≡◌, ℕ, ◌≤◌, List, [], ◌∷◌, Option, Some, length, drop, map, nat_eq, nat_lt, false, refl, sym, ap, subst, ◌∙◌}
+use Rattle.std.proofs.lemmas.Bool.{or_parts}
 use Rattle.ick_source.specs.declared.faults.Faults.{Faults}
 use Rattle.ick_source.specs.declared.body.Body.{Body}
 use Rattle.ick_source.specs.Position.{characters, left_at}
-use Rattle.ick_source.specs.Clamped.{clamped, clamped_name, clamped_tree, no_faults, label_faults, faults_of}
-use Rattle.ick_source.specs.BodyTree.{BodyTree, calculate, dimension, next, forget, resume, stash, retrieve, ignore, remember, abstain_label, abstain_kinds, reinstate_label, reinstate_kinds, give_up, write_in, read_out, body_tree_of, clamped_body, faults_along, faults_of_name, faults_of_body}
+use Rattle.ick_source.specs.Clamped.{greatest, clamped, clamped_name, clamped_tree, no_faults, label_faults, faults_of}
+use Rattle.ick_source.specs.BodyTree.{ItemTree, single, whole, clamped_item, faults_of_item, BodyTree, calculate, dimension, next, forget, resume, stash, retrieve, ignore, remember, abstain_label, abstain_kinds, reinstate_label, reinstate_kinds, give_up, write_in, read_out, body_tree_of, clamped_body, faults_along, faults_of_name, faults_of_body}
 use Rattle.ick_source.specs.BodyGrammar.{IsBody}
 use Rattle.ick_source.specs.BodyBytes.{HasNoBody}
 use Rattle.ick_source.specs.BodyAnswers.{IsParsedBody}
 use Rattle.ick_source.specs.Nonterminal.{bodies}
 use Rattle.ick_source.specs.Answers.{IsParsed, IsAbsent}
-use Rattle.ick_source.proofs.ClampedWhole.{low_clamped, or_right, left_fine, right_fine, name_clamped, tree_clamped}
+use Rattle.ick_source.proofs.ClampedWhole.{low_clamped, left_fine, right_fine, name_clamped, tree_clamped}
 use Rattle.ick_source.proofs.BodyUnique.{body_unique}
 
 all_clamped : {A : Type 0} (change : A → A) (faults : A → Faults) → ((x : A) → faults x ≡ no_faults → change x ≡ x) → (xs : List A) → faults_along faults xs ≡ no_faults → map change xs ≡ xs
@@ -21,7 +22,11 @@ all_clamped change faults each (x ∷ xs) e =
     λ i. a i ∷ b i
 
 label_clamped : (n : ℕ) → label_faults n ≡ no_faults → clamped n ≡ n
-label_clamped n e = low_clamped n (or_right (nat_eq n 0) (nat_lt 65535 n) (ap (λ f. f.label) e))
+label_clamped n e = low_clamped n (or_parts (nat_eq n 0) (nat_lt greatest n) (ap (λ f. f.label) e)).1
+
+item_clamped : (x : ItemTree) → faults_of_item x ≡ no_faults → clamped_item x ≡ x
+item_clamped (single t) f = ap single (tree_clamped t f)
+item_clamped (whole x) f = ap whole (name_clamped x f)
 
 -- a body with no number out of range is kept as it is
 pub body_clamped : (b : BodyTree) → faults_of_body b ≡ no_faults → clamped_body b ≡ b
@@ -45,8 +50,8 @@ body_clamped (abstain_kinds gs) f = refl
 body_clamped (reinstate_label n) f = ap reinstate_label (label_clamped n f)
 body_clamped (reinstate_kinds gs) f = refl
 body_clamped give_up f = refl
-body_clamped (write_in ts) f = ap write_in (all_clamped clamped_tree faults_of tree_clamped ts f)
-body_clamped (read_out ts) f = ap read_out (all_clamped clamped_tree faults_of tree_clamped ts f)
+body_clamped (write_in xs) f = ap write_in (all_clamped clamped_item faults_of_item item_clamped xs f)
+body_clamped (read_out xs) f = ap read_out (all_clamped clamped_item faults_of_item item_clamped xs f)
 
 pub no_body : {s from : List ℕ} {i : ℕ} → from ≡ characters (drop i s) → IsAbsent bodies from → HasNoBody s i
 no_body {s} e absent = record { nothing = λ j b p. absent.nothing _ b (subst (λ l. IsBody l (characters (drop j s)) b) (sym e) p.stands) }

@@ -3,6 +3,7 @@ use Rattle.std.proofs.Common.{◌≡◌, ℕ, suc, zero, ◌<◌, inl, inr, List
 use Rattle.std.specs.Prelude.{codes}
 use Rattle.std.proofs.lemmas.Bool.{cases_lt}
 use Rattle.ick_source.specs.declared.tree.NameKind.{NameKind}
+use Rattle.ick_source.specs.declared.tree.NameKind.TheVariants.{Tail}
 use Rattle.ick_source.specs.declared.tree.Name.{Name}
 use Rattle.ick_source.specs.declared.lead.Lead.{Lead}
 use Rattle.ick_source.specs.declared.lead.Lead.TheVariants.{Spot, Array, Hash, Group, Unary, Binary, Other}
@@ -19,15 +20,15 @@ use Rattle.ick_source.specs.Gerund.{gerund_word, second_word}
 use Rattle.ick_source.specs.Verb.{verb_word}
 use Rattle.ick_source.specs.BodyTree.{BodyTree, calculate, dimension, next, give_up}
 use Rattle.ick_source.specs.BodyGrammar.{only, and_more, IsWhole, IsName, a_spot, an_array, IsGerund, one_word, two_words, AreDimensions, IsAfter, abstains_label, abstains_kinds, gives_up, writes_in, reads_out, IsBodyOf, calculates, dimensions, nexts, does}
-use Rattle.ick_source.specs.Nonterminal.{Nonterminal, StandsOnce, TakesCharacters, listed, wholes, elements, names, targets, items, numbers, gerunds, labels, after, formed, bodies}
+use Rattle.ick_source.specs.Nonterminal.{Nonterminal, StandsOnce, TakesCharacters, listed, wholes, elements, names, targets, tails, places, items, numbers, gerunds, labels, after, formed, bodies}
 use Rattle.ick_source.proofs.ExpressionUnique.{number_unique, expr_unique, element_unique}
 use Rattle.ick_source.proofs.ExpressionShorter.{word-shorter}
 use Rattle.ick_source.proofs.WordUnique.{word_unique, gerund_word_unique, all_gerunds, all_verbs, each_gerund, each_verb}
-use Rattle.ick_source.proofs.PartUnique.{whole_unique, whole-shorter, name_unique, name-shorter, target_unique, target-shorter, item_unique, item-shorter, gerund_unique, gerund-shorter, label_unique}
-use Rattle.ick_source.proofs.PartReadings.{Makes, targets_by_elements, targets_by_names, items_by_targets, items_by_numbers}
+use Rattle.ick_source.proofs.PartUnique.{whole_unique, whole-shorter, name_unique, name-shorter, place_unique, place-shorter, item_unique, item-shorter, gerund_unique, gerund-shorter, label_unique}
+use Rattle.ick_source.proofs.PartReadings.{Makes, targets_by_elements, targets_by_names, other_kind, subscripted, tail_named, places_by_tails, places_by_targets, items_by_places, items_by_numbers}
 use Rattle.ick_source.proofs.BodyReadings.{assigned, sized, array_named, label_of, forget_made, resume_made, stash_made, retrieve_made, ignore_made, remember_made, abstain_label_made, abstain_kinds_made, reinstate_label_made, reinstate_kinds_made, write_in_made, read_out_made, action_made}
 use Rattle.ick_source.proofs.ListReadings.{after_part, begins_with_a_part}
-use Rattle.ick_source.proofs.TokenDecided.{Decided, decided_as, HasNumber, number_decided, HasWord, word_decided, OneOf, one_of_decided, array_decided, hash_decided}
+use Rattle.ick_source.proofs.TokenDecided.{Decided, decided_as, HasNumber, number_decided, HasWord, word_decided, OneOf, one_of_decided, array_decided, tail_decided, hash_decided}
 use Rattle.ick_source.proofs.ExpressionDecided.{Here, expression_decided, whole_element_decided}
 
 -- something stands there for N
@@ -92,13 +93,34 @@ target_decided from = elim (array_decided (next_lead from)) [
   | inr no_array ↦ made_decided (targets_by_names from (λ k e. no_array (k, e))) (name_decided from)
 ]
 
+whole_array_by : (from : List ℕ) → next_lead from ≡ Array Tail → StandsAt names from → Decided (StandsAt tails from)
+whole_array_by from e s = elim (word_decided (codes "SUB") s.to) [
+  | inl w ↦ inr (λ t. (subscripted s.stands w.stands).nothing t.to t.value t.stands)
+  | inr no_sub ↦ inl (record { to = s.to; value = s.value; stands = tail_named e s.stands (λ later w. no_sub (record { to = later; stands = w })) })
+]
+
+whole_array_decided : (from : List ℕ) → Decided (StandsAt tails from)
+whole_array_decided from = elim (tail_decided (next_lead from)) [
+  | inr other ↦ inr (λ t. (other_kind from other).nothing t.to t.value t.stands)
+  | inl e ↦ elim (name_decided from) [
+    | inr none_there ↦ inr (λ t. none_there (record { to = t.to; value = t.value; stands = an_array t.stands.array }))
+    | inl s ↦ whole_array_by from e s
+  ]
+]
+
+place_decided : (from : List ℕ) → Decided (StandsAt places from)
+place_decided from = elim (whole_array_decided from) [
+  | inl t ↦ made_decided (places_by_tails t.stands) (inl t)
+  | inr none_there ↦ made_decided (places_by_targets (record { nothing = λ to x p. none_there (record { to = to; value = x; stands = p }) })) (target_decided from)
+]
+
 number_at : {from : List ℕ} → Decided (HasNumber from) → Decided (StandsAt numbers from)
 number_at d = decided_as (λ n. record { to = n.to; value = n.value; stands = n.stands }) (λ s. record { to = s.to; value = s.value; stands = s.stands }) d
 
 item_decided : (from : List ℕ) → Decided (StandsAt items from)
 item_decided from = elim (hash_decided (next_lead from)) [
   | inl e ↦ made_decided (items_by_numbers from (past_lead from) e refl) (number_at (number_decided (past_lead from)))
-  | inr no_mesh ↦ made_decided (items_by_targets from no_mesh) (target_decided from)
+  | inr no_mesh ↦ made_decided (items_by_places from no_mesh) (place_decided from)
 ]
 
 gerund_begins : {from to : List ℕ} {g : Gerund} → IsGerund from to g → HasWord (gerund_word g) from
@@ -201,7 +223,7 @@ after_decided Reinstate from = elim (word_decided (codes "(") from) [
 after_decided Give from = decided_as (λ w. record { to = w.to; value = give_up; stands = gives_up w.stands }) (λ s. word_after_give s.stands) (word_decided (codes "UP") from)
 after_decided Write from = elim (word_decided (codes "IN") from) [
   | inr none_there ↦ inr (λ s. none_there (word_after_write s.stands))
-  | inl w ↦ made_decided (write_in_made from w.to w.stands) (list_decided targets (codes "+") target_unique target-shorter target_decided w.to)
+  | inl w ↦ made_decided (write_in_made from w.to w.stands) (list_decided places (codes "+") place_unique place-shorter place_decided w.to)
 ]
 after_decided Read from = elim (word_decided (codes "OUT") from) [
   | inr none_there ↦ inr (λ s. none_there (word_after_read s.stands))

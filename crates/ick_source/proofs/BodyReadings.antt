@@ -18,9 +18,9 @@ use Rattle.ick_source.specs.Token.{IsWord}
 use Rattle.ick_source.specs.Tree.{Tree}
 use Rattle.ick_source.specs.Clamped.{no_faults, both_faults}
 use Rattle.ick_source.specs.Verb.{verb_word}
-use Rattle.ick_source.specs.BodyTree.{BodyTree, calculate, dimension, next, forget, resume, stash, retrieve, ignore, remember, abstain_label, abstain_kinds, reinstate_label, reinstate_kinds, write_in, read_out, faults_along}
-use Rattle.ick_source.specs.BodyGrammar.{only, and_more, IsWhole, IsNamed, IsName, a_spot, an_array, IsTarget, IsGerund, one_word, two_words, IsLabel, AreNames, AreGerunds, AreTargets, AreItems, AreDimensions, IsAfter, forgets, resumes, stashes, retrieves, ignores, remembers, abstains_label, abstains_kinds, reinstates_label, reinstates_kinds, writes_in, reads_out, IsBodyOf, calculates, dimensions, nexts, does}
-use Rattle.ick_source.specs.Nonterminal.{Nonterminal, listed, wholes, names, targets, items, gerunds, labels, after, formed, bodies}
+use Rattle.ick_source.specs.BodyTree.{ItemTree, BodyTree, calculate, dimension, next, forget, resume, stash, retrieve, ignore, remember, abstain_label, abstain_kinds, reinstate_label, reinstate_kinds, write_in, read_out, faults_along}
+use Rattle.ick_source.specs.BodyGrammar.{only, and_more, IsWhole, IsNamed, IsName, a_spot, an_array, IsTarget, IsGerund, one_word, two_words, IsLabel, AreNames, AreGerunds, ArePlaces, AreItems, AreDimensions, IsAfter, forgets, resumes, stashes, retrieves, ignores, remembers, abstains_label, abstains_kinds, reinstates_label, reinstates_kinds, writes_in, reads_out, IsBodyOf, calculates, dimensions, nexts, does}
+use Rattle.ick_source.specs.Nonterminal.{Nonterminal, listed, wholes, names, targets, places, items, gerunds, labels, after, formed, bodies}
 use Rattle.ick_source.specs.Answers.{IsParsed, IsAbsent, Answers}
 use Rattle.ick_source.specs.Made.{IsMade, of_none, of_part}
 use Rattle.ick_source.proofs.WordUnique.{word_unique, verb_unique, no_gerund_in_brackets}
@@ -134,16 +134,16 @@ reinstate_kinds_made from o = record {
   faults = λ x. sym (no_faults_along x);
 }
 
-write_in_back : {from mid to : List ℕ} {b : BodyTree} → IsWord (codes "IN") from mid → IsAfter Write from to b → (ts : List Tree) × AreTargets mid to ts
-write_in_back {to = to} w (writes_in {ts = ts} v p) = (ts, subst (λ l. AreTargets l to ts) (sym (word_unique (codes "IN") refl w v)) p)
+write_in_back : {from mid to : List ℕ} {b : BodyTree} → IsWord (codes "IN") from mid → IsAfter Write from to b → (xs : List ItemTree) × ArePlaces mid to xs
+write_in_back {to = to} w (writes_in {xs = xs} v p) = (xs, subst (λ l. ArePlaces l to xs) (sym (word_unique (codes "IN") refl w v)) p)
 
-pub write_in_made : (from mid : List ℕ) → IsWord (codes "IN") from mid → Makes (listed targets (codes "+")) (after Write) write_in (λ ts. Some (write_in ts)) mid from
+pub write_in_made : (from mid : List ℕ) → IsWord (codes "IN") from mid → Makes (listed places (codes "+")) (after Write) write_in (λ xs. Some (write_in xs)) mid from
 write_in_made from mid w = record { there = λ to x p. writes_in w p; back = λ to y p. write_in_back w p; clamped = λ x. refl; faults = λ x. refl }
 
-read_out_back : {from mid to : List ℕ} {b : BodyTree} → IsWord (codes "OUT") from mid → IsAfter Read from to b → (ts : List Tree) × AreItems mid to ts
-read_out_back {to = to} w (reads_out {ts = ts} v p) = (ts, subst (λ l. AreItems l to ts) (sym (word_unique (codes "OUT") refl w v)) p)
+read_out_back : {from mid to : List ℕ} {b : BodyTree} → IsWord (codes "OUT") from mid → IsAfter Read from to b → (xs : List ItemTree) × AreItems mid to xs
+read_out_back {to = to} w (reads_out {xs = xs} v p) = (xs, subst (λ l. AreItems l to xs) (sym (word_unique (codes "OUT") refl w v)) p)
 
-pub read_out_made : (from mid : List ℕ) → IsWord (codes "OUT") from mid → Makes (listed items (codes "+")) (after Read) read_out (λ ts. Some (read_out ts)) mid from
+pub read_out_made : (from mid : List ℕ) → IsWord (codes "OUT") from mid → Makes (listed items (codes "+")) (after Read) read_out (λ xs. Some (read_out xs)) mid from
 read_out_made from mid w = record { there = λ to x p. reads_out w p; back = λ to y p. read_out_back w p; clamped = λ x. refl; faults = λ x. refl }
 
 after_back : {from mid to : List ℕ} {v : Verb} {b : BodyTree} → IsWord (verb_word v) from mid → IsBodyOf Action from to b → (a : BodyTree) × IsAfter v mid to a

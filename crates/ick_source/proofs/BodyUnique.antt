@@ -10,10 +10,10 @@ use Rattle.ick_source.specs.Token.{IsWord}
 use Rattle.ick_source.specs.Verb.{verb_word}
 use Rattle.ick_source.specs.BodyTree.{BodyTree, next, forget, resume, stash, retrieve, ignore, remember, abstain_label, abstain_kinds, reinstate_label, reinstate_kinds, write_in, read_out}
 use Rattle.ick_source.specs.BodyGrammar.{IsNamed, an_array, to_spot, to_element, IsLabel, AreGerunds, IsAfter, forgets, resumes, stashes, retrieves, ignores, remembers, abstains_label, abstains_kinds, reinstates_label, reinstates_kinds, gives_up, writes_in, reads_out, IsBodyOf, calculates, dimensions, nexts, does, HasSubscripts}
-use Rattle.ick_source.specs.Nonterminal.{StandsOnce, TakesCharacters, wholes, names, targets, items, gerunds, labels, after, formed, bodies}
+use Rattle.ick_source.specs.Nonterminal.{StandsOnce, TakesCharacters, wholes, names, places, items, gerunds, labels, after, formed, bodies}
 use Rattle.ick_source.proofs.ExpressionShorter.{word-shorter}
 use Rattle.ick_source.proofs.WordUnique.{word_unique, words_differ, verb_unique, verb_leads, no_verb_in_brackets}
-use Rattle.ick_source.proofs.PartUnique.{again, list_unique, list-shorter, whole_unique, whole-shorter, name_unique, name-shorter, array_unique, array-shorter, target_unique, target-shorter, item_unique, item-shorter, gerund_unique, gerund-shorter, label_unique, label-shorter, verb-shorter, word-takes, element_leads}
+use Rattle.ick_source.proofs.PartUnique.{again, list_unique, list-shorter, whole_unique, whole-shorter, name_unique, name-shorter, array_unique, array-shorter, target_unique, target-shorter, place_unique, place-shorter, item_unique, item-shorter, gerund_unique, gerund-shorter, label_unique, label-shorter, verb-shorter, word-takes, element_leads}
 use Rattle.ick_source.proofs.FormUnique.{form_of_spot, form_of_element, form_of_array, form_of_bracket, form_of_verb, element_has, arrow_is_no_sub}
 use Rattle.ick_source.proofs.BodyReadings.{gerunds_in_brackets}
 
@@ -39,7 +39,7 @@ after_unique v from to to' b b' (reinstates_kinds q) (reinstates_label p) = absu
 after_unique v from to to' b b' (reinstates_kinds p) (reinstates_kinds q) = let s = list_unique gerunds (codes "+") gerund_unique refl p q in record { to = s.to; value = ap reinstate_kinds s.value }
 after_unique v from to to' b b' (gives_up u) (gives_up w) = record { to = word_unique (codes "UP") refl u w; value = refl }
 after_unique v from to to' b b' (writes_in u p) (writes_in w q) =
-    let s = list_unique targets (codes "+") target_unique (word_unique (codes "IN") refl u w) p q in record { to = s.to; value = ap write_in s.value }
+    let s = list_unique places (codes "+") place_unique (word_unique (codes "IN") refl u w) p q in record { to = s.to; value = ap write_in s.value }
 after_unique v from to to' b b' (reads_out u p) (reads_out w q) =
     let s = list_unique items (codes "+") item_unique (word_unique (codes "OUT") refl u w) p q in record { to = s.to; value = ap read_out s.value }
 
@@ -91,7 +91,7 @@ after-no-longer v (abstains_kinds w p) = omega (arith, word-shorter w, list-shor
 after-no-longer v (reinstates_label p) = label-shorter _ _ _ p
 after-no-longer v (reinstates_kinds p) = list-shorter gerunds (codes "+") gerund-shorter p
 after-no-longer v (gives_up w) = word-takes w (lit< tt)
-after-no-longer v (writes_in w p) = omega (arith, word-shorter w, list-shorter targets (codes "+") target-shorter p)
+after-no-longer v (writes_in w p) = omega (arith, word-shorter w, list-shorter places (codes "+") place-shorter p)
 after-no-longer v (reads_out w p) = omega (arith, word-shorter w, list-shorter items (codes "+") item-shorter p)
 
 formed-shorter : (f : Form) {from to : List ℕ} {b : BodyTree} → IsBodyOf f from to b → length to < length from

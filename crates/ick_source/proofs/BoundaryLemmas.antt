@@ -1,12 +1,12 @@
 -- Identifiers, labels, openings and boundaries.
 use Rattle.std.proofs.Common.{Bool, IsTrue, List, None, Option, Some, ap, arith, codes, false, inl, inr, is_some, length, refl, subst, suc, sym, true, zero, ℕ, ◌+◌, ◌<◌, ◌↔◌, ◌≡◌, ◌≤◌, ◌⊎◌}
-use Rattle.std.proofs.lemmas.Bool.{false≢true}
+use Rattle.std.proofs.lemmas.Bool.{cases_order, false≢true}
 use Rattle.ick_source.specs.Boundaries.{IsIdentifier, IsBoundary, IsStart, IsLabelIn, IsNextBoundary, IsOpening, at_end, at_start, labelled, only_do, only_please, please_do, unlabelled}
 use Rattle.ick_source.specs.Bytes.{IsGap, IsWhite, IsWordIn, byte}
 use Rattle.ick_source.specs.HeadAnswers.{Scans, ReadsOpening}
 use Rattle.ick_source.specs.declared.boundaries.Start.{Start}
 use Rattle.ick_source.specs.declared.parsed.Scanned.{Scanned}
-use Rattle.ick_source.proofs.ByteLemmas.{Finds, byte_along, differ, gap_exists, gap_unique, inside, less_or, not_white, number_in_along, number_in_decided, number_in_unique, equal_decided, word_in_decided}
+use Rattle.ick_source.proofs.ByteLemmas.{Finds, byte_along, differ, gap_exists, gap_unique, inside, not_white, number_in_along, number_in_decided, number_in_unique, equal_decided, word_in_decided}
 
 identifier_first : {s : List ℕ} {i j : ℕ} {p : Bool} → IsIdentifier s i j p → (byte s i ≡ 80) ⊎ (byte s i ≡ 68)
 identifier_first (please_do w _ _) = inl w.0
@@ -54,16 +54,16 @@ pub boundary_inside : {s : List ℕ} {i : ℕ} → IsBoundary s i → i ≤ leng
 boundary_inside (at_start h) = let k = start_inside h in omega arith
 boundary_inside (at_end e) = omega arith
 
--- Between two boundaries of which the first is no start there is nothing.
+-- between two boundaries of which the first is no start there is nothing
 boundary_last : {s : List ℕ} {i j : ℕ} → IsBoundary s i → IsBoundary s j → i < j → IsStart s i
 boundary_last (at_start h) b lt = h
 boundary_last (at_end e) b lt = absurd (let k = boundary_inside b in omega arith)
 
 pub next_boundary_unique : {s : List ℕ} {i j k l : ℕ} → IsNextBoundary s i j → IsNextBoundary s k l → i ≡ k → j ≡ l
-next_boundary_unique {s} {i} {j} {k} {l} g h e = elim (less_or j l) [
-  | inl (inl lt) ↦ absurd (h.first j (let o : i ≤ j = g.order in omega arith) lt (boundary_last g.boundary h.boundary lt))
-  | inl (inr gt) ↦ absurd (g.first l (let o : k ≤ l = h.order in omega arith) gt (boundary_last h.boundary g.boundary gt))
-  | inr same ↦ same
+next_boundary_unique {s} {i} {j} {k} {l} g h e = elim (cases_order j l) [
+  | inr (inl lt) ↦ absurd (h.first j (let o : i ≤ j = g.order in omega arith) lt (boundary_last g.boundary h.boundary lt))
+  | inr (inr gt) ↦ absurd (g.first l (let o : k ≤ l = h.order in omega arith) gt (boundary_last h.boundary g.boundary gt))
+  | inl same ↦ same
 ]
 
 identifier_longer : {s : List ℕ} {i j : ℕ} {p : Bool} → IsIdentifier s i j p → i + 2 ≤ j
@@ -162,10 +162,10 @@ next_boundary_exists s (suc n) i l = elim (start_decided s i) [
     record {
       order = omega (arith, r.1.order);
       boundary = r.1.boundary;
-      first = λ k a b x. elim (less_or i k) [
-        | inl (inl lt) ↦ r.1.first k (omega arith) b x
-        | inl (inr gt) ↦ omega arith
-        | inr e ↦ not_here (subst (λ z. IsStart s z) (sym e) x)
+      first = λ k a b x. elim (cases_order i k) [
+        | inr (inl lt) ↦ r.1.first k (omega arith) b x
+        | inr (inr gt) ↦ omega arith
+        | inl e ↦ not_here (subst (λ z. IsStart s z) (sym e) x)
       ];
     },
   )

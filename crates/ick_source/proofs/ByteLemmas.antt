@@ -3,41 +3,38 @@
 -- begins, and `x_inside` that it lies inside the text.
 use Rattle.std.proofs.Common.{Bool, IsTrue, List, [], add-one, add-zero, ap, arith, drop, false, get_or, inl, inr, length, refl, slice_range, subst, suc, sym, true, zero, ℕ, ◌*◌, ◌++◌, ◌+◌, ◌-◌, ◌<◌, ◌^◌, ◌∙◌, ◌∷◌, ◌≡◌, ◌≤◌, ◌⊎◌}
 use Rattle.std.proofs.Math.Nat.{pow-succ'}
-use Rattle.std.proofs.lemmas.Bool.{false≢true}
+use Rattle.std.proofs.lemmas.Bool.{cases_lt, cases_order, false≢true}
 use Rattle.std.proofs.lemmas.List.{get_or-drop, get_or_past, length-drop, length_push, take_more}
 use Rattle.ick_bits.specs.White.{is_white_byte}
 use Rattle.ick_source.specs.Bytes.{IsGap, IsDigit, IsWhite, IsNumberIn, IsWordIn, byte}
 use Rattle.ick_source.specs.Token.{is_digit, value_of_digits}
 use Rattle.ick_source.proofs.PositionLemmas.{digit-low}
 
-pub less_or : (i j : ℕ) → ((i < j) ⊎ (j < i)) ⊎ (i ≡ j)
-less_or i j = grind arith
-
 pub gap_unique : {s : List ℕ} {i j k l : ℕ} → IsGap s i j → IsGap s k l → i ≡ k → j ≡ l
-gap_unique {s} {i} {j} {k} {l} g h e = elim (less_or j l) [
-  | inl (inl lt) ↦ absurd (g.stops (h.white j (omega arith) lt))
-  | inl (inr gt) ↦ absurd (h.stops (g.white l (omega arith) gt))
-  | inr same ↦ same
+gap_unique {s} {i} {j} {k} {l} g h e = elim (cases_order j l) [
+  | inr (inl lt) ↦ absurd (g.stops (h.white j (omega arith) lt))
+  | inr (inr gt) ↦ absurd (h.stops (g.white l (omega arith) gt))
+  | inl same ↦ same
 ]
 
 pub number_in_unique : {s : List ℕ} {i j k l m n : ℕ} → IsNumberIn s i j m → IsNumberIn s k l n → i ≡ k → (j ≡ l) × (m ≡ n)
 number_in_unique {s} {i} {j} {k} {l} g h e =
-    let same : j ≡ l = elim (less_or j l) [
-      | inl (inl lt) ↦ absurd (g.stops (h.digits j (let some : i < j = g.some in omega arith) lt))
-      | inl (inr gt) ↦ absurd (h.stops (g.digits l (let some : k < l = h.some in omega arith) gt))
-      | inr same ↦ same
+    let same : j ≡ l = elim (cases_order j l) [
+      | inr (inl lt) ↦ absurd (g.stops (h.digits j (let some : i < j = g.some in omega arith) lt))
+      | inr (inr gt) ↦ absurd (h.stops (g.digits l (let some : k < l = h.some in omega arith) gt))
+      | inl same ↦ same
     ] in
     (same, cc)
 
--- Two words that differ do not stand at one position, shown by their first bytes.
+-- two words that differ do not stand at one position, shown by their first bytes
 pub differ : {A : Type 0} (s : List ℕ) {i k : ℕ} (a b : ℕ) → byte s i ≡ a → byte s k ≡ b → (a ≡ b → ⊥) → i ≡ k → A
 differ s a b x y n e = absurd (n (let f = ap (λ z. byte s z) e in omega (arith, f, x, y)))
 
 pub inside : (s : List ℕ) (i : ℕ) → (byte s i ≡ 0 → ⊥) → i < length s
-inside s i h = elim (less_or i (length s)) [
-  | inl (inl lt) ↦ lt
-  | inl (inr gt) ↦ absurd (h (get_or_past s i 0 (omega arith)))
-  | inr same ↦ absurd (h (get_or_past s i 0 (omega arith)))
+inside s i h = elim (cases_order i (length s)) [
+  | inr (inl lt) ↦ lt
+  | inr (inr gt) ↦ absurd (h (get_or_past s i 0 (omega arith)))
+  | inl same ↦ absurd (h (get_or_past s i 0 (omega arith)))
 ]
 
 pub Word-each : (s : List ℕ) (i : ℕ) (w : List ℕ) → IsWordIn s i w → (k : ℕ) → k < length w → byte s (i + k) ≡ get_or w k 0
@@ -70,20 +67,17 @@ pub value_more : (s : List ℕ) (i j : ℕ) → i ≤ j → j < length s → val
 value_more s i j o l = rw (slice_more s i j o l) (value-append (slice_range s i j) (byte s j))
 
 pub between_more : (P : ℕ → Type 0) (a b : ℕ) → ((k : ℕ) → a ≤ k → k < b → P k) → P b → (k : ℕ) → a ≤ k → k < b + 1 → P k
-between_more P a b h here k x y = elim (less_or k b) [
-  | inl (inl lt) ↦ h k x lt
-  | inl (inr gt) ↦ absurd (omega arith)
-  | inr same ↦ subst P (sym same) here
+between_more P a b h here k x y = elim (cases_order k b) [
+  | inr (inl lt) ↦ h k x lt
+  | inr (inr gt) ↦ absurd (omega arith)
+  | inl same ↦ subst P (sym same) here
 ]
 
--- Either a value and an end, or none.
+-- either a value and an end, or none
 abbrev pub Finds : {A : Type 0} → (ℕ → A → Type 0) → Type 0
 Finds {A} R = ((j : ℕ) × (a : A) × R j a) ⊎ ((j : ℕ) (a : A) → R j a → ⊥)
 
-pub le_or : (a b : ℕ) → (a ≤ b) ⊎ (b < a)
-le_or a b = grind arith
-
--- A byte that is known and not white.
+-- a byte that is known and not white
 pub not_white : {A : Type 0} {b c : ℕ} → b ≡ c → is_white_byte c ≡ false → IsWhite b → A
 not_white e f w = absurd (false≢true (sym f ∙ (ap is_white_byte (sym e) ∙ w)))
 
@@ -97,7 +91,7 @@ white_decided b = true_decided (is_white_byte b)
 digit_decided : (b : ℕ) → IsDigit b ⊎ (IsDigit b → ⊥)
 digit_decided b = true_decided (is_digit b)
 
--- The byte past the end is no digit.
+-- the byte past the end is no digit
 end_no_digit : IsDigit 0 → ⊥
 end_no_digit d = let low = digit-low 0 d in omega arith
 
@@ -105,12 +99,12 @@ pub digit_inside : (s : List ℕ) (i : ℕ) → IsDigit (byte s i) → i < lengt
 digit_inside s i d = inside s i (λ z. let low = digit-low (byte s i) d in omega arith)
 
 pub equal_decided : (a b : ℕ) → (a ≡ b) ⊎ (a ≡ b → ⊥)
-equal_decided a b = elim (less_or a b) [ inr e ↦ inl e | inl n ↦ inr (λ e. omega (arith, n, e)) ]
+equal_decided a b = elim (cases_order a b) [ inl e ↦ inl e | inr n ↦ inr (λ e. omega (arith, n, e)) ]
 
 pub past : (s : List ℕ) (i : ℕ) → length s ≤ i → byte s i ≡ 0
 past s i l = get_or_past s i 0 l
 
--- All positions from i on at which P holds, up to one at which it does not.
+-- all positions from i on at which P holds, up to one at which it does not
 run : (s : List ℕ) (P : ℕ → Type 0) → ((b : ℕ) → P b ⊎ (P b → ⊥)) → (P 0 → ⊥) → (n i : ℕ) → length s ≤ i + n → (e : ℕ) × (i ≤ e) × ((k : ℕ) → i ≤ k → k < e → P (byte s k)) × (P (byte s e) → ⊥)
 run s P or zero_not zero i l = (i, omega arith, λ k a b. absurd (omega arith), λ p. zero_not (subst P (past s i (omega arith)) p))
 run s P or zero_not (suc n) i l = elim (or (byte s i)) [
@@ -118,10 +112,10 @@ run s P or zero_not (suc n) i l = elim (or (byte s i)) [
   | inl here ↦ let r = run s P or zero_not n (i + 1) (omega arith) in (
     r.0,
     omega (arith, r.1),
-    λ k a b. elim (less_or i k) [
-      | inl (inl lt) ↦ r.2 k (omega arith) b
-      | inl (inr gt) ↦ absurd (omega arith)
-      | inr e ↦ subst (λ z. P (byte s z)) e here
+    λ k a b. elim (cases_order i k) [
+      | inr (inl lt) ↦ r.2 k (omega arith) b
+      | inr (inr gt) ↦ absurd (omega arith)
+      | inl e ↦ subst (λ z. P (byte s z)) e here
     ],
     r.3,
   )
@@ -131,10 +125,10 @@ pub gap_exists : (s : List ℕ) (i : ℕ) → (e : ℕ) × IsGap s i e
 gap_exists s i = let r = run s IsWhite white_decided false≢true (length s) i (omega arith) in (r.0, record { order = r.1; white = r.2; stops = r.3 })
 
 pub number_in_decided : (s : List ℕ) (i : ℕ) → Finds (IsNumberIn s i)
-number_in_decided s i = let r = run s IsDigit digit_decided end_no_digit (length s) i (omega arith) in elim (less_or i r.0) [
-  | inl (inl lt) ↦ inl (r.0, value_of_digits (slice_range s i r.0), record { some = lt; digits = r.2; stops = r.3; value = refl })
-  | inl (inr gt) ↦ absurd (omega (arith, r.1))
-  | inr e ↦ inr (λ j a x. r.3 (subst (λ z. IsDigit (byte s z)) e (x.digits i (omega arith) x.some)))
+number_in_decided s i = let r = run s IsDigit digit_decided end_no_digit (length s) i (omega arith) in elim (cases_order i r.0) [
+  | inr (inl lt) ↦ inl (r.0, value_of_digits (slice_range s i r.0), record { some = lt; digits = r.2; stops = r.3; value = refl })
+  | inr (inr gt) ↦ absurd (omega (arith, r.1))
+  | inl e ↦ inr (λ j a x. r.3 (subst (λ z. IsDigit (byte s z)) e (x.digits i (omega arith) x.some)))
 ]
 
 pub word_in_decided : (s : List ℕ) (i : ℕ) (w : List ℕ) → IsWordIn s i w ⊎ (IsWordIn s i w → ⊥)
@@ -154,12 +148,12 @@ pub word_in_along : (s w : List ℕ) {i k : ℕ} → i ≡ k → IsWordIn s i w 
 word_in_along s w e x = subst (λ y. IsWordIn s y w) e x
 
 pub number_in_inside : {s : List ℕ} {i j n : ℕ} → IsNumberIn s i j n → j ≤ length s
-number_in_inside {s} {i} {j} x = elim (le_or j (length s)) [
-  | inl le ↦ le
-  | inr gt ↦ absurd (let d = x.digits (j - 1) (let some : i < j = x.some in omega arith) (let some : i < j = x.some in omega arith) in let low = digit-low (byte s (j - 1)) d in let z = past s (j - 1) (omega arith) in omega (arith, low, z))
+number_in_inside {s} {i} {j} x = elim (cases_lt (length s) j) [
+  | inr le ↦ le
+  | inl gt ↦ absurd (let d = x.digits (j - 1) (let some : i < j = x.some in omega arith) (let some : i < j = x.some in omega arith) in let low = digit-low (byte s (j - 1)) d in let z = past s (j - 1) (omega arith) in omega (arith, low, z))
 ]
 
--- No digits.
+-- no digits
 pub value_none : (s : List ℕ) (i : ℕ) → value_of_digits (slice_range s i i) ≡ 0
 unfolding value_of_digits
 value_none s i = let none : i - i ≡ 0 = omega arith in rw none refl

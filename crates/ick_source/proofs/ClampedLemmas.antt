@@ -1,5 +1,6 @@
 -- What is kept of a tree.
-use Rattle.std.proofs.Common.{◌≡◌, ℕ, min, Bool, true, false, ◌||◌, nat_lt, nat_eq, List, [], ◌∷◌, ◌++◌, Option, Some, None, refl, sym, ap, ◌∙◌, arith}
+use Rattle.std.proofs.Common.{◌≡◌, ℕ, min, nat_lt, nat_eq, List, [], ◌∷◌, ◌++◌, Option, Some, None, refl, sym, ap, ◌∙◌, arith}
+use Rattle.std.proofs.Math.Bool.{or-false, or_assoc}
 use Rattle.std.proofs.lemmas.Bool.Decides.{nat_tests}
 use Rattle.ick_source.specs.declared.tree.NameKind.{NameKind}
 use Rattle.ick_source.specs.declared.tree.UnaryOp.{UnaryOp}
@@ -7,9 +8,9 @@ use Rattle.ick_source.specs.declared.faults.Faults.{Faults}
 use Rattle.ick_source.specs.declared.tree.Expr.{Expr, Element', Row_of-Expr, end_of-Expr, more_of-Expr, items-the_row-Expr, items_hidden-the_row-Expr-0}
 use Rattle.ick_source.specs.declared.tree.Expr.{Element as Element_of}
 use Rattle.ick_source.specs.declared.tree.Element.{Element}
-use Rattle.ick_source.specs.Token.{CappedNumber, unary_at, past_unary}
+use Rattle.ick_source.specs.Token.{cap, CappedNumber, unary_at, past_unary}
 use Rattle.ick_source.specs.Tree.{Tree, mesh, scalar, element, Trees, none, more, under, join, tree_of, trees_of, trees_in}
-use Rattle.ick_source.specs.Clamped.{clamped, clamped_tree, clamped_trees, both_faults, mesh_faults, name_faults, no_faults, faults_of, faults_in}
+use Rattle.ick_source.specs.Clamped.{greatest, clamped, clamped_tree, clamped_trees, both_faults, mesh_faults, name_faults, no_faults, faults_of, faults_in}
 use Rattle.ick_source.specs.ExpressionAnswers.{Stands, IsNumbered}
 
 pub join_assoc : (a b c : Trees) → join (join a b) c ≡ join a (join b c)
@@ -46,19 +47,11 @@ unfolding faults_of
 faults_of-under None t = refl
 faults_of-under (Some o) t = refl
 
-or_assoc : (a b c : Bool) → ((a || b) || c) ≡ (a || (b || c))
-or_assoc true b c = refl
-or_assoc false b c = refl
-
-or_false : (a : Bool) → (a || false) ≡ a
-or_false true = refl
-or_false false = refl
-
 pub both_assoc : (a b c : Faults) → both_faults (both_faults a b) c ≡ both_faults a (both_faults b c)
 both_assoc a b c = rw (or_assoc a.mesh b.mesh c.mesh, or_assoc a.name b.name c.name, or_assoc a.label b.label c.label) refl
 
 pub both-no : (a : Faults) → both_faults a no_faults ≡ a
-both-no a = rw (or_false a.mesh, or_false a.name, or_false a.label) refl
+both-no a = rw (or-false a.mesh, or-false a.name, or-false a.label) refl
 
 pub clamped_trees-join : (a b : Trees) → clamped_trees (join a b) ≡ join (clamped_trees a) (clamped_trees b)
 unfolding clamped_tree
@@ -70,19 +63,19 @@ unfolding faults_of
 faults_in-join none b = refl
 faults_in-join (more t a) b = ap (both_faults (faults_of t)) (faults_in-join a b) ∙ sym (both_assoc (faults_of t) (faults_in a) (faults_in b))
 
-pub clamped-capped : (n : ℕ) → clamped (min n 65536) ≡ clamped n
+pub clamped-capped : (n : ℕ) → clamped (min n cap) ≡ clamped n
 clamped-capped n = omega arith
 
-nat_lt-capped : (n : ℕ) → nat_lt 65535 (min n 65536) ≡ nat_lt 65535 n
+nat_lt-capped : (n : ℕ) → nat_lt greatest (min n cap) ≡ nat_lt greatest n
 nat_lt-capped n = grind (arith, nat_tests)
 
-nat_eq-capped : (n : ℕ) → nat_eq (min n 65536) 0 ≡ nat_eq n 0
+nat_eq-capped : (n : ℕ) → nat_eq (min n cap) 0 ≡ nat_eq n 0
 nat_eq-capped n = grind (arith, nat_tests)
 
-pub name_faults-capped : (n : ℕ) → name_faults (min n 65536) ≡ name_faults n
+pub name_faults-capped : (n : ℕ) → name_faults (min n cap) ≡ name_faults n
 name_faults-capped n = rw (nat_eq-capped n, nat_lt-capped n) refl
 
-pub mesh_faults-capped : (n : ℕ) → mesh_faults (min n 65536) ≡ mesh_faults n
+pub mesh_faults-capped : (n : ℕ) → mesh_faults (min n cap) ≡ mesh_faults n
 mesh_faults-capped n = rw (nat_lt-capped n) refl
 
 -- a spot that was read

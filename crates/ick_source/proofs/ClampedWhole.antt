@@ -1,31 +1,32 @@
 -- A tree with no number out of range is kept as it is.
-use Rattle.std.proofs.Common.{◌≡◌, ℕ, Bool, true, false, ◌||◌, nat_lt, nat_eq, refl, ap, arith}
+use Rattle.std.proofs.Common.{◌≡◌, ℕ, false, nat_lt, nat_eq, refl, ap, arith}
+use Rattle.std.proofs.lemmas.Bool.{or_parts}
 use Rattle.std.proofs.lemmas.Bool.Decides.{nat_tests}
 use Rattle.ick_source.specs.declared.tree.Name.{Name}
 use Rattle.ick_source.specs.declared.faults.Faults.{Faults}
 use Rattle.ick_source.specs.Tree.{Tree, mesh, scalar, element, unary, binary, Trees, none, more}
-use Rattle.ick_source.specs.Clamped.{clamped, clamped_name, clamped_tree, clamped_trees, no_faults, both_faults, name_faults, faults_of, faults_in}
+use Rattle.ick_source.specs.Clamped.{greatest, clamped, clamped_name, clamped_tree, clamped_trees, no_faults, both_faults, name_faults, faults_of, faults_in}
 
-or_left : (a b : Bool) → (a || b) ≡ false → a ≡ false
-or_left true b e = cc
-or_left false b e = refl
-
-pub or_right : (a b : Bool) → (a || b) ≡ false → b ≡ false
-or_right true b e = absurd (cc)
-or_right false b e = e
-
-pub low_clamped : (n : ℕ) → nat_lt 65535 n ≡ false → clamped n ≡ n
+pub low_clamped : (n : ℕ) → nat_lt greatest n ≡ false → clamped n ≡ n
 low_clamped n e = grind (arith, nat_tests)
 
 pub left_fine : (a b : Faults) → both_faults a b ≡ no_faults → a ≡ no_faults
-left_fine a b e = let x = or_left a.mesh b.mesh (ap (λ f. f.mesh) e) in let y = or_left a.name b.name (ap (λ f. f.name) e) in let z = or_left a.label b.label (ap (λ f. f.label) e) in λ i. record { mesh = x i; name = y i; label = z i }
+left_fine a b e =
+    let mesh = or_parts a.mesh b.mesh (ap (λ f. f.mesh) e) in
+    let name = or_parts a.name b.name (ap (λ f. f.name) e) in
+    let label = or_parts a.label b.label (ap (λ f. f.label) e) in
+    λ i. record { mesh = mesh.0 i; name = name.0 i; label = label.0 i }
 
 pub right_fine : (a b : Faults) → both_faults a b ≡ no_faults → b ≡ no_faults
-right_fine a b e = let x = or_right a.mesh b.mesh (ap (λ f. f.mesh) e) in let y = or_right a.name b.name (ap (λ f. f.name) e) in let z = or_right a.label b.label (ap (λ f. f.label) e) in λ i. record { mesh = x i; name = y i; label = z i }
+right_fine a b e =
+    let mesh = or_parts a.mesh b.mesh (ap (λ f. f.mesh) e) in
+    let name = or_parts a.name b.name (ap (λ f. f.name) e) in
+    let label = or_parts a.label b.label (ap (λ f. f.label) e) in
+    λ i. record { mesh = mesh.1 i; name = name.1 i; label = label.1 i }
 
 pub name_clamped : (x : Name) → name_faults x.number ≡ no_faults → clamped_name x ≡ x
 name_clamped x e =
-    let n = low_clamped x.number (or_right (nat_eq x.number 0) (nat_lt 65535 x.number) (ap (λ f. f.name) e)) in
+    let n = low_clamped x.number (or_parts (nat_eq x.number 0) (nat_lt greatest x.number) (ap (λ f. f.name) e)).1 in
     λ i. record { kind = x.kind; number = n i }
 
 mutual

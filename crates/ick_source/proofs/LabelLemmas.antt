@@ -1,6 +1,6 @@
 -- The labels of statements, one statement after another.
 use Rattle.std.proofs.Common.{Bool, IsTrue, List, None, Some, add-one, ap, arith, false, get_or, inl, inr, length, map, not, option_and_then, refl, slice_get, subst, sym, true, ℕ, ◌+◌, ◌<◌, ◌∙◌, ◌≡◌, ◌≤◌}
-use Rattle.std.proofs.lemmas.Bool.{false≢true}
+use Rattle.std.proofs.lemmas.Bool.{cases_order, false≢true}
 use Rattle.std.proofs.lemmas.Option.{slice_get-map, slice_get_read}
 use Rattle.std.specs.BTreeSet.{BTreeSet, Updates, contains}
 use Rattle.std.specs.Ordering.{is_eq, nat_cmp}
@@ -12,10 +12,10 @@ use Rattle.ick_source.specs.declared.labels.LabelUse.{LabelUse}
 use Rattle.ick_source.specs.declared.labels.LabelUse.TheVariants.{Abstain, Next}
 use Rattle.ick_source.specs.StatementTree.{StatementTree, statement_tree_of}
 use Rattle.ick_source.specs.declared.statements.Statement.{Statement}
-use Rattle.ick_source.proofs.ByteLemmas.{less_or, equal_decided}
+use Rattle.ick_source.proofs.ByteLemmas.{equal_decided}
 use Rattle.ick_source.proofs.RefusalLemmas.{HoldsAt-inside, sound_more}
 
--- The tree of the statement at an index.
+-- the tree of the statement at an index
 pub tree_at : (xs : List Statement) (i : ℕ) (x : Statement) → slice_get xs i ≡ Some x → slice_get (map statement_tree_of xs) i ≡ Some (statement_tree_of x)
 tree_at xs i x e = rw (slice_get-map statement_tree_of xs i, e) refl
 
@@ -28,15 +28,15 @@ HoldsAt-shows P all i t e h = rw e at (rw add-one at h)
 pub HoldsAt-stands : (P : StatementTree → Type 0) (all : List StatementTree) (i : ℕ) (t : StatementTree) → slice_get all i ≡ Some t → P t → HoldsAt P all (i + 1)
 HoldsAt-stands P all i t e h = rw (add-one, e) h
 
--- One statement further.
+-- one statement further
 pub one_more : (P : ℕ → Type 0) (i : ℕ) → ((m : ℕ) → m ≤ i → P m) → P (i + 1) → (m : ℕ) → m ≤ i + 1 → P m
-one_more P i before here m le = elim (less_or m (i + 1)) [
-  | inl (inl lt) ↦ before m (omega arith)
-  | inl (inr gt) ↦ absurd (omega arith)
-  | inr same ↦ subst P (sym same) here
+one_more P i before here m le = elim (cases_order m (i + 1)) [
+  | inr (inl lt) ↦ before m (omega arith)
+  | inr (inr gt) ↦ absurd (omega arith)
+  | inl same ↦ subst P (sym same) here
 ]
 
--- Which labels the set has after one label was added.
+-- which labels the set has after one label was added
 added_there : (old new : BTreeSet ℕ) (k label : ℕ) → Updates nat_cmp old new k true → k ≡ label → IsTrue (contains nat_cmp new label)
 added_there old new k label h e = subst (λ l. IsTrue (contains nat_cmp new l)) e h.1
 
@@ -87,7 +87,7 @@ module _ {all : List StatementTree} {i : ℕ} {t : StatementTree} {labels : BTre
 pub labels_sound : {all : List StatementTree} (i : ℕ) → length all ≤ i → IsSoundBelow 3 all → ((m : ℕ) → m ≤ i → IsSameLabelAt all m → ⊥) → IsSoundBelow 4 all
 labels_sound {all} i le below apart = sound_more SameLabel refl (omega arith) below (λ n h. apart n (omega (arith, le, HoldsAt-inside (HasLabel h.label) all n h.again)) h)
 
--- What the answer of an insertion says.
+-- what the answer of an insertion says
 pub was_there : {added there : Bool} → added ≡ not there → added ≡ false → there ≡ true
 was_there {there = true} e f = refl
 was_there {there = false} e f = cc

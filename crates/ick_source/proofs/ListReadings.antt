@@ -1,5 +1,6 @@
 -- From what the parts of a list answer to what the list answers.
 use Rattle.std.proofs.Common.{◌≡◌, ℕ, ◌<◌, List, [], ◌∷◌, ◌++◌, map, refl, sym, ap, subst, ◌∙◌, append_assoc, length, arith}
+use Rattle.std.proofs.lemmas.List.{map-append}
 use Rattle.ick_source.specs.declared.faults.Faults.{Faults}
 use Rattle.ick_source.specs.Token.{IsWord}
 use Rattle.ick_source.specs.Clamped.{both_faults, no_faults}
@@ -18,10 +19,6 @@ pub record SoFar (N : Nonterminal) (word start here : List ℕ) (seen : List N.C
   pub faults : f ≡ faults_along N.faults done
   pub on : (to : List ℕ) (xs : List N.Value) → IsSeparated N.Value N.stands word here to xs → IsSeparated N.Value N.stands word start to (done ++ xs)
   pub back : (to : List ℕ) (xs : List N.Value) → IsSeparated N.Value N.stands word start to xs → (ys : List N.Value) × IsSeparated N.Value N.stands word here to ys
-
-map-append : {A B : Type 0} (f : A → B) (a b : List A) → map f (a ++ b) ≡ map f a ++ map f b
-map-append f [] b = refl
-map-append f (x ∷ a) b = ap (λ l. f x ∷ l) (map-append f a b)
 
 pub map-push : {A B : Type 0} (f : A → B) (a b : List A) (x : A) → b ≡ a ++ x ∷ [] → map f b ≡ map f a ++ f x ∷ []
 map-push f a b x e = ap (map f) e ∙ map-append f a (x ∷ [])

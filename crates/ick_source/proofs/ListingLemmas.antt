@@ -36,13 +36,13 @@ pub listing-fit : (trees : List StatementTree) (i : ℕ) (t : StatementTree) →
 unfolding listing
 listing-fit trees i t e = let number : 1 + i ≡ i + 1 = omega arith in rw number at (lines-fit trees 1 i t e)
 
--- What stood there before, of a text that begins with a longer one.
+-- what stood there before, of a text that begins with a longer one
 pub take_kept : (n m : ℕ) (new mid old more : List ℕ) → n ≡ length old → m ≡ length mid → take m new ≡ mid → mid ≡ old ++ more → take n new ≡ old
 take_kept n m new mid old more a b e f =
     let whole : new ≡ old ++ (more ++ drop m new) = sym (take-append-drop m new) ∙ ap (λ x. x ++ drop m new) (e ∙ f) ∙ append_assoc old more (drop m new) in
     rw (a, whole) (take-append_seam old (more ++ drop m new))
 
--- A fact that holds anyway.
+-- a fact that holds anyway
 pub on-err : {X E : Type 0} (r : Result X E) {P : Type 0} → P → OnErr r P
 on-err (Ok x) p = tt
 on-err (Err e) p = p

@@ -1,5 +1,5 @@
 -- What stands in a text has names of the kinds that it says, and no more members than the text has characters.
-use Rattle.std.proofs.Common.{◌≡◌, ℕ, ◌+◌, ◌*◌, ◌<◌, ◌≤◌, Bool, true, false, not, nat_eq, nat_lt, List, [], ◌∷◌, length, length-append, length-drop, drop, Option, Some, None, refl, subst, arith}
+use Rattle.std.proofs.Common.{◌≡◌, ℕ, ◌+◌, ◌*◌, ◌<◌, ◌≤◌, Bool, true, false, not, nat_eq, nat_lt, List, [], ◌∷◌, length, length-append, length-drop, drop, Option, Some, None, refl, ap, subst, arith}
 use Rattle.std.specs.Prelude.{cond, codes}
 use Rattle.std.specs.List.{list_all}
 use Rattle.std.specs.Cmp.Derive.{both_true}
@@ -16,16 +16,16 @@ use Rattle.ick_source.specs.Position.{characters, characters_of, first_lead as l
 use Rattle.ick_source.specs.Token.{unary_at}
 use Rattle.ick_source.specs.Tree.{Tree, Trees, under}
 use Rattle.ick_source.specs.Expression.{IsExpr, alone, joined, IsOperand, of_simple, of_element, IsSimple, spot, constant, group, IsElement, indexed, IsSubs, nested, simple_first, IsRest, nothing, last, further}
-use Rattle.ick_source.specs.BodyTree.{BodyTree}
-use Rattle.ick_source.specs.BodyGrammar.{Part, IsSeparated, only, and_more, IsWhole, IsTarget, to_spot, to_element, IsItem, of_target, of_mesh, IsAfter, forgets, resumes, stashes, retrieves, ignores, remembers, abstains_label, abstains_kinds, reinstates_label, reinstates_kinds, gives_up, writes_in, reads_out, IsBodyOf, calculates, dimensions, nexts, does}
+use Rattle.ick_source.specs.BodyTree.{ItemTree, BodyTree}
+use Rattle.ick_source.specs.BodyGrammar.{Part, IsSeparated, only, and_more, IsWhole, IsTarget, to_spot, to_element, IsPlace, to_target, to_array, IsItem, of_place, of_mesh, IsAfter, forgets, resumes, stashes, retrieves, ignores, remembers, abstains_label, abstains_kinds, reinstates_label, reinstates_kinds, gives_up, writes_in, reads_out, IsBodyOf, calculates, dimensions, nexts, does}
 use Rattle.ick_source.specs.BodyBytes.{IsBodyIn}
 use Rattle.ick_source.specs.StatementTree.{StatementTree}
 use Rattle.ick_source.specs.Statements.{Ends, recognised, unrecognised}
 use Rattle.ick_source.specs.Cut.{IsCut, IsFront, nothing as no_front, something, AreStatements, done, statement_then}
 use Rattle.ick_source.specs.Refusals.{longest}
-use Rattle.ick_source.specs.NameKinds.{is_array, count_in, is_kinded, are_kinded, is_body_kinded, is_statement_kinded}
+use Rattle.ick_source.specs.NameKinds.{is_array, is_tail, count_in, is_kinded, are_kinded, is_item_kinded, is_body_kinded, is_statement_kinded}
 use Rattle.ick_source.proofs.ExpressionShorter.{length-past_lead, length-past_operator, number-shorter, word-shorter, simple-shorter, element-shorter, operand-shorter}
-use Rattle.ick_source.proofs.PartUnique.{target-shorter, item-shorter, whole-shorter, array-shorter, verb-shorter}
+use Rattle.ick_source.proofs.PartUnique.{target-shorter, place-shorter, item-shorter, whole-shorter, array-shorter, verb-shorter}
 
 -- whether a spot has a spot's kind, and an array an array's
 names_its_kind : Lead → Bool
@@ -123,27 +123,32 @@ target_kinded : (from to : List ℕ) (t : Tree) → IsTarget from to t → Fits 
 target_kinded from to t (to_spot p) f = spot_kind from p.begins
 target_kinded from to t (to_element p) f = element_kinded p.is_element f
 
-item_kinded : (from to : List ℕ) (t : Tree) → IsItem from to t → Fits from → is_kinded t ≡ true
-item_kinded from to t (of_target p) f = target_kinded from to t p f
-item_kinded from to t (of_mesh e n) f = refl
+place_kinded : (from to : List ℕ) (x : ItemTree) → IsPlace from to x → Fits from → is_item_kinded x ≡ true
+place_kinded from to x (to_target p) f = target_kinded from to _ p f
+place_kinded from to x (to_array p) f = ap is_tail p.tail
+
+item_kinded : (from to : List ℕ) (x : ItemTree) → IsItem from to x → Fits from → is_item_kinded x ≡ true
+item_kinded from to x (of_place p) f = place_kinded from to x p f
+item_kinded from to x (of_mesh e n) f = refl
 
 whole_kinded : (from to : List ℕ) (t : Tree) → IsWhole from to t → Fits from → is_kinded t ≡ true
 whole_kinded from to t p f = expr_kinded p.is_expr f
 
-abbrev Shortens : Part Tree → Type 0
-Shortens part = (from to : List ℕ) (t : Tree) → part from to t → length to < length from
+abbrev Shortens : (A : Type 0) → Part A → Type 0
+Shortens A part = (from to : List ℕ) (x : A) → part from to x → length to < length from
 
-abbrev Kinded : Part Tree → Type 0
-Kinded part = (from to : List ℕ) (t : Tree) → part from to t → Fits from → is_kinded t ≡ true
+abbrev Kinded : (A : Type 0) → Part A → (A → Bool) → Type 0
+Kinded A part test = (from to : List ℕ) (x : A) → part from to x → Fits from → test x ≡ true
 
-list_count : (part : Part Tree) (word : List ℕ) → Shortens part → {from to : List ℕ} {ts : List Tree} → IsSeparated Tree part word from to ts → length ts + length to ≤ length from
-list_count part word shorter (only p no_more) = omega (arith, shorter _ _ _ p)
-list_count part word shorter (and_more p w r) = omega (arith, shorter _ _ _ p, word-shorter w, list_count part word shorter r)
+list_count : (A : Type 0) (part : Part A) (word : List ℕ) → Shortens A part → {from to : List ℕ} {xs : List A} → IsSeparated A part word from to xs → length xs + length to ≤ length from
+list_count A part word shorter (only p no_more) = omega (arith, shorter _ _ _ p)
+list_count A part word shorter (and_more p w r) = omega (arith, shorter _ _ _ p, word-shorter w, list_count A part word shorter r)
 
-list_kinded : (part : Part Tree) (word : List ℕ) → Shortens part → Kinded part → {from to : List ℕ} {ts : List Tree} → IsSeparated Tree part word from to ts → Fits from → list_all is_kinded ts ≡ true
-list_kinded part word shorter kinded (only p no_more) f = both_true (kinded _ _ _ p f) refl
-list_kinded part word shorter kinded (and_more p w r) f =
-    both_true (kinded _ _ _ p f) (list_kinded part word shorter kinded r (record { low = omega (arith, shorter _ _ _ p, word-shorter w) }))
+list_kinded : (A : Type 0) (part : Part A) (test : A → Bool) (word : List ℕ) → Shortens A part → Kinded A part test → {from to : List ℕ} {xs : List A} → IsSeparated A part word from to xs →
+    Fits from → list_all test xs ≡ true
+list_kinded A part test word shorter kinded (only p no_more) f = both_true (kinded _ _ _ p f) refl
+list_kinded A part test word shorter kinded (and_more p w r) f =
+    both_true (kinded _ _ _ p f) (list_kinded A part test word shorter kinded r (record { low = omega (arith, shorter _ _ _ p, word-shorter w) }))
 
 after_kinded : (v : Verb) {from to : List ℕ} {b : BodyTree} → IsAfter v from to b → Fits from → is_body_kinded (Some b) ≡ true
 after_kinded v (forgets p) f = whole_kinded _ _ _ p f
@@ -157,8 +162,8 @@ after_kinded v (abstains_kinds w p) f = refl
 after_kinded v (reinstates_label p) f = refl
 after_kinded v (reinstates_kinds p) f = refl
 after_kinded v (gives_up w) f = refl
-after_kinded v (writes_in w p) f = list_kinded IsTarget (codes "+") target-shorter target_kinded p (record { low = omega (arith, word-shorter w) })
-after_kinded v (reads_out w p) f = list_kinded IsItem (codes "+") item-shorter item_kinded p (record { low = omega (arith, word-shorter w) })
+after_kinded v (writes_in w p) f = list_kinded ItemTree IsPlace is_item_kinded (codes "+") place-shorter place_kinded p (record { low = omega (arith, word-shorter w) })
+after_kinded v (reads_out w p) f = list_kinded ItemTree IsItem is_item_kinded (codes "+") item-shorter item_kinded p (record { low = omega (arith, word-shorter w) })
 
 formed_kinded : (form : Form) {from to : List ℕ} {b : BodyTree} → IsBodyOf form from to b → Fits from → is_body_kinded (Some b) ≡ true
 formed_kinded form (calculates p w e) f =
@@ -166,8 +171,8 @@ formed_kinded form (calculates p w e) f =
 formed_kinded form {from} (dimensions {later = later} {es = es} p w d) f =
     let left : length later < length from = omega (arith, array-shorter _ _ _ p, word-shorter w) in
     both_true (array_kind from p.begins)
-    (both_true (few (length es) (omega (arith, list_count IsWhole (codes "BY") whole-shorter d)))
-    (list_kinded IsWhole (codes "BY") whole-shorter whole_kinded d (record { low = omega arith })))
+    (both_true (few (length es) (omega (arith, list_count Tree IsWhole (codes "BY") whole-shorter d)))
+    (list_kinded Tree IsWhole is_kinded (codes "BY") whole-shorter whole_kinded d (record { low = omega arith })))
 formed_kinded form (nexts p w) f = refl
 formed_kinded form (does {v = v} w p) f = after_kinded v p (record { low = omega (arith, verb-shorter v w) })
 
@@ -197,6 +202,6 @@ front_kinded : {s : List ℕ} {from to : ℕ} {rest trees : List StatementTree} 
 front_kinded (no_front e) k = k
 front_kinded (something l t) k = both_true refl k
 
--- Each statement of a text that is not too long is well-kinded.
+-- each statement of a text that is not too long is well-kinded
 pub cut_kinded : {s : List ℕ} {trees : List StatementTree} → IsCut s trees → length s ≤ longest → list_all is_statement_kinded trees ≡ true
 cut_kinded g low = front_kinded g.front (statements_kinded g.statements low)

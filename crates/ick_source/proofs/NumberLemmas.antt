@@ -1,7 +1,8 @@
 -- Numbers, digit by digit.
 use Rattle.std.proofs.Common.{◌≡◌, ℕ, ◌+◌, ◌-◌, ◌*◌, ◌^◌, ◌<◌, Bool, true, false, List, [], ◌∷◌, ◌++◌, length, length-append, refl, sym, ap, subst, ◌∙◌, arith}
 use Rattle.std.proofs.Math.Nat.{add-mul, mul_assoc, pow-succ'}
-use Rattle.std.specs.Prelude.{if◌then◌else◌, ◌&&◌, cond}
+use Rattle.std.proofs.lemmas.Bool.{and_parts}
+use Rattle.std.specs.Prelude.{if◌then◌else◌, cond}
 use Rattle.std.specs.List.{list_all}
 use Rattle.ick_source.specs.Position.{past_white}
 use Rattle.ick_source.specs.Token.{is_digit, begins_number, value_of_digits, IsNumber, digits}
@@ -65,27 +66,19 @@ number_there from e =
     let l = past_white from in
     subst (IsNumber from (past_digits l)) (sym (value-is (digits_of l))) (digits (digits_of l) (digits-split l) (digits-some l e) (digits-all l) (digits-end l))
 
-and-left : (a b : Bool) → (a && b) ≡ true → a ≡ true
-and-left true b e = refl
-and-left false b e = e
-
-and-right : (a b : Bool) → (a && b) ≡ true → b ≡ true
-and-right true b e = e
-and-right false b e = absurd (cc)
-
 -- digits and what begins with none are told apart in one way
 digits-unique : (ds to : List ℕ) → list_all is_digit ds ≡ true → begins_number to ≡ false → (digits_of (ds ++ to) ≡ ds) × (past_digits (ds ++ to) ≡ to)
 unfolding digits_of past_digits
 digits-unique [] [] all e = (refl, refl)
 digits-unique [] (b ∷ to) all e = (rw e refl, rw e refl)
 digits-unique (d ∷ ds) to all e =
-    let r = digits-unique ds to (and-right (is_digit d) (list_all is_digit ds) all) e in
-    let digit = and-left (is_digit d) (list_all is_digit ds) all in
+    let r = digits-unique ds to (and_parts (is_digit d) (list_all is_digit ds) all).1 e in
+    let digit = (and_parts (is_digit d) (list_all is_digit ds) all).0 in
     (rw (digit, r.0) refl, rw (digit, r.1) refl)
 
 front : (ds to : List ℕ) → 0 < length ds → list_all is_digit ds ≡ true → begins_number (ds ++ to) ≡ true
 front [] to some all = absurd (omega arith)
-front (d ∷ ds) to some all = and-left (is_digit d) (list_all is_digit ds) all
+front (d ∷ ds) to some all = (and_parts (is_digit d) (list_all is_digit ds) all).0
 
 pub number-begins : {from to : List ℕ} {n : ℕ} → IsNumber from to n → begins_number (past_white from) ≡ true
 number-begins {to = to} (digits ds e some all ends) = ap begins_number e ∙ front ds to some all

@@ -2,6 +2,7 @@
 use Rattle.std.proofs.Common.{◌≡◌, ◌≢◌, ◌⊎◌, inl, inr, ℕ, List, Option, Some, None, Result, Ok, Err, IfOk, refl, sym, ap, subst, ◌∙◌}
 use Rattle.std.specs.Prelude.{codes}
 use Rattle.ick_source.specs.declared.tree.NameKind.{NameKind}
+use Rattle.ick_source.specs.declared.tree.NameKind.TheVariants.{Tail}
 use Rattle.ick_source.specs.declared.tree.Name.{Name}
 use Rattle.ick_source.specs.declared.faults.Faults.{Faults}
 use Rattle.ick_source.specs.declared.lead.Lead.TheVariants.{Spot, Array, Hash}
@@ -13,16 +14,17 @@ use Rattle.ick_source.specs.Token.{IsNumber, IsWord, CappedNumber}
 use Rattle.ick_source.specs.Tree.{Tree, Trees, mesh, scalar, element}
 use Rattle.ick_source.specs.Clamped.{clamped, clamped_tree, clamped_name, clamped_trees, name_faults, faults_of}
 use Rattle.ick_source.specs.Expression.{IsElement, indexed}
-use Rattle.ick_source.specs.BodyGrammar.{IsName, a_spot, an_array, IsTarget, to_spot, to_element, IsItem, of_target, of_mesh, IsWholeElement}
-use Rattle.ick_source.specs.Nonterminal.{Nonterminal, elements, names, targets, items, numbers, labels}
+use Rattle.ick_source.specs.BodyTree.{ItemTree, single, whole}
+use Rattle.ick_source.specs.BodyGrammar.{IsName, a_spot, an_array, IsTarget, to_spot, to_element, IsTail, IsPlace, to_target, to_array, IsItem, of_place, of_mesh, IsWholeElement}
+use Rattle.ick_source.specs.Nonterminal.{Nonterminal, elements, names, targets, tails, places, items, numbers, labels}
 use Rattle.ick_source.specs.ExpressionAnswers.{Stands}
 use Rattle.ick_source.specs.Answers.{IsParsed, IsAbsent, Answers}
 use Rattle.ick_source.proofs.ClampedLemmas.{clamped-capped, name_faults-capped}
 use Rattle.ick_source.proofs.ExpressionUnique.{number_unique}
 use Rattle.ick_source.proofs.WordUnique.{word_unique}
-use Rattle.ick_source.proofs.PartUnique.{spot_is_no_array, element_leads, target_is_no_mesh}
+use Rattle.ick_source.proofs.PartUnique.{spot_is_no_array, name_unique, element_leads, target_is_no_tail, place_is_no_mesh}
 
--- What stands at the one position for N stands at the other, made into another value, for M, and nothing else does.
+-- what stands at the one position for N stands at the other, made into another value, for M, and nothing else does
 pub record Makes (N M : Nonterminal) (value : N.Value → M.Value) (seen : N.Clamped → M.Clamped) (from from' : List ℕ) : Type 0 where
   pub there : (to : List ℕ) (x : N.Value) → N.stands from to x → M.stands from' to (value x)
   pub back : (to : List ℕ) (y : M.Value) → M.stands from' to y → (x : N.Value) × N.stands from to x
@@ -88,31 +90,78 @@ targets_by_names from other = record {
     variable_back (to_spot {x = x} p) = (x, a_spot p)
     variable_back (to_element p) = let a = element_leads p in absurd (other a.0 a.1)
 
--- where no mesh leads, an item is a target
-pub items_by_targets : (from : List ℕ) → next_lead from ≢ Hash → Makes targets items (λ t. t) (λ t. t) from from
-items_by_targets from other = record {
-  there = λ to t p. of_target p;
-  back = λ to t p. target_back p;
+-- a name of a kind that is no tail's is no whole array
+pub other_kind : (from : List ℕ) → next_lead from ≢ Array Tail → IsAbsent tails from
+other_kind from other = record { nothing = λ to x p. other (p.array.begins ∙ ap Array p.tail) }
+
+-- where no name stands, no whole array does
+pub unnamed : {from : List ℕ} → IsAbsent names from → IsAbsent tails from
+unnamed none_there = record { nothing = λ to x p. none_there.nothing to x (an_array p.array) }
+
+-- a name with SUB after it is no whole array
+pub subscripted : {from mid later : List ℕ} {x : Name} → IsName from mid x → IsWord (codes "SUB") mid later → IsAbsent tails from
+subscripted {later = later} w sub = record {
+  nothing = λ to x p.
+      let s = name_unique _ _ _ _ _ w (an_array p.array) in
+      p.no_sub later (subst (λ l. IsWord (codes "SUB") l later) s.to sub);
+}
+
+-- a tail's name with no SUB after it is a whole array
+pub tail_named : {from to : List ℕ} {x : Name} → next_lead from ≡ Array Tail → IsName from to x → ((later : List ℕ) → IsWord (codes "SUB") to later → ⊥) → IsTail from to x
+tail_named e (a_spot p) no_sub = absurd (spot_is_no_array p e)
+tail_named e (an_array p) no_sub = record { array = p; tail = let b = p.begins in cc; no_sub = no_sub }
+
+-- where a whole array stands, a position is that array
+pub places_by_tails : {from mid : List ℕ} {x : Name} → IsTail from mid x → Makes tails places whole whole from from
+places_by_tails {from} q = record {
+  there = λ to x p. to_array p;
+  back = λ to y p. tail_back p;
+  clamped = λ x. refl;
+  faults = λ x. refl;
+}
+  where
+    tail_back : {to : List ℕ} {y : ItemTree} → IsPlace from to y → (x : Name) × IsTail from to x
+    tail_back (to_target p) = absurd (target_is_no_tail p q)
+    tail_back (to_array {x = x} p) = (x, p)
+
+-- where none stands, a position is a target
+pub places_by_targets : {from : List ℕ} → IsAbsent tails from → Makes targets places single single from from
+places_by_targets {from} none_there = record {
+  there = λ to t p. to_target p;
+  back = λ to y p. target_back p;
   clamped = λ t. refl;
   faults = λ t. refl;
 }
   where
-    target_back : {to : List ℕ} {t : Tree} → IsItem from to t → (x : Tree) × IsTarget from to x
-    target_back {t = t} (of_target p) = (t, p)
-    target_back (of_mesh e n) = absurd (other e)
+    target_back : {to : List ℕ} {y : ItemTree} → IsPlace from to y → (t : Tree) × IsTarget from to t
+    target_back (to_target {t = t} p) = (t, p)
+    target_back {to = to} (to_array {x = x} p) = absurd (none_there.nothing to x p)
+
+-- where no mesh leads, an item is a position
+pub items_by_places : (from : List ℕ) → next_lead from ≢ Hash → Makes places items (λ x. x) (λ x. x) from from
+items_by_places from other = record {
+  there = λ to x p. of_place p;
+  back = λ to x p. place_back p;
+  clamped = λ x. refl;
+  faults = λ x. refl;
+}
+  where
+    place_back : {to : List ℕ} {x : ItemTree} → IsItem from to x → (y : ItemTree) × IsPlace from to y
+    place_back {x = x} (of_place p) = (x, p)
+    place_back (of_mesh e n) = absurd (other e)
 
 -- where a mesh leads, an item is its number
-pub items_by_numbers : (from past : List ℕ) → next_lead from ≡ Hash → past ≡ past_lead from → Makes numbers items mesh (λ t. t) past from
+pub items_by_numbers : (from past : List ℕ) → next_lead from ≡ Hash → past ≡ past_lead from → Makes numbers items (λ n. single (mesh n)) (λ x. x) past from
 unfolding clamped_tree faults_of
 items_by_numbers from past e f = record {
   there = λ to n p. of_mesh e (subst (λ l. IsNumber l to n) f p);
-  back = λ to t p. number_back p;
+  back = λ to x p. number_back p;
   clamped = λ n. refl;
   faults = λ n. refl;
 }
   where
-    number_back : {to : List ℕ} {t : Tree} → IsItem from to t → (n : ℕ) × IsNumber past to n
-    number_back (of_target p) = absurd (target_is_no_mesh p e)
+    number_back : {to : List ℕ} {x : ItemTree} → IsItem from to x → (n : ℕ) × IsNumber past to n
+    number_back (of_place p) = absurd (place_is_no_mesh p e)
     number_back {to = to} (of_mesh {n = n} g p) = (n, subst (λ l. IsNumber l to n) (sym f) p)
 
 pub answers_as : {N M : Nonterminal} {value : N.Value → M.Value} {change : N.Clamped → M.Clamped} {from from' : List ℕ} {T : Type 0} → Makes N M value change from from' → (seen : T → N.Clamped) (seen' : T → M.Clamped) →

@@ -1,9 +1,10 @@
 -- From one position there is at most one part of each sort, and a part takes a character.
-use Rattle.std.proofs.Common.{◌≡◌, ℕ, ◌<◌, List, ◌∷◌, [], Some, None, length, length-append, lit<, refl, sym, ap, subst, ◌∙◌, arith}
+use Rattle.std.proofs.Common.{◌≡◌, ℕ, ◌<◌, List, ◌∷◌, [], Option, Some, None, length, length-append, lit<, refl, sym, ap, subst, ◌∙◌, arith}
 use Rattle.std.specs.Prelude.{codes}
 use Rattle.ick_source.specs.declared.tree.Name.{Name}
 use Rattle.ick_source.specs.declared.tree.NameKind.{NameKind}
 use Rattle.ick_source.specs.declared.lead.Lead.{Lead}
+use Rattle.ick_source.specs.declared.lead.Delimiter.{Delimiter}
 use Rattle.ick_source.specs.declared.lead.Lead.TheVariants.{Spot, Array, Hash}
 use Rattle.ick_source.specs.declared.body.Gerund.{Gerund}
 use Rattle.ick_source.specs.declared.body.Gerund.TheVariants.{Calculating, Nexting, Forgetting, Resuming, Stashing, Retrieving, Ignoring, Remembering, Abstaining, Reinstating, WritingIn, ReadingOut}
@@ -13,9 +14,11 @@ use Rattle.ick_source.specs.Position.{next_lead}
 use Rattle.ick_source.specs.Verb.{verb_word}
 use Rattle.ick_source.specs.Token.{IsNumber, IsWord}
 use Rattle.ick_source.specs.Tree.{Tree, mesh, scalar}
+use Rattle.ick_source.specs.Expression.{IsElement, indexed}
+use Rattle.ick_source.specs.BodyTree.{ItemTree, single, whole}
 use Rattle.ick_source.specs.Gerund.{gerund_word, second_word}
-use Rattle.ick_source.specs.BodyGrammar.{IsSeparated, only, and_more, IsWholeElement, IsNamed, a_spot, an_array, IsTarget, to_spot, to_element, of_target, of_mesh, one_word, two_words}
-use Rattle.ick_source.specs.Nonterminal.{Nonterminal, IsSameEnd, StandsOnce, TakesCharacters, wholes, elements, names, arrays, targets, items, gerunds, labels}
+use Rattle.ick_source.specs.BodyGrammar.{IsSeparated, only, and_more, IsWholeElement, IsNamed, a_spot, an_array, IsTarget, to_spot, to_element, IsTail, IsPlace, to_target, to_array, of_place, of_mesh, one_word, two_words}
+use Rattle.ick_source.specs.Nonterminal.{Nonterminal, IsSameEnd, StandsOnce, TakesCharacters, wholes, elements, names, arrays, targets, places, items, gerunds, labels}
 use Rattle.ick_source.proofs.ExpressionUnique.{number_unique, expr_unique, element_unique}
 use Rattle.ick_source.proofs.ExpressionShorter.{length-past_white, length-past_lead, number-shorter, word-shorter, expr-shorter, element-shorter}
 use Rattle.ick_source.proofs.ExpressionReadings.{element_is_array}
@@ -99,18 +102,40 @@ pub target-shorter : TakesCharacters targets
 target-shorter from to x (to_spot p) = named-shorter p
 target-shorter from to x (to_element p) = element-shorter p.is_element
 
-pub target_is_no_mesh : {from to : List ℕ} {t : Tree} → IsTarget from to t → next_lead from ≡ Hash → ⊥
+target_is_no_mesh : {from to : List ℕ} {t : Tree} → IsTarget from to t → next_lead from ≡ Hash → ⊥
 target_is_no_mesh (to_spot p) f = let e = p.begins in cc
 target_is_no_mesh (to_element p) f = let a = element_leads p in let e = a.1 in cc
 
+element_is_no_tail : {m : Option Delimiter} {from to to' : List ℕ} {t : Tree} {h : ℕ} {x : Name} → IsElement m from to t h → IsTail from to' x → ⊥
+element_is_no_tail (indexed {sub = sub} e number word subs) q =
+    let s = number_unique number q.array.number in q.no_sub sub (subst (λ l. IsWord (codes "SUB") l sub) s.0 word)
+
+pub target_is_no_tail : {from to to' : List ℕ} {t : Tree} {x : Name} → IsTarget from to t → IsTail from to' x → ⊥
+target_is_no_tail (to_spot p) q = spot_is_no_array p q.array.begins
+target_is_no_tail (to_element p) q = element_is_no_tail p.is_element q
+
+pub place_unique : StandsOnce places
+place_unique from to to' x x' (to_target p) (to_target q) = let s = target_unique _ _ _ _ _ p q in record { to = s.to; value = ap single s.value }
+place_unique from to to' x x' (to_target p) (to_array q) = absurd (target_is_no_tail p q)
+place_unique from to to' x x' (to_array q) (to_target p) = absurd (target_is_no_tail p q)
+place_unique from to to' x x' (to_array p) (to_array q) = let s = array_unique _ _ _ _ _ p.array q.array in record { to = s.to; value = ap whole s.value }
+
+pub place-shorter : TakesCharacters places
+place-shorter from to x (to_target p) = target-shorter _ _ _ p
+place-shorter from to x (to_array p) = named-shorter p.array
+
+pub place_is_no_mesh : {from to : List ℕ} {x : ItemTree} → IsPlace from to x → next_lead from ≡ Hash → ⊥
+place_is_no_mesh (to_target p) f = target_is_no_mesh p f
+place_is_no_mesh (to_array p) f = let e = p.array.begins in cc
+
 pub item_unique : StandsOnce items
-item_unique from to to' x x' (of_target p) (of_target q) = target_unique _ _ _ _ _ p q
-item_unique from to to' x x' (of_target p) (of_mesh f n) = absurd (target_is_no_mesh p f)
-item_unique from to to' x x' (of_mesh f n) (of_target p) = absurd (target_is_no_mesh p f)
-item_unique from to to' x x' (of_mesh e n) (of_mesh f n') = let s = number_unique n n' in record { to = s.0; value = ap mesh s.1 }
+item_unique from to to' x x' (of_place p) (of_place q) = place_unique _ _ _ _ _ p q
+item_unique from to to' x x' (of_place p) (of_mesh f n) = absurd (place_is_no_mesh p f)
+item_unique from to to' x x' (of_mesh f n) (of_place p) = absurd (place_is_no_mesh p f)
+item_unique from to to' x x' (of_mesh e n) (of_mesh f n') = let s = number_unique n n' in record { to = s.0; value = ap (λ m. single (mesh m)) s.1 }
 
 pub item-shorter : TakesCharacters items
-item-shorter from to x (of_target p) = target-shorter _ _ _ p
+item-shorter from to x (of_place p) = place-shorter _ _ _ p
 item-shorter from to x (of_mesh e n) = omega (arith, number-shorter n, length-past_lead from)
 
 second_words : {g g' : Gerund} {w w' : List ℕ} → g ≡ g' → second_word g ≡ Some w → second_word g' ≡ Some w' → w ≡ w'

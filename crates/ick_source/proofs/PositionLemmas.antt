@@ -4,7 +4,7 @@ use Rattle.std.proofs.lemmas.Bool.Decides.{nat_tests}
 use Rattle.ick_source.specs.declared.position.Position.{Position}
 use Rattle.ick_source.specs.Position.{characters, characters_of, left_at, past_white}
 use Rattle.ick_bits.specs.White.{is_white_byte}
-use Rattle.ick_source.specs.Token.{is_digit, begins_number, IsNumber, CappedNumber}
+use Rattle.ick_source.specs.Token.{cap, is_digit, begins_number, IsNumber, CappedNumber}
 use Rattle.ick_source.proofs.NumberLemmas.{digits_of, past_digits, value_after, number_there}
 
 pub left_at-between : (text : List ℕ) (p : Position) → p.between ≡ true → left_at text p ≡ 46 ∷ left_at text (record { at = p.at; between = false })
@@ -65,7 +65,7 @@ pub value-end : (l : List ℕ) (n : ℕ) → l ≡ [] → value_after n (digits_
 unfolding digits_of value_after
 value-end l n e = rw e refl
 
-pub value-capped : (ds : List ℕ) (v w : ℕ) → min v 65536 ≡ min w 65536 → min (value_after v ds) 65536 ≡ min (value_after w ds) 65536
+pub value-capped : (ds : List ℕ) (v w : ℕ) → min v cap ≡ min w cap → min (value_after v ds) cap ≡ min (value_after w ds) cap
 unfolding value_after
 value-capped [] v w e = e
 value-capped (d ∷ ds) v w e = value-capped ds (v * 10 + (d - 48)) (w * 10 + (d - 48)) (omega arith)
@@ -77,14 +77,14 @@ digit-low b e = grind (arith, nat_tests)
 -- a loop over digits that began at start and stopped at here, with the number so far
 pub capped_number : (from start here : List ℕ) (v b : ℕ) (l' : List ℕ) → start ≡ past_white from → start ≡ b ∷ l' → is_digit b ≡ true →
     past_digits here ≡ past_digits start → past_digits here ≡ here →
-    min (value_after v (digits_of here)) 65536 ≡ min (value_after 0 (digits_of start)) 65536 → value_after v (digits_of here) ≡ v → v ≤ 65536 →
+    min (value_after v (digits_of here)) cap ≡ min (value_after 0 (digits_of start)) cap → value_after v (digits_of here) ≡ v → v ≤ cap →
     CappedNumber from here v
 capped_number from start here v b l' white e digit stays stops counts done low =
     record {
       number = value_after 0 (digits_of (past_white from));
       is = subst (λ l. IsNumber from l (value_after 0 (digits_of (past_white from)))) (sym (sym stops ∙ stays ∙ ap past_digits white)) (number_there from (ap begins_number (sym white ∙ e) ∙ digit));
       capped =
-          let x : min v 65536 ≡ min (value_after 0 (digits_of start)) 65536 = ap (λ n. min n 65536) (sym done) ∙ counts in
-          let y : v ≡ min v 65536 = omega arith in
-          y ∙ x ∙ ap (λ l. min (value_after 0 (digits_of l)) 65536) white;
+          let x : min v cap ≡ min (value_after 0 (digits_of start)) cap = ap (λ n. min n cap) (sym done) ∙ counts in
+          let y : v ≡ min v cap = omega arith in
+          y ∙ x ∙ ap (λ l. min (value_after 0 (digits_of l)) cap) white;
     }

@@ -1,9 +1,10 @@
 -- Negations and percentages.
 use Rattle.std.proofs.Common.{Bool, List, None, Option, Some, ap, arith, codes, false, inl, inr, length, refl, subst, sym, true, ℕ, ◌+◌, ◌≡◌, ◌≤◌, ◌⊎◌}
+use Rattle.std.proofs.lemmas.Bool.{cases_lt, false≢true}
 use Rattle.ick_source.specs.declared.parsed.Scanned.{Scanned}
 use Rattle.ick_source.specs.Bytes.{byte}
-use Rattle.ick_source.specs.Qualifiers.{IsChance, IsNegated, IsNegatedAfter, IsNegation, IsPercentage, AreQualifiers, affirmed, already, certain, given, negated, not_yet}
-use Rattle.ick_source.proofs.ByteLemmas.{Finds, gap_exists, gap_unique, inside, le_or, number_in_along, number_in_inside, number_in_decided, number_in_unique, equal_decided, word_in_decided}
+use Rattle.ick_source.specs.Qualifiers.{IsChance, IsNegated, IsNegation, IsPercentage, AreQualifiers, affirmed, certain, given, negated, negation_first, neither, percentage_first}
+use Rattle.ick_source.proofs.ByteLemmas.{Finds, differ, gap_exists, gap_unique, inside, number_in_along, number_in_inside, number_in_decided, number_in_unique, equal_decided, word_in_decided}
 
 negation_along : (s : List ℕ) {i k : ℕ} → i ≡ k → IsNegation s i → IsNegation s k
 negation_along s e d = subst (λ x. IsNegation s x) e d
@@ -26,18 +27,27 @@ chance_unique (given g p) (certain h n) e = absurd (n _ _ (percentage_along (gap
 chance_unique (certain h n) (given g p) e = absurd (n _ _ (percentage_along (gap_unique g h (sym e)) p))
 chance_unique (certain g n) (certain h m) e = (e, refl)
 
-negated_after_unique : {s : List ℕ} {i j k l : ℕ} {f g a b : Bool} → IsNegatedAfter s f i j a → IsNegatedAfter s g k l b → f ≡ g → i ≡ k → (j ≡ l) × (a ≡ b)
-negated_after_unique already already f e = (e, refl)
-negated_after_unique already (not_yet d) f e = absurd cc
-negated_after_unique (not_yet d) already f e = absurd cc
-negated_after_unique (not_yet c) (not_yet d) f e = negated_unique c d e
+-- N is no %
+negation_or_percentage : {A : Type 0} {s : List ℕ} {i j k l n : ℕ} → IsNegated s i j true → IsChance s k l (Some n) → i ≡ k → A
+negation_or_percentage {s = s} (negated g (inl w)) (given h p) e = differ s 78 37 w.0 p.sign (omega arith) (gap_unique g h e)
+negation_or_percentage {s = s} (negated g (inr w)) (given h p) e = differ s 78 37 w.0 p.sign (omega arith) (gap_unique g h e)
 
 pub qualifiers_unique : {s : List ℕ} {i j k l : ℕ} {a b : Bool} {m n : Option ℕ} → AreQualifiers s i j a m → AreQualifiers s k l b n → i ≡ k → (j ≡ l) × (a ≡ b) × (m ≡ n)
-qualifiers_unique g h e =
-    let first = negated_unique g.first h.first e in
-    let second = chance_unique g.second h.second first.0 in
-    let third = negated_after_unique g.third h.third first.1 second.0 in
-    (third.0, third.1, second.1)
+qualifiers_unique (negation_first d c) (negation_first d' c') e =
+    let first = negated_unique d d' e in
+    let second = chance_unique c c' first.0 in
+    (second.0, refl, second.1)
+qualifiers_unique (negation_first d c) (percentage_first c' d') e = negation_or_percentage d c' e
+qualifiers_unique (negation_first d c) (neither d' c') e = let first = negated_unique d d' e in absurd (false≢true (sym first.1))
+qualifiers_unique (percentage_first c d) (negation_first d' c') e = negation_or_percentage d' c (sym e)
+qualifiers_unique (percentage_first c d) (percentage_first c' d') e =
+    let first = chance_unique c c' e in
+    let second = negated_unique d d' first.0 in
+    (second.0, second.1, first.1)
+qualifiers_unique (percentage_first c d) (neither d' c') e = let first = chance_unique c c' e in let m = first.1 in absurd (cc)
+qualifiers_unique (neither d c) (negation_first d' c') e = let first = negated_unique d d' e in absurd (false≢true first.1)
+qualifiers_unique (neither d c) (percentage_first c' d') e = let first = chance_unique c c' e in let m = first.1 in absurd (cc)
+qualifiers_unique (neither d c) (neither d' c') e = (e, refl, refl)
 
 negated_order : {s : List ℕ} {i j : ℕ} {d : Bool} → IsNegated s i j d → i ≤ j
 negated_order (negated g x) = omega (arith, g.order)
@@ -47,12 +57,10 @@ chance_order : {s : List ℕ} {i j : ℕ} {d : Option ℕ} → IsChance s i j d 
 chance_order (given g x) = omega (arith, g.order, x.gap.order, x.digits.some)
 chance_order (certain g x) = omega arith
 
-after_order : {s : List ℕ} {f : Bool} {i j : ℕ} {d : Bool} → IsNegatedAfter s f i j d → i ≤ j
-after_order already = omega arith
-after_order (not_yet d) = negated_order d
-
 pub qualifiers_order : {s : List ℕ} {i j : ℕ} {d : Bool} {n : Option ℕ} → AreQualifiers s i j d n → i ≤ j
-qualifiers_order m = omega (arith, negated_order m.first, chance_order m.second, after_order m.third)
+qualifiers_order (negation_first d c) = omega (arith, negated_order d, chance_order c)
+qualifiers_order (percentage_first c d) = omega (arith, chance_order c, negated_order d)
+qualifiers_order (neither d c) = omega arith
 
 negation_decided : (s : List ℕ) (i : ℕ) → IsNegation s i ⊎ (IsNegation s i → ⊥)
 negation_decided s i = elim (word_in_decided s i (codes "NOT")) [
@@ -71,9 +79,9 @@ percentage_decided s i = elim (equal_decided (byte s i) 37) [
   | inr n ↦ inr (λ j a x. n x.sign)
   | inl o ↦ let a = gap_exists s (i + 1) in elim (number_in_decided s a.0) [
     | inr n ↦ inr (λ j m x. n _ _ (number_in_along (gap_unique x.gap a.1 refl) x.digits))
-    | inl m ↦ elim (le_or m.1 100) [
-      | inl le ↦ inl (m.0, m.1, record { first = a.0; sign = o; gap = a.1; digits = m.2; most = le })
-      | inr gt ↦ inr (λ j k x. omega (arith, (number_in_unique x.digits m.2 (gap_unique x.gap a.1 refl)).1, x.most, gt))
+    | inl m ↦ elim (cases_lt 100 m.1) [
+      | inr le ↦ inl (m.0, m.1, record { first = a.0; sign = o; gap = a.1; digits = m.2; most = le })
+      | inl gt ↦ inr (λ j k x. omega (arith, (number_in_unique x.digits m.2 (gap_unique x.gap a.1 refl)).1, x.most, gt))
     ]
   ]
 ]
@@ -84,32 +92,35 @@ chance_exists s i = let g = gap_exists s i in elim (percentage_decided s g.0) [
   | inr n ↦ (i, None, certain g.1 n)
 ]
 
-negated_after_exists : (s : List ℕ) (f : Bool) (i : ℕ) → (j : ℕ) × (d : Bool) × IsNegatedAfter s f i j d
-negated_after_exists s true i = (i, true, already)
-negated_after_exists s false i = let d = negated_exists s i in (d.0, d.1, not_yet d.2)
+-- where no negation stands, the qualifiers are a percentage and a negation after it, or none
+qualifiers_after : {s : List ℕ} {i j k l : ℕ} {d : Bool} {c : Option ℕ} → IsNegated s i j false → IsChance s j k c → IsNegated s k l d → AreQualifiers s i l d c
+qualifiers_after (affirmed g n) (given h p) d = percentage_first (given h p) d
+qualifiers_after (affirmed g n) (certain h m) (affirmed k x) = neither (affirmed g n) (certain h m)
+qualifiers_after {s} (affirmed g n) (certain h m) (negated k x) = absurd (n (negation_along s (gap_unique k g refl) x))
 
 pub qualifiers_exist : (s : List ℕ) (i : ℕ) → (j : ℕ) × (d : Bool) × (c : Option ℕ) × AreQualifiers s i j d c
-qualifiers_exist s i =
-    let a = negated_exists s i in
-    let b = chance_exists s a.0 in
-    let c = negated_after_exists s a.1 b.0 in
-    (c.0, c.1, b.1, record { before = a.1; middle = a.0; last = b.0; first = a.2; second = b.2; third = c.2 })
+qualifiers_exist s i = let a = negated_exists s i in qualifiers_by a.1 a.2
+  where
+    qualifiers_by : {j : ℕ} (d : Bool) → IsNegated s i j d → (k : ℕ) × (e : Bool) × (c : Option ℕ) × AreQualifiers s i k e c
+    qualifiers_by {j} true a = let b = chance_exists s j in (b.0, true, b.1, negation_first a b.2)
+    qualifiers_by {j} false a = let b = chance_exists s j in let c = negated_exists s b.0 in (c.0, c.1, b.1, qualifiers_after a b.2 c.2)
 
-pub negated_inside : {s : List ℕ} {i j : ℕ} {d : Bool} → IsNegated s i j d → i ≤ length s → j ≤ length s
+negated_inside : {s : List ℕ} {i j : ℕ} {d : Bool} → IsNegated s i j d → i ≤ length s → j ≤ length s
 negated_inside {s} (negated {next} g (inl w)) l = let k = inside s (next + 1 + 1) (λ z. let e = w.1.1.0 in omega (arith, e, z)) in omega arith
 negated_inside {s} (negated {next} g (inr w)) l = let k = inside s (next + 1 + 1) (λ z. let e = w.1.1.0 in omega (arith, e, z)) in omega arith
 negated_inside (affirmed g n) l = l
 
-pub chance_inside : {s : List ℕ} {i j : ℕ} {c : Option ℕ} → IsChance s i j c → i ≤ length s → j ≤ length s
+chance_inside : {s : List ℕ} {i j : ℕ} {c : Option ℕ} → IsChance s i j c → i ≤ length s → j ≤ length s
 chance_inside (given g p) l = number_in_inside p.digits
 chance_inside (certain g n) l = l
 
-pub after_inside : {s : List ℕ} {f : Bool} {i j : ℕ} {d : Bool} → IsNegatedAfter s f i j d → i ≤ length s → j ≤ length s
-after_inside already l = l
-after_inside (not_yet d) l = negated_inside d l
+pub qualifiers_inside : {s : List ℕ} {i j : ℕ} {d : Bool} {c : Option ℕ} → AreQualifiers s i j d c → i ≤ length s → j ≤ length s
+qualifiers_inside (negation_first d c) l = chance_inside c (negated_inside d l)
+qualifiers_inside (percentage_first c d) l = negated_inside d (chance_inside c l)
+qualifiers_inside (neither d c) l = l
 
-pub negated_already : (s : List ℕ) (i : ℕ) (f : Bool) (x : Scanned Bool ℕ) → f ≡ true → x ≡ record { value = true; to = i } → IsNegatedAfter s f i x.to x.value
-negated_already s i f x e h = rw (e, h) already
+pub negation_read : {s : List ℕ} {i j k : ℕ} {d : Bool} {c : Option ℕ} (x : Scanned Bool ℕ) → d ≡ true → IsNegated s i j d → IsChance s j k c → x ≡ record { value = true; to = k } → AreQualifiers s i x.to x.value c
+negation_read {s} {i} {j} x first a b e = rw e (negation_first (subst (λ d. IsNegated s i j d) first a) b)
 
-pub negated_fresh : (s : List ℕ) (i : ℕ) (f : Bool) (x r : Scanned Bool ℕ) → f ≡ false → x ≡ r → IsNegated s i r.to r.value → IsNegatedAfter s f i x.to x.value
-negated_fresh s i f x r e h d = rw (e, h) (not_yet d)
+pub percentage_read : {s : List ℕ} {i j k : ℕ} {d : Bool} {c : Option ℕ} (x r : Scanned Bool ℕ) → d ≡ false → IsNegated s i j d → IsChance s j k c → IsNegated s k r.to r.value → x ≡ r → AreQualifiers s i x.to x.value c
+percentage_read {s} {i} {j} x r first a b d e = rw e (qualifiers_after (subst (λ d. IsNegated s i j d) first a) b d)

@@ -1,6 +1,7 @@
 -- What the reader of a source has read, and what the end of the reading gives.
 use mir.Val.{bool_byte}
 use Rattle.std.proofs.Common.{Bool, Err, IfErr, IfOk, IsErrAnd, List, Ok, Result, Some, [], append_assoc, arith, cond, false, inl, inr, length, map, refl, slice_get, subst, suc, sym, true, zero, ℕ, ◌++◌, ◌+◌, ◌<◌, ◌∷◌, ◌≡◌, ◌≤◌, ◌⊎◌}
+use Rattle.std.proofs.lemmas.Bool.{cases_order}
 use Rattle.std.proofs.lemmas.List.{append-nil, map-append}
 use Rattle.std.proofs.lemmas.List.Sums.{count_by-le-length, sum_by-append}
 use Rattle.ick_bits.specs.declared.faults.FaultKind.TheVariants.{LabelRange, MeshTooLarge, NameRange}
@@ -22,7 +23,6 @@ use Rattle.ick_source.specs.declared.refusals.Refusal.TheVariants.{Fault, NoMemo
 use Rattle.ick_source.specs.declared.source.Reader.{Reader}
 use Rattle.ick_source.specs.declared.statements.Statement.{Statement}
 use Rattle.ick_source.proofs.BoundaryLemmas.{opening_solid}
-use Rattle.ick_source.proofs.ByteLemmas.{less_or}
 use Rattle.ick_source.proofs.RefusalLemmas.{compiles_unique, refused_not, refused_only, sound_below_none, sound_more}
 use Rattle.ick_source.proofs.StatementLemmas.{statement_boundary}
 
@@ -49,10 +49,10 @@ read_nothing {s} {a} {e} g b le within h = record {
 } where
   same : IsBoundary s e → a ≡ e
   same (at_end f) = omega arith
-  same (at_start f) = elim (less_or e a) [
-    | inl (inl lt) ↦ absurd (opening_solid f.opening (g.white e (omega arith) lt))
-    | inl (inr gt) ↦ absurd (omega arith)
-    | inr q ↦ sym q
+  same (at_start f) = elim (cases_order e a) [
+    | inr (inl lt) ↦ absurd (opening_solid f.opening (g.white e (omega arith) lt))
+    | inr (inr gt) ↦ absurd (omega arith)
+    | inl q ↦ sym q
   ]
 
 pub read_something : {s : List ℕ} {a e : ℕ} {x : Reader} {text : List ℕ} → IsGap s 0 a → IsNextBoundary s 0 e → a < e → IsTrimmed s a e text → HasRead x (plain text ∷ []) → HasReadUpTo s e x
@@ -66,7 +66,7 @@ read_something {s} {a} {e} {text = text} g b lt t h = record {
 pub added : {x : Reader} {all : List StatementTree} {p : StatementTree} (st : Statement) → HasRead x all → (items : List Statement) → items ≡ x.statements.items ++ st ∷ [] → IsEmpty x.out_of_range → statement_tree_of st ≡ p → map statement_tree_of items ≡ all ++ p ∷ []
 added {x} {all} {p} st h items e m q = rw (e, map-append statement_tree_of x.statements.items (st ∷ []), h.same m, q) refl
 
--- Where no number is out of range, the first three kinds of fault do not stand.
+-- where no number is out of range, the first three kinds of fault do not stand
 pub sound_ranges : {x : OutOfRange} {all : List StatementTree} → AreFirst x all → IsEmpty x → IsSoundBelow 3 all
 sound_ranges {all = all} h e =
     sound_more LabelRange refl (omega arith)

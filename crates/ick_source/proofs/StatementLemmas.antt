@@ -1,5 +1,6 @@
 -- Statements: exactly one stands at a start.
 use Rattle.std.proofs.Common.{Bool, List, None, Option, Some, ap, arith, inl, inr, length, refl, slice_range, subst, suc, sym, unwrap_or, zero, ℕ, ◌+◌, ◌-◌, ◌<◌, ◌≡◌, ◌≤◌}
+use Rattle.std.proofs.lemmas.Bool.{cases_order}
 use Rattle.ick_source.specs.BodyBytes.{IsBodyIn}
 use Rattle.ick_source.specs.BodyTree.{BodyTree}
 use Rattle.ick_source.specs.Boundaries.{IsBoundary, IsStart}
@@ -11,8 +12,8 @@ use Rattle.ick_source.specs.Clamped.{both_faults}
 use Rattle.ick_source.specs.declared.faults.Faults.{Faults}
 use Rattle.ick_source.proofs.BodyByteLemmas.{body_in_decided, body_in_longer, body_in_unique}
 use Rattle.ick_source.proofs.BoundaryLemmas.{boundary_along, boundary_inside, boundary_decided, next_boundary_exists, next_boundary_unique, opening_ends_inside, opening_inside, opening_longer, opening_unique, opening_solid}
-use Rattle.ick_source.proofs.ByteLemmas.{Finds, gap_exists, gap_unique, less_or, white_decided}
-use Rattle.ick_source.proofs.QualifierLemmas.{after_inside, chance_inside, negated_inside, qualifiers_exist, qualifiers_unique, qualifiers_order}
+use Rattle.ick_source.proofs.ByteLemmas.{Finds, gap_exists, gap_unique, white_decided}
+use Rattle.ick_source.proofs.QualifierLemmas.{qualifiers_inside, qualifiers_exist, qualifiers_unique, qualifiers_order}
 
 recognised_unique : {s : List ℕ} {b e f : ℕ} {t u : BodyTree} → IsRecognised s b e t → IsRecognised s b f u → (e ≡ f) × (t ≡ u)
 recognised_unique g h = let one = body_in_unique g.body h.body in (gap_unique g.gap h.gap one.0, one.1)
@@ -28,10 +29,10 @@ ends_unique (unrecognised n b) (unrecognised m c) p q = (next_boundary_unique b 
 
 pub trimmed_unique : {s : List ℕ} {i e k f : ℕ} {t u : List ℕ} → IsTrimmed s i e t → IsTrimmed s k f u → i ≡ k → e ≡ f → t ≡ u
 trimmed_unique {s} g h p q =
-    let same : g.last ≡ h.last = elim (less_or g.last h.last) [
-      | inl (inl lt) ↦ absurd (h.solid (g.white h.last lt (let o = h.order in omega arith)))
-      | inl (inr gt) ↦ absurd (g.solid (h.white g.last gt (let o = g.order in omega arith)))
-      | inr same ↦ same
+    let same : g.last ≡ h.last = elim (cases_order g.last h.last) [
+      | inr (inl lt) ↦ absurd (h.solid (g.white h.last lt (let o = h.order in omega arith)))
+      | inr (inr gt) ↦ absurd (g.solid (h.white g.last gt (let o = g.order in omega arith)))
+      | inl same ↦ same
     ] in cc
 
 pub same_tree : (p q : StatementTree) → p.label ≡ q.label → p.polite ≡ q.polite → p.abstained ≡ q.abstained → p.chance ≡ q.chance → p.body ≡ q.body → p.text ≡ q.text → p ≡ q
@@ -89,10 +90,10 @@ trimmed_from : (s : List ℕ) (i e n : ℕ) → (IsWhite (byte s i) → ⊥) →
 trimmed_from s i e zero solid l w = (slice_range s i (i + 1), record { last = i; some = omega arith; order = omega arith; solid = solid; white = λ k a b. w k (omega arith) b; bytes_are = refl })
 trimmed_from s i e (suc n) solid l w = elim (white_decided (byte s (i + suc n))) [
   | inr stop ↦ (slice_range s i (i + suc n + 1), record { last = i + suc n; some = omega arith; order = omega arith; solid = stop; white = w; bytes_are = refl })
-  | inl white ↦ trimmed_from s i e n solid (omega arith) (λ k a b. elim (less_or (i + suc n) k) [
-    | inl (inl lt) ↦ w k lt b
-    | inl (inr gt) ↦ absurd (omega arith)
-    | inr same ↦ subst (λ z. IsWhite (byte s z)) same white
+  | inl white ↦ trimmed_from s i e n solid (omega arith) (λ k a b. elim (cases_order (i + suc n) k) [
+    | inr (inl lt) ↦ w k lt b
+    | inr (inr gt) ↦ absurd (omega arith)
+    | inl same ↦ subst (λ z. IsWhite (byte s z)) same white
   ])
 ]
 
@@ -100,7 +101,7 @@ pub trimmed_exists : (s : List ℕ) (i e : ℕ) → (IsWhite (byte s i) → ⊥)
 trimmed_exists s i e solid lt = trimmed_from s i e (e - i - 1) solid (omega arith) (λ k a b. absurd (omega arith))
 
 head_inside : {s : List ℕ} {i j : ℕ} {d : Bool} {c : Option ℕ} (x : IsStart s i) → AreQualifiers s x.end j d c → j ≤ length s
-head_inside x m = after_inside m.third (chance_inside m.second (negated_inside m.first (opening_ends_inside x.opening)))
+head_inside x m = qualifiers_inside m (opening_ends_inside x.opening)
 
 pub statement_exists : (s : List ℕ) (i : ℕ) → IsStart s i → (e : ℕ) × (p : StatementTree) × IsStatement s i e p
 statement_exists s i x =

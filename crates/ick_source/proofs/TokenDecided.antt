@@ -2,6 +2,7 @@
 use Rattle.std.proofs.Common.{◌≡◌, ◌≢◌, ℕ, suc, zero, ◌<◌, ◌⊎◌, inl, inr, Bool, true, false, List, [], ◌∷◌, ◌++◌, length, get_or, refl, ap, arith}
 use Rattle.std.proofs.lemmas.Bool.{cases_order}
 use Rattle.ick_source.specs.declared.tree.NameKind.{NameKind}
+use Rattle.ick_source.specs.declared.tree.NameKind.TheVariants.{Onespot, Twospot, Tail, Hybrid}
 use Rattle.ick_source.specs.declared.tree.BinaryOp.{BinaryOp}
 use Rattle.ick_source.specs.declared.lead.Delimiter.{Delimiter}
 use Rattle.ick_source.specs.declared.lead.Delimiter.TheVariants.{Spark, Ears}
@@ -84,6 +85,18 @@ array_decided (Group q) = inr (λ p. let e = p.1 in cc)
 array_decided (Unary o) = inr (λ p. let e = p.1 in cc)
 array_decided (Binary o) = inr (λ p. let e = p.1 in cc)
 array_decided Other = inr (λ p. let e = p.1 in cc)
+
+pub tail_decided : (l : Lead) → Decided (l ≡ Array Tail)
+tail_decided (Array Onespot) = inr (λ e. cc)
+tail_decided (Array Twospot) = inr (λ e. cc)
+tail_decided (Array Tail) = inl refl
+tail_decided (Array Hybrid) = inr (λ e. cc)
+tail_decided (Spot k) = inr (λ e. cc)
+tail_decided Hash = inr (λ e. cc)
+tail_decided (Group q) = inr (λ e. cc)
+tail_decided (Unary o) = inr (λ e. cc)
+tail_decided (Binary o) = inr (λ e. cc)
+tail_decided Other = inr (λ e. cc)
 
 pub binary_decided : (l : Lead) → Decided ((o : BinaryOp) × (l ≡ Binary o))
 binary_decided (Binary o) = inl (o, refl)

@@ -6,18 +6,19 @@ use Rattle.ick_source.specs.declared.position.Position.{Position}
 use Rattle.ick_source.specs.Position.{left_at}
 use Rattle.ick_source.specs.Nonterminal.{Nonterminal}
 
--- A value stands there: what is kept of it, and its numbers out of range.
+-- a value stands there: what is kept of it, and its numbers out of range
 pub record IsParsed (N : Nonterminal) (from to : List ℕ) (seen : N.Clamped) (faults : Faults) : Type 0 where
   pub value : N.Value
   pub stands : N.stands from to value
   pub is_clamped : seen ≡ N.clamped value
   pub are_faults : faults ≡ N.faults value
 
--- Nothing stands there.
+-- nothing stands there
 pub record IsAbsent (N : Nonterminal) (from : List ℕ) : Type 0 where
   pub nothing : (to : List ℕ) (x : N.Value) → N.stands from to x → ⊥
 
--- What was found is seen as what its value stands for.
-abbrev pub Answers : (N : Nonterminal) → {T : Type 0} → (T → N.Clamped) → List ℕ → List ℕ → Option (Parsed T Position) → Type 0
+-- what was found is seen as what its value stands for
+abbrev pub Answers : (N : Nonterminal) → {T : Type 0} → (T → N.Clamped) → List ℕ → List ℕ →
+    Option (Parsed T Position) → Type 0
 Answers N seen text from None = IsAbsent N from
 Answers N seen text from (Some r) = IsParsed N from (left_at text r.to) (seen r.value) r.faults

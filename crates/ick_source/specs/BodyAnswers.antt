@@ -6,7 +6,8 @@ use Rattle.ick_source.specs.Clamped.{no_faults}
 use Rattle.ick_source.specs.BodyTree.{BodyTree, body_tree_of, clamped_body, faults_of_body}
 use Rattle.ick_source.specs.BodyBytes.{IsBodyIn, HasNoBody}
 
--- a body stands there, up to the end of what was parsed: it is clamped, with its numbers out of range, and exact without any
+-- a body stands there, up to the end of what was parsed: it is clamped, with its numbers out of range, and exact
+-- without any
 pub record IsParsedBody (s : List ℕ) (i : ℕ) (body : Parsed Body ℕ) : Type 0 where
   pub tree : BodyTree
   pub stands : IsBodyIn s i body.to tree

@@ -4,17 +4,18 @@ use Rattle.ick_source.specs.Position.{characters}
 use Rattle.ick_source.specs.BodyTree.{BodyTree}
 use Rattle.ick_source.specs.BodyGrammar.{IsBody}
 
--- From byte i to byte j of the text s stands this body. One that would end between the two characters of a `!` ends at no byte.
+-- from byte i to byte j of the text s stands this body; one that would end between the two characters of a `!` ends
+-- at no byte
 pub record IsBodyIn (s : List ℕ) (i j : ℕ) (b : BodyTree) : Type 0 where
   pub stands : IsBody (characters (drop i s)) (characters (drop j s)) b
   pub inside : j ≤ length s
 
--- A body stands at byte i.
+-- a body stands at byte i
 pub record HasBody (s : List ℕ) (i : ℕ) : Type 0 where
   pub end : ℕ
   pub tree : BodyTree
   pub stands : IsBodyIn s i end tree
 
--- No body stands at byte i.
+-- no body stands at byte i
 pub record HasNoBody (s : List ℕ) (i : ℕ) : Type 0 where
   pub nothing : (j : ℕ) (b : BodyTree) → IsBodyIn s i j b → ⊥

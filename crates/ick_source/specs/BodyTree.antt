@@ -5,14 +5,28 @@ use Rattle.ick_source.specs.declared.faults.Faults.{Faults}
 use Rattle.ick_source.specs.declared.body.Gerund.{Gerund}
 use Rattle.ick_source.specs.declared.body.Target.{Target}
 use Rattle.ick_source.specs.declared.body.Target.TheVariants.{Scalar as TargetScalar, Element as TargetElement}
+use Rattle.ick_source.specs.declared.body.Place.{Place}
+use Rattle.ick_source.specs.declared.body.Place.TheVariants.{Scalar as PlaceScalar, Element as PlaceElement}
+use Rattle.ick_source.specs.declared.body.Place.TheVariants.{Array as PlaceArray}
 use Rattle.ick_source.specs.declared.body.Item.{Item}
-use Rattle.ick_source.specs.declared.body.Item.TheVariants.{Scalar as ItemScalar, Element as ItemElement, Mesh as ItemMesh}
+use Rattle.ick_source.specs.declared.body.Item.TheVariants.{Scalar as ItemScalar, Element as ItemElement}
+use Rattle.ick_source.specs.declared.body.Item.TheVariants.{Mesh as ItemMesh, Array as ItemArray}
 use Rattle.ick_source.specs.declared.body.Body.{Body}
-use Rattle.ick_source.specs.declared.body.Body.TheVariants.{Calculate, Dimension, Next, Forget, Resume, Stash, Retrieve, Ignore, Remember, AbstainLabel, AbstainKinds, ReinstateLabel, ReinstateKinds, GiveUp, WriteIn, ReadOut, Unrecognised}
+use Rattle.ick_source.specs.declared.body.Body.TheVariants.{Calculate, Dimension, Next, Forget, Resume, Stash, Retrieve}
+use Rattle.ick_source.specs.declared.body.Body.TheVariants.{Ignore, Remember, AbstainLabel, AbstainKinds}
+use Rattle.ick_source.specs.declared.body.Body.TheVariants.{ReinstateLabel, ReinstateKinds, GiveUp, WriteIn, ReadOut}
+use Rattle.ick_source.specs.declared.body.Body.TheVariants.{Unrecognised}
 use Rattle.ick_source.specs.Tree.{Tree, mesh, scalar, element, tree_of, trees_in}
-use Rattle.ick_source.specs.Clamped.{clamped, clamped_name, clamped_tree, no_faults, both_faults, name_faults, label_faults, faults_of}
+use Rattle.ick_source.specs.Clamped.{clamped, clamped_name, clamped_tree, no_faults, both_faults, name_faults}
+use Rattle.ick_source.specs.Clamped.{label_faults, faults_of}
 
--- Targets and items are trees: a scalar, an element, or as an item a mesh.
+-- what WRITE IN stores into and READ OUT prints: a scalar, an element or, for READ OUT alone, a mesh, each as a tree;
+-- or a whole array, by its name
+pub data ItemTree : Type 0 where
+  single : Tree → ItemTree
+  whole : Name → ItemTree
+
+-- targets are trees: a scalar or an element
 pub data BodyTree : Type 0 where
   calculate : Tree → Tree → BodyTree
   dimension : Name → List Tree → BodyTree
@@ -28,17 +42,23 @@ pub data BodyTree : Type 0 where
   reinstate_label : ℕ → BodyTree
   reinstate_kinds : List Gerund → BodyTree
   give_up : BodyTree
-  write_in : List Tree → BodyTree
-  read_out : List Tree → BodyTree
+  write_in : List ItemTree → BodyTree
+  read_out : List ItemTree → BodyTree
 
 abbrev pub target_tree : Target → Tree
 target_tree (TargetScalar x) = scalar x
 target_tree (TargetElement e) = element e.array (trees_in e.subs.items)
 
-abbrev pub item_tree : Item → Tree
-item_tree (ItemScalar x) = scalar x
-item_tree (ItemElement e) = element e.array (trees_in e.subs.items)
-item_tree (ItemMesh n) = mesh n
+abbrev pub place_tree : Place → ItemTree
+place_tree (PlaceScalar x) = single (scalar x)
+place_tree (PlaceElement e) = single (element e.array (trees_in e.subs.items))
+place_tree (PlaceArray x) = whole x
+
+abbrev pub item_tree : Item → ItemTree
+item_tree (ItemScalar x) = single (scalar x)
+item_tree (ItemElement e) = single (element e.array (trees_in e.subs.items))
+item_tree (ItemMesh n) = single (mesh n)
+item_tree (ItemArray x) = whole x
 
 -- the tree of a body that was recognised
 abbrev pub body_tree_of : Body → Option BodyTree
@@ -56,9 +76,13 @@ body_tree_of (AbstainKinds gs) = Some (abstain_kinds gs.items)
 body_tree_of (ReinstateLabel n) = Some (reinstate_label n)
 body_tree_of (ReinstateKinds gs) = Some (reinstate_kinds gs.items)
 body_tree_of GiveUp = Some give_up
-body_tree_of (WriteIn ts) = Some (write_in (map target_tree ts.items))
-body_tree_of (ReadOut ts) = Some (read_out (map item_tree ts.items))
+body_tree_of (WriteIn xs) = Some (write_in (map place_tree xs.items))
+body_tree_of (ReadOut xs) = Some (read_out (map item_tree xs.items))
 body_tree_of Unrecognised = None
+
+abbrev pub clamped_item : ItemTree → ItemTree
+clamped_item (single t) = single (clamped_tree t)
+clamped_item (whole x) = whole (clamped_name x)
 
 -- the body with 65535 for each number above it
 abbrev pub clamped_body : BodyTree → BodyTree
@@ -76,8 +100,8 @@ clamped_body (abstain_kinds gs) = abstain_kinds gs
 clamped_body (reinstate_label n) = reinstate_label (clamped n)
 clamped_body (reinstate_kinds gs) = reinstate_kinds gs
 clamped_body give_up = give_up
-clamped_body (write_in ts) = write_in (map clamped_tree ts)
-clamped_body (read_out ts) = read_out (map clamped_tree ts)
+clamped_body (write_in xs) = write_in (map clamped_item xs)
+clamped_body (read_out xs) = read_out (map clamped_item xs)
 
 -- the faults of all members of a list
 abbrev pub faults_along : {A : Type 0} → (A → Faults) → List A → Faults
@@ -86,6 +110,10 @@ faults_along f (x ∷ xs) = both_faults (f x) (faults_along f xs)
 
 abbrev pub faults_of_name : Name → Faults
 faults_of_name x = name_faults x.number
+
+abbrev pub faults_of_item : ItemTree → Faults
+faults_of_item (single t) = faults_of t
+faults_of_item (whole x) = faults_of_name x
 
 abbrev pub faults_of_body : BodyTree → Faults
 faults_of_body (calculate t e) = both_faults (faults_of t) (faults_of e)
@@ -102,5 +130,5 @@ faults_of_body (abstain_kinds gs) = no_faults
 faults_of_body (reinstate_label n) = label_faults n
 faults_of_body (reinstate_kinds gs) = no_faults
 faults_of_body give_up = no_faults
-faults_of_body (write_in ts) = faults_along faults_of ts
-faults_of_body (read_out ts) = faults_along faults_of ts
+faults_of_body (write_in xs) = faults_along faults_of_item xs
+faults_of_body (read_out xs) = faults_along faults_of_item xs

@@ -4,9 +4,13 @@ use Rattle.ick_source.specs.declared.tree.Name.{Name}
 use Rattle.ick_source.specs.declared.faults.Faults.{Faults}
 use Rattle.ick_source.specs.Tree.{Tree, mesh, scalar, element, unary, binary, Trees, none, more}
 
--- 65535 for each number above it
+-- the greatest number of a mesh, a variable and a label
+abbrev pub greatest : ℕ
+greatest = 65535
+
+-- the greatest number for each above it
 abbrev pub clamped : ℕ → ℕ
-clamped n = min n 65535
+clamped n = min n greatest
 
 abbrev pub clamped_name : Name → Name
 clamped_name x = record { kind = x.kind; number = clamped x.number }
@@ -29,13 +33,13 @@ no_faults = record { mesh = false; name = false; label = false }
 abbrev pub both_faults : Faults → Faults → Faults
 both_faults a b = record { mesh = a.mesh || b.mesh; name = a.name || b.name; label = a.label || b.label }
 
--- above 65535
+-- above the greatest number
 abbrev pub mesh_faults : ℕ → Faults
-mesh_faults n = record no_faults { mesh = nat_lt 65535 n }
+mesh_faults n = record no_faults { mesh = nat_lt greatest n }
 
--- outside 1 to 65535
+-- outside 1 to the greatest number
 abbrev pub is_outside : ℕ → Bool
-is_outside n = nat_eq n 0 || nat_lt 65535 n
+is_outside n = nat_eq n 0 || nat_lt greatest n
 
 abbrev pub name_faults : ℕ → Faults
 name_faults n = record no_faults { name = is_outside n }

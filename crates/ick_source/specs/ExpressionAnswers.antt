@@ -16,7 +16,7 @@ use Rattle.ick_source.specs.Expression.{IsExpr}
 abbrev pub Reading : Type 1
 Reading = List ℕ → Tree → ℕ → Type 0
 
--- A tree stands there, no higher than the limit: what is kept of it, its height and its numbers out of range.
+-- a tree stands there, no higher than the limit: what is kept of it, its height and its numbers out of range
 pub record Stands (R : Reading) (limit : ℕ) (to : List ℕ) (seen : Tree) (height : ℕ) (faults : Faults) : Type 0 where
   pub tree : Tree
   pub stands : R to tree height
@@ -24,7 +24,7 @@ pub record Stands (R : Reading) (limit : ℕ) (to : List ℕ) (seen : Tree) (hei
   pub is_clamped : seen ≡ clamped_tree tree
   pub are_faults : faults ≡ faults_of tree
 
--- No tree stands there that is no higher than the limit.
+-- no tree stands there that is no higher than the limit
 pub record HasNoTree (R : Reading) (limit : ℕ) : Type 0 where
   pub no_tree : (to : List ℕ) (t : Tree) (h : ℕ) → R to t h → h ≤ limit → ⊥
 
@@ -54,7 +54,8 @@ pub record IsGroup (q : Delimiter) (past to : List ℕ) (t : Tree) (h : ℕ) : T
 abbrev pub Readings : Type 1
 Readings = List ℕ → Trees → ℕ → Type 0
 
-pub record AllStand (R : Readings) (limit : ℕ) (to : List ℕ) (seen : Trees) (height : ℕ) (faults : Faults) : Type 0 where
+pub record AllStand (R : Readings) (limit : ℕ) (to : List ℕ) (seen : Trees) (height : ℕ)
+    (faults : Faults) : Type 0 where
   pub trees : Trees
   pub stand : R to trees height
   pub low : height ≤ limit
@@ -72,8 +73,11 @@ AnswersTrees R limit text (Some s) = AllStand R limit (left_at text s.to) (trees
 pub data GoesAfter (R : Readings) (others : Trees) (below : ℕ) : List ℕ → Trees → ℕ → Type 0 where
   after : {to : List ℕ} {ts : Trees} {h : ℕ} → R to ts h → GoesAfter R others below to (join others ts) (max below h)
 
--- Whatever the subscripts before are, what is answered goes on from them.
+-- whatever the subscripts before are, what is answered goes on from them
 abbrev pub AnswersFrom : Readings → ℕ → List ℕ → Measured (Vec Expr) → Option (Measured (Vec Expr)) → Type 0
 AnswersFrom R limit text before answer =
-    (others : Trees) → trees_in before.value.items ≡ clamped_trees others → before.faults ≡ faults_in others → before.height ≤ limit →
+    (others : Trees) →
+    trees_in before.value.items ≡ clamped_trees others →
+    before.faults ≡ faults_in others →
+    before.height ≤ limit →
     AnswersTrees (GoesAfter R others before.height) limit text answer

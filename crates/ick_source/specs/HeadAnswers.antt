@@ -3,14 +3,15 @@ use Rattle.std.specs.Prelude.{◌≡◌, ℕ, min, Bool, List, Option, Some, Non
 use Rattle.ick_source.specs.declared.boundaries.Start.{Start}
 use Rattle.ick_source.specs.declared.parsed.Scanned.{Scanned}
 use Rattle.ick_source.specs.declared.qualifiers.Qualifiers as qualifiers
+use Rattle.ick_source.specs.Token.{cap}
 use Rattle.ick_source.specs.Qualifiers.{AreQualifiers}
 
--- A capped number: 65536 stands for every greater one.
+-- a number, capped
 abbrev pub IsCapped : ℕ → ℕ → Type 0
-IsCapped value number = value ≡ min number 65536
+IsCapped value number = value ≡ min number cap
 
--- R to a says that a stands at a position and ends at `to`. Some answers an end and, seen through Q, a value;
--- None says that nothing stands there.
+-- R to a says that a stands at a position and ends at `to`; Some answers an end and, seen through Q, a value; None
+-- says that nothing stands there
 abbrev pub Scans : {X A : Type 0} → (ℕ → A → Type 0) → (X → A → Type 0) → Option (Scanned X ℕ) → Type 0
 Scans {X} {A} R Q None = (to : ℕ) (a : A) → R to a → ⊥
 Scans {X} {A} R Q (Some r) = (a : A) × R r.to a × Q r.value a

@@ -9,12 +9,13 @@ use Rattle.ick_source.specs.declared.labels.LabelUse.TheVariants.{Next, Abstain}
 use Rattle.ick_source.specs.StatementTree.{StatementTree}
 use Rattle.ick_source.specs.Refusals.{HoldsAt, HasLabel}
 
--- The set has exactly the labels of the first so many statements.
+-- the set has exactly the labels of the first so many statements
 pub record HasLabels (trees : List StatementTree) (count : ℕ) (labels : BTreeSet ℕ) : Type 0 where
-  pub only : (label : ℕ) → IsTrue (contains nat_cmp labels label) → (m : ℕ) × (m ≤ count) × HoldsAt (HasLabel label) trees m
+  pub only : (label : ℕ) → IsTrue (contains nat_cmp labels label) →
+      (m : ℕ) × (m ≤ count) × HoldsAt (HasLabel label) trees m
   pub all : (label m : ℕ) → m ≤ count → HoldsAt (HasLabel label) trees m → IsTrue (contains nat_cmp labels label)
 
--- The fault of a use of a label that no statement has.
+-- the fault of a use of a label that no statement has
 abbrev pub fault_of_use : LabelUse → FaultKind
 fault_of_use Next = NoNextLabel
 fault_of_use Abstain = NoAbstainLabel

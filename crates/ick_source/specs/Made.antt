@@ -4,7 +4,13 @@ use Rattle.ick_source.specs.declared.body.Body.{Body}
 use Rattle.ick_source.specs.declared.parsed.Parsed.{Parsed}
 use Rattle.ick_source.specs.declared.position.Position.{Position}
 
--- A body where a part was found, and none where none was. It ends where the part ends, and has its numbers out of range.
-pub data IsMade (T : Type 0) (gives : T → Body → Type 0) : Option (Parsed T Position) → Option (Parsed Body Position) → Type 0 where
+-- a body where a part was found, and none where none was; it ends where the part ends, and has its numbers out of
+-- range
+pub data IsMade (T : Type 0) (gives : T → Body → Type 0) :
+    Option (Parsed T Position) → Option (Parsed Body Position) → Type 0 where
   of_none : IsMade T gives None None
-  of_part : {part : Parsed T Position} {body : Parsed Body Position} → gives part.value body.value → body.to ≡ part.to → body.faults ≡ part.faults → IsMade T gives (Some part) (Some body)
+  of_part : {part : Parsed T Position} {body : Parsed Body Position} →
+      gives part.value body.value →
+      body.to ≡ part.to →
+      body.faults ≡ part.faults →
+      IsMade T gives (Some part) (Some body)

@@ -1,11 +1,16 @@
 -- What holds of the trees of each program: a scalar's name is a spot's, the name of an element and of a dimensioned
--- array is an array's, and a number of 32 bits counts the subscripts or the dimensions of each list.
+-- array is an array's, the name of an array that is read in or printed whole is a tail's, and a number of 32 bits
+-- counts the subscripts or the dimensions of each list.
 use Rattle.std.specs.Prelude.{ℕ, suc, nat_lt, length, Bool, true, false, not, ◌&&◌, Option, Some, None}
 use Rattle.std.specs.List.{list_all}
 use Rattle.ick_source.specs.declared.tree.NameKind.{NameKind}
 use Rattle.ick_source.specs.declared.tree.NameKind.TheVariants.{Onespot, Twospot, Tail, Hybrid}
 use Rattle.ick_source.specs.Tree.{Tree, mesh, scalar, element, unary, binary, Trees, none, more}
-use Rattle.ick_source.specs.BodyTree.{BodyTree, calculate, dimension, next, forget, resume, stash, retrieve, ignore, remember, abstain_label, abstain_kinds, reinstate_label, reinstate_kinds, give_up, write_in, read_out}
+use Rattle.ick_source.specs.BodyTree.{ItemTree, single, whole, BodyTree, calculate, dimension, next, forget, resume}
+use Rattle.ick_source.specs.BodyTree.{stash}
+use Rattle.ick_source.specs.BodyTree.{retrieve, ignore, remember, abstain_label, abstain_kinds, reinstate_label}
+use Rattle.ick_source.specs.BodyTree.{reinstate_kinds}
+use Rattle.ick_source.specs.BodyTree.{give_up, write_in, read_out}
 use Rattle.ick_source.specs.StatementTree.{StatementTree}
 
 abbrev pub is_array : NameKind → Bool
@@ -34,11 +39,22 @@ abbrev mutual
   are_kinded none = true
   are_kinded (more t ts) = is_kinded t && are_kinded ts
 
--- A statement that is not recognised has no body.
+abbrev pub is_tail : NameKind → Bool
+is_tail Onespot = false
+is_tail Twospot = false
+is_tail Tail = true
+is_tail Hybrid = false
+
+abbrev pub is_item_kinded : ItemTree → Bool
+is_item_kinded (single t) = is_kinded t
+is_item_kinded (whole name) = is_tail name.kind
+
+-- a statement that is not recognised has no body
 abbrev pub is_body_kinded : Option BodyTree → Bool
 is_body_kinded None = true
 is_body_kinded (Some (calculate target e)) = is_kinded target && is_kinded e
-is_body_kinded (Some (dimension name es)) = is_array name.kind && (nat_lt (length es) 4294967296 && list_all is_kinded es)
+is_body_kinded (Some (dimension name es)) =
+    is_array name.kind && (nat_lt (length es) 4294967296 && list_all is_kinded es)
 is_body_kinded (Some (next label)) = true
 is_body_kinded (Some (forget e)) = is_kinded e
 is_body_kinded (Some (resume e)) = is_kinded e
@@ -51,8 +67,8 @@ is_body_kinded (Some (abstain_kinds gerunds)) = true
 is_body_kinded (Some (reinstate_label label)) = true
 is_body_kinded (Some (reinstate_kinds gerunds)) = true
 is_body_kinded (Some give_up) = true
-is_body_kinded (Some (write_in targets)) = list_all is_kinded targets
-is_body_kinded (Some (read_out items)) = list_all is_kinded items
+is_body_kinded (Some (write_in places)) = list_all is_item_kinded places
+is_body_kinded (Some (read_out items)) = list_all is_item_kinded items
 
 abbrev pub is_statement_kinded : StatementTree → Bool
 is_statement_kinded statement = is_body_kinded statement.body

@@ -1,4 +1,5 @@
--- The parts of bodies as nonterminals: what stands for each, what the program keeps of it, and which of its numbers are out of range.
+-- The parts of bodies as nonterminals: what stands for each, how it is clamped, and which of its numbers are out of
+-- range.
 use Rattle.std.specs.Prelude.{ℕ, ◌≡◌, ◌<◌, List, Option, Some, length, map}
 use Rattle.ick_source.specs.declared.tree.Name.{Name}
 use Rattle.ick_source.specs.declared.faults.Faults.{Faults}
@@ -8,9 +9,14 @@ use Rattle.ick_source.specs.declared.form.Form.{Form}
 use Rattle.ick_source.specs.declared.verb.Verb.{Verb}
 use Rattle.ick_source.specs.Token.{IsNumber}
 use Rattle.ick_source.specs.Tree.{Tree, mesh}
-use Rattle.ick_source.specs.Clamped.{clamped, clamped_name, clamped_tree, no_faults, mesh_faults, label_faults, faults_of}
-use Rattle.ick_source.specs.BodyTree.{BodyTree, clamped_body, faults_along, faults_of_name, faults_of_body}
-use Rattle.ick_source.specs.BodyGrammar.{IsSeparated, IsWhole, IsWholeElement, IsNamed, IsName, IsTarget, IsItem, IsGerund, IsLabel, IsAfter, IsBodyOf, IsBody}
+use Rattle.ick_source.specs.Clamped.{clamped, clamped_name, clamped_tree, no_faults, mesh_faults, label_faults}
+use Rattle.ick_source.specs.Clamped.{faults_of}
+use Rattle.ick_source.specs.BodyTree.{ItemTree, single, clamped_item, faults_of_item, BodyTree, clamped_body}
+use Rattle.ick_source.specs.BodyTree.{faults_of_body}
+use Rattle.ick_source.specs.BodyTree.{faults_along, faults_of_name}
+use Rattle.ick_source.specs.BodyGrammar.{IsSeparated, IsWhole, IsWholeElement, IsNamed, IsName, IsTarget, IsTail}
+use Rattle.ick_source.specs.BodyGrammar.{IsPlace, IsItem}
+use Rattle.ick_source.specs.BodyGrammar.{IsGerund, IsLabel, IsAfter, IsBodyOf, IsBody}
 
 pub record Nonterminal : Type 1 where
   pub Value : Type 0
@@ -30,42 +36,132 @@ listed N word = record {
 }
 
 abbrev pub wholes : Nonterminal
-wholes = record { Value = Tree; stands = IsWhole; Clamped = Tree; clamped = clamped_tree; faults = faults_of }
+wholes = record {
+  Value = Tree;
+  stands = IsWhole;
+  Clamped = Tree;
+  clamped = clamped_tree;
+  faults = faults_of;
+}
 
 abbrev pub elements : Nonterminal
-elements = record { Value = Tree; stands = IsWholeElement; Clamped = Tree; clamped = clamped_tree; faults = faults_of }
+elements = record {
+  Value = Tree;
+  stands = IsWholeElement;
+  Clamped = Tree;
+  clamped = clamped_tree;
+  faults = faults_of;
+}
 
 abbrev pub names : Nonterminal
-names = record { Value = Name; stands = IsName; Clamped = Name; clamped = clamped_name; faults = faults_of_name }
+names = record {
+  Value = Name;
+  stands = IsName;
+  Clamped = Name;
+  clamped = clamped_name;
+  faults = faults_of_name;
+}
 
 abbrev pub arrays : Nonterminal
-arrays = record { Value = Name; stands = IsNamed Array; Clamped = Name; clamped = clamped_name; faults = faults_of_name }
+arrays = record {
+  Value = Name;
+  stands = IsNamed Array;
+  Clamped = Name;
+  clamped = clamped_name;
+  faults = faults_of_name;
+}
 
 abbrev pub targets : Nonterminal
-targets = record { Value = Tree; stands = IsTarget; Clamped = Tree; clamped = clamped_tree; faults = faults_of }
+targets = record {
+  Value = Tree;
+  stands = IsTarget;
+  Clamped = Tree;
+  clamped = clamped_tree;
+  faults = faults_of;
+}
+
+abbrev pub tails : Nonterminal
+tails = record {
+  Value = Name;
+  stands = IsTail;
+  Clamped = Name;
+  clamped = clamped_name;
+  faults = faults_of_name;
+}
+
+abbrev pub places : Nonterminal
+places = record {
+  Value = ItemTree;
+  stands = IsPlace;
+  Clamped = ItemTree;
+  clamped = clamped_item;
+  faults = faults_of_item;
+}
 
 abbrev pub items : Nonterminal
-items = record { Value = Tree; stands = IsItem; Clamped = Tree; clamped = clamped_tree; faults = faults_of }
+items = record {
+  Value = ItemTree;
+  stands = IsItem;
+  Clamped = ItemTree;
+  clamped = clamped_item;
+  faults = faults_of_item;
+}
 
--- the number of a mesh, after its sigil
+-- the number of a mesh among items, after its mark
 abbrev pub numbers : Nonterminal
-numbers = record { Value = ℕ; stands = IsNumber; Clamped = Tree; clamped = λ n. mesh (clamped n); faults = mesh_faults }
+numbers = record {
+  Value = ℕ;
+  stands = IsNumber;
+  Clamped = ItemTree;
+  clamped = λ n. single (mesh (clamped n));
+  faults = mesh_faults;
+}
 
 abbrev pub gerunds : Nonterminal
-gerunds = record { Value = Gerund; stands = IsGerund; Clamped = Gerund; clamped = λ g. g; faults = λ g. no_faults }
+gerunds = record {
+  Value = Gerund;
+  stands = IsGerund;
+  Clamped = Gerund;
+  clamped = λ g. g;
+  faults = λ g. no_faults;
+}
 
 abbrev pub labels : Nonterminal
-labels = record { Value = ℕ; stands = IsLabel; Clamped = ℕ; clamped = clamped; faults = label_faults }
+labels = record {
+  Value = ℕ;
+  stands = IsLabel;
+  Clamped = ℕ;
+  clamped = clamped;
+  faults = label_faults;
+}
 
 -- what follows a verb
 abbrev pub after : Verb → Nonterminal
-after v = record { Value = BodyTree; stands = IsAfter v; Clamped = Option BodyTree; clamped = λ b. Some (clamped_body b); faults = faults_of_body }
+after v = record {
+  Value = BodyTree;
+  stands = IsAfter v;
+  Clamped = Option BodyTree;
+  clamped = λ b. Some (clamped_body b);
+  faults = faults_of_body;
+}
 
 abbrev pub formed : Form → Nonterminal
-formed f = record { Value = BodyTree; stands = IsBodyOf f; Clamped = Option BodyTree; clamped = λ b. Some (clamped_body b); faults = faults_of_body }
+formed f = record {
+  Value = BodyTree;
+  stands = IsBodyOf f;
+  Clamped = Option BodyTree;
+  clamped = λ b. Some (clamped_body b);
+  faults = faults_of_body;
+}
 
 abbrev pub bodies : Nonterminal
-bodies = record { Value = BodyTree; stands = IsBody; Clamped = Option BodyTree; clamped = λ b. Some (clamped_body b); faults = faults_of_body }
+bodies = record {
+  Value = BodyTree;
+  stands = IsBody;
+  Clamped = Option BodyTree;
+  clamped = λ b. Some (clamped_body b);
+  faults = faults_of_body;
+}
 
 -- from one position at most one value, and one end
 pub record IsSameEnd (A : Type 0) (e e' : List ℕ) (x x' : A) : Type 0 where
@@ -73,7 +169,8 @@ pub record IsSameEnd (A : Type 0) (e e' : List ℕ) (x x' : A) : Type 0 where
   pub value : x ≡ x'
 
 abbrev pub StandsOnce : Nonterminal → Type 0
-StandsOnce N = (from to to' : List ℕ) (x x' : N.Value) → N.stands from to x → N.stands from to' x' → IsSameEnd N.Value to to' x x'
+StandsOnce N = (from to to' : List ℕ) (x x' : N.Value) →
+    N.stands from to x → N.stands from to' x' → IsSameEnd N.Value to to' x x'
 
 abbrev pub TakesCharacters : Nonterminal → Type 0
 TakesCharacters N = (from to : List ℕ) (x : N.Value) → N.stands from to x → length to < length from

@@ -5,7 +5,7 @@ use Rattle.ick_source.specs.declared.ranges.OutOfRange.{OutOfRange}
 use Rattle.ick_source.specs.StatementTree.{StatementTree}
 use Rattle.ick_source.specs.Refusals.{IsFaultAt}
 
--- The least number of which this holds, or none where it holds of none.
+-- the least number of which this holds, or none where it holds of none
 abbrev pub IsFirst : (ℕ → Type 0) → Option ℕ → Type 0
 IsFirst P None = (m : ℕ) → P m → ⊥
 IsFirst P (Some n) = P n × ((m : ℕ) → m < n → P m → ⊥)

@@ -6,7 +6,7 @@ use Rattle.ick_source.specs.declared.refusals.Refusal.TheVariants.{Fault, TooLon
 use Rattle.ick_source.specs.StatementTree.{StatementTree}
 use Rattle.ick_source.specs.Refusals.{Compiles, IsRefused, IsFirstFault, longest}
 
--- The text is refused with this fault and with no other, and compiles to nothing.
+-- the text is refused with this fault and with no other, and compiles to nothing
 pub record IsOnlyRefused (text : List ℕ) (kind : FaultKind) (n : ℕ) : Type 0 where
   pub refused : IsRefused text kind n
   pub only : (other : FaultKind) (m : ℕ) → IsRefused text other m → (other ≡ kind) × (m ≡ n)
@@ -17,13 +17,13 @@ Refuses text (Fault kind n) = IsOnlyRefused text kind n
 Refuses text TooLong = longest < length text
 Refuses text NoMemory = Unit {0}
 
--- What a refusal says of the statements that a text is cut into.
+-- what a refusal says of the statements that a text is cut into
 abbrev pub RefusesTrees : List StatementTree → Refusal → Type 0
 RefusesTrees trees (Fault kind n) = IsFirstFault trees kind n
 RefusesTrees trees TooLong = ⊥
 RefusesTrees trees NoMemory = Unit {0}
 
--- What a refusal says of a text that is not too long.
+-- what a refusal says of a text that is not too long
 abbrev pub RefusesFitting : List ℕ → Refusal → Type 0
 RefusesFitting text (Fault kind n) = IsRefused text kind n
 RefusesFitting text TooLong = ⊥

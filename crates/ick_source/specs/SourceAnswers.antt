@@ -6,7 +6,7 @@ use Rattle.ick_source.specs.StatementTree.{StatementTree, statement_trees, AreNu
 use Rattle.ick_source.specs.Cut.{AreStatements, IsCut}
 use Rattle.ick_source.specs.Ranges.{AreFirst, IsEmpty}
 
--- What the reader has after it read these statements.
+-- what the reader has after it read these statements
 pub record HasRead (x : Reader) (trees : List StatementTree) : Type 0 where
   pub count : x.count ≡ length trees
   pub out_of_range : AreFirst x.out_of_range trees
@@ -15,15 +15,15 @@ pub record HasRead (x : Reader) (trees : List StatementTree) : Type 0 where
   pub numbers : AreNumbered x.statements.items
   pub same : IsEmpty x.out_of_range → statement_trees x.statements.items ≡ trees
 
--- The text up to a boundary is read: whatever the rest is cut into, the text is cut into these
--- statements and the rest.
+-- the text up to a boundary is read: whatever the rest is cut into, the text is cut into these statements and the
+-- rest
 pub record HasReadUpTo (text : List ℕ) (at : ℕ) (x : Reader) : Type 0 where
   pub front : List StatementTree
   pub reads : HasRead x front
   pub boundary : IsBoundary text at
   pub cut : (rest : List StatementTree) → AreStatements text at rest → IsCut text (front ++ rest)
 
--- The whole text is read.
+-- the whole text is read
 pub record HasReadAll (text : List ℕ) (x : Reader) : Type 0 where
   pub trees : List StatementTree
   pub reads : HasRead x trees

@@ -3,7 +3,7 @@ use Rattle.std.specs.Prelude.{◌≡◌, ℕ, ◌+◌, Bool, List, map, slice_ge
 use Rattle.ick_source.specs.declared.statements.Statement.{Statement}
 use Rattle.ick_source.specs.BodyTree.{BodyTree, body_tree_of}
 
--- A statement. Its body is None where it is not recognised.
+-- a statement; its body is None where it is not recognised
 pub record StatementTree : Type 0 where
   pub label : Option ℕ
   pub polite : Bool
@@ -25,7 +25,7 @@ statement_tree_of x = record {
 abbrev pub statement_trees : List Statement → List StatementTree
 statement_trees xs = map statement_tree_of xs
 
--- Statements are numbered from 1.
+-- statements are numbered from 1
 abbrev pub AreNumbered : List Statement → Type 0
 AreNumbered xs = (k : ℕ) (x : Statement) → slice_get xs k ≡ Some x → x.number ≡ k + 1
 

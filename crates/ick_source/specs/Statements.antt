@@ -7,7 +7,7 @@ use Rattle.ick_source.specs.BodyBytes.{IsBodyIn}
 use Rattle.ick_source.specs.BodyTree.{BodyTree}
 use Rattle.ick_source.specs.StatementTree.{StatementTree}
 
--- The head of a statement: its opening, with a label or without, and its qualifiers.
+-- the head of a statement: its opening, with a label or without, and its qualifiers
 pub record IsHead (text : List ℕ) (from to : ℕ) (tree : StatementTree) : Type 0 where
   pub after : ℕ
   pub percentage : Option ℕ
@@ -15,21 +15,22 @@ pub record IsHead (text : List ℕ) (from to : ℕ) (tree : StatementTree) : Typ
   pub qualifiers : AreQualifiers text after to tree.abstained percentage
   pub chance : tree.chance ≡ unwrap_or percentage 100
 
--- A body and white bytes, up to a boundary.
+-- a body and white bytes, up to a boundary; the body is one of its own bytes too: what follows a part of a body only
+-- says that the part goes no further, and at the end of the bytes none does
 pub record IsRecognised (text : List ℕ) (from to : ℕ) (tree : BodyTree) : Type 0 where
   pub last : ℕ
   pub body : IsBodyIn text from last tree
   pub gap : IsGap text last to
   pub boundary : IsBoundary text to
 
--- Where a statement ends whose head ends at `head` and whose body begins at `from`: with its body and
--- white bytes, where it is recognised; else at the first boundary at or after the end of its head.
+-- where a statement ends whose head ends at `head` and whose body begins at `from`: with its body and white bytes,
+-- where it is recognised; else at the first boundary at or after the end of its head
 pub data Ends (text : List ℕ) (head from : ℕ) : ℕ → Option BodyTree → Type 0 where
   recognised : {to : ℕ} {tree : BodyTree} → IsRecognised text from to tree → Ends text head from to (Some tree)
   unrecognised : {to : ℕ} → ((end : ℕ) (tree : BodyTree) → IsRecognised text from end tree → ⊥) →
       IsNextBoundary text head to → Ends text head from to None
 
--- The bytes of a part of the text, without white bytes at its end.
+-- the bytes of a part of the text, without white bytes at its end
 pub record IsTrimmed (text : List ℕ) (from to : ℕ) (bytes : List ℕ) : Type 0 where
   pub last : ℕ
   pub some : from ≤ last
@@ -38,7 +39,7 @@ pub record IsTrimmed (text : List ℕ) (from to : ℕ) (bytes : List ℕ) : Type
   pub white : (at : ℕ) → last < at → at < to → IsWhite (byte text at)
   pub bytes_are : bytes ≡ slice_range text from (last + 1)
 
--- A statement: its head, white bytes, and a body that is recognised or not.
+-- a statement: its head, white bytes, and a body that is recognised or not
 pub record IsStatement (text : List ℕ) (from to : ℕ) (tree : StatementTree) : Type 0 where
   pub head : ℕ
   pub begin : ℕ

@@ -1,5 +1,9 @@
--- Numbers, words and the sign of a unary operator, each after any white bytes.
-use Rattle.std.specs.Prelude.{ℕ, min, ◌≡◌, ◌+◌, ◌-◌, ◌*◌, ◌^◌, ◌<◌, Bool, true, false, ◌&&◌, nat_le, List, [], ◌∷◌, ◌++◌, length, Option, Some, None}
+-- Numbers, words and the sign of a unary operator, each after any white bytes, in the characters that are left at a
+-- position. The cut has numbers and words of its own, between bytes of the whole text (Bytes): there their facts end in
+-- `In`, and white bytes before them are a gap. Bodies need these, since one may go on between the two characters of a
+-- `!`.
+use Rattle.std.specs.Prelude.{ℕ, min, ◌≡◌, ◌+◌, ◌-◌, ◌*◌, ◌^◌, ◌<◌, Bool, true, false, ◌&&◌, nat_le, List, [], ◌∷◌}
+use Rattle.std.specs.Prelude.{◌++◌, length, Option, Some, None}
 use Rattle.std.specs.List.{list_all}
 use Rattle.ick_source.specs.declared.tree.UnaryOp.{UnaryOp}
 use Rattle.ick_source.specs.declared.lead.Lead.{Lead}
@@ -20,7 +24,12 @@ value_of_digits (d ∷ ds) = (d - 48) * 10 ^ length ds + value_of_digits ds
 
 -- a number: one or more digits without white bytes between them, and all that stand there
 pub data IsNumber (from : List ℕ) : List ℕ → ℕ → Type 0 where
-  digits : {to : List ℕ} (ds : List ℕ) → past_white from ≡ ds ++ to → 0 < length ds → list_all is_digit ds ≡ true → begins_number to ≡ false → IsNumber from to (value_of_digits ds)
+  digits : {to : List ℕ} (ds : List ℕ) →
+      past_white from ≡ ds ++ to →
+      0 < length ds →
+      list_all is_digit ds ≡ true →
+      begins_number to ≡ false →
+      IsNumber from to (value_of_digits ds)
 
 -- a word, without white bytes inside
 pub record IsWord (word from to : List ℕ) : Type 0 where
@@ -41,8 +50,12 @@ past_operator (Some o) from = past_lead from
 abbrev pub past_unary : List ℕ → List ℕ
 past_unary from = past_operator (unary_at from) from
 
--- a number, of which 65536 is kept where it is greater
+-- numbers are read up to this one, which stands for every greater one
+abbrev pub cap : ℕ
+cap = 65536
+
+-- a number, capped
 pub record CappedNumber (from to : List ℕ) (value : ℕ) : Type 0 where
   pub number : ℕ
   pub is : IsNumber from to number
-  pub capped : value ≡ min number 65536
+  pub capped : value ≡ min number cap

@@ -1,7 +1,8 @@
 -- The words that bodies begin with.
 use Rattle.std.specs.Prelude.{ℕ, List, codes}
 use Rattle.ick_source.specs.declared.verb.Verb.{Verb}
-use Rattle.ick_source.specs.declared.verb.Verb.TheVariants.{Forget, Resume, Stash, Retrieve, Ignore, Remember, Abstain, Reinstate, Give, Write, Read}
+use Rattle.ick_source.specs.declared.verb.Verb.TheVariants.{Forget, Resume, Stash, Retrieve, Ignore, Remember, Abstain}
+use Rattle.ick_source.specs.declared.verb.Verb.TheVariants.{Reinstate, Give, Write, Read}
 
 abbrev pub verb_word : Verb → List ℕ
 verb_word Forget = codes "FORGET"

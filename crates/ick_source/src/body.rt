@@ -5,19 +5,30 @@ ghost use Rattle.ick_source.specs.Gerund.{gerund_word, second_word};
 
 use crate::tree::{Element, Expr, Name};
 
-/// What a value may be stored in: a variable or an element of an array.
+/// What a calculation stores into: a variable or an element of an array (Revised Manual, 4.4.1).
 #[derive(Debug, PartialEq, Eq, Drop)]
 pub enum Target {
     Scalar(Name),
     Element(Element),
 }
 
-/// What READ OUT prints: a variable, an element of an array or a mesh (Revised Manual, 4.4.13).
+/// What WRITE IN stores into: a variable, an element of an array (Revised Manual, 4.4.12), or a
+/// whole array, whose name is a tail's (5.2).
+#[derive(Debug, PartialEq, Eq, Drop)]
+pub enum Place {
+    Scalar(Name),
+    Element(Element),
+    Array(Name),
+}
+
+/// What READ OUT prints: a variable, an element of an array, a mesh (Revised Manual, 4.4.13), or a
+/// whole array, whose name is a tail's (5.2).
 #[derive(Debug, PartialEq, Eq, Drop)]
 pub enum Item {
     Scalar(Name),
     Element(Element),
     Mesh(u16),
+    Array(Name),
 }
 
 /// The statements that an ABSTAIN or a REINSTATE by gerunds is for (Revised Manual, 4.4.9).
@@ -79,7 +90,8 @@ impl Gerund {
 
     /// The second of its two words, where it has two.
     pub fn second_word(self) -> Option<&'static [u8]>
-        ensures { MatchOption result (second_word self ≡ None) (λ word. second_word self ≡ Some word.now) }
+        ensures { MatchOption result
+            (second_word self ≡ None) (λ word. second_word self ≡ Some word.now) }
     {
         match self {
             Gerund::WritingIn => Some(b"IN"),
@@ -120,9 +132,9 @@ pub enum Body {
     ReinstateKinds(Vec<Gerund>),
     /// The run ends (4.4.11).
     GiveUp,
-    /// Values are read (4.4.12).
-    WriteIn(Vec<Target>),
-    /// Values are printed (4.4.13).
+    /// Values are read (4.4.12, 5.2).
+    WriteIn(Vec<Place>),
+    /// Values are printed (4.4.13, 5.2).
     ReadOut(Vec<Item>),
     /// A body of no other form. The statement is kept, and is a fault only when it is done (4.5).
     Unrecognised,

@@ -11,7 +11,7 @@ use crate::body::Body;
 use crate::faults::Faults;
 use crate::form::{Form, form_at};
 use crate::lead::Lead;
-use crate::list::{dimensions_at, gerunds_at, items_at, names_at, targets_at};
+use crate::list::{dimensions_at, gerunds_at, items_at, names_at, places_at};
 use crate::parsed::Parsed;
 use crate::part::{label_at, name_at, target_at, whole_at};
 use crate::position::{Position, lead_at};
@@ -43,7 +43,8 @@ fn abstain_at(
     text: &[u8],
     from: Position,
 ) -> Result<Option<Parsed<Body, Position>>, AllocError>
-    ensures { IfOk result (Answers (after Verb.Abstain) body_tree_of text.now (left_at text.now from)) }
+    ensures { IfOk result
+        (Answers (after Verb.Abstain) body_tree_of text.now (left_at text.now from)) }
 {
     let Some(from) = word_at(text, from, b"FROM") else {
         return Ok(None);
@@ -61,7 +62,8 @@ fn reinstate_at(
     text: &[u8],
     from: Position,
 ) -> Result<Option<Parsed<Body, Position>>, AllocError>
-    ensures { IfOk result (Answers (after Verb.Reinstate) body_tree_of text.now (left_at text.now from)) }
+    ensures { IfOk result
+        (Answers (after Verb.Reinstate) body_tree_of text.now (left_at text.now from)) }
 {
     if word_at(text, from, b"(").is_some() {
         return Ok(made(label_at(text, from), Body::ReinstateLabel));
@@ -82,28 +84,30 @@ fn give_up_at(text: &[u8], from: Position) -> Option<Parsed<Body, Position>>
     })
 }
 
-/// What follows WRITE (Revised Manual, 4.4.12).
+/// What follows WRITE (Revised Manual, 4.4.12 and 5.2).
 fn write_in_at(
     alloc: Global,
     text: &[u8],
     from: Position,
 ) -> Result<Option<Parsed<Body, Position>>, AllocError>
-    ensures { IfOk result (Answers (after Verb.Write) body_tree_of text.now (left_at text.now from)) }
+    ensures { IfOk result
+        (Answers (after Verb.Write) body_tree_of text.now (left_at text.now from)) }
 {
     let Some(from) = word_at(text, from, b"IN") else {
         return Ok(None);
     };
-    let targets = targets_at(alloc, text, from)?;
-    Ok(made(targets, Body::WriteIn))
+    let places = places_at(alloc, text, from)?;
+    Ok(made(places, Body::WriteIn))
 }
 
-/// What follows READ (Revised Manual, 4.4.13).
+/// What follows READ (Revised Manual, 4.4.13 and 5.2).
 fn read_out_at(
     alloc: Global,
     text: &[u8],
     from: Position,
 ) -> Result<Option<Parsed<Body, Position>>, AllocError>
-    ensures { IfOk result (Answers (after Verb.Read) body_tree_of text.now (left_at text.now from)) }
+    ensures { IfOk result
+        (Answers (after Verb.Read) body_tree_of text.now (left_at text.now from)) }
 {
     let Some(from) = word_at(text, from, b"OUT") else {
         return Ok(None);
@@ -142,7 +146,8 @@ fn calculation_at(
     text: &[u8],
     from: Position,
 ) -> Result<Option<Parsed<Body, Position>>, AllocError>
-    ensures { IfOk result (Answers (formed Form.Calculation) body_tree_of text.now (left_at text.now from)) }
+    ensures { IfOk result
+        (Answers (formed Form.Calculation) body_tree_of text.now (left_at text.now from)) }
 {
     let Some(target) = target_at(alloc, text, from)? else {
         return Ok(None);
@@ -160,13 +165,15 @@ fn calculation_at(
     }))
 }
 
-/// A dimensioning: an array, `<-` and its dimensions with `BY` between them (Revised Manual, 4.4.1).
+/// A dimensioning: an array, `<-` and its dimensions with `BY` between them (Revised Manual,
+/// 4.4.1).
 fn dimensioning_at(
     alloc: Global,
     text: &[u8],
     from: Position,
 ) -> Result<Option<Parsed<Body, Position>>, AllocError>
-    ensures { IfOk result (Answers (formed Form.Dimensioning) body_tree_of text.now (left_at text.now from)) }
+    ensures { IfOk result
+        (Answers (formed Form.Dimensioning) body_tree_of text.now (left_at text.now from)) }
 {
     let Lead::Array(_) = lead_at(text, from).value else {
         return Ok(None);
@@ -210,7 +217,8 @@ fn action_at(
     text: &[u8],
     from: Position,
 ) -> Result<Option<Parsed<Body, Position>>, AllocError>
-    ensures { IfOk result (Answers (formed Form.Action) body_tree_of text.now (left_at text.now from)) }
+    ensures { IfOk result
+        (Answers (formed Form.Action) body_tree_of text.now (left_at text.now from)) }
 {
     let Some(verb) = verb_at(text, from) else {
         return Ok(None);
@@ -218,7 +226,8 @@ fn action_at(
     after_verb_at(alloc, text, verb.value, verb.to)
 }
 
-/// The body at the position (Revised Manual, 4.4). The character after the part that was read last decides what is read next.
+/// The body at the position (Revised Manual, 4.4). The character after the part that was read last
+/// decides what is read next.
 pub fn body_at(
     alloc: Global,
     text: &[u8],

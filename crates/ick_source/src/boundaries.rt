@@ -1,7 +1,8 @@
 //! Where statements start and end.
 
 ghost use Rattle.std.specs.Prelude.{◌≡◌, ◌≤◌, ◌↔◌, length, IsTrue, IfSome};
-ghost use Rattle.ick_source.specs.Boundaries.{IsIdentifier, IsLabelIn, IsOpening, IsBoundary, IsNextBoundary};
+ghost use Rattle.ick_source.specs.Boundaries.{IsIdentifier, IsLabelIn, IsOpening, IsBoundary};
+ghost use Rattle.ick_source.specs.Boundaries.{IsNextBoundary};
 ghost use Rattle.ick_source.specs.HeadAnswers.{IsCapped, Scans, ReadsOpening};
 
 use crate::bytes::{after_white, byte_at, is_word_in, number_in};

@@ -1,9 +1,10 @@
-//! Bytes, gaps, words and numbers at positions of a text.
+//! Bytes, gaps, words and numbers between bytes of a text. The grammar reads words and numbers
+//! between characters instead (`token`): where both have a reader, the one here ends in `_in`.
 
 ghost use Rattle.std.specs.Prelude.{◌≡◌, ◌+◌, ◌-◌, ◌*◌, ◌<◌, ◌≤◌, ◌≢◌, ◌↔◌};
 ghost use Rattle.std.specs.Prelude.{length, min, slice_index, true, IsTrue, IfSome};
 ghost use Rattle.ick_source.specs.Bytes.{byte, IsGap, IsNumberIn, IsWordIn};
-ghost use Rattle.ick_source.specs.Token.{is_digit};
+ghost use Rattle.ick_source.specs.Token.{cap, is_digit};
 ghost use Rattle.ick_source.specs.HeadAnswers.{IsCapped, Scans};
 
 use crate::parsed::Scanned;
@@ -45,8 +46,7 @@ pub fn is_word_in(text: &[u8], at: usize, word: &[u8]) -> bool
     true
 }
 
-/// The number here, with all its digits, and the position after it. For each number above 65,535 it is
-/// 65,536.
+/// The number here, with all its digits, and the position after it; capped.
 pub fn number_in(text: &[u8], at: usize) -> Option<Scanned<u32, usize>>
     ensures number { Scans (IsNumberIn text.now at) IsCapped result }
     ensures within { IfSome result (λ r. r.to ≤ length text.now) }
@@ -63,6 +63,9 @@ pub fn number_in(text: &[u8], at: usize) -> Option<Scanned<u32, usize>>
     Some(Scanned { value, to: end })
 }
 
+/// Numbers are read up to this one, which stands for every greater one: it is out of every range.
+const CAP: u32 = 65_536;
+
 /// Whether the byte is a digit.
 #[tactic(auto, unfolding(crate::specs::Token::is_digit))]
 pub fn is_digit_byte(byte: u8) -> bool
@@ -71,11 +74,11 @@ pub fn is_digit_byte(byte: u8) -> bool
     byte.is_ascii_digit()
 }
 
-/// The number with one more digit, up to 65536.
+/// The number with one more digit, capped.
 pub fn with_digit(value: u32, digit: u8) -> u32
-    requires value { value ≤ 65536 }
+    requires value { value ≤ cap }
     requires digit { is_digit digit ≡ true }
-    ensures { result ≡ min (value * 10 + (digit - 48)) 65536 }
+    ensures { result ≡ min (value * 10 + (digit - 48)) cap }
 {
-    (value * 10 + u32::from(digit - b'0')).min(65536)
+    (value * 10 + u32::from(digit - b'0')).min(CAP)
 }

@@ -1,11 +1,15 @@
-//! The reader of expressions. What the next character begins decides each step: no part is tried in two ways.
+//! The reader of expressions. What the next character begins decides each step: no part is tried in
+//! two ways.
 
 ghost use Rattle.std.specs.Prelude.{◌≡◌, ◌<◌, suc, max, IfOk, OnOk, IsTrue, ◌↔◌};
 ghost use Rattle.ick_source.specs.Position.{left_at};
-ghost use Rattle.ick_source.specs.Tree.{tree_of, trees_in, under, scalar, mesh, element, binary, none, more, join};
+ghost use Rattle.ick_source.specs.Tree.{tree_of, trees_in, under, scalar, mesh, element, binary};
+ghost use Rattle.ick_source.specs.Tree.{none, more, join};
 ghost use Rattle.ick_source.specs.Clamped.{both_faults};
-ghost use Rattle.ick_source.specs.Expression.{IsExpr, IsOperand, IsSimple, IsElement, IsSubs, IsRest, begins_sub};
-ghost use Rattle.ick_source.specs.ExpressionAnswers.{AnswersTree, AnswersTrees, AnswersFrom, IsNumbered, IsGroup};
+ghost use Rattle.ick_source.specs.Expression.{IsExpr, IsOperand, IsSimple, IsElement, IsSubs};
+ghost use Rattle.ick_source.specs.Expression.{IsRest, begins_sub};
+ghost use Rattle.ick_source.specs.ExpressionAnswers.{AnswersTree, AnswersTrees, AnswersFrom};
+ghost use Rattle.ick_source.specs.ExpressionAnswers.{IsNumbered, IsGroup};
 
 use crate::faults::{Faults, clamped_number};
 use crate::lead::{Delimiter, Lead};
@@ -39,7 +43,9 @@ fn spot_at(
     kind: NameKind,
     past: Position,
 ) -> Result<Option<Measured<Expr>>, AllocError>
-    ensures { IfOk result (AnswersTree (IsNumbered (λ n. scalar (record { kind = kind; number = n })) (left_at text.now past)) 1 text.now) }
+    ensures { IfOk result
+        (AnswersTree (IsNumbered (λ n. scalar (record { kind = kind; number = n }))
+        (left_at text.now past)) 1 text.now) }
 {
     let prefix = prefix_at(text, past);
     let Some(found) = number_at(text, prefix.to) else {
@@ -137,7 +143,8 @@ pub fn element_at(
     limit: u16,
     from: Position,
 ) -> Result<Option<Measured<Expr>>, AllocError>
-    ensures { IfOk result (AnswersTree (IsElement delimiter (left_at text.now from)) limit text.now) }
+    ensures { IfOk result
+        (AnswersTree (IsElement delimiter (left_at text.now from)) limit text.now) }
 {
     let next = lead_at(text, from);
     let Lead::Array(kind) = next.value else {
@@ -199,7 +206,8 @@ fn rest_at(
     limit: u16,
     mut all: Measured<Vec<Expr>>,
 ) -> Result<Option<Measured<Vec<Expr>>>, AllocError>
-    ensures { IfOk result (AnswersFrom (IsRest delimiter (left_at text.now all.to)) limit text.now all) }
+    ensures { IfOk result
+        (AnswersFrom (IsRest delimiter (left_at text.now all.to)) limit text.now all) }
 {
     'further: loop {
         let next = lead_at(text, all.to);
@@ -229,7 +237,8 @@ fn operand_at(
     limit: u16,
     from: Position,
 ) -> Result<Option<Measured<Expr>>, AllocError>
-    ensures { IfOk result (AnswersTree (IsOperand delimiter (left_at text.now from)) limit text.now) }
+    ensures { IfOk result
+        (AnswersTree (IsOperand delimiter (left_at text.now from)) limit text.now) }
 {
     match lead_at(text, from).value {
         Lead::Array(_) => element_at(alloc, text, delimiter, limit, from),
@@ -237,7 +246,8 @@ fn operand_at(
     }
 }
 
-/// The expression at the position: `delimiter` is the one of the innermost open group, `limit` the greatest height.
+/// The expression at the position: `delimiter` is the one of the innermost open group, `limit` the
+/// greatest height.
 #[cycle(reader)]
 pub fn expr_at(
     alloc: Global,
@@ -273,7 +283,8 @@ fn joined(
 ) -> Result<Measured<Expr>, AllocError>
     requires left { left.height < 65535 }
     requires right { right.height < 65535 }
-    ensures tree { IfOk result (λ s. tree_of s.value ≡ binary op (tree_of left.value) (tree_of right.value)) }
+    ensures tree { IfOk result
+        (λ s. tree_of s.value ≡ binary op (tree_of left.value) (tree_of right.value)) }
     ensures height { IfOk result (λ s. s.height ≡ suc (max left.height right.height)) }
     ensures to { IfOk result (λ s. s.to ≡ right.to) }
     ensures faults { IfOk result (λ s. s.faults ≡ both_faults left.faults right.faults) }
@@ -307,7 +318,9 @@ fn started(alloc: Global, only: Measured<Expr>) -> Result<Measured<Vec<Expr>>, A
 
 /// Puts one more subscript at the end.
 fn extend(all: &mut Measured<Vec<Expr>>, one: Measured<Expr>) -> Result<(), AllocError>
-    ensures subs { OnOk result (trees_in all.new.value.items ≡ join (trees_in all.old.value.items) (more (tree_of one.value) none)) }
+    ensures subs { OnOk result
+        (trees_in all.new.value.items ≡
+        join (trees_in all.old.value.items) (more (tree_of one.value) none)) }
     ensures height { OnOk result (all.new.height ≡ max all.old.height one.height) }
     ensures to { OnOk result (all.new.to ≡ one.to) }
     ensures faults { OnOk result (all.new.faults ≡ both_faults all.old.faults one.faults) }

@@ -3,7 +3,11 @@
 ghost use Rattle.std.specs.Prelude.{◌≡◌};
 ghost use Rattle.ick_source.specs.Clamped.{clamped};
 
-/// Which numbers out of range were read: a mesh above 65535, a variable's number outside 1 to 65535, a label outside 1 to 65535.
+/// The greatest number of a mesh, a variable and a label (Revised Manual, 3.1, 3.2 and 4.2).
+const GREATEST: u32 = 65_535;
+
+/// Which numbers out of range were read: a mesh above the greatest number, a variable's number or a
+/// label outside 1 to the greatest.
 #[derive(Clone, Copy, Debug, PartialEq, Eq)]
 pub struct Faults {
     pub mesh: bool,
@@ -32,40 +36,40 @@ impl Faults {
         }
     }
 
-    /// Of a mesh with this number, where 65536 stands for every greater one.
+    /// Of a mesh with this number, capped.
     pub fn of_mesh(number: u32) -> Faults
         ensures { result ≡ mesh_faults number }
     {
         Faults {
-            mesh: number > 65535,
+            mesh: number > GREATEST,
             ..Faults::NONE
         }
     }
 
-    /// Of a variable with this number, where 65536 stands for every greater one.
+    /// Of a variable with this number, capped.
     pub fn of_name(number: u32) -> Faults
         ensures { result ≡ name_faults number }
     {
         Faults {
-            name: number == 0 || number > 65535,
+            name: number == 0 || number > GREATEST,
             ..Faults::NONE
         }
     }
 
-    /// Of a label with this number, where 65536 stands for every greater one.
+    /// Of a label with this number, capped.
     pub fn of_label(number: u32) -> Faults
         ensures { result ≡ label_faults number }
     {
         Faults {
-            label: number == 0 || number > 65535,
+            label: number == 0 || number > GREATEST,
             ..Faults::NONE
         }
     }
 }
 
-/// The number, and 65535 for each above it.
+/// The number, and the greatest for each above it.
 pub fn clamped_number(number: u32) -> u16
     ensures { result ≡ clamped number }
 {
-    number.min(65535) as u16
+    number.min(GREATEST) as u16
 }

@@ -25,7 +25,8 @@ pub enum Form {
 
 /// The only form that a body at the position can have.
 pub fn form_at(text: &[u8], from: Position) -> Form
-    ensures { (form : Form) (to : List ℕ) (b : BodyTree) → IsBodyOf form (left_at text.now from) to b → form ≡ result }
+    ensures { (form : Form) (to : List ℕ) (b : BodyTree) →
+        IsBodyOf form (left_at text.now from) to b → form ≡ result }
 {
     match lead_at(text, from).value {
         Lead::Spot(_) => Form::Calculation,

@@ -76,7 +76,8 @@ pub fn check_use(
     labels: &BTreeSet<u16>,
 ) -> Result<(), Refusal>
     requires numbered { AreNumbered statements.now }
-    requires labels { HasLabels (statement_trees statements.now) (length statements.now) labels.now }
+    requires labels { HasLabels
+        (statement_trees statements.now) (length statements.now) labels.now }
     requires earlier { IsSoundBelow (rank (fault_of_use how)) (statement_trees statements.now) }
     ensures ok { OnOk result
         (IsSoundBelow (rank (fault_of_use how) + 1) (statement_trees statements.now)) }

@@ -18,7 +18,7 @@ pub fn one_cut()
 {}
 
 /// Each text compiles to one list of statements at most, is refused with one kind of fault at one
-/// statement at most, and never both.
+/// statement at most, and never both; one that is not too long compiles or is refused.
 pub fn one_refusal()
     ensures { OneRefusal }
 {}

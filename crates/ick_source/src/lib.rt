@@ -8,7 +8,8 @@
 //!
 //! What stands at a position of a text:
 //!
-//! - `bytes`, `boundaries`, `qualifiers`: bytes, where statements may start and end, and their heads
+//! - `bytes`, `boundaries`, `qualifiers`: bytes, where statements may start and end, and their
+//!   heads
 //! - `lead`, `position`, `token`: characters, numbers and words, with `!` as two characters
 //! - `expression`: expressions and elements
 //! - `parsed`, `part`, `list`: what readers answer, the parts of bodies, and lists of them
@@ -53,7 +54,7 @@ mod token;
 mod tree;
 mod verb;
 
-pub use body::{Body, Gerund, Item, Target};
+pub use body::{Body, Gerund, Item, Place, Target};
 pub use kinds::Kind;
 pub use laws::{one_body, one_cut, one_reading, one_refusal};
 pub use listing::append_listing;

@@ -2,12 +2,13 @@
 
 ghost use Rattle.std.specs.Prelude.{IfOk, codes, map};
 ghost use Rattle.ick_source.specs.Answers.{Answers};
-ghost use Rattle.ick_source.specs.BodyTree.{item_tree, target_tree};
-ghost use Rattle.ick_source.specs.Nonterminal.{StandsOnce, TakesCharacters, gerunds, items, listed, names, targets, wholes};
+ghost use Rattle.ick_source.specs.BodyTree.{item_tree, place_tree};
+ghost use Rattle.ick_source.specs.Nonterminal.{StandsOnce, TakesCharacters, gerunds, items, listed};
+ghost use Rattle.ick_source.specs.Nonterminal.{names, places, wholes};
 ghost use Rattle.ick_source.specs.Position.{left_at};
 ghost use Rattle.ick_source.specs.Tree.{tree_of};
 
-use crate::body::{Gerund, Item, Target};
+use crate::body::{Gerund, Item, Place};
 use crate::faults::Faults;
 use crate::parsed::Parsed;
 use crate::part::Part;
@@ -25,7 +26,9 @@ fn list_at<P: Part>(
 ) -> Result<Option<Parsed<Vec<P>, Position>>, AllocError>
     requires once { StandsOnce P.nonterminal }
     requires characters { TakesCharacters P.nonterminal }
-    ensures { IfOk result (Answers (listed P.nonterminal separator.now) (λ parts. map P.seen parts.items) text.now (left_at text.now from)) }
+    ensures { IfOk result
+        (Answers (listed P.nonterminal separator.now) (λ parts. map P.seen parts.items)
+        text.now (left_at text.now from)) }
 {
     let mut value = Vec::new(alloc);
     let mut faults = Faults::NONE;
@@ -53,7 +56,9 @@ pub fn names_at(
     text: &[u8],
     from: Position,
 ) -> Result<Option<Parsed<Vec<Name>, Position>>, AllocError>
-    ensures { IfOk result (Answers (listed names (codes "+")) (λ list. list.items) text.now (left_at text.now from)) }
+    ensures { IfOk result
+        (Answers (listed names (codes "+")) (λ list. list.items)
+        text.now (left_at text.now from)) }
 {
     list_at(alloc, text, b"+", from)
 }
@@ -64,18 +69,22 @@ pub fn gerunds_at(
     text: &[u8],
     from: Position,
 ) -> Result<Option<Parsed<Vec<Gerund>, Position>>, AllocError>
-    ensures { IfOk result (Answers (listed gerunds (codes "+")) (λ list. list.items) text.now (left_at text.now from)) }
+    ensures { IfOk result
+        (Answers (listed gerunds (codes "+")) (λ list. list.items)
+        text.now (left_at text.now from)) }
 {
     list_at(alloc, text, b"+", from)
 }
 
-/// The targets at the position, with `+` between them.
-pub fn targets_at(
+/// What WRITE IN stores into, from the position on, with `+` between them.
+pub fn places_at(
     alloc: Global,
     text: &[u8],
     from: Position,
-) -> Result<Option<Parsed<Vec<Target>, Position>>, AllocError>
-    ensures { IfOk result (Answers (listed targets (codes "+")) (λ list. map target_tree list.items) text.now (left_at text.now from)) }
+) -> Result<Option<Parsed<Vec<Place>, Position>>, AllocError>
+    ensures { IfOk result
+        (Answers (listed places (codes "+")) (λ list. map place_tree list.items)
+        text.now (left_at text.now from)) }
 {
     list_at(alloc, text, b"+", from)
 }
@@ -86,7 +95,9 @@ pub fn items_at(
     text: &[u8],
     from: Position,
 ) -> Result<Option<Parsed<Vec<Item>, Position>>, AllocError>
-    ensures { IfOk result (Answers (listed items (codes "+")) (λ list. map item_tree list.items) text.now (left_at text.now from)) }
+    ensures { IfOk result
+        (Answers (listed items (codes "+")) (λ list. map item_tree list.items)
+        text.now (left_at text.now from)) }
 {
     list_at(alloc, text, b"+", from)
 }
@@ -97,7 +108,9 @@ pub fn dimensions_at(
     text: &[u8],
     from: Position,
 ) -> Result<Option<Parsed<Vec<Expr>, Position>>, AllocError>
-    ensures { IfOk result (Answers (listed wholes (codes "BY")) (λ list. map tree_of list.items) text.now (left_at text.now from)) }
+    ensures { IfOk result
+        (Answers (listed wholes (codes "BY")) (λ list. map tree_of list.items)
+        text.now (left_at text.now from)) }
 {
     list_at(alloc, text, b"BY", from)
 }

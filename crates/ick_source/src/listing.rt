@@ -11,8 +11,8 @@ use crate::statements::Statement;
 use ick_bits::{NoMemory, append_decimal, append_quoted};
 
 /// Appends a line for each statement (this profile): its number, its label in parentheses or `-`,
-/// `PLEASE` or `DO`, `NOT` where it is abstained from at the start or `-`, its chance, its kind, and
-/// its text in quotes.
+/// `PLEASE` or `DO`, `NOT` where it is abstained from at the start or `-`, its chance, its kind,
+/// and its text in quotes.
 ///
 /// The answer is `NoMemory` only where `out` had no room for all lines and could not grow; `out` is
 /// then unchanged.
@@ -21,6 +21,7 @@ pub fn append_listing(out: &mut Vec<u8>, program: &Program<'_>) -> Result<(), No
     ensures err { OnErr result (out.new.items ≡ out.old.items) }
     ensures full { let text = listing (trees_of program.now) in
         OnErr result (vec_capacity out.old < vec_len out.old + length text) }
+    ensures capacity { vec_capacity out.old ≤ vec_capacity out.new }
 {
     let start = out.len();
     let appended = push_lines(out, program.statements());
@@ -38,6 +39,7 @@ fn push_lines(out: &mut Vec<u8>, statements: &[Statement<'_>]) -> Result<(), NoM
     ensures err { OnErr result (take (vec_len out.old) out.new.items ≡ out.old.items) }
     ensures full { let text = listing (statement_trees statements.now) in
         OnErr result (vec_capacity out.old < vec_len out.old + length text) }
+    ensures capacity { vec_capacity out.old ≤ vec_capacity out.new }
 {
     for statement in statements {
         push_line(out, statement)?;
@@ -87,7 +89,8 @@ fn abstained_word(abstained: bool) -> &'static [u8]
 fn push_label(out: &mut Vec<u8>, label: Option<u16>) -> Result<(), NoMemory>
     ensures ok { OnOk result (out.new.items ≡ out.old.items ++ label_text label) }
     ensures err { OnErr result (take (vec_len out.old) out.new.items ≡ out.old.items) }
-    ensures full { OnErr result (vec_capacity out.old < vec_len out.old + length (label_text label)) }
+    ensures full { OnErr result
+        (vec_capacity out.old < vec_len out.old + length (label_text label)) }
     ensures capacity { vec_capacity out.old ≤ vec_capacity out.new }
 {
     let Some(number) = label else {

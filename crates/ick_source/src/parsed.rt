@@ -1,6 +1,7 @@
 //! What a reader answers: what it read, and the position after it.
 //!
-//! Positions are of two kinds: the cut counts bytes, by a `usize`, and the grammar characters, by a `Position`.
+//! Positions are of two kinds: the cut counts bytes, by a `usize`, and the grammar characters, by a
+//! `Position`.
 
 use crate::faults::Faults;
 use crate::position::Position;

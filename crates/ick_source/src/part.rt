@@ -1,22 +1,24 @@
-//! The readers of the parts of bodies: names, targets, items, gerunds, labels, and expressions outside groups.
+//! The readers of the parts of bodies: names, targets, places, items, gerunds, labels, and
+//! expressions outside groups.
 
 ghost use Rattle.std.specs.Prelude.{◌≡◌, ℕ, List, IfOk, MatchOption};
 ghost use Rattle.ick_source.specs.Answers.{Answers};
-ghost use Rattle.ick_source.specs.BodyTree.{item_tree, target_tree};
+ghost use Rattle.ick_source.specs.BodyTree.{item_tree, place_tree, single, target_tree};
 ghost use Rattle.ick_source.specs.Gerund.{gerund_word};
-ghost use Rattle.ick_source.specs.Nonterminal.{Nonterminal, elements, gerunds, items, labels, names, numbers, targets, wholes};
+ghost use Rattle.ick_source.specs.Nonterminal.{Nonterminal, elements, gerunds, items, labels};
+ghost use Rattle.ick_source.specs.Nonterminal.{names, numbers, places, tails, targets, wholes};
 ghost use Rattle.ick_source.specs.Position.{left_at};
 ghost use Rattle.ick_source.specs.Token.{IsWord};
 ghost use Rattle.ick_source.specs.Tree.{tree_of};
 
-use crate::body::{Gerund, Item, Target};
+use crate::body::{Gerund, Item, Place, Target};
 use crate::expression::{element_at, expr_at};
 use crate::faults::{Faults, clamped_number};
 use crate::lead::Lead;
 use crate::parsed::{Parsed, Scanned};
 use crate::position::{Position, lead_at};
 use crate::token::{number_at, word_at};
-use crate::tree::{Expr, Name};
+use crate::tree::{Expr, Name, NameKind};
 use std::alloc::{AllocError, Global};
 
 /// The greatest height of an expression, and of an element (this profile).
@@ -118,7 +120,58 @@ pub fn target_at(
     }))
 }
 
-/// The item at the position: a variable, an element or a mesh.
+/// The whole array at the position: a tail's name with no SUB after it (Revised Manual, 5.2).
+fn tail_at(text: &[u8], from: Position) -> Option<Parsed<Name, Position>>
+    ensures { Answers tails (λ name. name) text.now (left_at text.now from) result }
+{
+    if lead_at(text, from).value != Lead::Array(NameKind::Tail) {
+        return None;
+    }
+    let Some(found) = name_at(text, from) else {
+        return None;
+    };
+    match word_at(text, found.to, b"SUB") {
+        None => Some(found),
+        Some(_) => None,
+    }
+}
+
+/// What WRITE IN stores into, at the position: a variable, an element or a whole array.
+pub fn place_at(
+    alloc: Global,
+    text: &[u8],
+    from: Position,
+) -> Result<Option<Parsed<Place, Position>>, AllocError>
+    ensures { IfOk result (Answers places place_tree text.now (left_at text.now from)) }
+{
+    if let Some(found) = tail_at(text, from) {
+        return Ok(Some(Parsed {
+            value: Place::Array(found.value),
+            to: found.to,
+            faults: found.faults,
+        }));
+    }
+    let Some(found) = target_at(alloc, text, from)? else {
+        return Ok(None);
+    };
+    Ok(Some(Parsed {
+        value: stored(found.value),
+        to: found.to,
+        faults: found.faults,
+    }))
+}
+
+/// The target, as WRITE IN stores into it.
+fn stored(target: Target) -> Place
+    ensures { place_tree result ≡ single (target_tree target) }
+{
+    match target {
+        Target::Scalar(name) => Place::Scalar(name),
+        Target::Element(element) => Place::Element(element),
+    }
+}
+
+/// The item at the position: a variable, an element, a whole array or a mesh.
 pub fn item_at(
     alloc: Global,
     text: &[u8],
@@ -130,7 +183,7 @@ pub fn item_at(
     if let Lead::Hash = next.value {
         return Ok(mesh_item_at(text, next.to));
     }
-    let Some(found) = target_at(alloc, text, from)? else {
+    let Some(found) = place_at(alloc, text, from)? else {
         return Ok(None);
     };
     Ok(Some(Parsed {
@@ -152,19 +205,22 @@ fn mesh_item_at(text: &[u8], past: Position) -> Option<Parsed<Item, Position>>
     })
 }
 
-/// The target as an item.
-fn printed(target: Target) -> Item
-    ensures { item_tree result ≡ target_tree target }
+/// What WRITE IN stores into, as READ OUT prints it.
+fn printed(place: Place) -> Item
+    ensures { item_tree result ≡ place_tree place }
 {
-    match target {
-        Target::Scalar(name) => Item::Scalar(name),
-        Target::Element(element) => Item::Element(element),
+    match place {
+        Place::Scalar(name) => Item::Scalar(name),
+        Place::Element(element) => Item::Element(element),
+        Place::Array(name) => Item::Array(name),
     }
 }
 
 /// The first word of a gerund at the position, and the position after it.
 fn gerund_word_at(text: &[u8], from: Position) -> Option<Scanned<Gerund, Position>>
-    ensures { MatchOption result ((g : Gerund) (to : List ℕ) → IsWord (gerund_word g) (left_at text.now from) to → ⊥) (λ r. IsWord (gerund_word r.value) (left_at text.now from) (left_at text.now r.to)) }
+    ensures { MatchOption result
+        ((g : Gerund) (to : List ℕ) → IsWord (gerund_word g) (left_at text.now from) to → ⊥)
+        (λ r. IsWord (gerund_word r.value) (left_at text.now from) (left_at text.now r.to)) }
 {
     for gerund in Gerund::ALL {
         if let Some(to) = word_at(text, from, gerund.word()) {
@@ -174,7 +230,8 @@ fn gerund_word_at(text: &[u8], from: Position) -> Option<Scanned<Gerund, Positio
     None
 }
 
-/// The gerund at the position (Revised Manual, 4.4.9). White bytes may stand between its two words, or none.
+/// The gerund at the position (Revised Manual, 4.4.9). White bytes may stand between its two words,
+/// or none.
 pub fn gerund_at(text: &[u8], from: Position) -> Option<Parsed<Gerund, Position>>
     ensures { Answers gerunds (λ gerund. gerund) text.now (left_at text.now from) result }
 {
@@ -234,17 +291,17 @@ impl Part for Name {
     }
 }
 
-impl Part for Target {
-    ghost nonterminal = { targets };
+impl Part for Place {
+    ghost nonterminal = { places };
 
-    ghost seen = { target_tree };
+    ghost seen = { place_tree };
 
     fn read_at(
         alloc: Global,
         text: &[u8],
         from: Position,
     ) -> Result<Option<Parsed<Self, Position>>, AllocError> {
-        target_at(alloc, text, from)
+        place_at(alloc, text, from)
     }
 }
 

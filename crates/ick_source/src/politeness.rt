@@ -2,7 +2,7 @@
 
 ghost use Rattle.std.specs.Prelude.{◌≡◌, ◌≤◌, length, IfErr, OnOk};
 ghost use Rattle.ick_source.specs.StatementTree.{statement_trees, polite_in};
-ghost use Rattle.ick_source.specs.Refusals.{IsSound, IsSoundBelow, rank};
+ghost use Rattle.ick_source.specs.Refusals.{IsSound, IsSoundBelow, most_statements, rank};
 ghost use Rattle.ick_source.specs.RefusalAnswers.{RefusesTrees};
 
 use crate::refusals::Refusal;
@@ -13,7 +13,7 @@ use ick_bits::FaultKind;
 /// whole division.
 #[tactic(auto, using(crate::proofs::RefusalLemmas::judged))]
 pub fn check_politeness(statements: &[Statement<'_>], polite: u32) -> Result<(), Refusal>
-    requires size { length statements.now ≤ 524288 }
+    requires size { length statements.now ≤ most_statements }
     requires counted { polite ≡ polite_in (statement_trees statements.now) }
     requires earlier { IsSoundBelow (rank FaultKind.Impolite) (statement_trees statements.now) }
     ensures ok { OnOk result (IsSound (statement_trees statements.now)) }

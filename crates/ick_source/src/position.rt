@@ -1,4 +1,5 @@
-//! Positions of a text, and what stands there. A `!` is read as the two characters `'` and `.`, with a position between them.
+//! Positions of a text, and what stands there. A `!` is read as the two characters `'` and `.`,
+//! with a position between them.
 
 ghost use Rattle.std.specs.Prelude.{◌≡◌, ◌∷◌, [], MatchOption};
 ghost use Rattle.ick_source.specs.Position.{left_at, past_white, next_lead, past_lead};
@@ -16,7 +17,9 @@ pub struct Position {
 
 /// The character at the position.
 pub fn character_at(text: &[u8], position: Position) -> Option<Scanned<u8, Position>>
-    ensures { MatchOption result (left_at text.now position ≡ []) (λ c. left_at text.now position ≡ c.value ∷ left_at text.now c.to) }
+    ensures { MatchOption result
+        (left_at text.now position ≡ [])
+        (λ c. left_at text.now position ≡ c.value ∷ left_at text.now c.to) }
 {
     let at = position.at;
     if position.between {

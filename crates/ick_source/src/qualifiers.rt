@@ -23,7 +23,8 @@ fn is_negation(text: &[u8], at: usize) -> bool
     is_word_in(text, at, b"NOT") || is_word_in(text, at, b"N'T")
 }
 
-/// Whether NOT or N'T stands here after white bytes, and the position after it, or else this position.
+/// Whether NOT or N'T stands here after white bytes, and the position after it, or else this
+/// position.
 fn negated_at(text: &[u8], at: usize) -> Scanned<bool, usize>
     requires { at ≤ length text.now }
     ensures negated { IsNegated text.now at result.to result.value }
@@ -63,7 +64,8 @@ fn percentage_at(text: &[u8], at: usize) -> Option<Scanned<u8, usize>>
     })
 }
 
-/// The percentage that stands here after white bytes, and the position after it, or else this position.
+/// The percentage that stands here after white bytes, and the position after it, or else this
+/// position.
 fn chance_at(text: &[u8], at: usize) -> Scanned<Option<u8>, usize>
     requires { at ≤ length text.now }
     ensures chance { IsChance text.now at result.to result.value }

@@ -1,6 +1,7 @@
 //! The first statements whose numbers are out of range.
 
-ghost use Rattle.std.specs.Prelude.{◌≡◌, ◌+◌, ◌++◌, ◌∷◌, [], List, Bool, length, OnOk, IfErr, IfNone, IsTrue, false};
+ghost use Rattle.std.specs.Prelude.{◌≡◌, ◌+◌, ◌++◌, ◌∷◌, [], List, Bool, length, OnOk, IfErr};
+ghost use Rattle.std.specs.Prelude.{IfNone, IsTrue, false};
 ghost use Rattle.ick_source.specs.StatementTree.{StatementTree};
 ghost use Rattle.ick_source.specs.Refusals.{HoldsAt};
 ghost use Rattle.ick_source.specs.Ranges.{IsFirst};
@@ -71,7 +72,8 @@ impl OutOfRange {
 /// has the fault.
 fn first_of(earlier: Option<u32>, number: u32, has: bool) -> Option<u32>
     ensures first { (p : StatementTree → Bool) (trees : List StatementTree) (t : StatementTree) →
-        number ≡ length trees + 1 → has ≡ p t → IsFirst (HoldsAt (λ x. IsTrue (p x)) trees) earlier →
+        number ≡ length trees + 1 → has ≡ p t →
+        IsFirst (HoldsAt (λ x. IsTrue (p x)) trees) earlier →
         IsFirst (HoldsAt (λ x. IsTrue (p x)) (trees ++ t ∷ [])) result }
     ensures none { IfNone result ((earlier ≡ None) × (has ≡ false)) }
 {

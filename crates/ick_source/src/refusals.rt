@@ -10,11 +10,12 @@ use thiserror::Error;
 /// Why a source is refused.
 #[derive(Clone, Copy, Debug, PartialEq, Eq, Error)]
 pub enum Refusal {
-    /// The first kind of fault, in the order in which they are looked for, that any statement has, and
-    /// the number of the first statement that has it.
+    /// The first kind of fault, in the order in which they are looked for, that any statement has,
+    /// and the number of the first statement that has it.
     #[error("fault {number} of statement {1}", number = .0.number())]
     Fault(FaultKind, u32),
-    /// The source has more than 1,048,576 bytes, this profile's limit. Nothing is looked for before it.
+    /// The source has more than 1,048,576 bytes, this profile's limit. Nothing is looked for before
+    /// it.
     #[error("the source is too long")]
     TooLong,
     /// A growth was refused. It may be answered for a source that has a fault.

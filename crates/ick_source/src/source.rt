@@ -64,8 +64,8 @@ impl<'a> Reader<'a> {
     }
 }
 
-/// A reader that has read the bytes before the first start, and the position of that start or of the
-/// end of the text.
+/// A reader that has read the bytes before the first start, and the position of that start or of
+/// the end of the text.
 fn front_of(alloc: Global, text: &[u8]) -> Result<Scanned<Reader<'_>, usize>, AllocError>
     ensures read { IfOk result (λ r. HasReadUpTo text.now r.to r.value) }
     ensures count { IfOk result (λ r. 2 * r.value.count ≤ r.to + 1) }
@@ -130,20 +130,21 @@ fn program_of(alloc: Global, text: &[u8]) -> Result<Program<'_>, Refusal>
 /// The one program of a source text, or why it is refused.
 ///
 /// The text is cut at its labels and identifiers into statements, of which some may be unrecognised
-/// (Revised Manual, 4.1, 4.3 and 4.5, after INTERCAL-72). It is refused as `TooLong` exactly where it
-/// has more than 1,048,576 bytes, before anything else is looked for (this profile). It is refused as
-/// `Fault` where one of these stands in it, with the number of the first statement that has it; they
-/// are looked for in this order, each in the whole text:
+/// (Revised Manual, 4.1, 4.3 and 4.5, after INTERCAL-72). It is refused as `TooLong` exactly where
+/// it has more than 1,048,576 bytes, before anything else is looked for (this profile). It is
+/// refused as `Fault` where one of these stands in it, with the number of the first statement that
+/// has it; they are looked for in this order, each in the whole text:
 ///
-/// - a mesh above 65,535 (Revised Manual, 3.2), a variable's number outside 1 to 65,535 (3.1), a label
-///   outside 1 to 65,535 (4.2), in a recognised body or, for a label, before a statement;
+/// - a mesh above 65,535 (Revised Manual, 3.2), a variable's number outside 1 to 65,535 (3.1), a
+///   label outside 1 to 65,535 (4.2), in a recognised body or, for a label, before a statement;
 /// - a label that an earlier statement has (4.2);
-/// - a NEXT to a label that no statement has (4.4.2), an ABSTAIN or REINSTATE of one (4.4.9, 4.4.10);
+/// - a NEXT to a label that no statement has (4.4.2), an ABSTAIN or REINSTATE of one (4.4.9,
+///   4.4.10);
 /// - of three statements or more, less than a fifth polite, or more than a third, by whole division
 ///   (10.2); the number is then that of the last statement.
 ///
-/// It is refused as `NoMemory` where a growth was refused, which may be found before a fault. The work
-/// grows with the length of the text alone, but for the order of the labels.
+/// It is refused as `NoMemory` where a growth was refused, which may be found before a fault. The
+/// work grows with the length of the text alone, but for the order of the labels.
 pub fn read_source<'a>(alloc: Global, text: &'a [u8]) -> Result<Program<'a>, Refusal>
     ensures compiles { IfOk result (λ p. Compiles text.now (trees_of p)) }
     ensures only { IfOk result (λ p.

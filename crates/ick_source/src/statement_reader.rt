@@ -6,7 +6,8 @@ ghost use Rattle.ick_source.specs.Boundaries.{IsStart};
 ghost use Rattle.ick_source.specs.StatementTree.{StatementTree};
 ghost use Rattle.ick_source.specs.Statements.{IsTrimmed, IsStatement};
 ghost use Rattle.ick_source.specs.HeadAnswers.{ReadsLabel};
-ghost use Rattle.ick_source.specs.StatementAnswers.{AnswersRecognised, EndsAt, ClampsLabel, ReadsStatement};
+ghost use Rattle.ick_source.specs.StatementAnswers.{AnswersRecognised, EndsAt, ClampsLabel};
+ghost use Rattle.ick_source.specs.StatementAnswers.{ReadsStatement};
 
 use crate::body::Body;
 use crate::body_bytes::body_in;

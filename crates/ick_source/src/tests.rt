@@ -37,15 +37,19 @@ fn sources_are_cut(rt: HostRuntime) -> Result<(), Fail> {
     let rows: [(&[u8], &[u8]); 14] = [
         (
             b"DO READ OUT #1\nPLEASE GIVE UP\n",
-            b"1 - DO - 100 READ-OUT \"DO READ OUT #1\"\n2 - PLEASE - 100 GIVE-UP \"PLEASE GIVE UP\"\n",
+            b"1 - DO - 100 READ-OUT \"DO READ OUT #1\"\n\
+              2 - PLEASE - 100 GIVE-UP \"PLEASE GIVE UP\"\n",
         ),
         (
             b"DO READOUT #1\nPLEASE GIVE UP\n",
-            b"1 - DO - 100 READ-OUT \"DO READOUT #1\"\n2 - PLEASE - 100 GIVE-UP \"PLEASE GIVE UP\"\n",
+            b"1 - DO - 100 READ-OUT \"DO READOUT #1\"\n\
+              2 - PLEASE - 100 GIVE-UP \"PLEASE GIVE UP\"\n",
         ),
         (
             b"PLEASE NOTE THAT THIS WOULD DO NOTHING\nDO GIVE UP\n",
-            b"1 - PLEASE NOT 100 UNRECOGNISED \"PLEASE NOTE THAT THIS WOULD\"\n2 - DO NOT 100 UNRECOGNISED \"DO NOTHING\"\n3 - DO - 100 GIVE-UP \"DO GIVE UP\"\n",
+            b"1 - PLEASE NOT 100 UNRECOGNISED \"PLEASE NOTE THAT THIS WOULD\"\n\
+              2 - DO NOT 100 UNRECOGNISED \"DO NOTHING\"\n\
+              3 - DO - 100 GIVE-UP \"DO GIVE UP\"\n",
         ),
         (b"", b""),
         (b"\t\n\x0b\x0c\r ", b""),
@@ -68,19 +72,25 @@ fn sources_are_cut(rt: HostRuntime) -> Result<(), Fail> {
         ),
         (
             b"(1) DO %50 (1) NEXT\nPLEASE GIVE UP\n",
-            b"1 (1) DO - 50 NEXT \"(1) DO %50 (1) NEXT\"\n2 - PLEASE - 100 GIVE-UP \"PLEASE GIVE UP\"\n",
+            b"1 (1) DO - 50 NEXT \"(1) DO %50 (1) NEXT\"\n\
+              2 - PLEASE - 100 GIVE-UP \"PLEASE GIVE UP\"\n",
         ),
         (
             b"DO ABSTAIN FROM (5) DO READ OUT #1 (5) DO READ OUT #2 PLEASE GIVE UP",
-            b"1 - DO - 100 ABSTAIN \"DO ABSTAIN FROM (5)\"\n2 - DO - 100 READ-OUT \"DO READ OUT #1\"\n3 (5) DO - 100 READ-OUT \"(5) DO READ OUT #2\"\n4 - PLEASE - 100 GIVE-UP \"PLEASE GIVE UP\"\n",
+            b"1 - DO - 100 ABSTAIN \"DO ABSTAIN FROM (5)\"\n\
+              2 - DO - 100 READ-OUT \"DO READ OUT #1\"\n\
+              3 (5) DO - 100 READ-OUT \"(5) DO READ OUT #2\"\n\
+              4 - PLEASE - 100 GIVE-UP \"PLEASE GIVE UP\"\n",
         ),
         (
             b"(5) PLEASE ABSTAIN FROM (5) (6) DO REINSTATE (6)",
-            b"1 (5) PLEASE - 100 ABSTAIN \"(5) PLEASE ABSTAIN FROM (5)\"\n2 (6) DO - 100 REINSTATE \"(6) DO REINSTATE (6)\"\n",
+            b"1 (5) PLEASE - 100 ABSTAIN \"(5) PLEASE ABSTAIN FROM (5)\"\n\
+              2 (6) DO - 100 REINSTATE \"(6) DO REINSTATE (6)\"\n",
         ),
         (
             b"DO ABSTAIN FROM (5) X (5) DO Y",
-            b"1 - DO - 100 UNRECOGNISED \"DO ABSTAIN FROM (5) X\"\n2 (5) DO - 100 UNRECOGNISED \"(5) DO Y\"\n",
+            b"1 - DO - 100 UNRECOGNISED \"DO ABSTAIN FROM (5) X\"\n\
+              2 (5) DO - 100 UNRECOGNISED \"(5) DO Y\"\n",
         ),
     ];
     for (source, lines) in rows {
@@ -124,7 +134,7 @@ fn heads_are_read(rt: HostRuntime) -> Result<(), Fail> {
 
 #[test]
 fn kinds_are_told(rt: HostRuntime) -> Result<(), Fail> {
-    let rows: [(&[u8], Kind); 22] = [
+    let rows: [(&[u8], Kind); 30] = [
         (b"DO .1 <- #1", Kind::Calculate),
         (b"DO ;1SUB#1 <- .1$.2", Kind::Calculate),
         (b"DO ,1 <- #2 BY #3", Kind::Calculate),
@@ -142,6 +152,14 @@ fn kinds_are_told(rt: HostRuntime) -> Result<(), Fail> {
         (b"DO GIVE UP", Kind::GiveUp),
         (b"DO WRITE IN .1+,1SUB#1", Kind::WriteIn),
         (b"DO READ OUT .1+,1SUB#1+#5", Kind::ReadOut),
+        (b"DO WRITE IN .1+,1", Kind::WriteIn),
+        (b"DO READ OUT ,1", Kind::ReadOut),
+        (b"DO READ OUT ,1+,1SUB#1+#3", Kind::ReadOut),
+        (b"DO READ OUT ;1", Kind::Unrecognised),
+        (b"DO WRITE IN ;1", Kind::Unrecognised),
+        (b"DO READ OUT ,1 SUB", Kind::Unrecognised),
+        (b"DO READ OUT ,1~#1", Kind::Unrecognised),
+        (b"DO ,1 <- ,2", Kind::Unrecognised),
         (b"DO READ OUT #1+#&2", Kind::Unrecognised),
         (b"DO WRITE IN #1", Kind::Unrecognised),
         (b"DO ABSTAIN FROM GIVING UP", Kind::Unrecognised),
@@ -160,8 +178,9 @@ fn kinds_are_told(rt: HostRuntime) -> Result<(), Fail> {
 
 #[test]
 fn gerunds_name_kinds(rt: HostRuntime) -> Result<(), Fail> {
-    let source =
-        b"DO ABSTAIN FROM CALCULATING + NEXTING + FORGETTING + RESUMING + STASHING + RETRIEVING + IGNORING + REMEMBERING + ABSTAINING + REINSTATING + WRITING IN + READING OUT";
+    let source = b"DO ABSTAIN FROM CALCULATING + NEXTING + FORGETTING + RESUMING \
+          + STASHING + RETRIEVING + IGNORING + REMEMBERING + ABSTAINING + REINSTATING \
+          + WRITING IN + READING OUT";
     let words: [&[u8]; 12] = [
         b"CALCULATE",
         b"NEXT",
@@ -192,7 +211,7 @@ fn gerunds_name_kinds(rt: HostRuntime) -> Result<(), Fail> {
 
 #[test]
 fn sources_are_refused(rt: HostRuntime) -> Result<(), Fail> {
-    let rows: [(&[u8], FaultKind, u32); 33] = [
+    let rows: [(&[u8], FaultKind, u32); 35] = [
         (
             b"DO .70000 <- #1\nPLEASE READ OUT #70000\n",
             FaultKind::MeshTooLarge,
@@ -215,6 +234,8 @@ fn sources_are_refused(rt: HostRuntime) -> Result<(), Fail> {
         (b"DO .1 <- ,1SUB.65536", FaultKind::NameRange, 1),
         (b"DO STASH .1+:0", FaultKind::NameRange, 1),
         (b"DO ,0 <- #1", FaultKind::NameRange, 1),
+        (b"DO READ OUT ,0", FaultKind::NameRange, 1),
+        (b"DO WRITE IN .1+,65536", FaultKind::NameRange, 1),
         (
             b"(99999999999999999999999) DO GIVE UP",
             FaultKind::LabelRange,

@@ -1,4 +1,5 @@
-//! Numbers, words and unary operators, each after any white bytes.
+//! Numbers, words and unary operators between characters of a text, each after any white bytes. The
+//! cut reads words and numbers between bytes (`bytes`), since statements begin and end there.
 
 ghost use Rattle.std.specs.Prelude.{◌≡◌, ℕ, List, MatchOption};
 ghost use Rattle.ick_source.specs.Position.{left_at};
@@ -12,7 +13,9 @@ use crate::tree::UnaryOp;
 
 /// The number at the position, after any white bytes.
 pub fn number_at(text: &[u8], from: Position) -> Option<Scanned<u32, Position>>
-    ensures { MatchOption result ((to : List ℕ) (n : ℕ) → IsNumber (left_at text.now from) to n → ⊥) (λ r. CappedNumber (left_at text.now from) (left_at text.now r.to) r.value) }
+    ensures { MatchOption result
+        ((to : List ℕ) (n : ℕ) → IsNumber (left_at text.now from) to n → ⊥)
+        (λ r. CappedNumber (left_at text.now from) (left_at text.now r.to) r.value) }
 {
     let mut to = skip_white(text, from);
     let Some(first) = character_at(text, to) else {
@@ -34,7 +37,9 @@ pub fn number_at(text: &[u8], from: Position) -> Option<Scanned<u32, Position>>
 
 /// The word at the position, after any white bytes.
 pub fn word_at(text: &[u8], from: Position, word: &[u8]) -> Option<Position>
-    ensures { MatchOption result ((to : List ℕ) → IsWord word.now (left_at text.now from) to → ⊥) (λ to. IsWord word.now (left_at text.now from) (left_at text.now to)) }
+    ensures { MatchOption result
+        ((to : List ℕ) → IsWord word.now (left_at text.now from) to → ⊥)
+        (λ to. IsWord word.now (left_at text.now from) (left_at text.now to)) }
 {
     let mut to = skip_white(text, from);
     for letter in word {

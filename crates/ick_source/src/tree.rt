@@ -15,7 +15,8 @@ pub enum NameKind {
     Hybrid,
 }
 
-/// A variable: its kind, and its number from 1 to 65535 (Revised Manual, 3.1 and 3.3, after INTERCAL-72).
+/// A variable: its kind, and its number from 1 to 65535 (Revised Manual, 3.1 and 3.3, after
+/// INTERCAL-72).
 #[derive(Clone, Copy, Debug, PartialEq, Eq)]
 pub struct Name {
     pub kind: NameKind,
@@ -42,7 +43,8 @@ pub enum BinaryOp {
     Select,
 }
 
-/// An expression. Groups leave no node of their own, and a chain of operators groups from the right (Revised Manual, 3.4.3).
+/// An expression. Groups leave no node of their own, and a chain of operators groups from the right
+/// (Revised Manual, 3.4.3).
 #[cycle(ast)]
 #[derive(Debug, PartialEq, Eq, Drop)]
 pub enum Expr {
@@ -67,7 +69,9 @@ impl Expr {
 
     /// The element that the expression is, if it is one.
     pub fn into_element(self) -> Option<Element>
-        ensures { MatchOption result ((x : Name) (ts : Trees) → tree_of self ≡ element x ts → ⊥) (λ e. tree_of self ≡ element e.array (trees_in e.subs.items)) }
+        ensures { MatchOption result
+            ((x : Name) (ts : Trees) → tree_of self ≡ element x ts → ⊥)
+            (λ e. tree_of self ≡ element e.array (trees_in e.subs.items)) }
     {
         match self {
             Expr::Element(element) => Some(element),

@@ -63,7 +63,9 @@ impl Verb {
 
 /// The verb at the position, and the position after it.
 pub fn verb_at(text: &[u8], from: Position) -> Option<Scanned<Verb, Position>>
-    ensures { MatchOption result ((v : Verb) (to : List ℕ) → IsWord (verb_word v) (left_at text.now from) to → ⊥) (λ r. IsWord (verb_word r.value) (left_at text.now from) (left_at text.now r.to)) }
+    ensures { MatchOption result
+        ((v : Verb) (to : List ℕ) → IsWord (verb_word v) (left_at text.now from) to → ⊥)
+        (λ r. IsWord (verb_word r.value) (left_at text.now from) (left_at text.now r.to)) }
 {
     for verb in Verb::ALL {
         if let Some(to) = word_at(text, from, verb.word()) {

@@ -1,5 +1,6 @@
-//! Worked bodies, shown as text: `(op a b)` for operators, `[name subscripts]` for an element, then the byte where the
-//! body ends and `M`, `N`, `L` where a mesh, a name or a label is out of range. `-` is no body.
+//! Worked bodies, shown as text: `(op a b)` for operators, `[name subscripts]` for an element, then
+//! the byte where the body ends and `M`, `N`, `L` where a mesh, a name or a label is out of range.
+//! `-` is no body.
 
 use crate::body_bytes::body_in;
 use crate::*;
@@ -96,10 +97,18 @@ fn push_target(alloc: Global, out: &mut String, target: &Target) -> Result<(), A
     }
 }
 
+fn push_place(alloc: Global, out: &mut String, place: &Place) -> Result<(), AllocError> {
+    out.push_str(" ")?;
+    match place {
+        Place::Scalar(name) | Place::Array(name) => push_name(alloc, out, name),
+        Place::Element(element) => push_element(alloc, out, element),
+    }
+}
+
 fn push_item(alloc: Global, out: &mut String, item: &Item) -> Result<(), AllocError> {
     out.push_str(" ")?;
     match item {
-        Item::Scalar(name) => push_name(alloc, out, name),
+        Item::Scalar(name) | Item::Array(name) => push_name(alloc, out, name),
         Item::Element(element) => push_element(alloc, out, element),
         Item::Mesh(number) => push_number(alloc, out, "#", *number),
     }
@@ -169,9 +178,9 @@ fn push_parts(alloc: Global, out: &mut String, body: &Body) -> Result<(), AllocE
         Body::AbstainKinds(gerunds) | Body::ReinstateKinds(gerunds) => {
             push_gerunds(alloc, out, gerunds.as_slice())
         }
-        Body::WriteIn(targets) => {
-            for target in targets {
-                push_target(alloc, out, target)?;
+        Body::WriteIn(places) => {
+            for place in places {
+                push_place(alloc, out, place)?;
             }
             Ok(())
         }
@@ -261,7 +270,7 @@ fn expressions_are_read(rt: HostRuntime) -> Result<(), Fail> {
 
 #[test]
 fn bodies_are_read(rt: HostRuntime) -> Result<(), Fail> {
-    let rows: [(&[u8], &str); 32] = [
+    let rows: [(&[u8], &str); 44] = [
         (b",1SUB'#2''#3' <- #7", "CALCULATE [,1 #2 #3] #7 19"),
         (b",1 <- #2 BY #3", "DIMENSION ,1 #2 #3 14"),
         (b";4<-.1BY'#2~.3'BY#4 B", "DIMENSION ;4 .1 (~ #2 .3) #4 19"),
@@ -293,8 +302,20 @@ fn bodies_are_read(rt: HostRuntime) -> Result<(), Fail> {
         (b"WRITE IN #1", "-"),
         (b"READ OUT ,1SUB#2#3+#4+.5", "READ OUT [,1 #2 #3] #4 .5 24"),
         (b"READOUT #70000", "READ OUT #65535 14 M"),
-        (b"READ OUT ,1", "-"),
         (b"READ OUT #&1", "-"),
+        (b"READ OUT ,1", "READ OUT ,1 11"),
+        (b"WRITE IN .1+,1", "WRITE IN .1 ,1 14"),
+        (b"READ OUT ,1+,1SUB#1+#3", "READ OUT ,1 [,1 #1] #3 22"),
+        (b"WRITE IN ,1SUB#1 + , 2", "WRITE IN [,1 #1] ,2 22"),
+        (b"READ OUT ,0", "READ OUT ,0 11 N"),
+        (b"WRITE IN ,70000", "WRITE IN ,65535 15 N"),
+        (b"READ OUT ,1~#1", "READ OUT ,1 11"),
+        (b"READ OUT ;1", "-"),
+        (b"WRITE IN ;1", "-"),
+        (b"READ OUT ,1 SUB", "-"),
+        (b"WRITE IN ,1SUB+.1", "-"),
+        (b"READ OUT ,", "-"),
+        (b",1 <- ,2", "-"),
         (b"GIVE", "-"),
         (b"", "-"),
     ];
@@ -307,11 +328,11 @@ fn bodies_are_read(rt: HostRuntime) -> Result<(), Fail> {
 
 #[test]
 fn each_gerund_is_read(rt: HostRuntime) -> Result<(), Fail> {
-    let text =
-        b"ABSTAIN FROM CALCULATING+NEXTING+FORGETTING+RESUMING+STASHING+RETRIEVING+IGNORING+REMEMBERING+ABSTAINING+REINSTATING+WRITING IN+READING\n\tOUT";
+    let text = b"ABSTAIN FROM CALCULATING+NEXTING+FORGETTING+RESUMING+STASHING+RETRIEVING+IGNORING+\
+          REMEMBERING+ABSTAINING+REINSTATING+WRITING IN+READING\n\tOUT";
     let shown = shown_at(rt.alloc(), text)?;
-    let wanted =
-        "ABSTAIN Calculating Nexting Forgetting Resuming Stashing Retrieving Ignoring Remembering Abstaining Reinstating WritingIn ReadingOut 140";
+    let wanted = "ABSTAIN Calculating Nexting Forgetting Resuming Stashing Retrieving \
+          Ignoring Remembering Abstaining Reinstating WritingIn ReadingOut 140";
     assert_eq!(rt; shown.as_str(), wanted);
     Ok(())
 }
@@ -324,7 +345,8 @@ fn white_bytes_may_stand_between_all_tokens(rt: HostRuntime) -> Result<(), Fail>
             "CALCULATE [,1 #2] ($ (& #77) [,3 .4 (V (~ :5 #6))]) 31",
         ),
         (
-            b"\t,\n1\x0bSUB\x0c#\r2 <- \t\n#\x0b\x0c&\r 77 $\t'\n,\x0b3\x0cSUB\r. 4\t\"\nV\x0b:\x0c5\r~ #\t6\n\"\x0b'\x0c",
+            b"\t,\n1\x0bSUB\x0c#\r2 <- \t\n#\x0b\x0c&\r 77 $\t'\n\
+              ,\x0b3\x0cSUB\r. 4\t\"\nV\x0b:\x0c5\r~ #\t6\n\"\x0b'\x0c",
             "CALCULATE [,1 #2] ($ (& #77) [,3 .4 (V (~ :5 #6))]) 60",
         ),
     ];

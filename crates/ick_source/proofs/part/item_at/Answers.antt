@@ -1,6 +1,6 @@
 use Rattle.std.proofs.Common.{refl, sym, ◌∙◌}
 use Rattle.ick_source.specs.BodyTree.{item_tree}
-use Rattle.ick_source.proofs.PartReadings.{items_by_numbers, items_by_targets, answers_as, found_as}
+use Rattle.ick_source.proofs.PartReadings.{items_by_numbers, items_by_places, answers_as, found_as}
 use Rattle.ick_source.proofs.part.item_at.Goals as goal
 
 pub returns-in-Hash : goal.returns-in-Hash
@@ -10,4 +10,4 @@ returns-in-Hash c =
 pub returns : goal.returns
 returns c =
     let found = rw c.in-Some.is at c.in_ok-found.ensures in
-    rw c.printed.ensures (found_as (items_by_targets _ (λ e. c.in_default.not-Hash (c.lead_at-next.ensures.lead ∙ e))) found)
+    rw c.printed.ensures (found_as (items_by_places _ (λ e. c.in_default.not-Hash (c.lead_at-next.ensures.lead ∙ e))) found)

@@ -1,6 +1,6 @@
 use Rattle.std.proofs.Common.{◌≡◌, ◌+◌, ◌-◌, ◌*◌, ◌≤◌, min, true, false, sym, ap, ◌∙◌, arith}
 use Rattle.ick_source.specs.Position.{left_at}
-use Rattle.ick_source.specs.Token.{is_digit, begins_number}
+use Rattle.ick_source.specs.Token.{cap, is_digit, begins_number}
 use Rattle.ick_source.proofs.NumberLemmas.{digits_of, number-begins}
 use Rattle.ick_source.proofs.PositionLemmas.{past_digits-step, past_digits-stop, past_digits-end, value-step, value-stop, value-end, value-capped, capped_number}
 use Rattle.ick_source.proofs.token.number_at.Goals as goal
@@ -10,11 +10,11 @@ loop-next-preserved c =
     let v = c.loop-next.value in
     let b = c.in-Some-character_at.next.value in
     let digit : is_digit b ≡ true = cc in
-    let low : c.with_digit-value.result ≤ 65536 = omega arith in
-    let same : min c.with_digit-value.result 65536 ≡ min (v * 10 + (b - 48)) 65536 = omega arith in (
+    let low : c.with_digit-value.result ≤ cap = omega arith in
+    let same : min c.with_digit-value.result cap ≡ min (v * 10 + (b - 48)) cap = omega arith in (
       low,
       sym (past_digits-step c.in-Some-character_at.ensures digit) ∙ c.loop-next.invariant.1,
-      value-capped (digits_of (left_at c.args.text.now c.in-Some-character_at.next.to)) _ _ same ∙ ap (λ n. min n 65536) (sym (value-step v c.in-Some-character_at.ensures digit)) ∙ c.loop-next.invariant.2,
+      value-capped (digits_of (left_at c.args.text.now c.in-Some-character_at.next.to)) _ _ same ∙ ap (λ n. min n cap) (sym (value-step v c.in-Some-character_at.ensures digit)) ∙ c.loop-next.invariant.2,
     )
 
 pub returns-then-not-is_digit_byte-2 : goal.returns-then-not-is_digit_byte-2

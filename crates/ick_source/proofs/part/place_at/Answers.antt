@@ -1,0 +1,10 @@
+use Rattle.ick_source.proofs.PartReadings.{places_by_tails, places_by_targets, found_as}
+use Rattle.ick_source.proofs.part.place_at.Goals as goal
+
+pub returns-in-Some : goal.returns-in-Some
+returns-in-Some c = found_as (places_by_tails c.in-Some.ensures.stands) c.in-Some.ensures
+
+pub returns : goal.returns
+returns c =
+    let found = rw c.in-Some-2.is at c.in_ok-found.ensures in
+    rw c.stored.ensures (found_as (places_by_targets c.in_default.ensures) found)
