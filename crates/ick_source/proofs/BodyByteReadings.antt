@@ -28,7 +28,7 @@ item_clamped : (x : ItemTree) → faults_of_item x ≡ no_faults → clamped_ite
 item_clamped (single t) f = ap single (tree_clamped t f)
 item_clamped (whole x) f = ap whole (name_clamped x f)
 
--- a body with no number out of range is kept as it is
+-- a body with no number out of range stays as it is
 pub body_clamped : (b : BodyTree) → faults_of_body b ≡ no_faults → clamped_body b ≡ b
 body_clamped (calculate t e) f =
     let a = tree_clamped t (left_fine (faults_of t) (faults_of e) f) in

@@ -1,41 +1,14 @@
--- What is kept of a tree.
-use Rattle.std.proofs.Common.{◌≡◌, ℕ, min, nat_lt, nat_eq, List, [], ◌∷◌, ◌++◌, Option, Some, None, refl, sym, ap, ◌∙◌, arith}
+-- Trees, clamped.
+use Rattle.std.proofs.Common.{◌≡◌, ℕ, min, nat_lt, nat_eq, List, Option, Some, None, refl, sym, ap, ◌∙◌, arith}
 use Rattle.std.proofs.Math.Bool.{or-false, or_assoc}
 use Rattle.std.proofs.lemmas.Bool.Decides.{nat_tests}
 use Rattle.ick_source.specs.declared.tree.NameKind.{NameKind}
 use Rattle.ick_source.specs.declared.tree.UnaryOp.{UnaryOp}
 use Rattle.ick_source.specs.declared.faults.Faults.{Faults}
-use Rattle.ick_source.specs.declared.tree.Expr.{Expr, Element', Row_of-Expr, end_of-Expr, more_of-Expr, items-the_row-Expr, items_hidden-the_row-Expr-0}
-use Rattle.ick_source.specs.declared.tree.Expr.{Element as Element_of}
-use Rattle.ick_source.specs.declared.tree.Element.{Element}
 use Rattle.ick_source.specs.Token.{cap, CappedNumber, unary_at, past_unary}
-use Rattle.ick_source.specs.Tree.{Tree, mesh, scalar, element, Trees, none, more, under, join, tree_of, trees_of, trees_in}
+use Rattle.ick_source.specs.Tree.{Tree, mesh, scalar, Trees, none, more, under, join}
 use Rattle.ick_source.specs.Clamped.{greatest, clamped, clamped_tree, clamped_trees, both_faults, mesh_faults, name_faults, no_faults, faults_of, faults_in}
 use Rattle.ick_source.specs.ExpressionAnswers.{Stands, IsNumbered}
-
-pub join_assoc : (a b c : Trees) → join (join a b) c ≡ join a (join b c)
-join_assoc none b c = refl
-join_assoc (more t a) b c = ap (more t) (join_assoc a b c)
-
-pub join-none : (a : Trees) → join a none ≡ a
-join-none none = refl
-join-none (more t a) = ap (more t) (join-none a)
-
-pub trees_in-append : (a b : List Expr) → trees_in (a ++ b) ≡ join (trees_in a) (trees_in b)
-trees_in-append [] b = refl
-trees_in-append (e ∷ a) b = ap (more (tree_of e)) (trees_in-append a b)
-
-pub trees_of-row : {n : _} (row : Row_of-Expr n) → trees_of row ≡ trees_in (items-the_row-Expr n row)
-trees_of-row end_of-Expr = refl
-trees_of-row (more_of-Expr e row) = ap (more (tree_of e)) (trees_of-row row)
-
--- the subscripts of an element
-abbrev row_of : Expr → (n : _) × Row_of-Expr n
-row_of (Element' x shape row) = (_, row)
-row_of _ = (_, end_of-Expr)
-
-pub tree_of-element : (x : Element) → tree_of (Element_of x) ≡ element x.array (trees_in x.subs.items)
-tree_of-element x = let row = row_of (Element_of x) in ap (element x.array) (trees_of-row row.1 ∙ ap trees_in (items_hidden-the_row-Expr-0 x.subs))
 
 pub clamped_tree-under : (o : Option UnaryOp) (t : Tree) → clamped_tree (under o t) ≡ under o (clamped_tree t)
 unfolding clamped_tree

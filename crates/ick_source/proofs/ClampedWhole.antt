@@ -1,4 +1,4 @@
--- A tree with no number out of range is kept as it is.
+-- A tree with no number out of range stays as it is.
 use Rattle.std.proofs.Common.{◌≡◌, ℕ, false, nat_lt, nat_eq, refl, ap, arith}
 use Rattle.std.proofs.lemmas.Bool.{or_parts}
 use Rattle.std.proofs.lemmas.Bool.Decides.{nat_tests}

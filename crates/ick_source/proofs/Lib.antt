@@ -27,4 +27,5 @@ pub mod SourceLemmas
 pub mod StatementLemmas
 pub mod SubscriptReadings
 pub mod TokenDecided
+pub mod TreeLemmas
 pub mod WordUnique

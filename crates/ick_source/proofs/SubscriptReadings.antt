@@ -15,7 +15,8 @@ use Rattle.ick_source.specs.Tree.{Tree, element, Trees, none, more, join, trees_
 use Rattle.ick_source.specs.Clamped.{clamped, clamped_tree, clamped_trees, faults_of, faults_in, both_faults, name_faults}
 use Rattle.ick_source.specs.Expression.{begins_sub, IsSimple, IsElement, indexed, IsSubs, nested, simple_first, IsRest, nothing, last, further}
 use Rattle.ick_source.specs.ExpressionAnswers.{Readings, AnswersTrees, AnswersFrom, AllStand, HasNoTrees, Stands, HasNoTree, GoesAfter, after}
-use Rattle.ick_source.proofs.ClampedLemmas.{join_assoc, join-none, both_assoc, both-no, clamped_trees-join, faults_in-join, name_faults-capped, clamped-capped}
+use Rattle.ick_source.proofs.ClampedLemmas.{both_assoc, both-no, clamped_trees-join, faults_in-join, name_faults-capped, clamped-capped}
+use Rattle.ick_source.proofs.TreeLemmas.{join_assoc, join-none}
 use Rattle.ick_source.proofs.WordUnique.{word_unique}
 use Rattle.ick_source.proofs.ExpressionUnique.{number_unique, simple_unique}
 use Rattle.ick_source.proofs.ExpressionReadings.{simple_is_no_array, element_is_array}

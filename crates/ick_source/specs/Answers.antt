@@ -6,7 +6,7 @@ use Rattle.ick_source.specs.declared.position.Position.{Position}
 use Rattle.ick_source.specs.Position.{left_at}
 use Rattle.ick_source.specs.Nonterminal.{Nonterminal}
 
--- a value stands there: what is kept of it, and its numbers out of range
+-- a value stands there: clamped, with its numbers out of range
 pub record IsParsed (N : Nonterminal) (from to : List ℕ) (seen : N.Clamped) (faults : Faults) : Type 0 where
   pub value : N.Value
   pub stands : N.stands from to value

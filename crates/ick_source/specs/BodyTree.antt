@@ -84,7 +84,7 @@ abbrev pub clamped_item : ItemTree → ItemTree
 clamped_item (single t) = single (clamped_tree t)
 clamped_item (whole x) = whole (clamped_name x)
 
--- the body with 65535 for each number above it
+-- the body, clamped
 abbrev pub clamped_body : BodyTree → BodyTree
 clamped_body (calculate t e) = calculate (clamped_tree t) (clamped_tree e)
 clamped_body (dimension x es) = dimension (clamped_name x) (map clamped_tree es)

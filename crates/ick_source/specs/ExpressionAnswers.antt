@@ -16,7 +16,7 @@ use Rattle.ick_source.specs.Expression.{IsExpr}
 abbrev pub Reading : Type 1
 Reading = List ℕ → Tree → ℕ → Type 0
 
--- a tree stands there, no higher than the limit: what is kept of it, its height and its numbers out of range
+-- a tree stands there, no higher than the limit: clamped, with its height and its numbers out of range
 pub record Stands (R : Reading) (limit : ℕ) (to : List ℕ) (seen : Tree) (height : ℕ) (faults : Faults) : Type 0 where
   pub tree : Tree
   pub stands : R to tree height

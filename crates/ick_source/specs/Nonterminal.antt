@@ -107,7 +107,7 @@ items = record {
   faults = faults_of_item;
 }
 
--- the number of a mesh among items, after its mark
+-- the number of a mesh among items, after its sigil
 abbrev pub numbers : Nonterminal
 numbers = record {
   Value = ℕ;

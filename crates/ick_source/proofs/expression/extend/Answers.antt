@@ -1,6 +1,6 @@
 use Rattle.std.proofs.Common.{ap, ◌∙◌}
 use Rattle.ick_source.specs.Tree.{trees_in}
-use Rattle.ick_source.proofs.ClampedLemmas.{trees_in-append}
+use Rattle.ick_source.proofs.TreeLemmas.{trees_in-append}
 use Rattle.ick_source.proofs.expression.extend.Goals as goal
 
 pub returns-clause-subs : goal.returns-clause-subs

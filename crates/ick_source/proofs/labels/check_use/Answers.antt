@@ -18,11 +18,11 @@ returns-then-not-contains-clause-err c =
     let statements = c.args.statements.now in
     let index = c.loop-statement.statement-index in
     let statement = c.statement-item.result in
-    let place = slice_get_read statements _ index statement refl c.loop-statement-test.true c.statement-item.is in
+    let read = slice_get_read statements _ index statement refl c.loop-statement-test.true c.statement-item.is in
     let stands = tree_read statements index statement c.loop-statement-test.true c.statement-item.is in
     let end = length-map statements statement_tree_of in
     subst (λ kind. IsFirstFault (map statement_tree_of statements) kind statement.number) (sym c.fault.ensures)
-    (lost_first index c.args.how stands c.requires.labels (omega (arith, end)) c.in-Some.label statement.number c.in-Some.ensures (sym c.contains.ensures ∙ c.if-not-contains.true) (c.requires.numbered index statement place) c.requires.earlier c.loop-statement.invariant)
+    (lost_first index c.args.how stands c.requires.labels (omega (arith, end)) c.in-Some.label statement.number c.in-Some.ensures (sym c.contains.ensures ∙ c.if-not-contains.true) (c.requires.numbered index statement read) c.requires.earlier c.loop-statement.invariant)
 
 pub loop-statement-preserved : goal.loop-statement-preserved
 loop-statement-preserved c =

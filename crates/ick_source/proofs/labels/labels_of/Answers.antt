@@ -19,9 +19,9 @@ pub returns-then-not-branch-clause-err : goal.returns-then-not-branch-clause-err
 returns-then-not-branch-clause-err c =
     let index = c.loop-statement.statement-index in
     let statement = c.statement-item.result in
-    let place = slice_get_read c.args.statements.now _ index statement refl c.loop-statement-test.true c.statement-item.is in
+    let read = slice_get_read c.args.statements.now _ index statement refl c.loop-statement-test.true c.statement-item.is in
     let stands = tree_read c.args.statements.now index statement c.loop-statement-test.true c.statement-item.is in
-    same_label_first c.loop-statement.invariant.labels stands c.in-Some.label statement.number c.in-Some.is (was_there c.in_ok-insert.ensures.added c.if-not-branch.true) (c.requires.numbered index statement place) c.requires.earlier c.loop-statement.invariant.apart
+    same_label_first c.loop-statement.invariant.labels stands c.in-Some.label statement.number c.in-Some.is (was_there c.in_ok-insert.ensures.added c.if-not-branch.true) (c.requires.numbered index statement read) c.requires.earlier c.loop-statement.invariant.apart
 
 pub loop-statement-preserved : goal.loop-statement-preserved
 loop-statement-preserved c =

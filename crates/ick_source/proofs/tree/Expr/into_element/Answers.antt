@@ -1,4 +1,4 @@
-use Rattle.ick_source.proofs.ClampedLemmas.{tree_of-element}
+use Rattle.ick_source.proofs.TreeLemmas.{tree_of-element}
 use Rattle.ick_source.proofs.tree.Expr.into_element.Goals as goal
 
 pub returns-in-Element : goal.returns-in-Element
