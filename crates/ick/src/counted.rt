@@ -16,7 +16,8 @@ pub fn read_from<R: Read>(
     requires { failures.old + 1 < 2 ^ 64 }
     ensures count { failures.new ≡ failures.old + (if is_ok result then 0 else 1) }
     ensures fits { IfOk result (λ n. n ≤ length target.old) }
-    ensures bytes { ReadConsumes (R.remaining stream.old) (R.remaining stream.new) result target.new }
+    ensures bytes { ReadConsumes (R.remaining stream.old) (R.remaining stream.new)
+        result target.new }
 {
     match stream.read(target) {
         Ok(count) => Ok(count),

@@ -4,7 +4,7 @@ use Rattle.ick_source.specs.declared.tree.Element.{Element as ElementRecord}
 use Rattle.ick_source.specs.declared.tree.Expr.{Expr}
 use Rattle.ick_source.specs.declared.tree.Expr.TheVariants.{Element}
 use Rattle.ick_source.specs.Tree.{Tree, mesh, scalar, element, unary, binary, Trees, none, more, tree_of, trees_in}
-use Rattle.ick_code.proofs.Trees.{tree_of-element}
+use Rattle.ick_source.proofs.TreeLemmas.{tree_of-element}
 
 abbrev mutual
   pub size_of : Tree → ℕ

@@ -1,11 +1,10 @@
--- An element's tree, by the list of its subscripts.
+-- Trees of the members of lists: their kinds, their names and their number.
 use Rattle.std.proofs.Common.{◌≡◌, ℕ, zero, suc, ◌<◌, true, ◌&&◌, nat_lt, List, [], ◌∷◌, ◌++◌, length, map, get_or, Vec}
 use Rattle.std.proofs.Common.{Global, refl, sym, ap, ◌∙◌, arith, ltb-true}
 use Rattle.std.specs.List.{flat_map, list_all}
 use Rattle.ick_source.specs.declared.tree.Element.{Element as ElementRecord}
-use Rattle.ick_source.specs.declared.tree.Expr.{Expr, Row_of-Expr, end_of-Expr, more_of-Expr, items-the_row-Expr}
-use Rattle.ick_source.specs.declared.tree.Expr.{items_hidden-the_row-Expr-0}
-use Rattle.ick_source.specs.declared.tree.Expr.TheVariants.{Element, Element'}
+use Rattle.ick_source.specs.declared.tree.Expr.{Expr}
+use Rattle.ick_source.specs.declared.tree.Expr.TheVariants.{Element}
 use Rattle.std.proofs.lemmas.List.{length-map}
 use Rattle.std.proofs.lemmas.List.Folds.{list_all-map}
 use Rattle.ick_source.specs.declared.tree.Name.{Name}
@@ -21,20 +20,8 @@ use Rattle.ick_source.specs.NameKinds.{is_body_kinded, is_statement_kinded}
 use Rattle.ick_code.specs.meaning.Do.{trees_from}
 use Rattle.ick_code.specs.Names.{names_of_tree, names_of_trees}
 use Rattle.ick_code.proofs.Bools.{both_left, both_right, second_of, third_of}
-use Rattle.ick_source.specs.Tree.{element, more, tree_of, trees_of, trees_in}
-
-trees_of-row : {n : _} (row : Row_of-Expr n) → trees_of row ≡ trees_in (items-the_row-Expr n row)
-trees_of-row end_of-Expr = refl
-trees_of-row (more_of-Expr e row) = ap (more (tree_of e)) (trees_of-row row)
-
-abbrev row_of : Expr → (n : _) × Row_of-Expr n
-row_of (Element' array shape row) = (_, row)
-row_of _ = (_, end_of-Expr)
-
-pub tree_of-element : (x : ElementRecord) → tree_of (Element x) ≡ element x.array (trees_in x.subs.items)
-tree_of-element x =
-    let row = row_of (Element x) in
-    ap (element x.array) (trees_of-row row.1 ∙ ap trees_in (items_hidden-the_row-Expr-0 x.subs))
+use Rattle.ick_source.specs.Tree.{more, tree_of, trees_in}
+use Rattle.ick_source.proofs.TreeLemmas.{tree_of-element}
 
 -- the trees of a list of expressions
 pub trees-listed : (es : List Expr) → trees_from (map tree_of es) ≡ trees_in es
