@@ -4,7 +4,8 @@ ghost use Rattle.std.specs.Prelude.{◌≡◌, ◌≤◌, ◌<◌, length};
 ghost use Rattle.std.proofs.Props.{props};
 ghost use Rattle.ick_source.specs.Programs.{trees_of};
 ghost use Rattle.ick_code.specs.Names.{most_names};
-ghost use Rattle.ick_code.specs.Code.{most_statements, IsCode};
+ghost use Rattle.ick_source.specs.Refusals.{most_statements};
+ghost use Rattle.ick_code.specs.Code.{IsCode};
 
 use crate::op::Op;
 use crate::table::Table;
