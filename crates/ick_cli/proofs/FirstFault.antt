@@ -6,10 +6,10 @@ use Rattle.ick_bits.specs.declared.faults.FaultKind.{FaultKind}
 use Rattle.ick_bits.specs.declared.faults.FaultKind.TheVariants.{MeshTooLarge, NameRange, LabelRange, SameLabel, NoNextLabel, NoAbstainLabel, Impolite, Fawning}
 use Rattle.ick_source.specs.declared.labels.LabelUse.{LabelUse}
 use Rattle.ick_source.specs.declared.labels.LabelUse.TheVariants.{Next, Abstain}
-use Rattle.ick_source.specs.Refusals.{At, FaultAt, FawningAt, HasLabel, ImpoliteAt, IsFirstFault, IsSound, IsSoundBelow, LostAt, SameLabelAt, rank, used_label}
+use Rattle.ick_source.specs.Refusals.{HoldsAt, IsFaultAt, IsFawningAt, HasLabel, IsImpoliteAt, IsFirstFault, IsSound, IsSoundBelow, IsLostAt, IsSameLabelAt, rank, used_label}
 use Rattle.ick_source.specs.StatementFaults.{faults_of_statement}
 use Rattle.ick_source.specs.StatementTree.{StatementTree, polite_in}
-use Rattle.ick_source.proofs.RefusalLemmas.{At-inside, sound_all, sound_below_none, sound_more}
+use Rattle.ick_source.proofs.RefusalLemmas.{HoldsAt-inside, sound_all, sound_below_none, sound_more}
 
 -- it is so, or it isn't
 abbrev Decided : Type 0 → Type 0
@@ -39,7 +39,7 @@ first_below P each (suc k) = elim (first_below P each k) [
 ]
 
 -- whether the statement with a number is such
-at_decided : (P : StatementTree → Type 0) → ((t : StatementTree) → Decided (P t)) → (trees : List StatementTree) (n : ℕ) → Decided (At P trees n)
+at_decided : (P : StatementTree → Type 0) → ((t : StatementTree) → Decided (P t)) → (trees : List StatementTree) (n : ℕ) → Decided (HoldsAt P trees n)
 at_decided P each trees zero = inr (λ h. h)
 at_decided P each [] (suc k) = inr (λ h. h)
 at_decided P each (x ∷ xs) (suc zero) = each x
@@ -51,47 +51,47 @@ value_here None = inr (λ v e. cc)
 value_here (Some v) = inl (v, refl)
 
 value_at : (f : StatementTree → Option ℕ) (trees : List StatementTree) (n : ℕ)
-    → ((v : ℕ) × At (λ t. f t ≡ Some v) trees n) ⊎ ((v : ℕ) → At (λ t. f t ≡ Some v) trees n → ⊥)
+    → ((v : ℕ) × HoldsAt (λ t. f t ≡ Some v) trees n) ⊎ ((v : ℕ) → HoldsAt (λ t. f t ≡ Some v) trees n → ⊥)
 value_at f trees zero = inr (λ v h. h)
 value_at f [] (suc k) = inr (λ v h. h)
 value_at f (x ∷ xs) (suc zero) = value_here (f x)
 value_at f (x ∷ xs) (suc (suc k)) = value_at f xs (suc k)
 
 value_one : (f : StatementTree → Option ℕ) (trees : List StatementTree) (n v w : ℕ)
-    → At (λ t. f t ≡ Some v) trees n → At (λ t. f t ≡ Some w) trees n → v ≡ w
+    → HoldsAt (λ t. f t ≡ Some v) trees n → HoldsAt (λ t. f t ≡ Some w) trees n → v ≡ w
 value_one f trees zero v w g h = absurd g
 value_one f [] (suc k) v w g h = absurd g
 value_one f (x ∷ xs) (suc zero) v w g h = cc
 value_one f (x ∷ xs) (suc (suc k)) v w g h = value_one f xs (suc k) v w g h
 
-labelled_decided : (trees : List StatementTree) (label n : ℕ) → Decided (At (HasLabel label) trees n)
+labelled_decided : (trees : List StatementTree) (label n : ℕ) → Decided (HoldsAt (HasLabel label) trees n)
 labelled_decided trees label n = at_decided (HasLabel label) (λ t. some_decided t.label label) trees n
 
-same_decided : (trees : List StatementTree) (n : ℕ) → Decided (SameLabelAt trees n)
+same_decided : (trees : List StatementTree) (n : ℕ) → Decided (IsSameLabelAt trees n)
 same_decided trees n = elim (value_at (λ t. t.label) trees n) [
   | inr none ↦ inr (λ s. none s.label s.again)
-  | inl own ↦ elim (first_below (At (HasLabel own.0) trees) (labelled_decided trees own.0) n) [
+  | inl own ↦ elim (first_below (HoldsAt (HasLabel own.0) trees) (labelled_decided trees own.0) n) [
     | inl found ↦ inl (record { label = own.0; earlier = found.0; before = found.1; first = found.2; again = own.1 })
     | inr none ↦ inr (λ s. none s.earlier s.before
-        (subst (λ l. At (HasLabel l) trees s.earlier) (value_one (λ t. t.label) trees n s.label own.0 s.again own.1) s.first))
+        (subst (λ l. HoldsAt (HasLabel l) trees s.earlier) (value_one (λ t. t.label) trees n s.label own.0 s.again own.1) s.first))
   ]
 ]
 
-lost_decided : (how : LabelUse) (trees : List StatementTree) (n : ℕ) → Decided (LostAt how trees n)
+lost_decided : (how : LabelUse) (trees : List StatementTree) (n : ℕ) → Decided (IsLostAt how trees n)
 lost_decided how trees n = elim (value_at (λ t. option_and_then (used_label how) t.body) trees n) [
   | inr none ↦ inr (λ s. none s.label s.uses)
-  | inl used ↦ elim (first_below (At (HasLabel used.0) trees) (labelled_decided trees used.0) (length trees + 1)) [
-    | inl found ↦ inr (λ s. s.nowhere found.0 (subst (λ l. At (HasLabel l) trees found.0)
+  | inl used ↦ elim (first_below (HoldsAt (HasLabel used.0) trees) (labelled_decided trees used.0) (length trees + 1)) [
+    | inl found ↦ inr (λ s. s.nowhere found.0 (subst (λ l. HoldsAt (HasLabel l) trees found.0)
         (value_one (λ t. option_and_then (used_label how) t.body) trees n used.0 s.label used.1 s.uses) found.2))
     | inr none ↦ inl (record {
       label = used.0;
       uses = used.1;
-      nowhere = λ m h. none m (let inside = At-inside (HasLabel used.0) trees m h in omega arith) h;
+      nowhere = λ m h. none m (let inside = HoldsAt-inside (HasLabel used.0) trees m h in omega arith) h;
     })
   ]
 ]
 
-impolite_decided : (trees : List StatementTree) (n : ℕ) → Decided (ImpoliteAt trees n)
+impolite_decided : (trees : List StatementTree) (n : ℕ) → Decided (IsImpoliteAt trees n)
 impolite_decided trees n = elim (cases_eq n (length trees)) [
   | inr other ↦ inr (λ h. other h.last)
   | inl last ↦ elim (cases_lt n 3) [
@@ -103,7 +103,7 @@ impolite_decided trees n = elim (cases_eq n (length trees)) [
   ]
 ]
 
-fawning_decided : (trees : List StatementTree) (n : ℕ) → Decided (FawningAt trees n)
+fawning_decided : (trees : List StatementTree) (n : ℕ) → Decided (IsFawningAt trees n)
 fawning_decided trees n = elim (cases_eq n (length trees)) [
   | inr other ↦ inr (λ h. other h.last)
   | inl last ↦ elim (cases_lt n 3) [
@@ -115,7 +115,7 @@ fawning_decided trees n = elim (cases_eq n (length trees)) [
   ]
 ]
 
-fault_decided : (kind : FaultKind) (trees : List StatementTree) (n : ℕ) → Decided (FaultAt kind trees n)
+fault_decided : (kind : FaultKind) (trees : List StatementTree) (n : ℕ) → Decided (IsFaultAt kind trees n)
 fault_decided MeshTooLarge trees n = at_decided _ (λ t. true_decided (faults_of_statement t).mesh) trees n
 fault_decided NameRange trees n = at_decided _ (λ t. true_decided (faults_of_statement t).name) trees n
 fault_decided LabelRange trees n = at_decided _ (λ t. true_decided (faults_of_statement t).label) trees n
@@ -126,13 +126,13 @@ fault_decided Impolite trees n = impolite_decided trees n
 fault_decided Fawning trees n = fawning_decided trees n
 fault_decided _ trees n = inr (λ h. h)
 
-fault_inside : (kind : FaultKind) (trees : List StatementTree) (n : ℕ) → FaultAt kind trees n → n ≤ length trees
-fault_inside MeshTooLarge trees n h = At-inside _ trees n h
-fault_inside NameRange trees n h = At-inside _ trees n h
-fault_inside LabelRange trees n h = At-inside _ trees n h
-fault_inside SameLabel trees n h = At-inside _ trees n h.again
-fault_inside NoNextLabel trees n h = At-inside _ trees n h.uses
-fault_inside NoAbstainLabel trees n h = At-inside _ trees n h.uses
+fault_inside : (kind : FaultKind) (trees : List StatementTree) (n : ℕ) → IsFaultAt kind trees n → n ≤ length trees
+fault_inside MeshTooLarge trees n h = HoldsAt-inside _ trees n h
+fault_inside NameRange trees n h = HoldsAt-inside _ trees n h
+fault_inside LabelRange trees n h = HoldsAt-inside _ trees n h
+fault_inside SameLabel trees n h = HoldsAt-inside _ trees n h.again
+fault_inside NoNextLabel trees n h = HoldsAt-inside _ trees n h.uses
+fault_inside NoAbstainLabel trees n h = HoldsAt-inside _ trees n h.uses
 fault_inside Impolite trees n h = let last = h.last in omega arith
 fault_inside Fawning trees n h = let last = h.last in omega arith
 fault_inside _ trees n h = absurd h
@@ -144,7 +144,7 @@ FirstFault trees = ((kind : FaultKind) × (n : ℕ) × IsFirstFault trees kind n
 -- one more kind is looked for
 then : (kind : FaultKind) (trees : List StatementTree) → rank kind < 8 → IsSoundBelow (rank kind) trees
     → (IsSoundBelow (rank kind + 1) trees → FirstFault trees) → FirstFault trees
-then kind trees known below next = elim (first_below (FaultAt kind trees) (fault_decided kind trees) (length trees + 1)) [
+then kind trees known below next = elim (first_below (IsFaultAt kind trees) (fault_decided kind trees) (length trees + 1)) [
   | inl found ↦ inl (kind, found.0, record { fault = found.2; first = found.3; least = below })
   | inr none ↦ next (sound_more kind refl known below (λ n f. none n (let inside = fault_inside kind trees n f in omega arith) f))
 ]

@@ -3,8 +3,8 @@ use Rattle.std.proofs.Common.{◌≡◌, inl, inr, ℕ, List, [], Option, Some, 
 use Rattle.std.proofs.lemmas.Bool.{cases_lt}
 use Rattle.ick_bits.specs.Faults.{message_of}
 use Rattle.ick_source.specs.Refusals.{longest}
-use Rattle.ick_source.proofs.CutLemmas.{cut_is}
-use Rattle.ick_source.proofs.RefusalLemmas.{compiles_one, refused_not, refused_one}
+use Rattle.ick_source.proofs.CutLemmas.{cut_exists}
+use Rattle.ick_source.proofs.RefusalLemmas.{compiles_unique, refused_not, refused_unique}
 use Rattle.ick_cli.specs.Notice.{notice_text}
 use Rattle.ick_cli.specs.Tool.{Answer, IsSourceAnswer, IsToolAnswer, compiled, not_read, program_answer, read, refusal, refused, too_long}
 use Rattle.ick_cli.specs.declared.notice.Notice.TheVariants as notice
@@ -15,7 +15,7 @@ source_answer : (subcommand : Subcommand) (source : List ℕ) → (answer : Answ
 source_answer subcommand source = elim (cases_lt longest (length source)) [
   | inl long ↦ (refusal 2 (notice_text notice.SourceTooLong), too_long long)
   | inr fits ↦
-      let cut = cut_is source in
+      let cut = cut_exists source in
       elim (first_fault cut.0) [
         | inl found ↦ (
           refusal 2 (message_of found.0 found.1 []),
@@ -35,11 +35,11 @@ same_source subcommand source a b (too_long g) (refused kind n h) = let fits = h
 same_source subcommand source a b (too_long g) (compiled trees h) = let fits = h.fits in absurd (omega arith)
 same_source subcommand source a b (refused kind n g) (too_long h) = let fits = g.fits in absurd (omega arith)
 same_source subcommand source a b (refused kind n g) (refused other m h) =
-    let same = refused_one g h in ap₂ (λ k i. refusal 2 (message_of k i [])) same.0 same.1
+    let same = refused_unique g h in ap₂ (λ k i. refusal 2 (message_of k i [])) same.0 same.1
 same_source subcommand source a b (refused kind n g) (compiled trees h) = absurd (refused_not g trees h)
 same_source subcommand source a b (compiled trees g) (too_long h) = let fits = g.fits in absurd (omega arith)
 same_source subcommand source a b (compiled trees g) (refused kind n h) = absurd (refused_not h trees g)
-same_source subcommand source a b (compiled trees g) (compiled others h) = ap (program_answer subcommand) (compiles_one h g)
+same_source subcommand source a b (compiled trees g) (compiled others h) = ap (program_answer subcommand) (compiles_unique h g)
 
 pub same_answer : (subcommand : Subcommand) (source : Option (List ℕ)) (a b : Answer) → IsToolAnswer subcommand source a → IsToolAnswer subcommand source b → b ≡ a
 same_answer subcommand None a b not_read not_read = refl

@@ -5,8 +5,8 @@ use Rattle.std.specs.List.{flat_map, list_all}
 use Rattle.ick_bits.specs.Numeral.{numeral_of, printed}
 use Rattle.ick_bits.specs.declared.faults.FaultKind.{FaultKind}
 use Rattle.ick_bits.specs.declared.faults.FaultKind.TheVariants as kind
-use Rattle.ick_source.specs.BodyTree.{BodyTree, give_up, read_out}
-use Rattle.ick_source.specs.Tree.{Tree, mesh}
+use Rattle.ick_source.specs.BodyTree.{BodyTree, give_up, read_out, ItemTree, single}
+use Rattle.ick_source.specs.Tree.{mesh}
 use Rattle.ick_source.specs.StatementTree.{StatementTree}
 
 -- the end that a run comes to: it gave up, or a fault of this kind, statement and subject
@@ -25,12 +25,12 @@ abbrev pub standing : ℕ → List ℕ → State
 standing place output = record { place = place; output = output; end = None }
 
 -- an item of READ OUT that is done so far, and what it appends
-abbrev pub is_mesh : Tree → Bool
-is_mesh (mesh v) = true
+abbrev pub is_mesh : ItemTree → Bool
+is_mesh (single (mesh v)) = true
 is_mesh _ = false
 
-abbrev pub item_output : Tree → List ℕ
-item_output (mesh v) = printed (numeral_of v)
+abbrev pub item_output : ItemTree → List ℕ
+item_output (single (mesh v)) = printed (numeral_of v)
 item_output _ = []
 
 -- What a body appends, and the end that it brings to a run at this place. One that is not done so
