@@ -1,0 +1,10 @@
+pub mod ListLemmas
+pub mod UndoLemmas
+pub mod MarkLemmas
+pub mod MapLemmas
+pub mod FreshLemmas
+pub mod StatusLemmas
+pub mod ShapeLemmas
+pub mod HistoryLemmas
+pub mod MetLemmas
+pub mod TapeLemmas

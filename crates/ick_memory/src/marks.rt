@@ -1,0 +1,69 @@
+//! States to go back to. A mark is the number of changes that the trail had when it was made.
+
+ghost use Rattle.std.specs.Prelude.{◌≡◌, ◌<◌, [], ◌∷◌, ◌++◌, length, OnOk, OnErr, true};
+ghost use Rattle.ick_memory.specs.View.{view_of, shape_of};
+ghost use Rattle.ick_memory.specs.Undo.{all_but_last};
+ghost use Rattle.ick_memory.specs.Marks.{marked_views, are_marks};
+
+use crate::memory::Memory;
+use crate::trail::Trail;
+use crate::undo::rewind;
+use ick_bits::NoMemory;
+
+/// Where nothing is marked, the changes are forgotten, since nobody goes back over them. Else they
+/// stay. The marks stay.
+pub fn settle(memory: &Memory, trail: &mut Trail, marks: &Vec<usize>)
+    requires marks { are_marks trail.old memory.now marks.now ≡ true }
+    ensures same { marked_views trail.new memory.now marks.now ≡
+        marked_views trail.old memory.now marks.now }
+    ensures marks { are_marks trail.new memory.now marks.now ≡ true }
+{
+    let _ = memory;
+    if marks.is_empty() {
+        trail.clear();
+    }
+}
+
+/// The present state is marked. After `NoMemory` the marks are as before.
+pub fn mark(memory: &Memory, trail: &Trail, marks: &mut Vec<usize>) -> Result<(), NoMemory>
+    requires marks { are_marks trail.now memory.now marks.old ≡ true }
+    ensures ok { OnOk result (marked_views trail.now memory.now marks.new ≡
+        marked_views trail.now memory.now marks.old ++ view_of memory.now ∷ []) }
+    ensures err { OnErr result (marks.new.items ≡ marks.old.items) }
+    ensures marks { are_marks trail.now memory.now marks.new ≡ true }
+{
+    let _ = memory;
+    let length = trail.len();
+    match marks.push(length) {
+        Ok(()) => Ok(()),
+        Err(_) => Err(NoMemory),
+    }
+}
+
+/// The state becomes the last marked one, whole, and that mark is gone. It takes no memory.
+pub fn back(memory: &mut Memory, trail: &mut Trail, marks: &mut Vec<usize>)
+    requires some { 0 < length marks.old.items }
+    requires marks { are_marks trail.old memory.old marks.old ≡ true }
+    ensures back { marked_views trail.old memory.old marks.old ≡
+        marked_views trail.new memory.new marks.new ++ view_of memory.new ∷ [] }
+    ensures shape { shape_of (view_of memory.new) ≡ shape_of (view_of memory.old) }
+    ensures marks { are_marks trail.new memory.new marks.new ≡ true }
+{
+    if let Some(length) = marks.pop() {
+        rewind(memory, trail, length);
+    }
+}
+
+/// The last mark is gone, and the state stays. The changes since then stay for the mark below, and
+/// are forgotten where there is none. It takes no memory.
+pub fn drop_mark(memory: &Memory, trail: &mut Trail, marks: &mut Vec<usize>)
+    requires some { 0 < length marks.old.items }
+    requires marks { are_marks trail.old memory.now marks.old ≡ true }
+    ensures dropped { marked_views trail.new memory.now marks.new ≡ all_but_last
+        (marked_views trail.old memory.now marks.old) }
+    ensures marks { are_marks trail.new memory.now marks.new ≡ true }
+{
+    if let Some(_last) = marks.pop() {
+        settle(memory, trail, marks);
+    }
+}
