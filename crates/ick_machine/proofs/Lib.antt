@@ -1,0 +1,7 @@
+mod StateLemmas
+mod ReturnLemmas
+mod PlaceLemmas
+mod DimensionLemmas
+mod FlowLemmas
+mod ReadLemmas
+mod ArrayStashLemmas

@@ -1,0 +1,5 @@
+pub mod Machine
+pub mod Asked
+pub mod Reads
+pub mod Run
+pub mod Walk

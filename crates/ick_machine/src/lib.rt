@@ -1,0 +1,37 @@
+//! Machines: what runs a program step by step and can be set back to marked states.
+//!
+//! | Module | What it has |
+//! |---|---|
+//! | `asking` | what a machine asks, and how a run ends |
+//! | `backtrack` | machines with marks |
+//! | `reader` | who reads the input, line by line or byte by byte |
+//! | `halt` | why the operations of a statement stop early |
+//! | `values` | numbers in the width of a kind of variable |
+//! | `operands` | the operand stack |
+//! | `place` | where elements stand in arrays |
+//! | `store` | values that variables get |
+//! | `size` | new dimensions |
+//! | `control` | NEXT, FORGET and RESUME |
+//! | `names` | STASH, RETRIEVE, IGNORE and REMEMBER |
+//! | `input` | lines that variables get |
+//! | `evaluate` | operations of expressions |
+//! | `operate` | operations that take operands and change what a run remembers |
+#![tactic(auto)]
+
+mod asking;
+mod backtrack;
+mod control;
+mod evaluate;
+mod halt;
+mod input;
+mod names;
+mod operands;
+mod operate;
+mod place;
+mod reader;
+mod size;
+mod store;
+mod values;
+
+pub use asking::{Ask, End};
+pub use backtrack::{Asks, Backtrack};
