@@ -1,0 +1,28 @@
+-- How an explorer's marks and points fit the choices that it keeps, whatever state its runs start from.
+use Rattle.std.specs.Prelude.{◌≡◌, ◌≢◌, ℕ, nat_lt, Bool, true, false, List, [], length}
+use Rattle.std.specs.List.{list_all}
+use Rattle.ick_code.specs.meaning.Move.{Asking, plain, choice, ended, ask}
+use Rattle.ick_machine.specs.Machine.{Machine}
+use Rattle.ick_runs.specs.Listings.{zeros_in}
+use Rattle.ick_runs.specs.declared.path.Path.{Path}
+use Rattle.ick_runs.specs.declared.path.Progress.{Progress}
+use Rattle.ick_runs.specs.declared.path.Progress.TheVariants.{Given}
+
+abbrev pub is_choice : Asking → Bool
+is_choice plain = false
+is_choice (choice _) = true
+is_choice (ended _) = false
+
+-- there is a mark for each zero, in a state that asks a choice, and for each a number of steps below the limit
+pub record IsMarked (limit : ℕ) (m : Machine) (c : List Bool) (points : List ℕ) : Type 0 where
+  pub marked : length m.marks ≡ zeros_in c
+  pub counted : length points ≡ zeros_in c
+  pub choosing : list_all (λ s. is_choice (ask m.program s)) m.marks ≡ true
+  pub below : list_all (λ n. nat_lt n limit) points ≡ true
+
+abbrev pub HasMarks : ℕ → Machine → Path → Type 0
+HasMarks limit m path = IsMarked limit m path.choices.items path.points.items
+
+-- where no run was given, no choices are kept
+pub record IsPlaced (progress : Progress) (c : List Bool) : Type 0 where
+  pub none : progress ≢ Given → c ≡ []

@@ -1,0 +1,67 @@
+-- How an explorer leads its machine along runs: words of its private contracts.
+use Rattle.std.specs.Prelude.{◌≡◌, ℕ, ◌+◌, ◌-◌, ◌<◌, ◌≤◌, Bool, true, List, [], ◌∷◌, ◌++◌, Option}
+use Rattle.ick_code.specs.meaning.State.{State}
+use Rattle.ick_code.specs.meaning.Move.{ask}
+use Rattle.ick_machine.specs.Machine.{Machine}
+use Rattle.ick_machine.specs.Asked.{Finish}
+use Rattle.ick_runs.specs.Runs.{run, ends, stays}
+use Rattle.ick_runs.specs.Listings.{IsLeastAfter}
+use Rattle.ick_runs.specs.Paths.{Leads, AllZeros, TurnsAt}
+use Rattle.ick_runs.specs.Marked.{is_choice, IsMarked}
+use Rattle.ick_runs.specs.Standing.{Keeps, StandsAfter, IsRunOf, shared_from}
+use Rattle.ick_runs.specs.declared.run.Run.{Run}
+
+-- the machine stands n steps into the run from s with these choices, with the marks of their zeros
+pub record Walks (s : State) (limit : ℕ) (m : Machine) (c : List Bool) (points : List ℕ) (n : ℕ) : Type 0 where
+  pub leads : Leads m.program s limit c m.state n
+  pub keeps : Keeps m.program s limit c m.marks points
+
+-- the machine asks a choice
+abbrev pub IsChoosing : Machine → Type 0
+IsChoosing m = is_choice (ask m.program m.state) ≡ true
+
+-- n steps into its run the machine stands where the run ends, whatever choices are left
+pub record EndsHere (limit : ℕ) (m : Machine) (n : ℕ) (finish : Finish) : Type 0 where
+  pub stays_here : (c : List Bool) → run m.program m.state (limit - n) c ≡ stays m.state (ends finish) c
+
+-- from one place of a run, n steps in, to a later one
+pub record Moves (limit : ℕ) (old : Machine) (c : List Bool) (points : List ℕ) (n : ℕ)
+    (new : Machine) (c' : List Bool) (points' : List ℕ) (n' : ℕ) : Type 0 where
+  pub program : new.program ≡ old.program
+  pub work : new.work + n ≡ old.work + n'
+  pub within : n' ≤ limit
+  pub marked : IsMarked limit old c points → IsMarked limit new c' points'
+  pub walks : (s : State) → Walks s limit old c points n → Walks s limit new c' points' n'
+
+-- the same by zeros alone
+pub record GoesDown (limit : ℕ) (old : Machine) (c : List Bool) (points : List ℕ) (n : ℕ)
+    (new : Machine) (c' : List Bool) (points' : List ℕ) (n' : ℕ) : Type 0 where
+  pub moves : Moves limit old c points n new c' points' n'
+  pub zeros : (z : List Bool) × AllZeros z × (c' ≡ c ++ z)
+
+-- back at the last zero of c, which is now a one, n steps in
+pub record TurnsBack (limit : ℕ) (old : Machine) (c : List Bool) (points : List ℕ)
+    (new : Machine) (c' : List Bool) (points' : List ℕ) (n : ℕ) : Type 0 where
+  pub program : new.program ≡ old.program
+  pub work : new.work ≡ old.work + 1
+  pub some : 0 < n
+  pub within : n ≤ limit
+  pub marked : IsMarked limit new c' points'
+  pub turned : (pre : List Bool) × TurnsAt c pre × (c' ≡ pre ++ true ∷ [])
+      × ((s : State) → StandsAfter old.program s limit c old.marks points →
+      Walks s limit new c' points' n × (n ≡ (run old.program s limit pre).steps + 1))
+
+-- the machine was led to the end of the run r, the least one after a place in the runs from s
+pub record Finds (s : State) (limit : ℕ) (from : Option (List Bool)) (old : Machine) (r : Run)
+    (new : Machine) (points : List ℕ) : Type 0 where
+  pub least : IsLeastAfter old.program s limit from r.choices.items
+  pub is_run : IsRunOf old.program s limit r
+  pub stands : StandsAfter old.program s limit r.choices.items new.marks points
+  pub work : new.work + shared_from old.program s limit from r.choices.items ≡ old.work + r.steps
+
+-- the machine was led from the start of the run of c to its end
+pub record Follows (limit : ℕ) (old : Machine) (c : List Bool) (new : Machine) (points : List ℕ) : Type 0 where
+  pub program : new.program ≡ old.program
+  pub stands : StandsAfter old.program old.state limit c new.marks points
+  pub work : new.work ≡ old.work + (run old.program old.state limit c).steps
+  pub within : new.work ≤ old.work + limit

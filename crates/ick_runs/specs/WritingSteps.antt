@@ -1,0 +1,67 @@
+-- How a listing is written line by line: words of private contracts.
+use Rattle.std.specs.Prelude.{◌≡◌, ℕ, ◌+◌, ◌^◌, ◌<◌, ◌≤◌, Bool, true, false, List, [], ◌++◌, length, take, drop, Result}
+use Rattle.std.specs.Prelude.{Ok, Err}
+use Rattle.ick_code.specs.meaning.State.{State}
+use Rattle.ick_runs.specs.declared.errors.RunsError.{RunsError}
+use Rattle.ick_runs.specs.declared.errors.RunsError.TheVariants.{NoMemory, NoSuchRun, WorkFull, Failed, BadCursor, Read}
+use Rattle.ick_runs.specs.declared.errors.RunsError.TheVariants.{Write}
+use Rattle.ick_runs.specs.Listings.{IsListing}
+use Rattle.ick_runs.specs.Standing.{Explored, HasFailed, IsFull}
+use Rattle.ick_runs.specs.Lines.{run_lines}
+use Rattle.ick_runs.specs.Writes.{Gave}
+
+-- one more line: the listing from the explorer's place is xs
+pub record WritesOne (told : Bool) (s : State) (xs : List (List Bool)) (old new : Explored)
+    (w w' : List ℕ) : Type 0 where
+  pub some : 0 < length xs
+  pub gave : Gave s old (take 1 xs) new
+  pub rest : IsListing new.program s new.limit new.from (drop 1 xs)
+  pub text : told ≡ true → w' ≡ w ++ run_lines old.program s old.limit (take 1 xs)
+
+-- no line: the listing is at its end
+pub record WritesNone (told : Bool) (xs : List (List Bool)) (old new : Explored) (w w' : List ℕ) : Type 0 where
+  pub none : xs ≡ []
+  pub same : new ≡ old
+  pub text : told ≡ true → w' ≡ w
+
+-- the count was full where a run was due
+pub record FindsFull (told : Bool) (xs : List (List Bool)) (old new : Explored) (w w' : List ℕ) : Type 0 where
+  pub due : 0 < length xs
+  pub same : new ≡ old
+  pub full : IsFull old
+  pub text : told ≡ true → w' ≡ w
+
+-- memory ran out where a run was due, and begun with the limit left
+pub record FailsToWrite (told : Bool) (xs : List (List Bool)) (old new : Explored) (w w' : List ℕ) : Type 0 where
+  pub due : 0 < length xs
+  pub begun : old.work + old.limit < 2 ^ 64
+  pub failed : HasFailed new
+  pub text : told ≡ true → w' ≡ w
+
+-- the write of one line failed
+pub record WritesPart (told : Bool) (s : State) (xs : List (List Bool)) (old new : Explored)
+    (w w' : List ℕ) (n : ℕ) : Type 0 where
+  pub some : 0 < length xs
+  pub gave : Gave s old (take 1 xs) new
+  pub text : told ≡ true → w' ≡ w ++ take n (run_lines old.program s old.limit (take 1 xs))
+
+-- what is known after each answer
+abbrev pub WritesNext : Bool → State → List (List Bool) → Explored → Explored → List ℕ → List ℕ →
+    Result Bool RunsError → Type 0
+WritesNext told s xs old new w w' (Ok true) = WritesOne told s xs old new w w'
+WritesNext told s xs old new w w' (Ok false) = WritesNone told xs old new w w'
+WritesNext told s xs old new w w' (Err NoMemory) = FailsToWrite told xs old new w w'
+WritesNext told s xs old new w w' (Err WorkFull) = FindsFull told xs old new w w'
+WritesNext told s xs old new w w' (Err Write) = (n : ℕ) × WritesPart told s xs old new w w' n
+WritesNext told s xs old new w w' (Err Failed) = ⊥
+WritesNext told s xs old new w w' (Err NoSuchRun) = ⊥
+WritesNext told s xs old new w w' (Err BadCursor) = ⊥
+WritesNext told s xs old new w w' (Err Read) = ⊥
+
+-- the first i runs of the listing cs were written
+pub record Along (told : Bool) (s : State) (cs : List (List Bool)) (i : ℕ) (old now : Explored)
+    (w w' : List ℕ) : Type 0 where
+  pub within : i ≤ length cs
+  pub gave : Gave s old (take i cs) now
+  pub rest : IsListing now.program s now.limit now.from (drop i cs)
+  pub text : told ≡ true → w' ≡ w ++ run_lines old.program s old.limit (take i cs)

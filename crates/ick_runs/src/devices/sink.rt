@@ -1,0 +1,34 @@
+//! Where bytes go.
+ghost use Rattle.std.specs.Prelude.{◌≡◌, ◌+◌, ◌≤◌, ◌<◌, ◌^◌, ◌++◌, if◌then◌else◌};
+ghost use Rattle.std.specs.Prelude.{ℕ, List, Bool, true};
+ghost use Rattle.std.specs.Prelude.{IfOk, OnErr, is_ok, length, take};
+
+use crate::devices::DeviceFault;
+
+/// Bytes that go out.
+pub trait ByteSink {
+    /// Whether `written` speaks of what really went out.
+    ghost told: { Bool };
+
+    /// The bytes that were written.
+    ghost written: { Self → List ℕ };
+
+    /// How many calls have failed.
+    ghost failed: { Self → ℕ };
+
+    /// How many calls have failed.
+    fn failures(&self) -> u64
+        ensures { result ≡ failed self.now };
+
+    /// Writes some bytes of the front of the text, and answers how many: at least one of a text
+    /// that isn't empty. An `Err` raises the count of failures by one and writes no byte; an `Ok`
+    /// leaves the count.
+    fn write(&mut self, text: &[u8]) -> Result<usize, DeviceFault>
+        requires { failed self.old + 1 < 2 ^ 64 }
+        ensures count { failed self.new ≡ failed self.old + (if is_ok result then 0 else 1) }
+        ensures fits { IfOk result (λ n. n ≤ length text.now) }
+        ensures gains { IfOk result (λ n. 0 < length text.now → 0 < n) }
+        ensures written { told ≡ true → IfOk result (λ n.
+            written self.new ≡ written self.old ++ take n text.now) }
+        ensures kept { told ≡ true → OnErr result (written self.new ≡ written self.old) };
+}

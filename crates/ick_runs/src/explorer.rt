@@ -1,0 +1,232 @@
+//! Lists the runs of a program, each once, in the order of their choices.
+
+ghost use Rattle.std.specs.Prelude.{◌≡◌, ◌↔◌, ◌+◌, ◌<◌, ◌≤◌, ◌^◌, ◌⊎◌, [], true, false, Bool, List};
+ghost use Rattle.std.specs.Prelude.{length, Some, None, Ok, Err, IfOk, IfErr, IfSome, IfNone};
+ghost use Rattle.std.specs.Prelude.{IsSome};
+ghost use Rattle.std.proofs.Props.{props};
+ghost use Rattle.ick_runs.specs.Marked.{HasMarks, IsPlaced};
+
+use crate::cursor::Cursor;
+use crate::errors::RunsError;
+use crate::path::{Path, Progress};
+use crate::run::Run;
+use crate::walk;
+use ick_bits::NoMemory;
+use ick_machine::{Asks, Backtrack};
+use std::alloc::Global;
+
+/// Lists the runs of a machine's program from the machine's state, each once, in the order of their
+/// choices, where 0 comes before 1 (this profile).
+///
+/// It stands after the run last given, or after that of the cursor, or before all runs. It keeps a
+/// mark for each zero in the choices of the run that it stands after, and to go on it sets the
+/// machine back to the last of them: so no step that two neighbouring runs share is made twice.
+///
+/// Once a call of `next` or `write_runs` has answered `NoMemory` it has failed: it keeps no mark,
+/// `more` is false, and each further call answers `Failed`.
+#[derive(Drop)]
+pub struct Explorer<M: Backtrack> {
+    machine: M,
+    limit: u32,
+    path: Path,
+    progress: Progress,
+    alloc: Global,
+    ghost marked: { HasMarks limit (M.seen machine) path } by { Prim.hlevel props },
+    ghost placed: { IsPlaced progress path.choices.items } by { Prim.hlevel props },
+}
+
+impl<M: Backtrack> Explorer<M> {
+    ghost use Rattle.ick_runs.specs.Explorers.{explored};
+    ghost use Rattle.ick_code.specs.meaning.State.{State};
+    ghost use Rattle.ick_runs.specs.Runs.{IsWhole};
+    ghost use Rattle.ick_runs.specs.Standing.{Stands, HasMore, IsAtLast, HasFailed, Gives, IsFull};
+    ghost use Rattle.ick_runs.specs.Standing.{IsMachineFull, Resumes, zeros_of};
+
+    /// An explorer before the first of the runs from the machine's state, each of at most `limit`
+    /// steps. The machine must have no marks. No step is made.
+    pub fn start(alloc: Global, machine: M, limit: u32) -> Self
+        requires { (M.seen machine).marks ≡ [] }
+        ensures start { explored result ≡ record {
+          program = (M.seen machine).program;
+          limit = limit;
+          from = None;
+          present = (M.seen machine).state;
+          marks = [];
+          points = [];
+          work = (M.seen machine).work;
+          failed = false;
+        } }
+        ensures stands { Stands (M.seen machine).state (explored result) }
+    {
+        Explorer {
+            machine,
+            limit,
+            path: Path {
+                choices: Vec::new(alloc),
+                points: Vec::new(alloc),
+            },
+            progress: Progress::Fresh,
+            alloc,
+        }
+    }
+
+    /// An explorer after the run of a cursor, among the runs from the machine's state. The machine,
+    /// which must have no marks, is led along that run once, with a mark at each of its zeros.
+    ///
+    /// The answer is `WorkFull` exactly where the machine's count has less than the limit left;
+    /// else `NoSuchRun` where the cursor's choices are not those of a run: they end before it does,
+    /// or are left over at its end; else `NoMemory` where memory is refused. A refused machine is
+    /// dropped.
+    pub fn after<'c>(
+        alloc: Global,
+        machine: M,
+        limit: u32,
+        cursor: &Cursor,
+    ) -> Result<Self, RunsError>
+    where
+        M: Asks<'c>,
+        requires { (M.seen machine).marks ≡ [] }
+        ensures work_full { result ≡ Err RunsError.WorkFull ↔ IsMachineFull (M.seen machine) limit }
+        ensures errors { IfErr result (λ e. (e ≡ RunsError.NoMemory)
+            ⊎ ((e ≡ RunsError.NoSuchRun) ⊎ (e ≡ RunsError.WorkFull))) }
+        ensures no_such_run { result ≡ Err RunsError.NoSuchRun →
+            ¬ IsWhole (M.seen machine).program (M.seen machine).state limit cursor.now }
+        ensures ok { IfOk result (λ e. Resumes (M.seen machine) limit cursor.now (explored e)) }
+    {
+        let mut machine = machine;
+        if u64::MAX - machine.work() < limit as u64 {
+            return Err(RunsError::WorkFull);
+        }
+        let mut path = Path {
+            choices: Vec::new(alloc),
+            points: Vec::new(alloc),
+        };
+        if !walk::follow(&mut machine, &mut path, limit, cursor.choices())? {
+            return Err(RunsError::NoSuchRun);
+        }
+        Ok(Explorer {
+            machine,
+            limit,
+            path,
+            progress: Progress::Given,
+            alloc,
+        })
+    }
+
+    /// The machine's count of work: what it began at, and the steps made since.
+    pub fn work(&self) -> u64
+        ensures { result ≡ (explored self.now).work }
+    {
+        self.machine.work()
+    }
+
+    /// The number of marks kept: one for each zero in the choices of the run that the explorer
+    /// stands after; none before all runs, after the last, and once it has failed.
+    pub fn points(&self) -> usize
+        ensures zeros { result ≡ zeros_of (explored self.now).from }
+        ensures few { (s : State) → Stands s (explored self.now) →
+            result ≤ (explored self.now).limit }
+        ensures of_choices { IfSome (explored self.now).from (λ c. result ≤ length c) }
+    {
+        self.path.points.len()
+    }
+
+    /// Whether a call that grows has been refused memory.
+    pub(crate) fn has_failed(&self) -> bool
+        ensures { result ≡ (explored self.now).failed }
+    {
+        matches!(self.progress, Progress::Spent)
+    }
+
+    /// Fails: nothing is kept from here on.
+    pub(crate) fn fail(&mut self)
+        ensures failed { HasFailed (explored self.new) }
+        ensures program { (explored self.new).program ≡ (explored self.old).program }
+        ensures limit { (explored self.new).limit ≡ (explored self.old).limit }
+    {
+        walk::forget(&mut self.machine, &mut self.path);
+        self.progress = Progress::Spent;
+    }
+
+    /// Whether a further run exists. Not so once the explorer has failed.
+    pub fn more(&self) -> bool
+        ensures failed { (explored self.now).failed ≡ true → result ≡ false }
+        ensures further { (s : State) → Stands s (explored self.now) →
+            result ≡ true → HasMore s (explored self.now) }
+        ensures last { (s : State) → Stands s (explored self.now) →
+            result ≡ false → IsAtLast s (explored self.now) }
+    {
+        match self.progress {
+            Progress::Fresh => true,
+            Progress::Given => !self.path.points.is_empty(),
+            Progress::Spent => false,
+        }
+    }
+
+    /// The next run: the least one after the place where the explorer stands; `None` where there is
+    /// none. The count of work rises by the steps of the run without those that it shares with the
+    /// run before.
+    ///
+    /// The answer is `Failed` where the explorer has failed; else `WorkFull` where the count has
+    /// less than the limit left, also where no run is left, and nothing has changed; `NoMemory`
+    /// where memory was refused, and the explorer has failed.
+    pub fn next<'c>(&mut self) -> Result<Option<Run<'c>>, RunsError>
+    where
+        M: Asks<'c>,
+        ensures failed { result ≡ Err RunsError.Failed ↔ (explored self.old).failed ≡ true }
+        ensures work_full { result ≡ Err RunsError.WorkFull
+            ↔ (((explored self.old).failed ≡ false) × IsFull (explored self.old)) }
+        ensures errors { IfErr result (λ e. (e ≡ RunsError.NoMemory)
+            ⊎ ((e ≡ RunsError.Failed) ⊎ (e ≡ RunsError.WorkFull))) }
+        ensures refused { IfErr result (λ e.
+            (e ≡ RunsError.NoMemory) ⊎ (explored self.new ≡ explored self.old)) }
+        ensures no_memory { result ≡ Err RunsError.NoMemory → HasFailed (explored self.new) }
+        ensures some { IfOk result (λ found. IfSome found (λ r.
+            (s : State) → Stands s (explored self.old) →
+            Gives s (explored self.old) r (explored self.new))) }
+        ensures none { IfOk result (λ found. IfNone found ((explored self.new ≡ explored self.old)
+            × ((s : State) → Stands s (explored self.old) → IsAtLast s (explored self.old)))) }
+        ensures none_left { IfOk result (λ found.
+            IfNone found (zeros_of (explored self.new).from ≡ 0)) }
+        ensures not_first { IfOk result (λ found. IfNone found (IsSome (explored self.old).from)) }
+        ensures sound { IfOk result (λ _. (explored self.new).failed ≡ false) }
+        ensures room { IfOk result (λ _.
+            (explored self.old).work + (explored self.old).limit < 2 ^ 64) }
+        ensures begun { result ≡ Err RunsError.NoMemory →
+            (explored self.old).work + (explored self.old).limit < 2 ^ 64 }
+        ensures within { IfOk result (λ _.
+            (explored self.new).work ≤ (explored self.old).work + (explored self.old).limit) }
+        ensures program { (explored self.new).program ≡ (explored self.old).program }
+        ensures limit { (explored self.new).limit ≡ (explored self.old).limit }
+    {
+        if let Progress::Spent = self.progress {
+            return Err(RunsError::Failed);
+        }
+        if u64::MAX - self.machine.work() < self.limit as u64 {
+            return Err(RunsError::WorkFull);
+        }
+        if let Progress::Given = self.progress {
+            if self.path.points.is_empty() {
+                return Ok(None);
+            }
+        }
+        let progress = self.progress;
+        match walk::find(
+            self.alloc,
+            &mut self.machine,
+            &mut self.path,
+            self.limit,
+            progress,
+        ) {
+            Ok(run) => {
+                self.progress = Progress::Given;
+                Ok(Some(run))
+            }
+            Err(NoMemory) => {
+                walk::forget(&mut self.machine, &mut self.path);
+                self.progress = Progress::Spent;
+                Err(RunsError::NoMemory)
+            }
+        }
+    }
+}

@@ -1,0 +1,53 @@
+//! Runs of a program: one with given choices, one whose choices a seed draws, and the listing of
+//! all, each once, in the order of their choices.
+//!
+//! | Module | What it has |
+//! |---|---|
+//! | `devices` | sources and sinks of bytes |
+//! | `errors` | why calls refuse |
+//! | `ordinary` | one run with given choices |
+//! | `draws`, `seeded` | one run whose choices a seed draws |
+//! | `choice_texts` | lists of choices as text |
+//! | `reading`, `groups` | such a text read |
+//! | `cursor` | a place in a listing |
+//! | `run`, `path` | a run, and what an explorer keeps beside its machine |
+//! | `walk` | how a machine is led from one run to the next |
+//! | `explorer` | the explorer |
+//! | `lines`, `listing`, `writing` | a listing as text on a writer |
+//! | `laws` | what holds of all runs, listings, texts and draws |
+#![tactic(auto)]
+
+mod choice_texts;
+mod cursor;
+mod devices;
+mod draws;
+mod errors;
+mod explorer;
+mod groups;
+mod laws;
+mod lines;
+mod listing;
+mod ordinary;
+mod path;
+mod reading;
+mod run;
+mod seeded;
+mod walk;
+mod writing;
+
+pub use cursor::Cursor;
+pub use devices::{
+    ByteSink, ByteSource, DeviceFault, ReadFault, SliceSource, VecSink, read_first, write_whole,
+};
+pub use draws::drawn;
+pub use errors::RunsError;
+pub use explorer::Explorer;
+pub use laws::{one_drawing, one_listing, one_order, one_reading, runs_are_limited};
+pub use listing::Listed2;
+pub use ordinary::{Ran, run_from};
+pub use run::Run;
+pub use seeded::{Drawn, run_seeded_from};
+pub use writing::write_runs;
+
+#[cfg(test)]
+mod tests;

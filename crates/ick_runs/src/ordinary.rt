@@ -1,0 +1,97 @@
+//! One run with given choices.
+
+ghost use Rattle.std.specs.Prelude.{◌≡◌, ◌+◌, ◌<◌, ◌^◌, IfOk};
+ghost use Rattle.ick_machine.specs.Asked.{finish_of};
+ghost use Rattle.ick_runs.specs.Runs.{run};
+ghost use Rattle.ick_runs.specs.Ordinary.{IsRan, IgnoresUnused, HasEnded, IsWanting};
+
+use ick_bits::NoMemory;
+use ick_machine::{Ask, Asks, Backtrack, End};
+use std::alloc::Global;
+
+/// How a run with given choices came out.
+#[derive(Drop)]
+pub enum Ran<'c> {
+    /// It ended, after using the first `used` choices.
+    Ended {
+        output: Vec<u8>,
+        end: End<'c>,
+        used: usize,
+        steps: u32,
+    },
+    /// It asked a choice when none was left.
+    Wants {
+        output: Vec<u8>,
+        steps: u32,
+    },
+}
+
+/// The run that the machine has come to the end of.
+pub(crate) fn ended<'c, M: Backtrack>(
+    alloc: Global,
+    machine: &M,
+    end: End<'c>,
+    used: usize,
+    steps: u32,
+) -> Result<Ran<'c>, NoMemory>
+    ensures { IfOk result (λ r.
+        HasEnded (M.seen machine.now).state.output (finish_of end.entry) used steps r) }
+{
+    let output = Vec::from_slice(alloc, machine.output())?;
+    Ok(Ran::Ended {
+        output,
+        end,
+        used,
+        steps,
+    })
+}
+
+/// The run that wants a choice where the machine stands.
+fn wanting<'c, M: Backtrack>(alloc: Global, machine: &M, steps: u32) -> Result<Ran<'c>, NoMemory>
+    ensures { IfOk result (λ r. IsWanting (M.seen machine.now).state.output steps r) }
+{
+    let output = Vec::from_slice(alloc, machine.output())?;
+    Ok(Ran::Wants { output, steps })
+}
+
+/// Runs a machine from its state with given choices, for at most `limit` steps (this profile).
+/// Choices that aren't used change nothing.
+///
+/// The machine's count of work must have the limit left. The answer is `NoMemory` where the machine
+/// or the answer's own texts could not grow.
+pub fn run_from<'c, M: Asks<'c>>(
+    alloc: Global,
+    machine: M,
+    limit: u32,
+    choices: &[bool],
+) -> Result<Ran<'c>, NoMemory>
+    requires { (M.seen machine).work + limit < 2 ^ 64 }
+    ensures run { IfOk result (λ r. IsRan choices.now
+        (run (M.seen machine).program (M.seen machine).state limit choices.now) r) }
+    ensures unused { IfOk result (λ r.
+        IgnoresUnused (M.seen machine).program (M.seen machine).state limit choices.now r) }
+{
+    let mut machine = machine;
+    let mut steps = 0;
+    let mut used = 0;
+    'along: loop {
+        let asked = machine.asks();
+        if let Ask::Ended(end) = asked {
+            return ended(alloc, &machine, end, used, steps);
+        }
+        if steps == limit {
+            return ended(alloc, &machine, End::Limit, used, steps);
+        }
+        if let Ask::Choice(_) = asked {
+            if used == choices.len() {
+                return wanting(alloc, &machine, steps);
+            }
+            machine.step(choices[used])?;
+            used += 1;
+            steps += 1;
+            continue;
+        }
+        machine.step(false)?;
+        steps += 1;
+    }
+}

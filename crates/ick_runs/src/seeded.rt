@@ -1,0 +1,80 @@
+//! One run whose choices a seed draws.
+
+ghost use Rattle.std.specs.Prelude.{◌≡◌, ◌+◌, ◌<◌, ◌^◌, length, IfOk};
+ghost use Rattle.ick_machine.specs.Asked.{finish_of};
+ghost use Rattle.ick_runs.specs.Runs.{run};
+ghost use Rattle.ick_runs.specs.Ordinary.{IsRan, HasEnded, UsesAll};
+ghost use Rattle.ick_runs.specs.Draws.{IsDrawn, word_of};
+
+use crate::draws::{drawn, generator};
+use crate::ordinary::{Ran, ended};
+use ick_bits::NoMemory;
+use ick_machine::{Ask, Asks, Backtrack, End};
+use rand_core::utils::NextWord;
+use std::alloc::Global;
+
+/// A run, and the choices that a seed drew for it. It ended, and used all of them.
+#[derive(Drop)]
+pub struct Drawn<'c> {
+    pub choices: Vec<bool>,
+    pub ran: Ran<'c>,
+}
+
+/// The run that the machine has come to the end of, with all choices that were drawn.
+fn drawn_run<'c, M: Backtrack>(
+    alloc: Global,
+    machine: &M,
+    end: End<'c>,
+    choices: Vec<bool>,
+    steps: u32,
+) -> Result<Drawn<'c>, NoMemory>
+    ensures choices { IfOk result (λ d. d.choices.items ≡ choices.items) }
+    ensures all { IfOk result (λ d. UsesAll d.choices.items d.ran) }
+    ensures ran { IfOk result (λ d. HasEnded (M.seen machine.now).state.output
+        (finish_of end.entry) (length choices.items) steps d.ran) }
+{
+    let ran = ended(alloc, machine, end, choices.len(), steps)?;
+    Ok(Drawn { choices, ran })
+}
+
+/// Runs a machine from its state with the choices that a seed draws, one word a choice asked, for
+/// at most `limit` steps (this profile). The words are those of the generator PCG32 of the seed.
+///
+/// The machine's count of work must have the limit left. The answer is `NoMemory` where the
+/// machine, the choices or the answer's own texts could not grow.
+pub fn run_seeded_from<'c, M: Asks<'c>>(
+    alloc: Global,
+    machine: M,
+    limit: u32,
+    seed: u64,
+) -> Result<Drawn<'c>, NoMemory>
+    requires { (M.seen machine).work + limit < 2 ^ 64 }
+    ensures choices { IfOk result (λ d. IsDrawn
+        (M.seen machine).program (M.seen machine).state limit (word_of seed) d.choices.items) }
+    ensures all { IfOk result (λ d. UsesAll d.choices.items d.ran) }
+    ensures ran { IfOk result (λ d. IsRan d.choices.items
+        (run (M.seen machine).program (M.seen machine).state limit d.choices.items) d.ran) }
+{
+    let mut machine = machine;
+    let mut generator = generator(seed);
+    let mut choices = Vec::new(alloc);
+    let mut steps = 0;
+    'along: loop {
+        let asked = machine.asks();
+        if let Ask::Ended(end) = asked {
+            return drawn_run(alloc, &machine, end, choices, steps);
+        }
+        if steps == limit {
+            return drawn_run(alloc, &machine, End::Limit, choices, steps);
+        }
+        if let Ask::Choice(chance) = asked {
+            let done = drawn(generator.next_word(), chance);
+            choices.push(done)?;
+            machine.step(done)?;
+            steps += 1;
+            continue;
+        }
+        machine.step(false)?;
+        steps += 1;
+    }
+}

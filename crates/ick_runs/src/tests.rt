@@ -1,0 +1,5 @@
+//! What no contract says: that calls succeed, and worked values from outside.
+
+mod cursors;
+mod draws;
+mod writers;

@@ -1,0 +1,288 @@
+//! How a machine is led from one run to the next.
+
+ghost use Rattle.std.specs.Prelude.{◌≡◌, false, true, ℕ, ◌+◌, ◌-◌, ◌<◌, ◌≤◌, ◌^◌, [], ◌∷◌, ◌++◌};
+ghost use Rattle.std.specs.Prelude.{length, None, Some, IfOk, OnOk, OnErr};
+ghost use Rattle.ick_code.specs.meaning.State.{State};
+ghost use Rattle.ick_code.specs.meaning.Move.{ask};
+ghost use Rattle.ick_machine.specs.Asked.{finish_of, IsGoing};
+ghost use Rattle.ick_runs.specs.Runs.{IsWhole};
+ghost use Rattle.ick_runs.specs.Listings.{zeros_in};
+ghost use Rattle.ick_runs.specs.Paths.{TurnsAt};
+ghost use Rattle.ick_runs.specs.Marked.{IsMarked};
+ghost use Rattle.ick_runs.specs.Standing.{StandsAfter, StandsFrom, place_of, has_failed};
+ghost use Rattle.ick_runs.specs.Walks.{IsChoosing, EndsHere, Moves, GoesDown, TurnsBack, Finds};
+ghost use Rattle.ick_runs.specs.Walks.{Follows};
+
+use crate::path::{Path, Progress};
+use crate::run::Run;
+use ick_bits::NoMemory;
+use ick_machine::{Ask, Asks, Backtrack, End};
+use std::alloc::Global;
+
+/// One step by a choice, which is added to the path. Where it is a zero, the state before it is
+/// marked.
+fn choose<M: Backtrack>(
+    machine: &mut M,
+    path: &mut Path,
+    limit: u32,
+    steps: u32,
+    done: bool,
+) -> Result<(), NoMemory>
+    requires choosing { IsChoosing (M.seen machine.old) }
+    requires below { steps < limit }
+    requires room { (M.seen machine.old).work < 2 ^ 64 - 1 }
+    ensures program { (M.seen machine.new).program ≡ (M.seen machine.old).program }
+    ensures choice { OnOk result (path.new.choices.items ≡ path.old.choices.items ++ done ∷ []) }
+    ensures moves { OnOk result (Moves limit
+        (M.seen machine.old) path.old.choices.items path.old.points.items steps
+        (M.seen machine.new) path.new.choices.items path.new.points.items (steps + 1)) }
+{
+    path.choices.push(done)?;
+    if done {
+        machine.step(true)?;
+        return Ok(());
+    }
+    machine.mark()?;
+    path.points.push(steps)?;
+    machine.step(false)?;
+    Ok(())
+}
+
+/// Takes off the last zero and the ones after it.
+fn drop_last_zero(choices: &mut Vec<bool>)
+    requires { 0 < zeros_in choices.old.items }
+    ensures { TurnsAt choices.old.items choices.new.items }
+{
+    while let Some(done) = choices.pop() {
+        if !done {
+            return;
+        }
+    }
+}
+
+/// Goes back to the last zero and does its statement. Answers the steps made then.
+fn turn_back<M: Backtrack>(machine: &mut M, path: &mut Path, limit: u32) -> Result<u32, NoMemory>
+    requires marked { IsMarked limit
+        (M.seen machine.old) path.old.choices.items path.old.points.items }
+    requires more { 0 < length path.old.points.items }
+    requires room { (M.seen machine.old).work + limit < 2 ^ 64 }
+    ensures program { (M.seen machine.new).program ≡ (M.seen machine.old).program }
+    ensures turns { IfOk result (λ n. TurnsBack limit
+        (M.seen machine.old) path.old.choices.items path.old.points.items
+        (M.seen machine.new) path.new.choices.items path.new.points.items n) }
+{
+    drop_last_zero(&mut path.choices);
+    let steps = path.points.pop().unwrap();
+    machine.back();
+    choose(machine, path, limit, steps, true)?;
+    Ok(steps + 1)
+}
+
+/// Goes on with a zero at each choice until the run ends. Answers the steps made then, and the end.
+fn go_down<'c, M: Asks<'c>>(
+    machine: &mut M,
+    path: &mut Path,
+    limit: u32,
+    start: u32,
+) -> Result<(u32, End<'c>), NoMemory>
+    requires within { start ≤ limit }
+    requires room { (M.seen machine.old).work + limit < 2 ^ 64 + start }
+    ensures program { (M.seen machine.new).program ≡ (M.seen machine.old).program }
+    ensures down { IfOk result (λ r. GoesDown limit
+        (M.seen machine.old) path.old.choices.items path.old.points.items start
+        (M.seen machine.new) path.new.choices.items path.new.points.items r.0) }
+    ensures end { IfOk result (λ r. EndsHere limit (M.seen machine.new) r.0 (finish_of r.1)) }
+{
+    let mut steps = start;
+    'down: loop {
+        let asked = machine.asks();
+        if let Ask::Ended(end) = asked {
+            return Ok((steps, end));
+        }
+        if steps == limit {
+            return Ok((steps, End::Limit));
+        }
+        if let Ask::Choice(_) = asked {
+            choose(machine, path, limit, steps, false)?;
+            steps += 1;
+            continue;
+        }
+        machine.step(false)?;
+        steps += 1;
+    }
+}
+
+/// Leads the machine from the start of a run along these choices. Answers whether they are whole.
+pub(crate) fn follow<'c, M: Asks<'c>>(
+    machine: &mut M,
+    path: &mut Path,
+    limit: u32,
+    choices: &[bool],
+) -> Result<bool, NoMemory>
+    requires marked { IsMarked limit
+        (M.seen machine.old) path.old.choices.items path.old.points.items }
+    requires none { path.old.choices.items ≡ [] }
+    requires room { (M.seen machine.old).work + limit < 2 ^ 64 }
+    ensures path { IfOk result (λ whole. whole ≡ true → path.new.choices.items ≡ choices.now) }
+    ensures marked { IfOk result (λ _. IsMarked limit
+        (M.seen machine.new) path.new.choices.items path.new.points.items) }
+    ensures whole { IfOk result (λ whole. whole ≡ true → Follows limit
+        (M.seen machine.old) choices.now (M.seen machine.new) path.new.points.items) }
+    ensures not_whole { IfOk result (λ whole. whole ≡ false →
+        ¬ IsWhole (M.seen machine.old).program (M.seen machine.old).state limit choices.now) }
+{
+    let mut steps = 0;
+    let mut used = 0;
+    'along: loop {
+        let asked = machine.asks();
+        if let Ask::Ended(_) = asked {
+            return Ok(used == choices.len());
+        }
+        if steps == limit {
+            return Ok(used == choices.len());
+        }
+        if let Ask::Choice(_) = asked {
+            if used == choices.len() {
+                return Ok(false);
+            }
+            choose(machine, path, limit, steps, choices[used])?;
+            used += 1;
+            steps += 1;
+            continue;
+        }
+        machine.step(false)?;
+        steps += 1;
+    }
+}
+
+/// The run that the machine has come to the end of.
+fn make_run<'c, M: Backtrack>(
+    alloc: Global,
+    machine: &M,
+    path: &Path,
+    steps: u32,
+    end: End<'c>,
+) -> Result<Run<'c>, NoMemory>
+    ensures choices { IfOk result (λ r. r.choices.items ≡ path.now.choices.items) }
+    ensures output { IfOk result (λ r. r.output.items ≡ (M.seen machine.now).state.output) }
+    ensures end { IfOk result (λ r. finish_of r.end ≡ finish_of end.entry) }
+    ensures steps { IfOk result (λ r. r.steps ≡ steps) }
+{
+    let choices = Vec::from_slice(alloc, &path.choices)?;
+    let output = Vec::from_slice(alloc, machine.output())?;
+    Ok(Run {
+        choices,
+        output,
+        end,
+        steps,
+    })
+}
+
+/// Drops all marks.
+fn drop_marks<M: Backtrack>(machine: &mut M)
+    ensures none { (M.seen machine.new).marks ≡ [] }
+    ensures program { (M.seen machine.new).program ≡ (M.seen machine.old).program }
+{
+    while machine.marks() > 0 {
+        machine.drop_mark();
+    }
+}
+
+/// Drops all marks, and forgets the path.
+pub(crate) fn forget<M: Backtrack>(machine: &mut M, path: &mut Path)
+    ensures marks { (M.seen machine.new).marks ≡ [] }
+    ensures choices { path.new.choices.items ≡ [] }
+    ensures points { path.new.points.items ≡ [] }
+    ensures program { (M.seen machine.new).program ≡ (M.seen machine.old).program }
+{
+    drop_marks(machine);
+    path.choices.clear();
+    path.points.clear();
+}
+
+/// Finds the first run.
+fn find_first<'c, M: Asks<'c>>(
+    alloc: Global,
+    machine: &mut M,
+    path: &mut Path,
+    limit: u32,
+) -> Result<Run<'c>, NoMemory>
+    requires marked { IsMarked limit
+        (M.seen machine.old) path.old.choices.items path.old.points.items }
+    requires none { path.old.choices.items ≡ [] }
+    requires room { (M.seen machine.old).work + limit < 2 ^ 64 }
+    ensures program { (M.seen machine.new).program ≡ (M.seen machine.old).program }
+    ensures path { IfOk result (λ r. path.new.choices.items ≡ r.choices.items) }
+    ensures marked { IfOk result (λ _. IsMarked limit
+        (M.seen machine.new) path.new.choices.items path.new.points.items) }
+    ensures within { IfOk result (λ _.
+        (M.seen machine.new).work ≤ (M.seen machine.old).work + limit) }
+    ensures found { IfOk result (λ r. Finds (M.seen machine.old).state limit None
+        (M.seen machine.old) r (M.seen machine.new) path.new.points.items) }
+{
+    let (steps, end) = go_down(machine, path, limit, 0)?;
+    let run = make_run(alloc, machine, path, steps, end)?;
+    Ok(run)
+}
+
+/// Finds the run after the one that the path names.
+fn find_next<'c, M: Asks<'c>>(
+    alloc: Global,
+    machine: &mut M,
+    path: &mut Path,
+    limit: u32,
+) -> Result<Run<'c>, NoMemory>
+    requires marked { IsMarked limit
+        (M.seen machine.old) path.old.choices.items path.old.points.items }
+    requires more { 0 < length path.old.points.items }
+    requires room { (M.seen machine.old).work + limit < 2 ^ 64 }
+    ensures program { (M.seen machine.new).program ≡ (M.seen machine.old).program }
+    ensures path { IfOk result (λ r. path.new.choices.items ≡ r.choices.items) }
+    ensures marked { IfOk result (λ _. IsMarked limit
+        (M.seen machine.new) path.new.choices.items path.new.points.items) }
+    ensures within { IfOk result (λ _.
+        (M.seen machine.new).work ≤ (M.seen machine.old).work + limit) }
+    ensures found { IfOk result (λ r. (s : State) →
+        StandsAfter (M.seen machine.old).program s limit path.old.choices.items
+        (M.seen machine.old).marks path.old.points.items →
+        Finds s limit (Some path.old.choices.items)
+        (M.seen machine.old) r (M.seen machine.new) path.new.points.items) }
+{
+    let turned = turn_back(machine, path, limit)?;
+    let (steps, end) = go_down(machine, path, limit, turned)?;
+    let run = make_run(alloc, machine, path, steps, end)?;
+    Ok(run)
+}
+
+/// Finds the run after the place.
+pub(crate) fn find<'c, M: Asks<'c>>(
+    alloc: Global,
+    machine: &mut M,
+    path: &mut Path,
+    limit: u32,
+    progress: Progress,
+) -> Result<Run<'c>, NoMemory>
+    requires sound { has_failed progress ≡ false }
+    requires marked { IsMarked limit
+        (M.seen machine.old) path.old.choices.items path.old.points.items }
+    requires none { progress ≡ Progress.Fresh → path.old.choices.items ≡ [] }
+    requires more { progress ≡ Progress.Given → 0 < length path.old.points.items }
+    requires room { (M.seen machine.old).work + limit < 2 ^ 64 }
+    ensures program { (M.seen machine.new).program ≡ (M.seen machine.old).program }
+    ensures path { IfOk result (λ r. path.new.choices.items ≡ r.choices.items) }
+    ensures marked { IfOk result (λ _. IsMarked limit
+        (M.seen machine.new) path.new.choices.items path.new.points.items) }
+    ensures within { IfOk result (λ _.
+        (M.seen machine.new).work ≤ (M.seen machine.old).work + limit) }
+    ensures found { IfOk result (λ r. (s : State) →
+        StandsFrom (M.seen machine.old).program s limit (place_of progress path.old.choices.items)
+        (M.seen machine.old).state (M.seen machine.old).marks path.old.points.items →
+        Finds s limit (place_of progress path.old.choices.items)
+        (M.seen machine.old) r (M.seen machine.new) path.new.points.items) }
+{
+    match progress {
+        Progress::Fresh => Ok(find_first(alloc, machine, path, limit)?),
+        Progress::Given => Ok(find_next(alloc, machine, path, limit)?),
+        Progress::Spent => unreachable!(),
+    }
+}

@@ -1,0 +1,129 @@
+//! A listing as text on a writer.
+
+ghost use Rattle.std.specs.Prelude.{◌≡◌, ◌↔◌, ◌+◌, ◌*◌, ◌<◌, ◌≤◌, ◌^◌, ◌⊎◌, ℕ, List, Bool, true};
+ghost use Rattle.std.specs.Prelude.{false, ◌++◌, take, Err, IfOk, IfErr, OnOk};
+ghost use Rattle.ick_code.specs.meaning.State.{State};
+ghost use Rattle.ick_runs.specs.Standing.{Stands, IsListingAt, HasFailed, IsFull};
+ghost use Rattle.ick_runs.specs.Explorers.{explored};
+ghost use Rattle.ick_runs.specs.Lines.{last_line};
+ghost use Rattle.ick_runs.specs.Writes.{Writes, write_failures};
+ghost use Rattle.ick_runs.specs.WritingSteps.{WritesNext};
+
+use crate::devices::{ByteSink, write_whole};
+use crate::errors::RunsError;
+use crate::explorer::Explorer;
+use crate::lines::line_of;
+use crate::listing::Listed2;
+use ick_machine::Asks;
+use std::alloc::Global;
+
+/// Writes the line of the next run, where there is one. Answers whether there was.
+fn write_next<'c, M: Asks<'c>, W: ByteSink>(
+    alloc: Global,
+    explorer: &mut Explorer<M>,
+    writer: &mut W,
+) -> Result<bool, RunsError>
+    requires sound { (explored explorer.old).failed ≡ false }
+    requires room { W.failed writer.old + 1 < 2 ^ 64 }
+    ensures sound { IfOk result (λ _. (explored explorer.new).failed ≡ false) }
+    ensures limit { (explored explorer.new).limit ≡ (explored explorer.old).limit }
+    ensures within { let old = explored explorer.old in
+        IfOk result (λ _. (explored explorer.new).work ≤ old.work + old.limit) }
+    ensures full { result ≡ Err RunsError.WorkFull → IsFull (explored explorer.old) }
+    ensures errors { IfErr result (λ e. (e ≡ RunsError.NoMemory)
+        ⊎ ((e ≡ RunsError.WorkFull) ⊎ (e ≡ RunsError.Write))) }
+    ensures count { W.failed writer.new ≡ W.failed writer.old + write_failures result }
+    ensures no_memory { result ≡ Err RunsError.NoMemory → HasFailed (explored explorer.new) }
+    ensures next { (s : State) (xs : List (List Bool)) → Stands s (explored explorer.old) →
+        IsListingAt s (explored explorer.old) xs →
+        WritesNext W.told s xs (explored explorer.old) (explored explorer.new)
+        (W.written writer.old) (W.written writer.new) result }
+{
+    if !explorer.more() {
+        return Ok(false);
+    }
+    let found = explorer.next()?;
+    let Some(run) = found else {
+        return Ok(false);
+    };
+    let Ok(line) = line_of(alloc, &run) else {
+        explorer.fail();
+        return Err(RunsError::NoMemory);
+    };
+    match write_whole(writer, line.as_slice()) {
+        Ok(()) => Ok(true),
+        Err(_) => Err(RunsError::Write),
+    }
+}
+
+/// Writes the last line of a listing.
+fn write_last<W: ByteSink>(writer: &mut W, listed: Listed2) -> Result<Listed2, RunsError>
+    requires room { W.failed writer.old + 1 < 2 ^ 64 }
+    ensures listed { IfOk result (λ r. r ≡ listed) }
+    ensures errors { IfErr result (λ e. e ≡ RunsError.Write) }
+    ensures count { W.failed writer.new ≡ W.failed writer.old + write_failures result }
+    ensures beginning { W.told ≡ true → (n : ℕ)
+        × (W.written writer.new ≡ W.written writer.old ++ take n (last_line listed)) }
+    ensures all { W.told ≡ true →
+        OnOk result (W.written writer.new ≡ W.written writer.old ++ last_line listed) }
+{
+    let line = match listed {
+        Listed2::More => b"MORE\n",
+        Listed2::Done => b"DONE\n",
+    };
+    match write_whole(writer, line) {
+        Ok(()) => Ok(listed),
+        Err(_) => Err(RunsError::Write),
+    }
+}
+
+/// Writes the listing from the place where the explorer stands (this profile): a line for each of
+/// the next `count` runs, or for all where there are fewer, and then `MORE` where a further run
+/// exists, else `DONE`. Each line leaves as soon as its run is found.
+///
+/// A line has the run's choices, its end and its output in double quotes. The end is `GIVE-UP`,
+/// `LIMIT` or `Ennn@j` with the number of the fault and that of its statement.
+///
+/// Each refusal leaves the lines before it written, whole:
+///
+/// - `Failed` where the explorer had failed: nothing was written and nothing has changed.
+/// - `WorkFull` where a further run was due and the count of work had less than the limit left: the
+///   explorer stands after the last run written.
+/// - `NoMemory` where memory was refused: the explorer has failed.
+/// - `Write` where the writer failed: some bytes of the line may have been written, and the
+///   explorer stands after the run of that line.
+pub fn write_runs<'c, M: Asks<'c>, W: ByteSink>(
+    alloc: Global,
+    explorer: &mut Explorer<M>,
+    count: u32,
+    writer: &mut W,
+) -> Result<Listed2, RunsError>
+    requires { W.failed writer.old + 1 < 2 ^ 64 }
+    ensures failed { result ≡ Err RunsError.Failed ↔ (explored explorer.old).failed ≡ true }
+    ensures refused { result ≡ Err RunsError.Failed →
+        (explored explorer.new ≡ explored explorer.old) × (writer.new ≡ writer.old) }
+    ensures errors { IfErr result (λ e. (e ≡ RunsError.NoMemory)
+        ⊎ ((e ≡ RunsError.WorkFull) ⊎ ((e ≡ RunsError.Write) ⊎ (e ≡ RunsError.Failed)))) }
+    ensures count { W.failed writer.new ≡ W.failed writer.old + write_failures result }
+    ensures no_memory { result ≡ Err RunsError.NoMemory → HasFailed (explored explorer.new) }
+    ensures enough { result ≡ Err RunsError.WorkFull →
+        2 ^ 64 ≤ (explored explorer.old).work + count * (explored explorer.old).limit }
+    ensures listing { (s : State) (cs : List (List Bool)) → Stands s (explored explorer.old) →
+        IsListingAt s (explored explorer.old) cs →
+        Writes W.told s cs count (explored explorer.old) (explored explorer.new)
+        (W.written writer.old) (W.written writer.new) result }
+{
+    if explorer.has_failed() {
+        return Err(RunsError::Failed);
+    }
+    'each: for _i in 0..count {
+        let some = write_next(alloc, explorer, writer)?;
+        if !some {
+            return write_last(writer, Listed2::Done);
+        }
+    }
+    if explorer.more() {
+        return write_last(writer, Listed2::More);
+    }
+    write_last(writer, Listed2::Done)
+}
