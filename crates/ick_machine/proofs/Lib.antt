@@ -5,3 +5,5 @@ mod DimensionLemmas
 mod FlowLemmas
 mod ReadLemmas
 mod ArrayStashLemmas
+mod TapeLemmas
+mod LoopLemmas

@@ -14,8 +14,10 @@
 //! | `control` | NEXT, FORGET and RESUME |
 //! | `names` | STASH, RETRIEVE, IGNORE and REMEMBER |
 //! | `input` | lines that variables get |
+//! | `tape` | arrays as bytes |
 //! | `evaluate` | operations of expressions |
 //! | `operate` | operations that take operands and change what a run remembers |
+//! | `operation` | one operation, and a list of them |
 #![tactic(auto)]
 
 mod asking;
@@ -27,10 +29,12 @@ mod input;
 mod names;
 mod operands;
 mod operate;
+mod operation;
 mod place;
 mod reader;
 mod size;
 mod store;
+mod tape;
 mod values;
 
 pub use asking::{Ask, End};

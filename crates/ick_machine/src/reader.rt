@@ -26,9 +26,11 @@ pub trait Reader: Drop {
     /// Whether this may be the input that is left.
     ghost Has: { Self → Input → Type 0 };
 
-    /// The name of the reference that the reader holds, which every call keeps; any number where it
-    /// holds none.
-    ghost held: { Self → ℕ };
+    /// What kind of thing every call keeps.
+    ghost Held: { Type 0 };
+
+    /// What every call keeps: the text that is read, or the name of the reference to who gives it.
+    ghost held: { Self → Self.Held };
 
     /// Some input may be left.
     ghost some: { (reader : Self) → (input : Input) × Has reader input };
