@@ -7,3 +7,4 @@ mod ReadLemmas
 mod ArrayStashLemmas
 mod TapeLemmas
 mod LoopLemmas
+mod TextLemmas

@@ -1,13 +1,13 @@
 -- Arrays that are printed and read as bytes.
-use Rattle.std.proofs.Common.{◌≡◌, ℕ, zero, suc, ◌+◌, ◌==◌, Bool, true, false, List, [], ◌∷◌, ◌++◌, length, drop, get_or, Option, Some, None, refl, sym, ap, ap₂, ◌∙◌, subst, arith}
-use Rattle.std.specs.Prelude.{if◌then◌else◌, slice_set}
+use Rattle.std.proofs.Common.{◌≡◌, ℕ, zero, suc, ◌+◌, ◌==◌, true, false, List, [], ◌∷◌, ◌++◌, length, drop, Option, Some, None, refl, sym, ap, ap₂, ◌∙◌, arith}
+use Rattle.std.specs.Prelude.{if◌then◌else◌}
 use Rattle.std.proofs.lemmas.Bool.Decides.{nat_tests}
 use Rattle.ick_bits.specs.Tape.{tape_difference}
 use Rattle.ick_bits.specs.declared.faults.FaultKind.TheVariants.{Hyperspace}
 use Rattle.ick_source.specs.declared.tree.Name.{Name}
 use Rattle.ick_code.specs.declared.code.Code.{Code}
 use Rattle.ick_code.specs.meaning.State.{State, Array}
-use Rattle.ick_code.specs.meaning.Outcome.{Outcome, done, faults}
+use Rattle.ick_code.specs.meaning.Outcome.{done, faults}
 use Rattle.ick_code.specs.meaning.Store.{set_array}
 use Rattle.ick_code.specs.meaning.Tape.{tape_bytes, tape_after, tape_numbers, last_read, take_bytes, with_elements, print_array, read_array}
 use Rattle.ick_memory.specs.View.{View, Input, state_of, is_faultless}

@@ -5,6 +5,7 @@
 //! | `asking` | what a machine asks, and how a run ends |
 //! | `backtrack` | machines with marks |
 //! | `reader` | who reads the input, line by line or byte by byte |
+//! | `text` | a text as the input of a run |
 //! | `halt` | why the operations of a statement stop early |
 //! | `values` | numbers in the width of a kind of variable |
 //! | `operands` | the operand stack |
@@ -35,6 +36,7 @@ mod reader;
 mod size;
 mod store;
 mod tape;
+mod text;
 mod values;
 
 pub use asking::{Ask, End};

@@ -1,11 +1,10 @@
-use Rattle.std.proofs.Common.{reverse, ap, ◌∙◌, subst}
+use Rattle.std.proofs.Common.{reverse, ap, subst}
 use Rattle.std.specs.Prelude.{Ok, slice_get, ◌≢◌}
-use Rattle.std.proofs.lemmas.Option.{slice_get_within}
 use Rattle.ick_code.specs.declared.op.Op.TheVariants.{Constant, Load, And, Or, Xor, Select, AbstainKind, ReinstateKind}
 use Rattle.ick_code.specs.declared.op.Op.TheVariants.{ReadTo, ReadAt, PrintArray, ReadArray}
 use Rattle.ick_code.specs.meaning.InputOutput.{read_to}
 use Rattle.ick_code.specs.meaning.Tape.{print_array, read_array}
-use Rattle.ick_code.specs.Effects.{stuck, going, flow_of}
+use Rattle.ick_code.specs.Effects.{stuck, going}
 use Rattle.ick_memory.specs.View.{view_of, state_of, scalar_names, array_names}
 use Rattle.ick_machine.specs.Run.{effect_at}
 use Rattle.ick_machine.proofs.FlowLemmas.{named}

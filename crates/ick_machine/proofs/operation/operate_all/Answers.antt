@@ -1,11 +1,11 @@
-use Rattle.std.proofs.Common.{rules, ◌≡◌, Err, ◌+◌, ◌≤◌, ℕ, List, drop, take, reverse, sym, ap, ◌∙◌, subst, le_trans}
+use Rattle.std.proofs.Common.{rules, ◌≡◌, Err, ◌+◌, ◌≤◌, drop, reverse, sym, ◌∙◌, subst, le_trans}
 use Rattle.std.specs.Prelude.{vec_capacity, slice_index_or}
 use Rattle.ick_code.specs.declared.op.Op.TheVariants.{Constant}
 use Rattle.ick_code.specs.Compiled.{code_program, code_slots}
 use Rattle.ick_code.specs.Effects.{operand_count}
 use Rattle.ick_memory.specs.View.{view_of, state_of}
 use Rattle.ick_machine.specs.Run.{Took, Comes, effect_at, effects_at}
-use Rattle.ick_machine.proofs.LoopLemmas.{moves_first, keeps_first, flow_next, keeps_next, stops, flow_last, leads_then, took_after}
+use Rattle.ick_machine.proofs.LoopLemmas.{moves_first, keeps_first, flow_next, keeps_next, stops, flow_last, took_after}
 use Rattle.ick_machine.proofs.operation.operate_all.Goals as goal
 
 pub operate-requires-clause-sound : goal.operate-requires-clause-sound

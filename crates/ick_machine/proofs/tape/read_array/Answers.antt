@@ -1,14 +1,12 @@
-use Rattle.std.proofs.Common.{◌≡◌, ◌==◌, Some, true, false, List, ℕ, length, get_or, ap, ap₂, sym, ◌∙◌, subst, eq-eqb}
-use Rattle.std.specs.Prelude.{slice_set, Ok}
-use Rattle.ick_code.specs.meaning.State.{State, Array, no_array}
+use Rattle.std.proofs.Common.{◌≡◌, true, false, length, ap, ap₂, sym, ◌∙◌, subst, eq-eqb}
 use Rattle.ick_code.specs.meaning.Store.{set_array}
-use Rattle.ick_code.specs.meaning.Tape.{tape_numbers, take_bytes, with_elements}
+use Rattle.ick_code.specs.meaning.Tape.{tape_numbers, with_elements}
 use Rattle.ick_memory.specs.View.{View, view_of, state_of, shape_of, array_of, array_names, Fits}
 use Rattle.ick_machine.specs.Reads.{HasRead}
-use Rattle.ick_memory.proofs.ListLemmas.{read_as, array_held}
+use Rattle.ick_memory.proofs.ListLemmas.{read_as}
 use Rattle.ick_memory.proofs.MapLemmas.{array_slot}
-use Rattle.ick_machine.proofs.StateLemmas.{here_is, array_at, array_set, array_kept}
-use Rattle.ick_machine.proofs.TapeLemmas.{not_one, read_none, read_done, bytes_taken, got}
+use Rattle.ick_machine.proofs.StateLemmas.{here_is, array_set, array_kept}
+use Rattle.ick_machine.proofs.TapeLemmas.{not_one, read_none, read_done, bytes_taken}
 use Rattle.ick_machine.proofs.tape.read_array.Goals as goal
 
 pub returns-then-len-ne1-clause-does : goal.returns-then-len-ne1-clause-does

@@ -1,4 +1,4 @@
-use Rattle.std.proofs.Common.{List, ℕ, [], ◌∷◌, ◌++◌, length, ap, ◌∙◌, arith, length-append}
+use Rattle.std.proofs.Common.{[], ◌∷◌, length, ap, ◌∙◌, arith, length-append}
 use Rattle.ick_machine.specs.Reads.{number_read}
 use Rattle.ick_machine.proofs.TapeLemmas.{read_next}
 use Rattle.ick_machine.proofs.tape.read_bytes.Goals as goal
