@@ -8,3 +8,4 @@ mod ArrayStashLemmas
 mod TapeLemmas
 mod LoopLemmas
 mod TextLemmas
+mod StepLemmas

@@ -3,3 +3,4 @@ pub mod Asked
 pub mod Reads
 pub mod Run
 pub mod Walk
+pub mod Step

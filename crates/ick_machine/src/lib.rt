@@ -19,6 +19,8 @@
 //! | `evaluate` | operations of expressions |
 //! | `operate` | operations that take operands and change what a run remembers |
 //! | `operation` | one operation, and a list of them |
+//! | `met` | the statement that is met next |
+//! | `step` | one step of a run |
 #![tactic(auto)]
 
 mod asking;
@@ -27,6 +29,7 @@ mod control;
 mod evaluate;
 mod halt;
 mod input;
+mod met;
 mod names;
 mod operands;
 mod operate;
@@ -34,6 +37,7 @@ mod operation;
 mod place;
 mod reader;
 mod size;
+mod step;
 mod store;
 mod tape;
 mod text;
