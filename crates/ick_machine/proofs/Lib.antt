@@ -9,3 +9,4 @@ mod TapeLemmas
 mod LoopLemmas
 mod TextLemmas
 mod StepLemmas
+mod AnswerLemmas

@@ -21,8 +21,10 @@
 //! | `operation` | one operation, and a list of them |
 //! | `met` | the statement that is met next |
 //! | `step` | one step of a run |
+//! | `answer` | what a machine asks, by what it remembers |
 #![tactic(auto)]
 
+mod answer;
 mod asking;
 mod backtrack;
 mod control;
