@@ -4,3 +4,4 @@ pub mod Reads
 pub mod Run
 pub mod Walk
 pub mod Step
+pub mod Marks

@@ -22,6 +22,8 @@
 //! | `met` | the statement that is met next |
 //! | `step` | one step of a run |
 //! | `answer` | what a machine asks, by what it remembers |
+//! | `whole` | a step that is made whole or not at all |
+//! | `trailed` | a machine with marks that notes each change |
 #![tactic(auto)]
 
 mod answer;
@@ -43,7 +45,10 @@ mod step;
 mod store;
 mod tape;
 mod text;
+mod trailed;
 mod values;
+mod whole;
 
 pub use asking::{Ask, End};
 pub use backtrack::{Asks, Backtrack};
+pub use trailed::Trailed;
