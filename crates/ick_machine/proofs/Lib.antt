@@ -10,3 +10,4 @@ mod LoopLemmas
 mod TextLemmas
 mod StepLemmas
 mod AnswerLemmas
+mod CopyLemmas

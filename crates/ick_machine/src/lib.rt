@@ -24,12 +24,14 @@
 //! | `answer` | what a machine asks, by what it remembers |
 //! | `whole` | a step that is made whole or not at all |
 //! | `trailed` | a machine with marks that notes each change |
+//! | `copied` | a machine with marks that copies what it remembers |
 #![tactic(auto)]
 
 mod answer;
 mod asking;
 mod backtrack;
 mod control;
+mod copied;
 mod evaluate;
 mod halt;
 mod input;
@@ -51,4 +53,5 @@ mod whole;
 
 pub use asking::{Ask, End};
 pub use backtrack::{Asks, Backtrack};
+pub use copied::Copied;
 pub use trailed::Trailed;

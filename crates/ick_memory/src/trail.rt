@@ -45,7 +45,7 @@ impl Trail {
     }
 
     /// All changes are forgotten. Their room stays.
-    pub(crate) fn clear(&mut self)
+    pub fn clear(&mut self)
         ensures { history self.new ≡ [] }
     {
         self.entries.clear();
