@@ -102,6 +102,18 @@ impl FaultKind {
         }
     }
 
+    /// The three digits of the number.
+    pub fn digits(self) -> [u8; 3]
+        ensures { result ≡ three_digits (fault_number self) }
+    {
+        let number = self.number();
+        [
+            b'0' + (number / 100) as u8,
+            b'0' + (number / 10 % 10) as u8,
+            b'0' + (number % 10) as u8,
+        ]
+    }
+
     /// The text, in pieces: the subject is shown by two kinds alone.
     #[tactic(auto, unfolding(crate::specs::Faults::text_of))]
     fn text<'a>(self, subject: &'a [u8]) -> Text<'a>
@@ -164,7 +176,7 @@ pub fn append_message(out: &mut Vec<u8>, fault: &Fault<'_>) -> Result<(), NoMemo
         OnErr result (vec_capacity out.old < vec_len out.old + length text) }
     ensures capacity { vec_capacity out.old ≤ vec_capacity out.new }
 {
-    let number = number_digits(fault.kind.number());
+    let number = fault.kind.digits();
     let text = fault.kind.text(fault.subject);
     let mut buffer = Buffer::new();
     let next = buffer.format(u64::from(fault.statement) + 1).as_bytes();
@@ -182,16 +194,4 @@ pub fn append_message(out: &mut Vec<u8>, fault: &Fault<'_>) -> Result<(), NoMemo
             b"\n        CORRECT SOURCE AND RESUBNIT\n",
         ],
     )
-}
-
-/// The three digits of a number.
-fn number_digits(number: u16) -> [u8; 3]
-    requires { number < 1000 }
-    ensures { result ≡ three_digits number }
-{
-    [
-        b'0' + (number / 100) as u8,
-        b'0' + (number / 10 % 10) as u8,
-        b'0' + (number % 10) as u8,
-    ]
 }

@@ -16,7 +16,6 @@ use Rattle.ick_runs.specs.Draws.{IsDrawn, AreDrawn, means_done}
 use Rattle.ick_runs.proofs.RunLaws.{run-ended, run-plain, run-choice, run-wants, limit-end, limit-unused, Leads-wants}
 use Rattle.ick_runs.proofs.RunLaws.{compared, use-wants, wants-stops}
 use Rattle.ick_runs.proofs.OrdinaryLaws.{runs_end}
-use Rattle.ick_runs.proofs.Chances.{same_chance}
 
 -- choices that are drawn are so with one more, where the run asks it
 pub drawn-more : (p : Program) (s : State) (l : ℕ) (word : ℕ → ℕ) (c : List Bool) (t : State) (n chance : ℕ) (b : Bool) →
@@ -32,8 +31,10 @@ drawn-more p s l word c t n chance b h w a lt e = λ k other below asked.
           let taken : take k (c ++ b ∷ []) ≡ c = ap (λ i. take i (c ++ b ∷ [])) last ∙ take-append_seam c (b ∷ []) in
           let here : ask p (run p s l (take k (c ++ b ∷ []))).last ≡ choice chance =
           ap (λ x. ask p (run p s l x).last) taken ∙ (ap (λ r. ask p r.last) (Leads-wants p s l c t n chance w a lt) ∙ a) in
+          let same : choice chance ≡ choice other = sym here ∙ asked in
+          let chances : chance ≡ other = cc in
           ap (λ i. get_or (c ++ b ∷ []) i false) last ∙ (get_or-append_seam c b [] false
-          ∙ (e ∙ (ap (λ i. means_done (word i) chance) (sym last) ∙ ap (means_done (word k)) (same_chance chance other (sym here ∙ asked)))))
+          ∙ (e ∙ (ap (λ i. means_done (word i) chance) (sym last) ∙ ap (means_done (word k)) chances)))
     ]
 
 pub none-drawn : (p : Program) (s : State) (l : ℕ) (word : ℕ → ℕ) → AreDrawn p s l word []

@@ -15,7 +15,6 @@ pub mod GroupLaws
 pub mod PrintLaws
 pub mod BackLaws
 pub mod ReadingLaws
-pub mod Chances
 pub mod OrdinaryLaws
 pub mod DrawLaws
 pub mod SeededLaws

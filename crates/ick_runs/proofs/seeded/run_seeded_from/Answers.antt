@@ -1,7 +1,7 @@
 use Rattle.std.proofs.Common.{◌≡◌, ◌<◌, arith}
 use Rattle.std.proofs.lemmas.Grind.{common_steps}
 use Rattle.ick_machine.specs.Asked.{at_limit, finish_of}
-use Rattle.ick_runs.proofs.Chances.{chance_between}
+use Rattle.ick_code.proofs.AskLaws.{chance_between}
 use Rattle.ick_runs.proofs.RunLaws.{ends_limit}
 use Rattle.ick_runs.proofs.Walking.{asks_end, asks_chance, asks_plain, asks_going}
 use Rattle.ick_runs.proofs.OrdinaryLaws.{runs_plain}
