@@ -17,6 +17,10 @@ use Rattle.ick_runs.proofs.RunLaws.{run-ended, run-plain, run-choice, run-wants,
 use Rattle.ick_runs.proofs.RunLaws.{compared, use-wants, wants-stops}
 use Rattle.ick_runs.proofs.OrdinaryLaws.{runs_end}
 
+-- a choice is asked at one chance
+same_chance : (a b : ℕ) → choice a ≡ choice b → a ≡ b
+same_chance a b e = cc
+
 -- choices that are drawn are so with one more, where the run asks it
 pub drawn-more : (p : Program) (s : State) (l : ℕ) (word : ℕ → ℕ) (c : List Bool) (t : State) (n chance : ℕ) (b : Bool) →
     AreDrawn p s l word c → Leads p s l c t n → ask p t ≡ choice chance → n < l → b ≡ means_done (word (length c)) chance →
@@ -31,10 +35,8 @@ drawn-more p s l word c t n chance b h w a lt e = λ k other below asked.
           let taken : take k (c ++ b ∷ []) ≡ c = ap (λ i. take i (c ++ b ∷ [])) last ∙ take-append_seam c (b ∷ []) in
           let here : ask p (run p s l (take k (c ++ b ∷ []))).last ≡ choice chance =
           ap (λ x. ask p (run p s l x).last) taken ∙ (ap (λ r. ask p r.last) (Leads-wants p s l c t n chance w a lt) ∙ a) in
-          let same : choice chance ≡ choice other = sym here ∙ asked in
-          let chances : chance ≡ other = cc in
           ap (λ i. get_or (c ++ b ∷ []) i false) last ∙ (get_or-append_seam c b [] false
-          ∙ (e ∙ (ap (λ i. means_done (word i) chance) (sym last) ∙ ap (means_done (word k)) chances)))
+          ∙ (e ∙ (ap (λ i. means_done (word i) chance) (sym last) ∙ ap (means_done (word k)) (same_chance chance other (sym here ∙ asked)))))
     ]
 
 pub none-drawn : (p : Program) (s : State) (l : ℕ) (word : ℕ → ℕ) → AreDrawn p s l word []
