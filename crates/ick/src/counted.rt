@@ -4,7 +4,7 @@ ghost use Rattle.std.specs.Prelude.{◌≡◌, ◌+◌, ◌<◌, ◌≤◌, ◌^
 ghost use Rattle.std.specs.Prelude.{IfOk, is_ok, length};
 ghost use Rattle.std.specs.Io.KnownBytes.{ReadConsumes, WriteAppends};
 
-use ick_cli::DeviceFault;
+use ick_runs::DeviceFault;
 use std::io::{Read, Write};
 
 /// Reads some bytes. No byte for a target that isn't empty is the end of the stream.

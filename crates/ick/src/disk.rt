@@ -2,7 +2,8 @@
 ghost use Rattle.std.specs.Prelude.{◌≡◌, None, Some, [], false, if◌then◌else◌, is_some};
 
 use crate::counted::read_from;
-use ick_cli::{ByteSource, DeviceFault, Files};
+use ick_cli::Files;
+use ick_runs::{ByteSource, DeviceFault};
 use std::fs::{self, File};
 use std::io::{self, Read};
 

@@ -15,7 +15,8 @@ mod streams;
 mod words;
 
 use disk::DiskFiles;
-use ick_cli::{ByteSink, Status, WordsFault, refuse_words, serve};
+use ick_cli::{Status, WordsFault, refuse_words, serve};
+use ick_runs::ByteSink;
 use std::process::ExitCode;
 use streams::{InStream, OutStream};
 use words::{arguments, words_of};

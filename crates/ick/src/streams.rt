@@ -2,7 +2,7 @@
 ghost use Rattle.std.specs.Prelude.{◌≡◌, [], false};
 
 use crate::counted::{read_from, write_to};
-use ick_cli::{ByteSink, ByteSource, DeviceFault};
+use ick_runs::{ByteSink, ByteSource, DeviceFault};
 use std::io::{Read, Write};
 
 /// A stream that is read.

@@ -9,6 +9,4 @@ pub mod Stopped
 pub mod Summary
 pub mod Tool
 pub mod Usage
-pub mod Whole
 pub mod Words
-pub mod Written

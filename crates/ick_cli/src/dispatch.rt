@@ -7,12 +7,13 @@ ghost use Rattle.ick_cli.specs.Job.{asked, has_file};
 ghost use Rattle.ick_cli.specs.Tool.{Answer, IsSourceAnswer, IsToolAnswer, program_answer};
 
 use crate::commands::{answer_check, answer_list, answer_run};
-use crate::devices::{ByteSink, ByteSource, Files, ReadFault, read_first};
 use crate::ending::Ending;
+use crate::files::Files;
 use crate::notice::{Message, Notice};
 use crate::stopped::fault_message;
 use crate::words::{Job, Subcommand};
 use ick_bits::{Fault, FaultKind, NoMemory};
+use ick_runs::{ByteSink, ByteSource, ReadFault, read_first};
 use ick_source::{Program, Refusal, read_source};
 use std::alloc::Global;
 

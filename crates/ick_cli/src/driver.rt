@@ -11,13 +11,14 @@ ghost use Rattle.ick_cli.specs.Tool.{Answer, IsToolAnswer};
 ghost use Rattle.ick_cli.specs.Usage.{AreMistakes, AreRequests, IsHelped, IsRefused};
 ghost use Rattle.ick_cli.specs.Usage.{words_notice, words_status};
 
-use crate::devices::{ByteSink, ByteSource, Files};
 use crate::dispatch::perform;
+use crate::files::Files;
 use crate::notice::Notice;
 use crate::report::{finish, report};
 use crate::status::Status;
 use crate::usage::answer_words;
 use crate::words::read_job;
+use ick_runs::{ByteSink, ByteSource};
 use std::alloc::Global;
 
 /// Does the job that the words ask for, and says with which status the program ends.

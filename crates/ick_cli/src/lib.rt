@@ -1,7 +1,7 @@
 //! The command line: `serve` does the job that words ask for, over devices that the caller hands
 //! in.
 //!
-//! - `devices`: sources, sinks and files, and the loops over them
+//! - `files`: files that are opened by name
 //! - `words`: the commands and arguments, and the job that words ask for
 //! - `notice`: what is said on the error stream
 //! - `ending`: how the work of a job ends
@@ -18,11 +18,11 @@
 #![tactic(auto)]
 
 mod commands;
-mod devices;
 mod dispatch;
 mod driver;
 mod ending;
 mod execution;
+mod files;
 mod laws;
 mod notice;
 mod output;
@@ -32,8 +32,8 @@ mod stopped;
 mod usage;
 mod words;
 
-pub use devices::{ByteSink, ByteSource, DeviceFault, Files, SliceSource, VecSink, write_whole};
 pub use driver::{WordsFault, refuse_words, serve};
+pub use files::Files;
 pub use laws::one_answer;
 pub use status::Status;
 

@@ -2,9 +2,9 @@
 ghost use Rattle.std.specs.Prelude.{◌≡◌, ◌+◌, ◌<◌, ◌≤◌, ◌^◌, true};
 ghost use Rattle.ick_cli.specs.Ending.{Answers, LeavesWriter, message_text};
 
-use crate::devices::{ByteSink, write_whole};
 use crate::ending::Ending;
 use crate::notice::Message;
+use ick_runs::{ByteSink, write_whole};
 
 /// Writes an output, and ends with this status and error text where all of it went out.
 pub fn send<W: ByteSink>(output: &[u8], status: u8, message: Message, writer: &mut W) -> Ending

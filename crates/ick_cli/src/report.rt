@@ -3,9 +3,9 @@ ghost use Rattle.std.specs.Prelude.{◌≡◌, ◌+◌, ◌<◌, ◌^◌};
 ghost use Rattle.ick_cli.specs.Ending.{ending_status, ending_text};
 ghost use Rattle.ick_cli.specs.Serve.{Finishes};
 
-use crate::devices::{ByteSink, write_whole};
 use crate::ending::Ending;
 use crate::status::Status;
+use ick_runs::{ByteSink, write_whole};
 
 /// Writes the error text of an ending, and answers its status.
 pub fn report<E: ByteSink>(ending: &Ending, errors: &mut E) -> Status

@@ -1,7 +1,6 @@
 //! Rows through `serve`, as tables: what no clause says of the words, the texts and the devices.
 
 mod checks;
-mod devices;
 mod failures;
 mod fakes;
 mod hostile;

@@ -5,13 +5,13 @@ ghost use Rattle.ick_cli.specs.Notice.{notice_text};
 ghost use Rattle.ick_cli.specs.Serve.{Finishes, FinishesDue, IsDue, counts};
 ghost use Rattle.ick_cli.specs.Usage.{IsHelped, IsMistake, IsRefused, IsRequest};
 
-use crate::devices::{ByteSink, write_whole};
 use crate::ending::Ending;
 use crate::notice::Notice;
 use crate::report::{finish, report};
 use crate::status::Status;
 use clap::Error;
 use clap::error::ErrorKind;
+use ick_runs::{ByteSink, write_whole};
 use std::alloc::Global;
 
 /// Answers words that ask for no job: a mistake in them has its text among the errors, and a

@@ -5,11 +5,11 @@ ghost use Rattle.ick_cli.specs.Ending.{Answers, LeavesWriter};
 ghost use Rattle.ick_cli.specs.Summary.{summary};
 ghost use Rattle.ick_cli.specs.Tool.{shown};
 
-use crate::devices::ByteSink;
 use crate::ending::Ending;
 use crate::notice::Message;
 use crate::output::send;
 use ick_bits::{NoMemory, append_decimal};
+use ick_runs::ByteSink;
 use ick_source::Program;
 use std::alloc::Global;
 

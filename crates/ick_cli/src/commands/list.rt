@@ -5,11 +5,11 @@ ghost use Rattle.ick_source.specs.Programs.{trees_of};
 ghost use Rattle.ick_cli.specs.Ending.{Answers, LeavesWriter};
 ghost use Rattle.ick_cli.specs.Tool.{shown};
 
-use crate::devices::ByteSink;
 use crate::ending::Ending;
 use crate::notice::Message;
 use crate::output::send;
 use ick_bits::NoMemory;
+use ick_runs::ByteSink;
 use ick_source::{Program, append_listing};
 use std::alloc::Global;
 

@@ -5,13 +5,13 @@ ghost use Rattle.ick_cli.specs.Ending.{Answers, LeavesWriter};
 ghost use Rattle.ick_cli.specs.Run.{run_of};
 ghost use Rattle.ick_cli.specs.Tool.{run_answer};
 
-use crate::devices::ByteSink;
 use crate::ending::Ending;
 use crate::execution::run;
 use crate::output::send;
 use crate::stopped::{stop_message, stop_status};
 use ick_bits::NoMemory;
 use ick_code::compile;
+use ick_runs::ByteSink;
 use ick_source::Program;
 use std::alloc::Global;
 

@@ -3,7 +3,8 @@ ghost use Rattle.std.specs.Prelude.{◌≡◌, [], find, true};
 ghost use Rattle.std.specs.Option.{option_copied, option_map_or};
 ghost use Rattle.std.specs.Str.{bytes_eq};
 
-use crate::{ByteSink, ByteSource, DeviceFault, Files};
+use crate::Files;
+use ick_runs::{ByteSink, ByteSource, DeviceFault};
 
 /// A source that hands out one byte a call and so many `more`, and fails once `good` calls were
 /// made.

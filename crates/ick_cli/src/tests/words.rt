@@ -1,5 +1,7 @@
 //! Words that ask for no job.
 use super::table::{ONE_NUMERAL, left_by_words};
+use crate::{WordsFault, refuse_words};
+use ick_runs::VecSink;
 use std::alloc::Global;
 use std::process::Abort;
 
@@ -174,5 +176,18 @@ fn gives_help(rt: HostRuntime) {
         assert!(rt; left.code == 0, "{words:?}");
         assert!(rt; left.output.starts_with(front), "{words:?}");
         assert!(rt; left.error_text.is_empty());
+    }
+}
+
+#[test]
+fn refuses_words_that_are_no_texts(rt: HostRuntime) {
+    for (fault, line, code) in [
+        (WordsFault::NotText, b"WORDS NOT READ\n".as_slice(), 64),
+        (WordsFault::NoMemory, b"OUT OF MEMORY\n", 4),
+    ] {
+        let mut errors = VecSink::new(rt.alloc());
+        let status = refuse_words(fault, &mut errors);
+        assert!(rt; status.code() == code);
+        assert!(rt; errors.bytes() == line);
     }
 }

@@ -2,7 +2,7 @@
 ghost use Rattle.std.specs.Prelude.{◌≡◌, ◌+◌, ◌<◌, ◌^◌, ℕ, List, true, if◌then◌else◌};
 ghost use Rattle.std.specs.Prelude.{IfOk, is_ok};
 
-use crate::devices::{ByteSource, DeviceFault};
+use ick_runs::{ByteSource, DeviceFault};
 
 /// A source that reads the files it opens.
 pub trait Files: ByteSource {
