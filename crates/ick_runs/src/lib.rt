@@ -44,9 +44,9 @@ pub use errors::RunsError;
 pub use explorer::Explorer;
 pub use laws::{one_drawing, one_listing, one_order, one_reading, runs_are_limited};
 pub use listing::Listed2;
-pub use ordinary::{Ran, run_from};
+pub use ordinary::{Ran, run_from, run_with};
 pub use run::Run;
-pub use seeded::{Drawn, run_seeded_from};
+pub use seeded::{Drawn, run_seeded, run_seeded_from};
 pub use writing::write_runs;
 
 #[cfg(test)]

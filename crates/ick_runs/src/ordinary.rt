@@ -1,12 +1,15 @@
 //! One run with given choices.
 
 ghost use Rattle.std.specs.Prelude.{◌≡◌, ◌+◌, ◌<◌, ◌^◌, IfOk};
+ghost use Rattle.ick_code.specs.meaning.Move.{first_state};
+ghost use Rattle.ick_code.specs.Compiled.{code_program};
 ghost use Rattle.ick_machine.specs.Asked.{finish_of};
 ghost use Rattle.ick_runs.specs.Runs.{run};
 ghost use Rattle.ick_runs.specs.Ordinary.{IsRan, IgnoresUnused, HasEnded, IsWanting};
 
 use ick_bits::NoMemory;
-use ick_machine::{Ask, Asks, Backtrack, End};
+use ick_code::Code;
+use ick_machine::{Ask, Asks, Backtrack, End, Trailed};
 use std::alloc::Global;
 
 /// How a run with given choices came out.
@@ -94,4 +97,24 @@ pub fn run_from<'c, M: Asks<'c>>(
         machine.step(false)?;
         steps += 1;
     }
+}
+
+/// Runs a program over an input with given choices, for at most `limit` steps (this profile).
+/// Choices that aren't used change nothing.
+///
+/// The answer is `NoMemory` where the run or the answer's own texts could not grow.
+pub fn run_with<'c, 'a>(
+    alloc: Global,
+    code: &'c Code<'a>,
+    input: &'c [u8],
+    limit: u32,
+    choices: &[bool],
+) -> Result<Ran<'c>, NoMemory>
+    ensures run { let program = code_program code.now in IfOk result (λ r. IsRan choices.now
+        (run program (first_state program input.now) limit choices.now) r) }
+    ensures unused { let program = code_program code.now in IfOk result (λ r.
+        IgnoresUnused program (first_state program input.now) limit choices.now r) }
+{
+    let machine = Trailed::new(alloc, code, input, 0)?;
+    run_from(alloc, machine, limit, choices)
 }

@@ -1,6 +1,8 @@
 //! One run whose choices a seed draws.
 
 ghost use Rattle.std.specs.Prelude.{◌≡◌, ◌+◌, ◌<◌, ◌^◌, length, IfOk};
+ghost use Rattle.ick_code.specs.meaning.Move.{first_state};
+ghost use Rattle.ick_code.specs.Compiled.{code_program};
 ghost use Rattle.ick_machine.specs.Asked.{finish_of};
 ghost use Rattle.ick_runs.specs.Runs.{run};
 ghost use Rattle.ick_runs.specs.Ordinary.{IsRan, HasEnded, UsesAll};
@@ -9,7 +11,8 @@ ghost use Rattle.ick_runs.specs.Draws.{IsDrawn, word_of};
 use crate::draws::{drawn, generator};
 use crate::ordinary::{Ran, ended};
 use ick_bits::NoMemory;
-use ick_machine::{Ask, Asks, Backtrack, End};
+use ick_code::Code;
+use ick_machine::{Ask, Asks, Backtrack, End, Trailed};
 use rand_core::utils::NextWord;
 use std::alloc::Global;
 
@@ -77,4 +80,25 @@ pub fn run_seeded_from<'c, M: Asks<'c>>(
         machine.step(false)?;
         steps += 1;
     }
+}
+
+/// Runs a program over an input with the choices that a seed draws, one word a choice asked, for at
+/// most `limit` steps (this profile). The words are those of the generator PCG32 of the seed.
+///
+/// The answer is `NoMemory` where the run, the choices or the answer's own texts could not grow.
+pub fn run_seeded<'c, 'a>(
+    alloc: Global,
+    code: &'c Code<'a>,
+    input: &'c [u8],
+    limit: u32,
+    seed: u64,
+) -> Result<Drawn<'c>, NoMemory>
+    ensures choices { let program = code_program code.now in IfOk result (λ d. IsDrawn
+        program (first_state program input.now) limit (word_of seed) d.choices.items) }
+    ensures all { IfOk result (λ d. UsesAll d.choices.items d.ran) }
+    ensures ran { let program = code_program code.now in IfOk result (λ d. IsRan d.choices.items
+        (run program (first_state program input.now) limit d.choices.items) d.ran) }
+{
+    let machine = Trailed::new(alloc, code, input, 0)?;
+    run_seeded_from(alloc, machine, limit, seed)
 }
