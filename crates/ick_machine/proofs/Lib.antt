@@ -11,3 +11,4 @@ mod TextLemmas
 mod StepLemmas
 mod AnswerLemmas
 mod CopyLemmas
+mod NameLemmas

@@ -61,7 +61,8 @@ pub fn forget<N: Notes>(memory: &mut Memory, notes: &mut N, number: u32) -> Resu
     drop_returns(memory, notes, count)
 }
 
-/// As many returns leave the NEXT stack, and the run goes on at the last of them (Revised Manual, 4.4.4).
+/// As many returns leave the NEXT stack, and the run goes on at the last of them (Revised Manual,
+/// 4.4.4).
 pub fn resume<N: Notes>(memory: &mut Memory, notes: &mut N, number: u32) -> Result<(), Halt>
     ensures does { (code : Coded) (input : Input) → Does result code input (view_of memory.new)
         (resumed number (state_of code input (view_of memory.old))) }

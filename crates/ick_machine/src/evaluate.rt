@@ -102,8 +102,8 @@ pub fn xor_operand(operands: &mut Vec<Value>)
     push(operands, unary_xor(value));
 }
 
-/// The mingle of the last two operands, both of which are there before a fault is looked for (Revised
-/// Manual, 3.4.1).
+/// The mingle of the last two operands, both of which are there before a fault is looked for
+/// (Revised Manual, 3.4.1).
 pub fn mingle_operands(operands: &mut Vec<Value>) -> Result<(), Halt>
     requires two { 1 < length operands.old.items }
     ensures flow { (code : Coded) (input : Input) (text : List ℕ) (view : View) → Comes result code

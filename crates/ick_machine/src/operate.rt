@@ -1,6 +1,7 @@
 //! Operations that take operands and change what a run remembers.
 
-ghost use Rattle.std.specs.Prelude.{◌≡◌, ◌≤◌, ℕ, List, true, vec_capacity};
+ghost use Rattle.std.specs.Prelude.{◌≡◌, ◌<◌, ◌≤◌, ℕ, List, length, true, vec_capacity};
+ghost use Rattle.ick_code.specs.declared.code.Code.{Code as Coded};
 ghost use Rattle.ick_code.specs.declared.op.Op.TheVariants.{Store as DoStore, StoreAt as DoStoreAt};
 ghost use Rattle.ick_code.specs.declared.op.Op.TheVariants.{Resize as DoResize, Forget as DoForget};
 ghost use Rattle.ick_code.specs.declared.op.Op.TheVariants.{Resume as DoResume, Print as DoPrint};
@@ -97,21 +98,19 @@ pub fn resize_by_operands<N: Notes>(
 
 /// As many returns as the last operand says leave the NEXT stack.
 pub fn forget_operand<N: Notes>(
-    code: &Code,
     operands: &mut Vec<Value>,
     memory: &mut Memory,
     notes: &mut N,
 ) -> Result<(), Halt>
-    requires sound { Sound code.now DoForget operands.old (view_of memory.old) }
-    ensures flow { (input : Input) (text : List ℕ) → Comes result code.now input text
-        operands.new.items (view_of memory.new) (effect_at code.now input text DoForget
-        operands.old.items (view_of memory.old)) }
+    requires some { 0 < length operands.old.items }
+    ensures flow { (code : Coded) (input : Input) (text : List ℕ) → Comes result code input text
+        operands.new.items (view_of memory.new) (effect_at code input text DoForget operands.old.items
+        (view_of memory.old)) }
     ensures follows { Follows N.Undoes notes.old memory.old notes.new memory.new }
     ensures shape { shape_of (view_of memory.new) ≡ shape_of (view_of memory.old) }
     ensures end { memory.new.end ≡ memory.old.end }
     ensures capacity { vec_capacity operands.old ≤ vec_capacity operands.new }
 {
-    let _ = code;
     let value = pop(operands);
     forget(memory, notes, value.number())?;
     Ok(())
@@ -119,42 +118,38 @@ pub fn forget_operand<N: Notes>(
 
 /// The run goes on at the return that the last operand names.
 pub fn resume_operand<N: Notes>(
-    code: &Code,
     operands: &mut Vec<Value>,
     memory: &mut Memory,
     notes: &mut N,
 ) -> Result<(), Halt>
-    requires sound { Sound code.now DoResume operands.old (view_of memory.old) }
-    ensures flow { (input : Input) (text : List ℕ) → Comes result code.now input text
-        operands.new.items (view_of memory.new) (effect_at code.now input text DoResume
-        operands.old.items (view_of memory.old)) }
+    requires some { 0 < length operands.old.items }
+    ensures flow { (code : Coded) (input : Input) (text : List ℕ) → Comes result code input text
+        operands.new.items (view_of memory.new) (effect_at code input text DoResume operands.old.items
+        (view_of memory.old)) }
     ensures follows { Follows N.Undoes notes.old memory.old notes.new memory.new }
     ensures shape { shape_of (view_of memory.new) ≡ shape_of (view_of memory.old) }
     ensures end { memory.new.end ≡ memory.old.end }
     ensures capacity { vec_capacity operands.old ≤ vec_capacity operands.new }
 {
-    let _ = code;
     let value = pop(operands);
     resume(memory, notes, value.number())
 }
 
 /// The numeral of the last operand is appended to the output.
 pub fn print_operand<N: Notes>(
-    code: &Code,
     operands: &mut Vec<Value>,
     memory: &mut Memory,
     notes: &mut N,
 ) -> Result<(), Halt>
-    requires sound { Sound code.now DoPrint operands.old (view_of memory.old) }
-    ensures flow { (input : Input) (text : List ℕ) → Comes result code.now input text
-        operands.new.items (view_of memory.new) (effect_at code.now input text DoPrint
-        operands.old.items (view_of memory.old)) }
+    requires some { 0 < length operands.old.items }
+    ensures flow { (code : Coded) (input : Input) (text : List ℕ) → Comes result code input text
+        operands.new.items (view_of memory.new) (effect_at code input text DoPrint operands.old.items
+        (view_of memory.old)) }
     ensures follows { Follows N.Undoes notes.old memory.old notes.new memory.new }
     ensures shape { shape_of (view_of memory.new) ≡ shape_of (view_of memory.old) }
     ensures end { memory.new.end ≡ memory.old.end }
     ensures capacity { vec_capacity operands.old ≤ vec_capacity operands.new }
 {
-    let _ = code;
     let value = pop(operands);
     put_numeral(memory, notes, value.number())?;
     Ok(())

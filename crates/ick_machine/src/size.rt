@@ -65,7 +65,8 @@ fn zeroed(alloc: Global, dimensions: &[Value], count: u32) -> Result<Array, NoMe
     })
 }
 
-/// An array gets new dimensions, and its elements are 0, unless it is ignored (Revised Manual, 3.3).
+/// An array gets new dimensions, and its elements are 0, unless it is ignored (Revised Manual,
+/// 3.3).
 pub fn resize<N: Notes>(
     alloc: Global,
     code: &Code,

@@ -1,35 +1,31 @@
-use Rattle.std.proofs.Common.{reverse, ap, sym, ◌∙◌, true}
-use Rattle.std.proofs.lemmas.Option.{slice_get_within}
-use Rattle.ick_code.specs.meaning.Stash.{ignore}
+use Rattle.std.proofs.Common.{ap, sym, ◌∙◌}
 use Rattle.ick_code.specs.Compiled.{code_slots}
-use Rattle.ick_code.specs.Effects.{name_at, at_name, going}
-use Rattle.ick_memory.specs.View.{view_of, state_of, scalar_names, array_names}
+use Rattle.ick_code.specs.Effects.{name_at}
+use Rattle.ick_memory.specs.View.{view_of}
+use Rattle.ick_memory.proofs.MapLemmas.{scalar_slot, array_slot}
+use Rattle.ick_machine.proofs.ReturnLemmas.{on_ok}
+use Rattle.ick_machine.proofs.StateLemmas.{ignore_done, ignore_array_done}
+use Rattle.ick_machine.proofs.NameLemmas.{scalar_there, array_there}
 use Rattle.ick_machine.proofs.names.ignore.Goals as goal
 
-pub ignore_scalar-requires-clause-slot : goal.ignore_scalar-requires-clause-slot
-ignore_scalar-requires-clause-slot g c =
-    let n = c.requires.named in
-    slice_get_within (scalar_names c.args.code.now) c.in-Scalar.slot n.0 (ap (name_at (code_slots c.args.code.now)) (sym c.in-Scalar.is) ∙ n.1)
+pub put_ignored_scalar-requires : goal.put_ignored_scalar-requires
+put_ignored_scalar-requires g c = record {
+  slot = (scalar_there c.args.code.now c.args.memory.now c.args.name c.in-Scalar.slot c.requires.named.0 c.requires.fits c.in-Scalar.is c.requires.named.1).flag;
+}
 
-pub returns-in_ok-ignore_scalar-in-Scalar-clause-flow : goal.returns-in_ok-ignore_scalar-in-Scalar-clause-flow
-returns-in_ok-ignore_scalar-in-Scalar-clause-flow g c = λ input text items.
+pub put_ignored_array-requires : goal.put_ignored_array-requires
+put_ignored_array-requires g c = record {
+  slot = (array_there c.args.code.now c.args.memory.now c.args.name c.in-Array.slot c.requires.named.0 c.requires.fits c.in-Array.is c.requires.named.1).flag;
+}
+
+pub returns-in-Scalar-clause-does : goal.returns-in-Scalar-clause-does
+returns-in-Scalar-clause-does g c = on_ok c.put_ignored_scalar.result c.put_ignored_scalar.ensures.view (λ view input known at.
     let code = c.args.code.now in
-    let s = state_of code input (view_of c.args.memory.now) in
-    let operands = reverse items in
-    let n = c.requires.named in
-    ap (going operands) (c.in_ok-ignore_scalar-in-Scalar.ensures.does input n.0 (ap (name_at (code_slots code)) (sym c.in-Scalar.is) ∙ n.1))
-    ∙ sym (ap (λ o. at_name o (λ name. going operands (ignore true name s))) n.1)
+    let is = scalar_slot code c.in-Scalar.slot known c.law.ensures (ap (name_at (code_slots code)) (sym c.in-Scalar.is) ∙ at) in
+    ignore_done code input (view_of c.args.memory.now) c.in-Scalar.slot known is c.requires.fits c.args.on (view_of c.put_ignored_scalar.new.memory) view)
 
-pub ignore_array-requires-clause-slot : goal.ignore_array-requires-clause-slot
-ignore_array-requires-clause-slot g c =
-    let n = c.requires.named in
-    slice_get_within (array_names c.args.code.now) c.in-Array.slot n.0 (ap (name_at (code_slots c.args.code.now)) (sym c.in-Array.is) ∙ n.1)
-
-pub returns-in_ok-ignore_array-in-Array-clause-flow : goal.returns-in_ok-ignore_array-in-Array-clause-flow
-returns-in_ok-ignore_array-in-Array-clause-flow g c = λ input text items.
+pub returns-in-Array-clause-does : goal.returns-in-Array-clause-does
+returns-in-Array-clause-does g c = on_ok c.put_ignored_array.result c.put_ignored_array.ensures.view (λ view input known at.
     let code = c.args.code.now in
-    let s = state_of code input (view_of c.args.memory.now) in
-    let operands = reverse items in
-    let n = c.requires.named in
-    ap (going operands) (c.in_ok-ignore_array-in-Array.ensures.does input n.0 (ap (name_at (code_slots code)) (sym c.in-Array.is) ∙ n.1))
-    ∙ sym (ap (λ o. at_name o (λ name. going operands (ignore true name s))) n.1)
+    let is = array_slot code c.in-Array.slot known c.law.ensures (ap (name_at (code_slots code)) (sym c.in-Array.is) ∙ at) in
+    ignore_array_done code input (view_of c.args.memory.now) c.in-Array.slot known is c.requires.fits c.args.on (view_of c.put_ignored_array.new.memory) view)
