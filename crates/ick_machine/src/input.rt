@@ -1,11 +1,17 @@
 //! Lines of input that variables get.
 
-ghost use Rattle.std.specs.Prelude.{◌≡◌, ◌<◌, length, Some, true, slice_get};
+ghost use Rattle.std.specs.Prelude.{◌≡◌, ◌<◌, ℕ, length, Some, true, slice_get, IfOk, IfErr};
+ghost use Rattle.std.specs.Prelude.{Err as Stopped};
 ghost use Rattle.ick_source.specs.declared.tree.Name.{Name as Named};
+ghost use Rattle.ick_code.specs.declared.code.Code.{Code as Coded};
+ghost use Rattle.ick_code.specs.meaning.State.{State};
+ghost use Rattle.ick_code.specs.meaning.Outcome.{Outcome};
 ghost use Rattle.ick_code.specs.meaning.InputOutput.{read_to as read_into, read_at as read_in};
 ghost use Rattle.ick_memory.specs.View.{view_of, state_of, shape_of, scalar_names, array_names};
 ghost use Rattle.ick_memory.specs.View.{Fits, is_faultless};
+ghost use Rattle.ick_memory.specs.With.{with_taken};
 ghost use Rattle.ick_memory.specs.Undo.{Follows};
+ghost use Rattle.ick_machine.specs.Reads.{Leads, line_read};
 ghost use Rattle.ick_machine.specs.Run.{Does, Took};
 
 use crate::halt::Halt;
@@ -15,6 +21,42 @@ use crate::store::{store, store_in};
 use ick_bits::{FaultKind, Value};
 use ick_code::Code;
 use ick_memory::{Memory, Notes, put_taken};
+
+/// Takes a line of the input, and answers its number (Revised Manual, 4.4.12).
+fn take_line<N: Notes, R: Reader>(
+    memory: &mut Memory,
+    notes: &mut N,
+    reader: &mut R,
+) -> Result<u32, Halt>
+    requires faultless { is_faultless memory.old.end ≡ true }
+    ensures taken { IfOk result (λ number. Leads R.Has reader.old reader.new (λ before after.
+        (code : Coded) (go : ℕ → State → Outcome) → go number (state_of code after (view_of
+        memory.new)) ≡ line_read (state_of code before (view_of memory.old)) go)) }
+    ensures stopped { IfErr result (λ halt. Took R.Has reader.old reader.new (Stopped halt) (λ
+        before after. (code : Coded) (go : ℕ → State → Outcome) → Does (Stopped halt) code after
+        (view_of memory.new) (line_read (state_of code before (view_of memory.old)) go))) }
+    ensures others { view_of memory.new ≡ with_taken memory.new.taken (view_of memory.old) }
+    ensures held { R.held reader.new ≡ R.held reader.old }
+    ensures follows { Follows N.Undoes notes.old memory.old notes.new memory.new }
+    ensures shape { shape_of (view_of memory.new) ≡ shape_of (view_of memory.old) }
+    ensures end { memory.new.end ≡ memory.old.end }
+{
+    match reader.line(memory.taken)? {
+        Line::Nothing => Err(Halt::Fault(FaultKind::NoInput)),
+        Line::Number(number, to) => {
+            put_taken(memory, notes, to)?;
+            Ok(number)
+        }
+        Line::BadWord(from, end, to) => {
+            put_taken(memory, notes, to)?;
+            Err(Halt::Word(from, end))
+        }
+        Line::TooLarge(to) => {
+            put_taken(memory, notes, to)?;
+            Err(Halt::Fault(FaultKind::SixtyFour))
+        }
+    }
+}
 
 /// A line goes to a scalar (Revised Manual, 4.4.12).
 pub fn read_to<N: Notes, R: Reader>(
@@ -35,21 +77,8 @@ pub fn read_to<N: Notes, R: Reader>(
     ensures shape { shape_of (view_of memory.new) ≡ shape_of (view_of memory.old) }
     ensures end { memory.new.end ≡ memory.old.end }
 {
-    match reader.line(memory.taken)? {
-        Line::Nothing => Err(Halt::Fault(FaultKind::NoInput)),
-        Line::Number(number, to) => {
-            put_taken(memory, notes, to)?;
-            store(code, memory, notes, slot, number)
-        }
-        Line::BadWord(from, end, to) => {
-            put_taken(memory, notes, to)?;
-            Err(Halt::Word(from, end))
-        }
-        Line::TooLarge(to) => {
-            put_taken(memory, notes, to)?;
-            Err(Halt::Fault(FaultKind::SixtyFour))
-        }
-    }
+    let number = take_line(memory, notes, reader)?;
+    store(code, memory, notes, slot, number)
 }
 
 /// A line goes to an element, if it is there (Revised Manual, 4.4.12).
@@ -77,19 +106,6 @@ pub fn read_at<N: Notes, R: Reader>(
     let Some(at) = place(&memory.arrays[slot as usize], subs) else {
         return Err(Halt::Fault(FaultKind::Hyperspace));
     };
-    match reader.line(memory.taken)? {
-        Line::Nothing => Err(Halt::Fault(FaultKind::NoInput)),
-        Line::Number(number, to) => {
-            put_taken(memory, notes, to)?;
-            store_in(code, memory, notes, slot, at, number)
-        }
-        Line::BadWord(from, end, to) => {
-            put_taken(memory, notes, to)?;
-            Err(Halt::Word(from, end))
-        }
-        Line::TooLarge(to) => {
-            put_taken(memory, notes, to)?;
-            Err(Halt::Fault(FaultKind::SixtyFour))
-        }
-    }
+    let number = take_line(memory, notes, reader)?;
+    store_in(code, memory, notes, slot, at, number)
 }

@@ -1,56 +1,37 @@
-use Rattle.std.proofs.Common.{subst}
+use Rattle.std.proofs.Common.{rules, ◌≡◌, ℕ, Result, Err, sym, subst}
+use Rattle.ick_code.specs.declared.code.Code.{Code}
+use Rattle.ick_code.specs.meaning.State.{State}
+use Rattle.ick_code.specs.meaning.Outcome.{Outcome}
 use Rattle.ick_code.specs.meaning.Store.{store}
 use Rattle.ick_code.specs.meaning.InputOutput.{read_to}
-use Rattle.ick_memory.specs.View.{view_of, state_of}
-use Rattle.ick_machine.specs.Reads.{IsNext}
-use Rattle.ick_machine.specs.Run.{Does}
-use Rattle.ick_machine.proofs.ReadLemmas.{took, read_nothing, read_number, read_word, read_large}
+use Rattle.ick_memory.specs.View.{Input, view_of, state_of}
+use Rattle.ick_machine.specs.declared.halt.Halt.{Halt}
+use Rattle.ick_machine.specs.Reads.{line_read}
+use Rattle.ick_machine.specs.Run.{Does, Took}
+use Rattle.ick_machine.proofs.ReadLemmas.{took, took_then}
 use Rattle.ick_machine.proofs.input.read_to.Goals as goal
 
-pub returns-in-Nothing-clause-does : goal.returns-in-Nothing-clause-does
-returns-in-Nothing-clause-does g c = λ name at after has.
-    let v = view_of c.args.memory.now in
-    let line = c.in_ok-line.ensures.next after has in (
-      line.0,
-      line.1,
-      read_nothing c.args.code.now line.0 after v (store name) c.requires.faultless
-          (subst (λ l. IsNext l v.taken line.0 after) c.in-Nothing.is line.2),
-    )
-
-pub returns-in_ok-put_taken-in-Number-clause-does : goal.returns-in_ok-put_taken-in-Number-clause-does
-returns-in_ok-put_taken-in-Number-clause-does g c = λ name at.
+pub returns-in_err-number-clause-does : goal.returns-in_err-number-clause-does
+returns-in_err-number-clause-does g c = λ name at.
     let code = c.args.code.now in
     let v = view_of c.args.memory.now in
-    took g.R.Reader.Has c.args.reader.now c.line.new.self c.store.result
-    (λ before after. Does c.store.result code after (view_of c.store.new.memory) (read_to name (state_of code before v)))
+    let w = view_of c.take_line.new.memory in
+    let has = g.R.Reader.Has in
+    let halt = c.in_err-number.field-0.0 in
+    let is : c.from_residual.result ≡ Err halt = search rules in
+    let read = λ (r : Result (Unit {0}) Halt) (before : Input) (after : Input). Does r code after w (read_to name (state_of code before v)) in
+    subst (λ r. Took has c.args.reader.now c.take_line.new.reader r (read r)) (sym is)
+    (took_then has c.args.reader.now c.take_line.new.reader (Err halt)
+    (λ before after. (code : Code) (go : ℕ → State → Outcome) → Does (Err halt) code after w (line_read (state_of code before v) go))
+    (read (Err halt)) (λ before after did. did code (store name)) c.in_err-number.ensures.stopped)
+
+pub returns-clause-does : goal.returns-clause-does
+returns-clause-does g c = λ name at.
+    let code = c.args.code.now in
+    let v = view_of c.args.memory.now in
+    let w = view_of c.store.new.memory in
+    took g.R.Reader.Has c.args.reader.now c.take_line.new.reader c.store.result
+    (λ before after. Does c.store.result code after w (read_to name (state_of code before v)))
     (λ after has.
-    let line = c.in_ok-line.ensures.next after has in (
-      line.0,
-      line.1,
-      subst (Does c.store.result code after (view_of c.store.new.memory))
-          (read_number code line.0 after v (store name) c.requires.faultless c.in-Number.number c.in-Number.to (view_of c.put_taken.new.memory)
-          c.in_ok-put_taken-in-Number.ensures.view (subst (λ l. IsNext l v.taken line.0 after) c.in-Number.is line.2))
-          (c.store.ensures.does after name at),
-    ))
-
-pub returns-in_ok-put_taken-in-BadWord-clause-does : goal.returns-in_ok-put_taken-in-BadWord-clause-does
-returns-in_ok-put_taken-in-BadWord-clause-does g c = λ name at after has.
-    let v = view_of c.args.memory.now in
-    let line = c.in_ok-line.ensures.next after has in (
-      line.0,
-      line.1,
-      read_word c.args.code.now line.0 after v (store name) c.requires.faultless c.in-BadWord.from c.in-BadWord.end c.in-BadWord.to
-          (view_of c.put_taken-in-BadWord.new.memory) c.in_ok-put_taken-in-BadWord.ensures.view
-          (subst (λ l. IsNext l v.taken line.0 after) c.in-BadWord.is line.2),
-    )
-
-pub returns-in_ok-put_taken-in-TooLarge-clause-does : goal.returns-in_ok-put_taken-in-TooLarge-clause-does
-returns-in_ok-put_taken-in-TooLarge-clause-does g c = λ name at after has.
-    let v = view_of c.args.memory.now in
-    let line = c.in_ok-line.ensures.next after has in (
-      line.0,
-      line.1,
-      read_large c.args.code.now line.0 after v (store name) c.requires.faultless c.in-TooLarge.to
-          (view_of c.put_taken-in-TooLarge.new.memory) c.in_ok-put_taken-in-TooLarge.ensures.view
-          (subst (λ l. IsNext l v.taken line.0 after) c.in-TooLarge.is line.2),
-    )
+    let line = c.in_ok-number.ensures.taken after has in
+    (line.0, line.1, subst (Does c.store.result code after w) (line.2 code (store name)) (c.store.ensures.does after name at)))
