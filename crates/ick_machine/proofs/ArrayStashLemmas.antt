@@ -1,5 +1,6 @@
 -- Stashes of arrays.
-use Rattle.std.proofs.Common.{◌≡◌, ℕ, Bool, true, false, List, [], ◌∷◌, ◌++◌, get_or, reverse, sym, ap, ap₂, ◌∙◌, subst, length-set}
+use Rattle.std.proofs.Common.{◌≡◌, ℕ, Bool, true, false, List, [], ◌∷◌, ◌++◌, get_or, reverse, sym, ap, ap₂, ◌∙◌, subst}
+use Rattle.std.proofs.Common.{length-set}
 use Rattle.std.specs.Prelude.{Result, Ok, Err, slice_set, if◌then◌else◌}
 use Rattle.std.proofs.lemmas.List.{reverse-append}
 use Rattle.ick_bits.specs.declared.faults.FaultKind.TheVariants.{NothingStashed}
@@ -19,36 +20,52 @@ use Rattle.ick_machine.specs.declared.halt.Halt.TheVariants.{Fault}
 use Rattle.ick_machine.specs.Run.{Does}
 use Rattle.ick_machine.proofs.StateLemmas.{array_at, array_set, array_kept, reverse_entry}
 
-module _ (code : Code) (input : Input) (v : View) (slot : ℕ) (name : Name) (is : IsArray code slot name) (fit : Fits code v) where
+module _ (code : Code) (input : Input) (v : View) (slot : ℕ) (name : Name) (is : IsArray code slot name)
+    (fit : Fits code v) where
   stash_of : (state_of code input v).stashed_arrays name ≡ reverse (get_or v.array_stashes slot [])
-  stash_of = ap reverse (map_of-get (array_names code) v.array_stashes [] slot name [] is.once (ap (λ z. z.array_stashes) fit) is.at)
+  stash_of = ap reverse
+      (map_of-get (array_names code) v.array_stashes [] slot name [] is.once (ap (λ z. z.array_stashes) fit) is.at)
 
   stash_set : (l : List Array) (w : View) → w ≡ record v { array_stashes = slice_set v.array_stashes slot l } →
-      state_of code input w ≡ record (state_of code input v) { stashed_arrays = with_entry (state_of code input v).stashed_arrays name (reverse l) }
+      state_of code input w
+      ≡ record (state_of code input v) {
+        stashed_arrays =
+            with_entry (state_of code input v).stashed_arrays name (reverse l);
+      }
   stash_set l w changed =
       let s = state_of code input v in
       let put : (Name → List Array) → State = λ f. record s { stashed_arrays = f } in
       let turned : (Name → List Array) → Name → List Array = λ m o. reverse (m o) in
       ap (state_of code input) changed
-      ∙ ap (λ m. put (turned m)) (map_of-set (array_names code) v.array_stashes [] slot name l is.once (ap (λ z. z.array_stashes) fit) is.at)
+      ∙ ap (λ m. put (turned m))
+      (map_of-set (array_names code) v.array_stashes [] slot name l is.once (ap (λ z. z.array_stashes) fit) is.at)
       ∙ ap put (reverse_entry (map_of (array_names code) v.array_stashes []) name l)
 
-  pub array_stashed : (w : View) → w ≡ record v { array_stashes = saved v.array_stashes slot (get_or v.arrays slot no_array) } →
+  pub array_stashed : (w : View) →
+      w ≡ record v { array_stashes = saved v.array_stashes slot (get_or v.arrays slot no_array) } →
       state_of code input w ≡ stashed name (state_of code input v)
   array_stashed w changed =
       let s = state_of code input v in
       let put : List Array → State = λ l. record s { stashed_arrays = with_entry s.stashed_arrays name l } in
       let stash = get_or v.array_stashes slot [] in
       stash_set (stash ++ get_or v.arrays slot no_array ∷ []) w changed
-      ∙ ap put (reverse-append stash (get_or v.arrays slot no_array ∷ []) ∙ ap₂ (λ x l. x ∷ l) (sym (array_at code input v slot name is fit)) (sym stash_of))
-      ∙ ap (λ b. if b then put (s.arrays name ∷ s.stashed_arrays name) else record s { stashed_scalars = with_entry s.stashed_scalars name (s.scalars name ∷ s.stashed_scalars name) }) (sym is.kind)
+      ∙ ap put (reverse-append stash (get_or v.arrays slot no_array ∷ [])
+      ∙ ap₂ (λ x l. x ∷ l) (sym (array_at code input v slot name is fit)) (sym stash_of))
+      ∙ ap (λ b. if b then put (s.arrays name ∷ s.stashed_arrays name)
+      else record s {
+        stashed_scalars =
+            with_entry s.stashed_scalars name (s.scalars name ∷ s.stashed_scalars name);
+      }) (sym is.kind)
 
-  by_kind : retrieve_array name ((state_of code input v).stashed_arrays name) (state_of code input v) ≡ retrieved name (state_of code input v)
+  by_kind : retrieve_array name ((state_of code input v).stashed_arrays name) (state_of code input v)
+      ≡ retrieved name (state_of code input v)
   by_kind =
       let s = state_of code input v in
-      ap (λ b. if b then retrieve_array name (s.stashed_arrays name) s else retrieve_scalar name (s.stashed_scalars name) s) (sym is.kind)
+      ap (λ b. if b then retrieve_array name (s.stashed_arrays name) s
+      else retrieve_scalar name (s.stashed_scalars name) s) (sym is.kind)
 
-  none_left : (w : View) → (get_or v.array_stashes slot [] ≡ []) × (w ≡ v) → faults NothingStashed [] (state_of code input w) ≡ retrieved name (state_of code input v)
+  none_left : (w : View) → (get_or v.array_stashes slot [] ≡ []) × (w ≡ v) →
+      faults NothingStashed [] (state_of code input w) ≡ retrieved name (state_of code input v)
   none_left w h =
       let s = state_of code input v in
       ap (λ x. faults NothingStashed [] (state_of code input x)) h.1
@@ -60,7 +77,8 @@ module _ (code : Code) (input : Input) (v : View) (slot : ℕ) (name : Name) (is
   less = record v { array_stashes = unsaved v.array_stashes slot }
 
   less_fits : Fits code less
-  less_fits = let put : ℕ → Shape = λ n. record (shape_of v) { array_stashes = n } in ap put (length-set v.array_stashes slot _) ∙ fit
+  less_fits = let put : ℕ → Shape = λ n. record (shape_of v) { array_stashes = n } in
+      ap put (length-set v.array_stashes slot _) ∙ fit
 
   newest : (w : View) (array : Array) → IsTaken v.array_stashes w.array_stashes slot array →
       done (set_array name array (state_of code input less)) ≡ retrieved name (state_of code input v)
@@ -68,14 +86,19 @@ module _ (code : Code) (input : Input) (v : View) (slot : ℕ) (name : Name) (is
       let s = state_of code input v in
       let after = get_or w.array_stashes slot [] in
       let put : List Array → View = λ l. record v { array_stashes = slice_set v.array_stashes slot l } in
-      let left : all_but_last (get_or v.array_stashes slot []) ≡ after = ap all_but_last taken.value_is ∙ front_kept after array in
+      let left : all_but_last (get_or v.array_stashes slot []) ≡ after =
+      ap all_but_last taken.value_is ∙ front_kept after array in
       ap (λ x. done (set_array name array x)) (stash_set after less (ap put left))
-      ∙ ap (λ l. retrieve_array name l s) (sym (stash_of ∙ ap reverse taken.value_is ∙ reverse-append after (array ∷ [])))
+      ∙ ap (λ l. retrieve_array name l s)
+      (sym (stash_of ∙ ap reverse taken.value_is ∙ reverse-append after (array ∷ [])))
       ∙ by_kind
 
-  pub array_dropped : (b : Bool) (w : View) (r : Result (Unit {0}) Halt) → r ≡ (if b then Ok tt else Err (Fault NothingStashed)) →
+  pub array_dropped : (b : Bool) (w : View) (r : Result (Unit {0}) Halt) →
+      r ≡ (if b then Ok tt else Err (Fault NothingStashed)) →
       get_or v.ignored_arrays slot false ≡ true →
-      OnTrueOf {E = NoMemory} (Ok b) ((array : Array) × IsTaken v.array_stashes w.array_stashes slot array × (w ≡ record v { array_stashes = unsaved v.array_stashes slot })) →
+      OnTrueOf {E = NoMemory} (Ok b)
+      ((array : Array) × IsTaken v.array_stashes w.array_stashes slot array
+      × (w ≡ record v { array_stashes = unsaved v.array_stashes slot })) →
       OnFalseOf {E = NoMemory} (Ok b) ((get_or v.array_stashes slot [] ≡ []) × (w ≡ v)) →
       Does r code input w (retrieved name (state_of code input v))
   array_dropped true w r is_r held taken none =
@@ -86,9 +109,12 @@ module _ (code : Code) (input : Input) (v : View) (slot : ℕ) (name : Name) (is
   array_dropped false w r is_r held taken none =
       subst (λ x. Does x code input w (retrieved name (state_of code input v))) (sym is_r) (none_left w none)
 
-  pub array_restored : (b : Bool) (w : View) (r : Result (Unit {0}) Halt) → r ≡ (if b then Ok tt else Err (Fault NothingStashed)) →
+  pub array_restored : (b : Bool) (w : View) (r : Result (Unit {0}) Halt) →
+      r ≡ (if b then Ok tt else Err (Fault NothingStashed)) →
       get_or v.ignored_arrays slot false ≡ false →
-      OnTrueOf {E = NoMemory} (Ok b) ((array : Array) × IsTaken v.array_stashes w.array_stashes slot array × (w ≡ record v { arrays = slice_set v.arrays slot array; array_stashes = unsaved v.array_stashes slot })) →
+      OnTrueOf {E = NoMemory} (Ok b)
+      ((array : Array) × IsTaken v.array_stashes w.array_stashes slot array
+      × (w ≡ record v { arrays = slice_set v.arrays slot array; array_stashes = unsaved v.array_stashes slot })) →
       OnFalseOf {E = NoMemory} (Ok b) ((get_or v.array_stashes slot [] ≡ []) × (w ≡ v)) →
       Does r code input w (retrieved name (state_of code input v))
   array_restored true w r is_r free taken none =

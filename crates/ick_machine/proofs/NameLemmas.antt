@@ -21,24 +21,28 @@ pub record ArrayThere (m : Memory) (slot : ℕ) : Type 0 where
   pub stash : slot < length m.array_stashes.items
   pub flag : slot < length m.ignored_arrays.items
 
-pub scalar_there : (code : Code) (m : Memory) (name : SlotName) (slot : ℕ) (known : Name) → Fits code (view_of m) → name ≡ Scalar slot →
+pub scalar_there : (code : Code) (m : Memory) (name : SlotName) (slot : ℕ) (known : Name) → Fits code (view_of m) →
+    name ≡ Scalar slot →
     name_at (code_slots code) name ≡ Some known → ScalarThere m slot
 scalar_there code m name slot known fit is at =
     let within = slice_get_within (scalar_names code) slot known (ap (name_at (code_slots code)) (sym is) ∙ at) in
     record {
       number = subst (λ n. slot < n) (sym (ap (λ z. z.scalars) fit)) within;
-      stash = subst (λ n. slot < n) (sym (ap (λ z. z.scalar_stashes) fit) ∙ length-map m.scalar_stashes.items items_of) within;
+      stash = subst (λ n. slot < n)
+          (sym (ap (λ z. z.scalar_stashes) fit) ∙ length-map m.scalar_stashes.items items_of) within;
       flag = subst (λ n. slot < n) (sym (ap (λ z. z.ignored_scalars) fit)) within;
     }
 
-pub array_there : (code : Code) (m : Memory) (name : SlotName) (slot : ℕ) (known : Name) → Fits code (view_of m) → name ≡ Array slot →
+pub array_there : (code : Code) (m : Memory) (name : SlotName) (slot : ℕ) (known : Name) → Fits code (view_of m) →
+    name ≡ Array slot →
     name_at (code_slots code) name ≡ Some known → ArrayThere m slot
 array_there code m name slot known fit is at =
     let within = slice_get_within (array_names code) slot known (ap (name_at (code_slots code)) (sym is) ∙ at) in
     record {
       array = subst (λ n. slot < n) (sym (ap (λ z. z.arrays) fit) ∙ length-map m.arrays.items array_of) within;
       stash = subst (λ n. slot < n)
-          (sym (ap (λ z. z.array_stashes) fit) ∙ length-map (lists_of m.array_stashes.items) (map array_of) ∙ length-map m.array_stashes.items items_of)
+          (sym (ap (λ z. z.array_stashes) fit) ∙ length-map (lists_of m.array_stashes.items) (map array_of)
+          ∙ length-map m.array_stashes.items items_of)
           within;
       flag = subst (λ n. slot < n) (sym (ap (λ z. z.ignored_arrays) fit)) within;
     }

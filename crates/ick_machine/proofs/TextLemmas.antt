@@ -1,5 +1,6 @@
 -- A line of a text.
-use Rattle.std.proofs.Common.{◌≡◌, ℕ, ◌+◌, ◌-◌, ◌==◌, ◌<◌, ◌≤◌, List, [], ◌∷◌, length, take, drop, refl, sym, ap, ◌∙◌, arith, length-drop}
+use Rattle.std.proofs.Common.{◌≡◌, ℕ, ◌+◌, ◌-◌, ◌==◌, ◌<◌, ◌≤◌, List, [], ◌∷◌, length, take, drop, refl, sym, ap, ◌∙◌}
+use Rattle.std.proofs.Common.{arith, length-drop}
 use Rattle.std.specs.Prelude.{Err, slice_range}
 use Rattle.std.specs.List.{position_or_len}
 use Rattle.std.proofs.lemmas.List.{drop-take, take-take, drop-drop, length-take}
@@ -18,23 +19,28 @@ pub rest_of : (text : List ℕ) (from : ℕ) → take (length text - from) (drop
 rest_of text from = ap (λ n. take n (drop from text)) (sym (length-drop from text)) ∙ take-length (drop from text)
 
 some_line : (input : List ℕ) (s : State) (go : ℕ → State → Outcome) → 0 < length input →
-    with_input input s go ≡ with_number (first_line input) (line_answer (first_line input)) (record s { input = later_lines input }) go
+    with_input input s go
+    ≡ with_number (first_line input) (line_answer (first_line input)) (record s { input = later_lines input }) go
 some_line [] s go some = absurd (omega arith)
 some_line (b ∷ bs) s go some = refl
 
 -- from a place on stands a line of n bytes
-module _ (text rest : List ℕ) (from n : ℕ) (is : rest ≡ drop from text) (some : from < length text) (count : n ≡ position_or_len (λ b. b == 10) rest) where
+module _ (text rest : List ℕ) (from n : ℕ) (is : rest ≡ drop from text) (some : from < length text)
+    (count : n ≡ position_or_len (λ b. b == 10) rest) where
   line_taken : (s : State) (go : ℕ → State → Outcome) → s.input ≡ drop from text →
-      with_input s.input s go ≡ with_number (take n rest) (line_answer (take n rest)) (record s { input = drop (from + n + 1) text }) go
+      with_input s.input s go
+      ≡ with_number (take n rest) (line_answer (take n rest)) (record s { input = drop (from + n + 1) text }) go
   line_taken s go at =
-      let after : List ℕ → ℕ → Outcome = λ left k. with_number (take k rest) (line_answer (take k rest)) (record s { input = left }) go in
+      let after : List ℕ → ℕ → Outcome =
+      λ left k. with_number (take k rest) (line_answer (take k rest)) (record s { input = left }) go in
       let there : 0 < length rest = let whole = ap length is in omega (arith, some, whole, length-drop from text) in
       let next : from + (n + 1) ≡ from + n + 1 = omega arith in
       ap (λ i. with_input i s go) (at ∙ sym is) ∙ some_line rest s go there
       ∙ ap (λ k. after (drop (k + 1) rest) k) (sym count)
       ∙ ap (λ left. after left n) (ap (drop (n + 1)) is ∙ drop-drop (n + 1) from text ∙ ap (λ k. drop k text) next)
 
-  word_of : (begin end : ℕ) → begin < end → end ≤ length (take n rest) → slice_range (take n rest) begin end ≡ slice_range text (from + begin) (from + end)
+  word_of : (begin end : ℕ) → begin < end → end ≤ length (take n rest) →
+      slice_range (take n rest) begin end ≡ slice_range text (from + begin) (from + end)
   word_of begin end more within =
       let inside : end ≤ n = omega (arith, within, length-take n rest) in
       let whole : n ≡ begin + (n - begin) = omega (arith, more, inside) in
@@ -45,8 +51,10 @@ module _ (text rest : List ℕ) (from n : ℕ) (is : rest ≡ drop from text) (s
       ∙ ap (take (end - begin)) (ap (drop begin) is ∙ drop-drop begin from text)
       ∙ ap (λ k. take k (drop (from + begin) text)) size
 
-  pub word_line : (begin end : ℕ) → Err (digit.Word begin end) ≡ line_answer (take n rest) → begin < end → end ≤ length (take n rest) →
+  pub word_line : (begin end : ℕ) → Err (digit.Word begin end) ≡ line_answer (take n rest) → begin < end →
+      end ≤ length (take n rest) →
       IsNext (BadWord (from + begin) (from + end) (from + n + 1)) from (input_of text) (input_of text)
   word_line begin end bad more within = λ s go at.
       let left = record s { input = drop (from + n + 1) text } in
-      line_taken s go at ∙ ap (λ a. with_number (take n rest) a left go) (sym bad) ∙ ap (λ w. faults NoDigit w left) (word_of begin end more within)
+      line_taken s go at ∙ ap (λ a. with_number (take n rest) a left go) (sym bad)
+      ∙ ap (λ w. faults NoDigit w left) (word_of begin end more within)

@@ -5,7 +5,8 @@ use Rattle.ick_bits.specs.Values.{number_of}
 use Rattle.ick_bits.specs.declared.values.Value.{Value}
 
 abbrev pub stride : ℕ → ℕ → ℕ → Option ℕ
-stride place dimension number = if nat_le 1 number && nat_le number dimension then Some (place * dimension + (number - 1)) else None
+stride place dimension number =
+    if nat_le 1 number && nat_le number dimension then Some (place * dimension + (number - 1)) else None
 
 abbrev pub walk : ℕ → List ℕ → List Value → Option ℕ
 walk place [] [] = Some place

@@ -6,7 +6,9 @@ use Rattle.ick_machine.proofs.control.drop_returns.Goals as goal
 
 pub loop-init : goal.loop-init
 loop-init g c = record {
-  view = let whole : length c.args.memory.now.returns.items - 0 ≡ length c.args.memory.now.returns.items = omega arith in ap (λ l. record (view_of c.args.memory.now) { returns = l }) (sym (ap (λ n. take n c.args.memory.now.returns.items) whole ∙ take-length c.args.memory.now.returns.items));
+  view = let whole : length c.args.memory.now.returns.items - 0 ≡ length c.args.memory.now.returns.items =
+      omega arith in ap (λ l. record (view_of c.args.memory.now) { returns = l })
+      (sym (ap (λ n. take n c.args.memory.now.returns.items) whole ∙ take-length c.args.memory.now.returns.items));
   follows = λ k before h. h;
   end = refl;
   shape = refl;

@@ -8,14 +8,25 @@ use Rattle.ick_machine.proofs.evaluate.mingle_operands.Goals as goal
 
 pub pop-left-requires : goal.pop-left-requires
 pop-left-requires c =
-    let less = popped_length c.args.operands.now.items c.pop-right.new.operands.items c.pop-right.result c.pop-right.ensures.items in
+    let less = popped_length c.args.operands.now.items c.pop-right.new.operands.items c.pop-right.result
+    c.pop-right.ensures.items in
     omega (arith, less, c.requires.two)
 
 pub push-requires : goal.push-requires
 push-requires c =
-    let less = popped_length c.args.operands.now.items c.pop-right.new.operands.items c.pop-right.result c.pop-right.ensures.items in
-    let least = popped_length c.pop-right.new.operands.items c.pop-left.new.operands.items c.pop-left.result c.pop-left.ensures.items in
-    omega (arith, less, least, c.pop-right.ensures.capacity, c.pop-left.ensures.capacity, c.args.operands.now.ok, c.pop-left.new.operands.ok.0)
+    let less = popped_length c.args.operands.now.items c.pop-right.new.operands.items c.pop-right.result
+    c.pop-right.ensures.items in
+    let least = popped_length c.pop-right.new.operands.items c.pop-left.new.operands.items c.pop-left.result
+    c.pop-left.ensures.items in
+    omega (
+      arith,
+      less,
+      least,
+      c.pop-right.ensures.capacity,
+      c.pop-left.ensures.capacity,
+      c.args.operands.now.ok,
+      c.pop-left.new.operands.ok.0,
+    )
 
 pub returns-in-Ok-clause-flow : goal.returns-in-Ok-clause-flow
 returns-in-Ok-clause-flow c = λ code input text view.
@@ -23,11 +34,13 @@ returns-in-Ok-clause-flow c = λ code input text view.
     let rest = reverse c.pop-left.new.operands.items in
     ap (λ l. going l s) c.push.ensures.items
     ∙ ap (λ r. gives r rest s) c.in-Ok.ensures
-    ∙ ap (λ l. on_two l (λ v w rest. gives (binary_value Mingle v w) rest s)) (sym (c.pop-right.ensures.items ∙ ap (λ l. c.pop-right.result ∷ l) c.pop-left.ensures.items))
+    ∙ ap (λ l. on_two l (λ v w rest. gives (binary_value Mingle v w) rest s))
+    (sym (c.pop-right.ensures.items ∙ ap (λ l. c.pop-right.result ∷ l) c.pop-left.ensures.items))
 
 pub returns-in-Err-clause-flow : goal.returns-in-Err-clause-flow
 returns-in-Err-clause-flow c = λ code input text view.
     let s = state_of code input view in
     let rest = reverse c.pop-left.new.operands.items in
     ap (λ r. gives r rest s) c.in-Err.ensures
-    ∙ ap (λ l. on_two l (λ v w rest. gives (binary_value Mingle v w) rest s)) (sym (c.pop-right.ensures.items ∙ ap (λ l. c.pop-right.result ∷ l) c.pop-left.ensures.items))
+    ∙ ap (λ l. on_two l (λ v w rest. gives (binary_value Mingle v w) rest s))
+    (sym (c.pop-right.ensures.items ∙ ap (λ l. c.pop-right.result ∷ l) c.pop-left.ensures.items))

@@ -20,7 +20,9 @@ push-requires c =
     let items = reverse c.args.operands.now.items in
     let n = named (slice_get (scalar_names code) c.args.slot) _ c.requires.sound.2.moves in
     let fits : suc (length items) ≤ vec_capacity c.args.operands.now =
-    subst (λ o. operand_count (at_name o (λ name. going (scalar_value name s ∷ items) s)) ≤ vec_capacity c.args.operands.now) n.1 c.requires.sound.2.keeps in
+    subst (λ o. operand_count
+    (at_name o (λ name. going (scalar_value name s ∷ items) s)) ≤ vec_capacity c.args.operands.now) n.1
+    c.requires.sound.2.keeps in
     omega (arith, fits, length-reverse c.args.operands.now.items, c.args.operands.now.ok.0)
 
 pub returns-clause-flow : goal.returns-clause-flow

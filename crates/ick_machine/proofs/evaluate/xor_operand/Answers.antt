@@ -8,7 +8,8 @@ use Rattle.ick_machine.proofs.evaluate.xor_operand.Goals as goal
 
 pub push-requires : goal.push-requires
 push-requires c =
-    let less = popped_length c.args.operands.now.items c.pop-value.new.operands.items c.pop-value.result c.pop-value.ensures.items in
+    let less = popped_length c.args.operands.now.items c.pop-value.new.operands.items c.pop-value.result
+    c.pop-value.ensures.items in
     omega (arith, less, c.pop-value.ensures.capacity, c.args.operands.now.ok, c.pop-value.new.operands.ok.0)
 
 pub returns-clause-flow : goal.returns-clause-flow

@@ -19,8 +19,10 @@ use Rattle.ick_machine.proofs.input.read_at.Goals as goal
 pub store_in-requires-clause-at : goal.store_in-requires-clause-at
 store_in-requires-clause-at g c =
     let m = c.args.memory.now in
-    let within = subst (λ n. c.args.slot < n) (sym (ap (λ z. z.arrays) c.requires.fits) ∙ length-map m.arrays.items array_of) c.requires.slot in
-    let same = ap (λ z. get_or z.arrays c.args.slot no_array) c.take_line.ensures.others ∙ array_held m.arrays.items c.args.slot c.index.result.now within c.index.ensures in
+    let within = subst (λ n. c.args.slot < n)
+    (sym (ap (λ z. z.arrays) c.requires.fits) ∙ length-map m.arrays.items array_of) c.requires.slot in
+    let same = ap (λ z. get_or z.arrays c.args.slot no_array) c.take_line.ensures.others
+    ∙ array_held m.arrays.items c.args.slot c.index.result.now within c.index.ensures in
     subst (λ a. c.in-Some.at < length a.elements) (sym same) c.in-Some.ensures.within
 
 pub returns-in_default-clause-does : goal.returns-in_default-clause-does
@@ -29,8 +31,12 @@ returns-in_default-clause-does g c = λ name at after has.
     let m = c.args.memory.now in
     let s = state_of code after (view_of m) in
     let is = array_slot code c.args.slot name c.law.ensures at in
-    let held = here_is code after m c.args.slot name c.index.result.now is c.requires.fits c.index.ensures in
-    (after, has, ap (λ o. read_within name o s) (c.in_default.ensures.place ∙ ap (λ a. element_place a c.args.subs.now) (sym held)))
+    let held = here_is code after m c.args.slot name c.index.result.now is c.requires.fits c.index.ensures in (
+      after,
+      has,
+      ap (λ o. read_within name o s)
+          (c.in_default.ensures.place ∙ ap (λ a. element_place a c.args.subs.now) (sym held)),
+    )
 
 pub returns-in_err-number-clause-does : goal.returns-in_err-number-clause-does
 returns-in_err-number-clause-does g c = λ name at.
@@ -42,16 +48,20 @@ returns-in_err-number-clause-does g c = λ name at.
     let halt = c.in_err-number.field-0.0 in
     let is : c.from_residual.result ≡ Err halt = search rules in
     let slot = array_slot code c.args.slot name c.law.ensures at in
-    let read = λ (r : Result (Unit {0}) Halt) (before : Input) (after : Input). Does r code after w (read_at name c.args.subs.now (state_of code before v)) in
+    let read = λ (r : Result (Unit {0}) Halt) (before : Input) (after : Input). Does r code after w
+    (read_at name c.args.subs.now (state_of code before v)) in
     subst (λ r. Took has c.args.reader.now c.take_line.new.reader r (read r)) (sym is)
     (took_then has c.args.reader.now c.take_line.new.reader (Err halt)
-    (λ before after. (code : Code) (go : ℕ → State → Outcome) → Does (Err halt) code after w (line_read (state_of code before v) go))
+    (λ before after. (code : Code) (go : ℕ → State → Outcome) →
+    Does (Err halt) code after w (line_read (state_of code before v) go))
     (read (Err halt))
     (λ before after did.
     let s = state_of code before v in
     let held = here_is code before m c.args.slot name c.index.result.now slot c.requires.fits c.index.ensures in
-    let placed : Some c.in-Some.at ≡ element_place (s.arrays name) c.args.subs.now = c.in-Some.ensures.place ∙ ap (λ a. element_place a c.args.subs.now) (sym held) in
-    subst (Does (Err halt) code after w) (ap (λ o. read_within name o s) placed) (did code (λ n s. store_within name (Some c.in-Some.at) n s)))
+    let placed : Some c.in-Some.at ≡ element_place (s.arrays name) c.args.subs.now =
+    c.in-Some.ensures.place ∙ ap (λ a. element_place a c.args.subs.now) (sym held) in
+    subst (Does (Err halt) code after w) (ap (λ o. read_within name o s) placed)
+    (did code (λ n s. store_within name (Some c.in-Some.at) n s)))
     c.in_err-number.ensures.stopped)
 
 pub returns-clause-does : goal.returns-clause-does
@@ -67,7 +77,8 @@ returns-clause-does g c = λ name at.
     let line = c.in_ok-number.ensures.taken after has in
     let s = state_of code line.0 v in
     let held = here_is code line.0 m c.args.slot name c.index.result.now slot c.requires.fits c.index.ensures in
-    let placed : Some c.in-Some.at ≡ element_place (s.arrays name) c.args.subs.now = c.in-Some.ensures.place ∙ ap (λ a. element_place a c.args.subs.now) (sym held) in (
+    let placed : Some c.in-Some.at ≡ element_place (s.arrays name) c.args.subs.now =
+    c.in-Some.ensures.place ∙ ap (λ a. element_place a c.args.subs.now) (sym held) in (
       line.0,
       line.1,
       subst (Does c.store_in.result code after w)

@@ -19,10 +19,12 @@ returns-in_err-number-clause-does g c = λ name at.
     let has = g.R.Reader.Has in
     let halt = c.in_err-number.field-0.0 in
     let is : c.from_residual.result ≡ Err halt = search rules in
-    let read = λ (r : Result (Unit {0}) Halt) (before : Input) (after : Input). Does r code after w (read_to name (state_of code before v)) in
+    let read = λ (r : Result (Unit {0}) Halt) (before : Input) (after : Input). Does r code after w
+    (read_to name (state_of code before v)) in
     subst (λ r. Took has c.args.reader.now c.take_line.new.reader r (read r)) (sym is)
     (took_then has c.args.reader.now c.take_line.new.reader (Err halt)
-    (λ before after. (code : Code) (go : ℕ → State → Outcome) → Does (Err halt) code after w (line_read (state_of code before v) go))
+    (λ before after. (code : Code) (go : ℕ → State → Outcome) →
+    Does (Err halt) code after w (line_read (state_of code before v) go))
     (read (Err halt)) (λ before after did. did code (store name)) c.in_err-number.ensures.stopped)
 
 pub returns-clause-does : goal.returns-clause-does
@@ -33,5 +35,9 @@ returns-clause-does g c = λ name at.
     took g.R.Reader.Has c.args.reader.now c.take_line.new.reader c.store.result
     (λ before after. Does c.store.result code after w (read_to name (state_of code before v)))
     (λ after has.
-    let line = c.in_ok-number.ensures.taken after has in
-    (line.0, line.1, subst (Does c.store.result code after w) (line.2 code (store name)) (c.store.ensures.does after name at)))
+    let line = c.in_ok-number.ensures.taken after has in (
+      line.0,
+      line.1,
+      subst (Does c.store.result code after w) (line.2 code (store name))
+          (c.store.ensures.does after name at),
+    ))

@@ -29,7 +29,8 @@ returns-in_ok-put_taken-in-BadWord-clause-stopped g c = λ after has.
     let next = subst (λ l. IsNext l v.taken line.0 after) c.in-BadWord.is line.2 in (
       line.0,
       line.1,
-      λ code go. read_word code line.0 after v go c.requires.faultless c.in-BadWord.from c.in-BadWord.end c.in-BadWord.to
+      λ code go. read_word code line.0 after v go c.requires.faultless c.in-BadWord.from c.in-BadWord.end
+          c.in-BadWord.to
           (view_of c.put_taken-in-BadWord.new.memory) c.in_ok-put_taken-in-BadWord.ensures.view next,
     )
 

@@ -11,7 +11,8 @@ returns-then-index-clause-does g c = λ input name at.
     let v = view_of c.args.memory.now in
     array_dropped code input v c.args.slot name (array_slot code c.args.slot name c.law.ensures at) c.requires.fits
     c.in_ok-drop_array.field-0 (view_of c.drop_array.new.memory) c.taken_off.result c.taken_off.ensures
-    (read_as v.ignored_arrays c.args.slot (length (array_names code)) false c.index.result.now true c.requires.slot (ap (λ z. z.ignored_arrays) c.requires.fits) c.index.ensures c.if-index.true)
+    (read_as v.ignored_arrays c.args.slot (length (array_names code)) false c.index.result.now true c.requires.slot
+    (ap (λ z. z.ignored_arrays) c.requires.fits) c.index.ensures c.if-index.true)
     c.in_ok-drop_array.ensures.taken c.in_ok-drop_array.ensures.none
 
 pub returns-clause-does : goal.returns-clause-does
@@ -20,5 +21,6 @@ returns-clause-does g c = λ input name at.
     let v = view_of c.args.memory.now in
     array_restored code input v c.args.slot name (array_slot code c.args.slot name c.law.ensures at) c.requires.fits
     c.in_ok-restore_array.field-0 (view_of c.restore_array.new.memory) c.taken_off-2.result c.taken_off-2.ensures
-    (read_as v.ignored_arrays c.args.slot (length (array_names code)) false c.index.result.now false c.requires.slot (ap (λ z. z.ignored_arrays) c.requires.fits) c.index.ensures c.if-index.false)
+    (read_as v.ignored_arrays c.args.slot (length (array_names code)) false c.index.result.now false c.requires.slot
+    (ap (λ z. z.ignored_arrays) c.requires.fits) c.index.ensures c.if-index.false)
     c.in_ok-restore_array.ensures.taken c.in_ok-restore_array.ensures.none

@@ -16,7 +16,9 @@ returns-in-None-clause-does g c = λ input name at.
     let w = view_of c.take_scalar.new.memory in
     let slot = c.args.slot in
     let is = scalar_slot code slot name c.law.ensures at in
-    let none : get_or v.scalar_stashes slot [] ≡ [] = subst (λ o. OnNoneOf {A = ℕ} {E = NoMemory} (Ok o) (get_or v.scalar_stashes slot [] ≡ [])) c.in-None.is c.in_ok-take_scalar.ensures.none in
+    let none : get_or v.scalar_stashes slot [] ≡ [] =
+    subst (λ o. OnNoneOf {A = ℕ} {E = NoMemory} (Ok o) (get_or v.scalar_stashes slot [] ≡ [])) c.in-None.is
+    c.in_ok-take_scalar.ensures.none in
     retrieve_none code input v slot name is c.requires.fits w none c.in_ok-take_scalar.ensures.view
 
 pub returns-then-ignored-clause-does : goal.returns-then-ignored-clause-does
@@ -26,10 +28,17 @@ returns-then-ignored-clause-does g c = λ input name at.
     let w = view_of c.take_scalar.new.memory in
     let slot = c.args.slot in
     let is = scalar_slot code slot name c.law.ensures at in
-    let taken : IsTaken v.scalar_stashes w.scalar_stashes slot c.in-Some.number = subst (λ o. OnSomeOf {A = ℕ} {E = NoMemory} (Ok o) (λ number. IsTaken v.scalar_stashes w.scalar_stashes slot number)) c.in-Some.is c.in_ok-take_scalar.ensures.some in
+    let taken : IsTaken v.scalar_stashes w.scalar_stashes slot c.in-Some.number =
+    subst (λ o. OnSomeOf {A = ℕ} {E = NoMemory} (Ok o)
+    (λ number. IsTaken v.scalar_stashes w.scalar_stashes slot number)) c.in-Some.is
+    c.in_ok-take_scalar.ensures.some in
     let fit = c.take_scalar.ensures.shape ∙ c.requires.fits in
-    let flag : get_or w.ignored_scalars slot false ≡ get_or v.ignored_scalars slot false = ap (λ z. get_or z.ignored_scalars slot false) c.in_ok-take_scalar.ensures.view in
-    ap done (scalar_kept code input w slot name is fit c.in-Some.number (flag ∙ read_as v.ignored_scalars slot (length (scalar_names code)) false c.index-ignored.result.now true c.requires.slot (ap (λ z. z.ignored_scalars) c.requires.fits) c.index-ignored.ensures c.if-ignored.true))
+    let flag : get_or w.ignored_scalars slot false ≡ get_or v.ignored_scalars slot false =
+    ap (λ z. get_or z.ignored_scalars slot false) c.in_ok-take_scalar.ensures.view in
+    ap done (scalar_kept code input w slot name is fit c.in-Some.number
+    (flag ∙ read_as v.ignored_scalars slot
+    (length (scalar_names code)) false c.index-ignored.result.now true c.requires.slot
+    (ap (λ z. z.ignored_scalars) c.requires.fits) c.index-ignored.ensures c.if-ignored.true))
     ∙ retrieve_some code input v slot name is c.requires.fits w c.in-Some.number taken c.in_ok-take_scalar.ensures.view
 
 pub returns-in_ok-put_scalar-in-Some-clause-does : goal.returns-in_ok-put_scalar-in-Some-clause-does
@@ -39,9 +48,16 @@ returns-in_ok-put_scalar-in-Some-clause-does g c = λ input name at.
     let w = view_of c.take_scalar.new.memory in
     let slot = c.args.slot in
     let is = scalar_slot code slot name c.law.ensures at in
-    let taken : IsTaken v.scalar_stashes w.scalar_stashes slot c.in-Some.number = subst (λ o. OnSomeOf {A = ℕ} {E = NoMemory} (Ok o) (λ number. IsTaken v.scalar_stashes w.scalar_stashes slot number)) c.in-Some.is c.in_ok-take_scalar.ensures.some in
+    let taken : IsTaken v.scalar_stashes w.scalar_stashes slot c.in-Some.number =
+    subst (λ o. OnSomeOf {A = ℕ} {E = NoMemory} (Ok o)
+    (λ number. IsTaken v.scalar_stashes w.scalar_stashes slot number)) c.in-Some.is
+    c.in_ok-take_scalar.ensures.some in
     let fit = c.take_scalar.ensures.shape ∙ c.requires.fits in
-    let flag : get_or w.ignored_scalars slot false ≡ get_or v.ignored_scalars slot false = ap (λ z. get_or z.ignored_scalars slot false) c.in_ok-take_scalar.ensures.view in
+    let flag : get_or w.ignored_scalars slot false ≡ get_or v.ignored_scalars slot false =
+    ap (λ z. get_or z.ignored_scalars slot false) c.in_ok-take_scalar.ensures.view in
     ap (λ x. done (state_of code input x)) c.in_ok-put_scalar-in-Some.ensures.view
-    ∙ ap done (scalar_set code input w slot name is fit c.in-Some.number (flag ∙ read_as v.ignored_scalars slot (length (scalar_names code)) false c.index-ignored.result.now false c.requires.slot (ap (λ z. z.ignored_scalars) c.requires.fits) c.index-ignored.ensures c.if-ignored.false))
+    ∙ ap done (scalar_set code input w slot name is fit c.in-Some.number
+    (flag ∙ read_as v.ignored_scalars slot
+    (length (scalar_names code)) false c.index-ignored.result.now false c.requires.slot
+    (ap (λ z. z.ignored_scalars) c.requires.fits) c.index-ignored.ensures c.if-ignored.false))
     ∙ retrieve_some code input v slot name is c.requires.fits w c.in-Some.number taken c.in_ok-take_scalar.ensures.view

@@ -12,5 +12,7 @@ returns-clause-flow g c = λ code input text.
     let s = state_of code input (view_of c.args.memory.now) in
     let rest = c.pop-value.new.operands.items in
     subst (Comes c.resume.result code input text rest (view_of c.resume.new.memory))
-    (ap (λ m. flow_of (reverse rest) (resume m s)) c.number.ensures.value ∙ ap (λ l. on_one l (λ v rest. flow_of rest (resume (number_of v) s))) (sym c.pop-value.ensures.items))
-    (came c.resume.result code input text rest (view_of c.resume.new.memory) (resume c.number.result s) (c.resume.ensures.does code input))
+    (ap (λ m. flow_of (reverse rest) (resume m s)) c.number.ensures.value
+    ∙ ap (λ l. on_one l (λ v rest. flow_of rest (resume (number_of v) s))) (sym c.pop-value.ensures.items))
+    (came c.resume.result code input text rest (view_of c.resume.new.memory) (resume c.number.result s)
+    (c.resume.ensures.does code input))

@@ -27,5 +27,8 @@ returns-clause-flow g c = λ input text.
     let n = named (slice_get (scalar_names code) c.args.slot) _ c.requires.sound.2.moves in
     subst (Comes c.store.result code input text c.pop-value.new.operands.items (view_of c.store.new.memory))
     (ap (λ m. flow_of (reverse c.pop-value.new.operands.items) (store n.0 m s)) c.number.ensures.value
-    ∙ at_one (slice_get (scalar_names code) c.args.slot) n.0 (reverse c.args.operands.now.items) (reverse c.pop-value.new.operands.items) c.pop-value.result (λ name v rest. flow_of rest (store name (number_of v) s)) n.1 c.pop-value.ensures.items)
-    (came c.store.result code input text c.pop-value.new.operands.items (view_of c.store.new.memory) (store n.0 c.number.result s) (c.store.ensures.does input n.0 n.1))
+    ∙ at_one (slice_get (scalar_names code) c.args.slot) n.0 (reverse c.args.operands.now.items)
+    (reverse c.pop-value.new.operands.items) c.pop-value.result
+    (λ name v rest. flow_of rest (store name (number_of v) s)) n.1 c.pop-value.ensures.items)
+    (came c.store.result code input text c.pop-value.new.operands.items (view_of c.store.new.memory)
+    (store n.0 c.number.result s) (c.store.ensures.does input n.0 n.1))

@@ -18,56 +18,66 @@ pub returns-in-Constant-clause-flow : goal.returns-in-Constant-clause-flow
 returns-in-Constant-clause-flow g c = λ text.
     let v = view_of c.args.memory.now in
     let items = c.args.operands.now.items in
-    stays g.R.Reader.Has c.args.reader.now c.args.code.now items c.push_constant.new.operands.items v v text (Ok tt) c.args.op (Constant c.in-Constant.number) c.in-Constant.is
+    stays g.R.Reader.Has c.args.reader.now c.args.code.now items c.push_constant.new.operands.items v v text
+    (Ok tt) c.args.op (Constant c.in-Constant.number) c.in-Constant.is
     (λ input. c.push_constant.ensures.flow c.args.code.now input text v)
 
 pub returns-in-Load-clause-flow : goal.returns-in-Load-clause-flow
 returns-in-Load-clause-flow g c = λ text.
     let v = view_of c.args.memory.now in
     let items = c.args.operands.now.items in
-    stays g.R.Reader.Has c.args.reader.now c.args.code.now items c.push_scalar.new.operands.items v v text (Ok tt) c.args.op (Load c.in-Load.slot) c.in-Load.is
+    stays g.R.Reader.Has c.args.reader.now c.args.code.now items c.push_scalar.new.operands.items v v text
+    (Ok tt) c.args.op (Load c.in-Load.slot) c.in-Load.is
     (λ input. c.push_scalar.ensures.flow input text)
 
 pub returns-in-And-clause-flow : goal.returns-in-And-clause-flow
 returns-in-And-clause-flow g c = λ text.
     let v = view_of c.args.memory.now in
     let items = c.args.operands.now.items in
-    stays g.R.Reader.Has c.args.reader.now c.args.code.now items c.and_operand.new.operands.items v v text (Ok tt) c.args.op And c.in-And.is
+    stays g.R.Reader.Has c.args.reader.now c.args.code.now items c.and_operand.new.operands.items v v text
+    (Ok tt) c.args.op And c.in-And.is
     (λ input. c.and_operand.ensures.flow c.args.code.now input text v)
 
 pub returns-in-Or-clause-flow : goal.returns-in-Or-clause-flow
 returns-in-Or-clause-flow g c = λ text.
     let v = view_of c.args.memory.now in
     let items = c.args.operands.now.items in
-    stays g.R.Reader.Has c.args.reader.now c.args.code.now items c.or_operand.new.operands.items v v text (Ok tt) c.args.op Or c.in-Or.is
+    stays g.R.Reader.Has c.args.reader.now c.args.code.now items c.or_operand.new.operands.items v v text
+    (Ok tt) c.args.op Or c.in-Or.is
     (λ input. c.or_operand.ensures.flow c.args.code.now input text v)
 
 pub returns-in-Xor-clause-flow : goal.returns-in-Xor-clause-flow
 returns-in-Xor-clause-flow g c = λ text.
     let v = view_of c.args.memory.now in
     let items = c.args.operands.now.items in
-    stays g.R.Reader.Has c.args.reader.now c.args.code.now items c.xor_operand.new.operands.items v v text (Ok tt) c.args.op Xor c.in-Xor.is
+    stays g.R.Reader.Has c.args.reader.now c.args.code.now items c.xor_operand.new.operands.items v v text
+    (Ok tt) c.args.op Xor c.in-Xor.is
     (λ input. c.xor_operand.ensures.flow c.args.code.now input text v)
 
 pub returns-in-Select-clause-flow : goal.returns-in-Select-clause-flow
 returns-in-Select-clause-flow g c = λ text.
     let v = view_of c.args.memory.now in
     let items = c.args.operands.now.items in
-    stays g.R.Reader.Has c.args.reader.now c.args.code.now items c.select_operands.new.operands.items v v text (Ok tt) c.args.op Select c.in-Select.is
+    stays g.R.Reader.Has c.args.reader.now c.args.code.now items c.select_operands.new.operands.items v v text
+    (Ok tt) c.args.op Select c.in-Select.is
     (λ input. c.select_operands.ensures.flow c.args.code.now input text v)
 
 pub returns-in_ok-abstain_kind-in-AbstainKind-clause-flow : goal.returns-in_ok-abstain_kind-in-AbstainKind-clause-flow
 returns-in_ok-abstain_kind-in-AbstainKind-clause-flow g c = λ text.
     let v = view_of c.args.memory.now in
     let items = c.args.operands.now.items in
-    stays g.R.Reader.Has c.args.reader.now c.args.code.now items items v (view_of c.abstain_kind.new.memory) text (Ok tt) c.args.op (AbstainKind c.in-AbstainKind.gerund) c.in-AbstainKind.is
+    stays g.R.Reader.Has c.args.reader.now c.args.code.now items items v (view_of c.abstain_kind.new.memory) text
+    (Ok tt) c.args.op (AbstainKind c.in-AbstainKind.gerund) c.in-AbstainKind.is
     (λ input. ap (going (reverse items)) (c.in_ok-abstain_kind-in-AbstainKind.ensures.does input))
 
-pub returns-in_ok-abstain_kind-in-ReinstateKind-clause-flow : goal.returns-in_ok-abstain_kind-in-ReinstateKind-clause-flow
+pub returns-in_ok-abstain_kind-in-ReinstateKind-clause-flow :
+    goal.returns-in_ok-abstain_kind-in-ReinstateKind-clause-flow
 returns-in_ok-abstain_kind-in-ReinstateKind-clause-flow g c = λ text.
     let v = view_of c.args.memory.now in
     let items = c.args.operands.now.items in
-    stays g.R.Reader.Has c.args.reader.now c.args.code.now items items v (view_of c.abstain_kind-in-ReinstateKind.new.memory) text (Ok tt) c.args.op (ReinstateKind c.in-ReinstateKind.gerund) c.in-ReinstateKind.is
+    stays g.R.Reader.Has c.args.reader.now c.args.code.now items items v
+    (view_of c.abstain_kind-in-ReinstateKind.new.memory) text (Ok tt) c.args.op
+    (ReinstateKind c.in-ReinstateKind.gerund) c.in-ReinstateKind.is
     (λ input. ap (going (reverse items)) (c.in_ok-abstain_kind-in-ReinstateKind.ensures.does input))
 
 pub returns-in-ReadTo-clause-flow : goal.returns-in-ReadTo-clause-flow
@@ -79,15 +89,19 @@ returns-in-ReadTo-clause-flow g c = λ text.
     let moves = subst (λ op. effect_at code sound.1 sound.0 op items v ≢ stuck) c.in-ReadTo.is sound.2.moves in
     let n = named (slice_get (scalar_names code) c.in-ReadTo.slot) _ moves in
     let w = view_of c.read_to.new.memory in
-    reads g.R.Reader.Has c.args.reader.now c.read_to.new.reader code items items v w text c.read_to.result c.args.op (ReadTo c.in-ReadTo.slot) c.in-ReadTo.is
-    (took_at_slot g.R.Reader.Has c.args.reader.now c.read_to.new.reader c.read_to.result code text items v w (slice_get (scalar_names code) c.in-ReadTo.slot) n.0 read_to n.1
+    reads g.R.Reader.Has c.args.reader.now c.read_to.new.reader code items items v w text c.read_to.result c.args.op
+    (ReadTo c.in-ReadTo.slot) c.in-ReadTo.is
+    (took_at_slot g.R.Reader.Has c.args.reader.now c.read_to.new.reader c.read_to.result code text items v w
+    (slice_get (scalar_names code) c.in-ReadTo.slot) n.0 read_to n.1
     (c.read_to.ensures.does n.0 n.1))
 
 pub returns-in-ReadAt-clause-flow : goal.returns-in-ReadAt-clause-flow
 returns-in-ReadAt-clause-flow g c = λ text.
     let v = view_of c.args.memory.now in
     let w = view_of c.read_at_operands.new.memory in
-    reads g.R.Reader.Has c.args.reader.now c.read_at_operands.new.reader c.args.code.now c.args.operands.now.items c.read_at_operands.new.operands.items v w text c.read_at_operands.result c.args.op (ReadAt c.in-ReadAt.slot c.in-ReadAt.count) c.in-ReadAt.is
+    reads g.R.Reader.Has c.args.reader.now c.read_at_operands.new.reader c.args.code.now c.args.operands.now.items
+    c.read_at_operands.new.operands.items v w text c.read_at_operands.result c.args.op
+    (ReadAt c.in-ReadAt.slot c.in-ReadAt.count) c.in-ReadAt.is
     (c.read_at_operands.ensures.flow text)
 
 pub returns-in-PrintArray-clause-flow : goal.returns-in-PrintArray-clause-flow
@@ -99,8 +113,10 @@ returns-in-PrintArray-clause-flow g c = λ text.
     let moves = subst (λ op. effect_at code sound.1 sound.0 op items v ≢ stuck) c.in-PrintArray.is sound.2.moves in
     let n = named (slice_get (array_names code) c.in-PrintArray.slot) _ moves in
     let w = view_of c.print_array.new.memory in
-    stays g.R.Reader.Has c.args.reader.now code items items v w text c.print_array.result c.args.op (PrintArray c.in-PrintArray.slot) c.in-PrintArray.is
-    (λ input. at_slot c.print_array.result code input text items w (slice_get (array_names code) c.in-PrintArray.slot) n.0 (λ name. print_array name (state_of code input v)) n.1
+    stays g.R.Reader.Has c.args.reader.now code items items v w text c.print_array.result c.args.op
+    (PrintArray c.in-PrintArray.slot) c.in-PrintArray.is
+    (λ input. at_slot c.print_array.result code input text items w
+    (slice_get (array_names code) c.in-PrintArray.slot) n.0 (λ name. print_array name (state_of code input v)) n.1
     (c.print_array.ensures.does input n.0 n.1))
 
 pub returns-in-ReadArray-clause-flow : goal.returns-in-ReadArray-clause-flow
@@ -112,8 +128,10 @@ returns-in-ReadArray-clause-flow g c = λ text.
     let moves = subst (λ op. effect_at code sound.1 sound.0 op items v ≢ stuck) c.in-ReadArray.is sound.2.moves in
     let n = named (slice_get (array_names code) c.in-ReadArray.slot) _ moves in
     let w = view_of c.read_array.new.memory in
-    reads g.R.Reader.Has c.args.reader.now c.read_array.new.reader code items items v w text c.read_array.result c.args.op (ReadArray c.in-ReadArray.slot) c.in-ReadArray.is
-    (took_at_slot g.R.Reader.Has c.args.reader.now c.read_array.new.reader c.read_array.result code text items v w (slice_get (array_names code) c.in-ReadArray.slot) n.0 read_array n.1
+    reads g.R.Reader.Has c.args.reader.now c.read_array.new.reader code items items v w text c.read_array.result
+    c.args.op (ReadArray c.in-ReadArray.slot) c.in-ReadArray.is
+    (took_at_slot g.R.Reader.Has c.args.reader.now c.read_array.new.reader c.read_array.result code text items v w
+    (slice_get (array_names code) c.in-ReadArray.slot) n.0 read_array n.1
     (c.read_array.ensures.does n.0 n.1))
 
 pub returns-in_ok-stash-in-Save-clause-flow : goal.returns-in_ok-stash-in-Save-clause-flow
@@ -124,8 +142,10 @@ returns-in_ok-stash-in-Save-clause-flow g c = λ text.
     let sound = c.requires.sound in
     let moves = subst (λ op. effect_at code sound.1 sound.0 op items v ≢ stuck) c.in-Save.is sound.2.moves in
     let n = named (name_at (code_slots code) c.in-Save.name) _ moves in
-    stays g.R.Reader.Has c.args.reader.now code items items v (view_of c.stash.new.memory) text (Ok tt) c.args.op (Save c.in-Save.name) c.in-Save.is
-    (λ input. at_slot (Ok tt) code input text items (view_of c.stash.new.memory) (name_at (code_slots code) c.in-Save.name) n.0 (λ name. done (stash name (state_of code input v))) n.1
+    stays g.R.Reader.Has c.args.reader.now code items items v (view_of c.stash.new.memory) text (Ok tt) c.args.op
+    (Save c.in-Save.name) c.in-Save.is
+    (λ input. at_slot (Ok tt) code input text items (view_of c.stash.new.memory)
+    (name_at (code_slots code) c.in-Save.name) n.0 (λ name. done (stash name (state_of code input v))) n.1
     (ap done (c.in_ok-stash-in-Save.ensures.does input n.0 n.1)))
 
 pub returns-in_ok-ignore-in-Hide-clause-flow : goal.returns-in_ok-ignore-in-Hide-clause-flow
@@ -136,8 +156,10 @@ returns-in_ok-ignore-in-Hide-clause-flow g c = λ text.
     let sound = c.requires.sound in
     let moves = subst (λ op. effect_at code sound.1 sound.0 op items v ≢ stuck) c.in-Hide.is sound.2.moves in
     let n = named (name_at (code_slots code) c.in-Hide.name) _ moves in
-    stays g.R.Reader.Has c.args.reader.now code items items v (view_of c.ignore.new.memory) text (Ok tt) c.args.op (Hide c.in-Hide.name) c.in-Hide.is
-    (λ input. at_slot (Ok tt) code input text items (view_of c.ignore.new.memory) (name_at (code_slots code) c.in-Hide.name) n.0 (λ name. done (ignore true name (state_of code input v))) n.1
+    stays g.R.Reader.Has c.args.reader.now code items items v (view_of c.ignore.new.memory) text (Ok tt) c.args.op
+    (Hide c.in-Hide.name) c.in-Hide.is
+    (λ input. at_slot (Ok tt) code input text items (view_of c.ignore.new.memory)
+    (name_at (code_slots code) c.in-Hide.name) n.0 (λ name. done (ignore true name (state_of code input v))) n.1
     (ap done (c.in_ok-ignore-in-Hide.ensures.does input n.0 n.1)))
 
 pub returns-in_ok-ignore-in-Show-clause-flow : goal.returns-in_ok-ignore-in-Show-clause-flow
@@ -148,8 +170,10 @@ returns-in_ok-ignore-in-Show-clause-flow g c = λ text.
     let sound = c.requires.sound in
     let moves = subst (λ op. effect_at code sound.1 sound.0 op items v ≢ stuck) c.in-Show.is sound.2.moves in
     let n = named (name_at (code_slots code) c.in-Show.name) _ moves in
-    stays g.R.Reader.Has c.args.reader.now code items items v (view_of c.ignore-in-Show.new.memory) text (Ok tt) c.args.op (Show c.in-Show.name) c.in-Show.is
-    (λ input. at_slot (Ok tt) code input text items (view_of c.ignore-in-Show.new.memory) (name_at (code_slots code) c.in-Show.name) n.0 (λ name. done (ignore false name (state_of code input v))) n.1
+    stays g.R.Reader.Has c.args.reader.now code items items v (view_of c.ignore-in-Show.new.memory) text
+    (Ok tt) c.args.op (Show c.in-Show.name) c.in-Show.is
+    (λ input. at_slot (Ok tt) code input text items (view_of c.ignore-in-Show.new.memory)
+    (name_at (code_slots code) c.in-Show.name) n.0 (λ name. done (ignore false name (state_of code input v))) n.1
     (ap done (c.in_ok-ignore-in-Show.ensures.does input n.0 n.1)))
 
 pub returns-in-Restore-clause-flow : goal.returns-in-Restore-clause-flow
@@ -161,6 +185,8 @@ returns-in-Restore-clause-flow g c = λ text.
     let moves = subst (λ op. effect_at code sound.1 sound.0 op items v ≢ stuck) c.in-Restore.is sound.2.moves in
     let n = named (name_at (code_slots code) c.in-Restore.name) _ moves in
     let w = view_of c.retrieve.new.memory in
-    stays g.R.Reader.Has c.args.reader.now code items items v w text c.retrieve.result c.args.op (Restore c.in-Restore.name) c.in-Restore.is
-    (λ input. at_slot c.retrieve.result code input text items w (name_at (code_slots code) c.in-Restore.name) n.0 (λ name. retrieve name (state_of code input v)) n.1
+    stays g.R.Reader.Has c.args.reader.now code items items v w text c.retrieve.result c.args.op
+    (Restore c.in-Restore.name) c.in-Restore.is
+    (λ input. at_slot c.retrieve.result code input text items w (name_at (code_slots code) c.in-Restore.name) n.0
+    (λ name. retrieve name (state_of code input v)) n.1
     (c.retrieve.ensures.does input n.0 n.1))

@@ -18,8 +18,10 @@ operate-requires-clause-sound g c =
       sound.0,
       input.0,
       record {
-        moves = moves_first (code_program code) (code_slots code) sound.0 c.args.ops.now c.loop-op.op-index (Constant 0) c.loop-op-test.true operands s (sound.1.moves input.0 input.1);
-        keeps = keeps_first (code_program code) (code_slots code) sound.0 c.args.ops.now c.loop-op.op-index (Constant 0) c.loop-op-test.true operands s _ (sound.1.keeps input.0 1 input.1);
+        moves = moves_first (code_program code) (code_slots code) sound.0 c.args.ops.now c.loop-op.op-index
+            (Constant 0) c.loop-op-test.true operands s (sound.1.moves input.0 input.1);
+        keeps = keeps_first (code_program code) (code_slots code) sound.0 c.args.ops.now c.loop-op.op-index
+            (Constant 0) c.loop-op-test.true operands s _ (sound.1.keeps input.0 1 input.1);
       },
     )
 
@@ -37,15 +39,21 @@ returns-in_err-operate-clause-flow g c = λ text.
     let start = view_of c.args.memory.now in
     let is : c.from_residual.result ≡ Err halt = search rules in
     let op = slice_index_or ops i (Constant 0) in
-    let did = subst (λ r. Took has c.loop-op.reader c.operate.new.reader r (λ before after. Comes r code after text rest w (effect_at code before text op c.loop-op.operands.items v))) c.in_err-operate.was (c.operate.ensures.flow text) in
-    subst (λ r. Took has c.args.reader.now c.operate.new.reader r (λ before after. Comes r code after text rest w (effects_at code before text ops items start))) (sym is)
+    let did = subst (λ r.
+    Took has c.loop-op.reader c.operate.new.reader r
+    (λ before after. Comes r code after text rest w (effect_at code before text op c.loop-op.operands.items v)))
+    c.in_err-operate.was (c.operate.ensures.flow text) in
+    subst (λ r. Took has c.args.reader.now c.operate.new.reader r
+    (λ before after. Comes r code after text rest w (effects_at code before text ops items start))) (sym is)
     (took_after has c.args.reader.now c.loop-op.reader c.operate.new.reader (Err halt)
-    (λ before mid. effects_at code mid text (drop i ops) c.loop-op.operands.items v ≡ effects_at code before text ops items start)
+    (λ before mid. effects_at code mid text (drop i ops) c.loop-op.operands.items v
+    ≡ effects_at code before text ops items start)
     (λ mid after. Comes (Err halt) code after text rest w (effect_at code mid text op c.loop-op.operands.items v))
     (λ before after. Comes (Err halt) code after text rest w (effects_at code before text ops items start))
     (λ before mid after past came.
     subst (Comes (Err halt) code after text rest w) past
-    (stops (code_program code) (code_slots code) text ops i (Constant 0) c.loop-op-test.true (reverse c.loop-op.operands.items) (state_of code mid v) halt code after rest w came))
+    (stops (code_program code) (code_slots code) text ops i (Constant 0) c.loop-op-test.true
+    (reverse c.loop-op.operands.items) (state_of code mid v) halt code after rest w came))
     (c.loop-op.invariant.flow text) did)
 
 pub loop-op-preserved : goal.loop-op-preserved
@@ -65,7 +73,8 @@ loop-op-preserved g c =
           let before = past.flow text mid.0 mid.1 in (
             before.0,
             before.1,
-            flow_next (code_program code) (code_slots code) text ops i (Constant 0) c.loop-op-test.true old (state_of code mid.0 v) new (state_of code after w) mid.2 ∙ before.2,
+            flow_next (code_program code) (code_slots code) text ops i (Constant 0) c.loop-op-test.true old
+                (state_of code mid.0 v) new (state_of code after w) mid.2 ∙ before.2,
           );
       sound = (
         past.sound.0,
@@ -73,13 +82,16 @@ loop-op-preserved g c =
           moves = λ after has.
               let text = past.sound.0 in
               let mid = did text after has in
-              let same = flow_next (code_program code) (code_slots code) text ops i (Constant 0) c.loop-op-test.true old (state_of code mid.0 v) new (state_of code after w) mid.2 in
+              let same = flow_next (code_program code) (code_slots code) text ops i (Constant 0) c.loop-op-test.true old
+              (state_of code mid.0 v) new (state_of code after w) mid.2 in
               λ e. past.sound.1.moves mid.0 mid.1 (sym same ∙ e);
           keeps = λ after k has.
               let text = past.sound.0 in
               let mid = did text after has in
-              let same = keeps_next (code_program code) (code_slots code) text ops i (Constant 0) c.loop-op-test.true old (state_of code mid.0 v) k new (state_of code after w) mid.2 in
-              le_trans (subst (λ f. operand_count f ≤ vec_capacity c.loop-op.operands) (sym same) (past.sound.1.keeps mid.0 (k + 1) mid.1)) c.in_ok-operate.ensures.capacity;
+              let same = keeps_next (code_program code) (code_slots code) text ops i
+              (Constant 0) c.loop-op-test.true old (state_of code mid.0 v) k new (state_of code after w) mid.2 in
+              le_trans (subst (λ f. operand_count f ≤ vec_capacity c.loop-op.operands) (sym same)
+              (past.sound.1.keeps mid.0 (k + 1) mid.1)) c.in_ok-operate.ensures.capacity;
         },
       );
       held = c.in_ok-operate.ensures.held ∙ past.held;
@@ -95,5 +107,6 @@ returns-clause-flow g c = λ text after has.
     let past = c.loop-op.invariant.flow text after has in (
       past.0,
       past.1,
-      flow_last (code_program code) (code_slots code) text c.args.ops.now c.loop-op.op-index c.loop-op-test.false (reverse c.loop-op.operands.items) (state_of code after (view_of c.loop-op.memory)) ∙ past.2,
+      flow_last (code_program code) (code_slots code) text c.args.ops.now c.loop-op.op-index c.loop-op-test.false
+          (reverse c.loop-op.operands.items) (state_of code after (view_of c.loop-op.memory)) ∙ past.2,
     )

@@ -13,9 +13,12 @@ returns-then-index-clause-does g c = λ input name at.
     let code = c.args.code.now in
     let v = view_of c.args.memory.now in
     let ds = map number_of c.args.dimensions.now in
-    resize_as name ds (state_of code input v) (state_of code input v) c.in-Some.count (sym c.has_zero.ensures ∙ c.if-has_zero.false) c.in-Some.ensures
-    (array_kept code input v c.args.slot name (array_slot code c.args.slot name c.law.ensures at) c.requires.fits (zeros ds)
-    (read_as v.ignored_arrays c.args.slot (length (array_names code)) false c.index.result.now true c.requires.slot (ap (λ z. z.ignored_arrays) c.requires.fits) c.index.ensures c.if-index.true))
+    resize_as name ds (state_of code input v) (state_of code input v) c.in-Some.count
+    (sym c.has_zero.ensures ∙ c.if-has_zero.false) c.in-Some.ensures
+    (array_kept code input v c.args.slot name (array_slot code c.args.slot name c.law.ensures at) c.requires.fits
+    (zeros ds)
+    (read_as v.ignored_arrays c.args.slot (length (array_names code)) false c.index.result.now true c.requires.slot
+    (ap (λ z. z.ignored_arrays) c.requires.fits) c.index.ensures c.if-index.true))
 
 pub returns-clause-does : goal.returns-clause-does
 returns-clause-does g c = λ input name at.
@@ -23,7 +26,11 @@ returns-clause-does g c = λ input name at.
     let v = view_of c.args.memory.now in
     let ds = map number_of c.args.dimensions.now in
     let w = view_of c.put_array.new.memory in
-    resize_as name ds (state_of code input v) (state_of code input w) c.in-Some.count (sym c.has_zero.ensures ∙ c.if-has_zero.false) c.in-Some.ensures
-    (array_set code input v c.args.slot name (array_slot code c.args.slot name c.law.ensures at) c.requires.fits (zeros ds) w
-    (read_as v.ignored_arrays c.args.slot (length (array_names code)) false c.index.result.now false c.requires.slot (ap (λ z. z.ignored_arrays) c.requires.fits) c.index.ensures c.if-index.false)
-    (c.in_ok-put_array.ensures.view ∙ ap (λ a. record v { arrays = slice_set v.arrays c.args.slot a }) c.in_ok-array.ensures))
+    resize_as name ds (state_of code input v) (state_of code input w) c.in-Some.count
+    (sym c.has_zero.ensures ∙ c.if-has_zero.false) c.in-Some.ensures
+    (array_set code input v c.args.slot name (array_slot code c.args.slot name c.law.ensures at) c.requires.fits
+    (zeros ds) w
+    (read_as v.ignored_arrays c.args.slot (length (array_names code)) false c.index.result.now false c.requires.slot
+    (ap (λ z. z.ignored_arrays) c.requires.fits) c.index.ensures c.if-index.false)
+    (c.in_ok-put_array.ensures.view
+    ∙ ap (λ a. record v { arrays = slice_set v.arrays c.args.slot a }) c.in_ok-array.ensures))

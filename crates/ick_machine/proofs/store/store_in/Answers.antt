@@ -12,15 +12,25 @@ pub returns-then-index-clause-does : goal.returns-then-index-clause-does
 returns-then-index-clause-does g c = λ input.
     let code = c.args.code.now in
     let v = view_of c.args.memory.now in
-    for_name (λ name. Does (Ok tt) code input v (store_within name (Some c.args.at) c.args.number (state_of code input v))) (slice_get (array_names code) c.args.slot) c.array-name.result c.array-name.ensures
-    (within_ignored code input v c.args.slot c.array-name.result (array_slot code c.args.slot c.array-name.result c.law.ensures c.array-name.ensures) c.requires.fits c.args.at c.args.number (sym c.fits_in.ensures ∙ c.if-not-fits_in.false)
-    (read_as v.ignored_arrays c.args.slot (length (array_names code)) false c.index.result.now true c.requires.slot (ap (λ z. z.ignored_arrays) c.requires.fits) c.index.ensures c.if-index.true))
+    for_name (λ name. Does (Ok tt) code input v
+    (store_within name (Some c.args.at) c.args.number (state_of code input v)))
+    (slice_get (array_names code) c.args.slot) c.array-name.result c.array-name.ensures
+    (within_ignored code input v c.args.slot c.array-name.result
+    (array_slot code c.args.slot c.array-name.result c.law.ensures c.array-name.ensures) c.requires.fits c.args.at
+    c.args.number (sym c.fits_in.ensures ∙ c.if-not-fits_in.false)
+    (read_as v.ignored_arrays c.args.slot (length (array_names code)) false c.index.result.now true c.requires.slot
+    (ap (λ z. z.ignored_arrays) c.requires.fits) c.index.ensures c.if-index.true))
 
 pub returns-clause-does : goal.returns-clause-does
 returns-clause-does g c = λ input.
     let code = c.args.code.now in
     let v = view_of c.args.memory.now in
     let w = view_of c.put_element.new.memory in
-    for_name (λ name. Does (Ok tt) code input w (store_within name (Some c.args.at) c.args.number (state_of code input v))) (slice_get (array_names code) c.args.slot) c.array-name.result c.array-name.ensures
-    (within_done code input v c.args.slot c.array-name.result (array_slot code c.args.slot c.array-name.result c.law.ensures c.array-name.ensures) c.requires.fits c.args.at c.args.number w (sym c.fits_in.ensures ∙ c.if-not-fits_in.false)
-    (read_as v.ignored_arrays c.args.slot (length (array_names code)) false c.index.result.now false c.requires.slot (ap (λ z. z.ignored_arrays) c.requires.fits) c.index.ensures c.if-index.false) c.in_ok-put_element.ensures.view)
+    for_name (λ name. Does (Ok tt) code input w
+    (store_within name (Some c.args.at) c.args.number (state_of code input v)))
+    (slice_get (array_names code) c.args.slot) c.array-name.result c.array-name.ensures
+    (within_done code input v c.args.slot c.array-name.result
+    (array_slot code c.args.slot c.array-name.result c.law.ensures c.array-name.ensures) c.requires.fits c.args.at
+    c.args.number w (sym c.fits_in.ensures ∙ c.if-not-fits_in.false)
+    (read_as v.ignored_arrays c.args.slot (length (array_names code)) false c.index.result.now false c.requires.slot
+    (ap (λ z. z.ignored_arrays) c.requires.fits) c.index.ensures c.if-index.false) c.in_ok-put_element.ensures.view)

@@ -12,7 +12,8 @@ returns-then-len-ne1-clause-does g c = λ input name at.
     let code = c.args.code.now in
     let m = c.args.memory.now in
     let a = c.index.result.now in
-    let held = here_is code input m c.args.slot name a (array_slot code c.args.slot name c.law.ensures at) c.requires.fits c.index.ensures in
+    let held = here_is code input m c.args.slot name a
+    (array_slot code c.args.slot name c.law.ensures at) c.requires.fits c.index.ensures in
     print_none name (state_of code input (view_of m)) (array_of a) held
     (not_one (length a.dimensions.items) (λ e. c.if-len-ne1.true (c.len.ensures ∙ a.dimensions.ok.0 ∙ e)))
 
@@ -25,7 +26,8 @@ returns-clause-does g c = λ input name at.
     let a = c.index.result.now in
     let is = array_slot code c.args.slot name c.law.ensures at in
     let held = here_is code input m c.args.slot name a is c.requires.fits c.index.ensures in
-    let put : Array → State = λ x. record s { output = s.output ++ tape_bytes s.last x.elements; last = tape_after s.last x.elements } in
+    let put : Array → State =
+    λ x. record s { output = s.output ++ tape_bytes s.last x.elements; last = tape_after s.last x.elements } in
     print_done name s (state_of code input (view_of c.print_elements.new.memory)) (array_of a) held
     (eq-eqb (length a.dimensions.items) 1 (sym (c.len.ensures ∙ a.dimensions.ok.0) ∙ c.if-len-ne1.false))
     (ap (state_of code input) c.in_ok-print_elements.ensures.view

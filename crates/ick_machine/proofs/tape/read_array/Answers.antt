@@ -14,7 +14,8 @@ returns-then-len-ne1-clause-does g c = λ name at after has.
     let code = c.args.code.now in
     let m = c.args.memory.now in
     let a = c.index-array.result.now in
-    let held = here_is code after m c.args.slot name a (array_slot code c.args.slot name c.law.ensures at) c.requires.fits c.index-array.ensures in (
+    let held = here_is code after m c.args.slot name a
+    (array_slot code c.args.slot name c.law.ensures at) c.requires.fits c.index-array.ensures in (
       after,
       has,
       read_none name (state_of code after (view_of m)) (array_of a) held
@@ -36,16 +37,20 @@ returns-then-index-clause-does g c = λ name at after has.
     let held = here_is code read.0 m slot name a is c.requires.fits c.index-array.ensures in
     let one = eq-eqb (length a.dimensions.items) 1 (sym (c.len.ensures ∙ a.dimensions.ok.0) ∙ c.if-len-ne1.false) in
     let put : View → View = λ x. record x { lastin = bytes.last } in
-    let changed : w ≡ record v { taken = bytes.to; lastin = bytes.last } = c.in_ok-put_lastin.ensures.view ∙ ap put c.in_ok-put_taken.ensures.view in
-    let has_read = subst (λ n. HasRead n m.lastin m.taken bytes.numbers.items bytes.last bytes.to read.0 after) (c.len-count.ensures ∙ a.elements.ok.0) read.2 in
-    let taken = bytes_taken code read.0 after v w (length a.elements.items) bytes.last bytes.to bytes.numbers.items c.requires.faultless changed has_read in
+    let changed : w ≡ record v { taken = bytes.to; lastin = bytes.last } =
+    c.in_ok-put_lastin.ensures.view ∙ ap put c.in_ok-put_taken.ensures.view in
+    let has_read = subst (λ n. HasRead n m.lastin m.taken bytes.numbers.items bytes.last bytes.to read.0 after)
+    (c.len-count.ensures ∙ a.elements.ok.0) read.2 in
+    let taken = bytes_taken code read.0 after v w
+    (length a.elements.items) bytes.last bytes.to bytes.numbers.items c.requires.faultless changed has_read in
     let fits : Fits code w = ap shape_of changed ∙ c.requires.fits in
     let new = with_elements (array_of a) (tape_numbers (length a.elements.items) m.lastin s.input) in (
       read.0,
       read.1,
       read_done name s (state_of code after w) (array_of a) held one
           (array_kept code after w slot name is fits new
-          (read_as w.ignored_arrays slot (length (array_names code)) false c.index.result.now true c.requires.slot (ap (λ z. z.ignored_arrays) fits) c.index.ensures c.if-index.true)
+          (read_as w.ignored_arrays slot (length (array_names code)) false c.index.result.now true c.requires.slot
+          (ap (λ z. z.ignored_arrays) fits) c.index.ensures c.if-index.true)
           ∙ ap (set_array name new) taken),
     )
 
@@ -64,9 +69,12 @@ returns-clause-does g c = λ name at after has.
     let held = here_is code read.0 m slot name a is c.requires.fits c.index-array.ensures in
     let one = eq-eqb (length a.dimensions.items) 1 (sym (c.len.ensures ∙ a.dimensions.ok.0) ∙ c.if-len-ne1.false) in
     let put : View → View = λ x. record x { lastin = bytes.last } in
-    let changed : w ≡ record v { taken = bytes.to; lastin = bytes.last } = c.in_ok-put_lastin.ensures.view ∙ ap put c.in_ok-put_taken.ensures.view in
-    let has_read = subst (λ n. HasRead n m.lastin m.taken bytes.numbers.items bytes.last bytes.to read.0 after) (c.len-count.ensures ∙ a.elements.ok.0) read.2 in
-    let taken = bytes_taken code read.0 after v w (length a.elements.items) bytes.last bytes.to bytes.numbers.items c.requires.faultless changed has_read in
+    let changed : w ≡ record v { taken = bytes.to; lastin = bytes.last } =
+    c.in_ok-put_lastin.ensures.view ∙ ap put c.in_ok-put_taken.ensures.view in
+    let has_read = subst (λ n. HasRead n m.lastin m.taken bytes.numbers.items bytes.last bytes.to read.0 after)
+    (c.len-count.ensures ∙ a.elements.ok.0) read.2 in
+    let taken = bytes_taken code read.0 after v w
+    (length a.elements.items) bytes.last bytes.to bytes.numbers.items c.requires.faultless changed has_read in
     let fits : Fits code w = ap shape_of changed ∙ c.requires.fits in
     let made = array_of c.in_ok-array.array in
     let same : array_of c.index-2.result.now ≡ array_of a =
@@ -76,7 +84,8 @@ returns-clause-does g c = λ name at after has.
       read.1,
       read_done name s (state_of code after (view_of c.put_array.new.memory)) (array_of a) held one
           (array_set code after w slot name is fits made (view_of c.put_array.new.memory)
-          (read_as w.ignored_arrays slot (length (array_names code)) false c.index.result.now false c.requires.slot (ap (λ z. z.ignored_arrays) fits) c.index.ensures c.if-index.false)
+          (read_as w.ignored_arrays slot (length (array_names code)) false c.index.result.now false c.requires.slot
+          (ap (λ z. z.ignored_arrays) fits) c.index.ensures c.if-index.false)
           c.in_ok-put_array.ensures.view
           ∙ ap₂ (set_array name) (c.in_ok-array.ensures ∙ ap₂ with_elements same has_read.numbers_are) taken),
     )

@@ -13,7 +13,8 @@ loop-preserved g c =
           let past = c.loop.invariant.read byte.0 byte.1 in (
             past.0,
             past.1,
-            read_next c.loop.counter c.args.last c.args.from old.numbers.items new.numbers.items old.last new.last old.to new.to
+            read_next c.loop.counter c.args.last c.args.from old.numbers.items new.numbers.items old.last new.last
+                old.to new.to
                 c.in_ok-byte.byte past.0 byte.0 after past.2 byte.2
                 c.in_ok-add.ensures.numbers c.in_ok-add.ensures.last c.in_ok-add.ensures.to,
           );

@@ -9,5 +9,7 @@ returns-clause-place c =
 
 pub returns-then-byte-eq10-clause-place : goal.returns-then-byte-eq10-clause-place
 returns-then-byte-eq10-clause-place c =
-    let here : (get_or c.args.rest.now c.loop-index.index 0 == 10) ≡ true = eq-eqb (get_or c.args.rest.now c.loop-index.index 0) 10 c.if-byte-eq10.true in
-    sym (position_or_len_is (λ b. b == 10) c.args.rest.now c.loop-index.index 0 (omega arith) c.loop-index.invariant (λ l. here))
+    let here : (get_or c.args.rest.now c.loop-index.index 0 == 10) ≡ true =
+    eq-eqb (get_or c.args.rest.now c.loop-index.index 0) 10 c.if-byte-eq10.true in
+    sym (position_or_len_is (λ b. b == 10) c.args.rest.now c.loop-index.index 0 (omega arith) c.loop-index.invariant
+    (λ l. here))

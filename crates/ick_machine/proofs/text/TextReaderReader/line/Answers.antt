@@ -13,10 +13,13 @@ returns-in-Err-Word-clause-next c = λ after is.
     let begin = c.in-Err-Word.begin in
     let end = c.in-Err-Word.end in
     let rest = take (length text - from) (drop from text) in
-    let bad = subst (λ fault. Err fault ≡ line_answer (take n rest)) c.in-Err-Word.field-0-is c.in-Err-Word.ensures.answer in
+    let bad = subst (λ fault. Err fault ≡ line_answer (take n rest)) c.in-Err-Word.field-0-is
+    c.in-Err-Word.ensures.answer in
     let within = subst (IsWithinLine (take n rest)) c.in-Err-Word.field-0-is c.in-Err-Word.ensures.within in (
       after,
       is,
       subst (λ i. IsNext (BadWord (from + begin) (from + end) (from + n + 1)) from i i) (sym is)
-          (word_line text rest from n (rest_of text from) c.if-from-self.false c.line_length-length.ensures.place begin end bad within.0 within.1),
+          (word_line text rest from n
+          (rest_of text from) c.if-from-self.false c.line_length-length.ensures.place begin end bad within.0
+          within.1),
     )
