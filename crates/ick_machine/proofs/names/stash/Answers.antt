@@ -1,9 +1,7 @@
-use Rattle.std.proofs.Common.{length, ap, sym, ◌∙◌, arith}
-use Rattle.std.proofs.lemmas.List.{length-map}
-use Rattle.std.proofs.lemmas.Option.{slice_get_within}
+use Rattle.std.proofs.Common.{ap, sym, ◌∙◌}
 use Rattle.ick_code.specs.Compiled.{code_slots}
 use Rattle.ick_code.specs.Effects.{name_at}
-use Rattle.ick_memory.specs.View.{view_of, scalar_names, array_names}
+use Rattle.ick_memory.specs.View.{view_of}
 use Rattle.ick_memory.proofs.MapLemmas.{scalar_slot, array_slot}
 use Rattle.ick_machine.proofs.ReturnLemmas.{on_ok}
 use Rattle.ick_machine.proofs.StateLemmas.{stash_done}
