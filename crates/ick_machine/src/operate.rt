@@ -104,8 +104,8 @@ pub fn forget_operand<N: Notes>(
 ) -> Result<(), Halt>
     requires some { 0 < length operands.old.items }
     ensures flow { (code : Coded) (input : Input) (text : List ℕ) → Comes result code input text
-        operands.new.items (view_of memory.new) (effect_at code input text DoForget operands.old.items
-        (view_of memory.old)) }
+        operands.new.items (view_of memory.new) (effect_at code input text DoForget
+        operands.old.items (view_of memory.old)) }
     ensures follows { Follows N.Undoes notes.old memory.old notes.new memory.new }
     ensures shape { shape_of (view_of memory.new) ≡ shape_of (view_of memory.old) }
     ensures end { memory.new.end ≡ memory.old.end }
@@ -124,8 +124,8 @@ pub fn resume_operand<N: Notes>(
 ) -> Result<(), Halt>
     requires some { 0 < length operands.old.items }
     ensures flow { (code : Coded) (input : Input) (text : List ℕ) → Comes result code input text
-        operands.new.items (view_of memory.new) (effect_at code input text DoResume operands.old.items
-        (view_of memory.old)) }
+        operands.new.items (view_of memory.new) (effect_at code input text DoResume
+        operands.old.items (view_of memory.old)) }
     ensures follows { Follows N.Undoes notes.old memory.old notes.new memory.new }
     ensures shape { shape_of (view_of memory.new) ≡ shape_of (view_of memory.old) }
     ensures end { memory.new.end ≡ memory.old.end }
@@ -143,8 +143,8 @@ pub fn print_operand<N: Notes>(
 ) -> Result<(), Halt>
     requires some { 0 < length operands.old.items }
     ensures flow { (code : Coded) (input : Input) (text : List ℕ) → Comes result code input text
-        operands.new.items (view_of memory.new) (effect_at code input text DoPrint operands.old.items
-        (view_of memory.old)) }
+        operands.new.items (view_of memory.new) (effect_at code input text DoPrint
+        operands.old.items (view_of memory.old)) }
     ensures follows { Follows N.Undoes notes.old memory.old notes.new memory.new }
     ensures shape { shape_of (view_of memory.new) ≡ shape_of (view_of memory.old) }
     ensures end { memory.new.end ≡ memory.old.end }

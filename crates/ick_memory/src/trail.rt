@@ -55,7 +55,8 @@ impl Trail {
 
     /// Takes the newest change off.
     pub(crate) fn pop(&mut self) -> Option<Change>
-        ensures some { IfSome result (λ change. history self.old ≡ history self.new ++ change ∷ []) }
+        ensures some { IfSome result (λ change.
+            history self.old ≡ history self.new ++ change ∷ []) }
         ensures none { IfNone result (history self.old ≡ []) }
     {
         match self.entries.pop() {
