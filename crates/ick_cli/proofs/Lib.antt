@@ -1,7 +1,13 @@
 pub mod Answered
+pub mod Beginnings
 pub mod Builders
-pub mod ExecutionLemmas
+pub mod Executed
 pub mod FirstFault
+pub mod Lines
+pub mod Listed
+pub mod Numbers
 pub mod OneAnswer
+pub mod Planned
 pub mod Rows
 pub mod Served
+pub mod TextsRead

@@ -4,10 +4,13 @@ use Rattle.clap.proofs.OnLiterals.{clap_on_literals}
 use Rattle.clap.specs.Words.{fault_of}
 use Rattle.clap.specs.declared.error.ErrorKind.TheVariants as kind
 use Rattle.ick_cli.specs.Words.{ick_app}
-use Rattle.ick_cli.specs.Job.{HasJob, job_of}
-use Rattle.ick_cli.specs.declared.words.job.Subcommand.TheVariants.{Check, List as ListVerb, Run}
+use Rattle.ick_cli.specs.Job.{Asked, HasJob, job_of, to_check, to_list, to_list_runs, to_run}
 
-no_words : job_of [] ≡ record { subcommand = Run; file = None }
+-- a run without options
+abbrev plain : Asked
+plain = record { task = to_run None None 1000000; file = None }
+
+no_words : job_of [] ≡ plain
 unfolding clap_on_literals
 no_words = refl
 
@@ -15,7 +18,7 @@ no_words_is_a_job : HasJob []
 unfolding clap_on_literals
 no_words_is_a_job = refl
 
-run_alone : job_of (codes "run" ∷ []) ≡ record { subcommand = Run; file = None }
+run_alone : job_of (codes "run" ∷ []) ≡ plain
 unfolding clap_on_literals
 run_alone = refl
 
@@ -23,7 +26,7 @@ run_alone_is_a_job : HasJob (codes "run" ∷ [])
 unfolding clap_on_literals
 run_alone_is_a_job = refl
 
-run_file : job_of (codes "run" ∷ codes "f" ∷ []) ≡ record { subcommand = Run; file = Some (codes "f") }
+run_file : job_of (codes "run" ∷ codes "f" ∷ []) ≡ record plain { file = Some (codes "f") }
 unfolding clap_on_literals
 run_file = refl
 
@@ -31,7 +34,7 @@ run_file_is_a_job : HasJob (codes "run" ∷ codes "f" ∷ [])
 unfolding clap_on_literals
 run_file_is_a_job = refl
 
-file_behind_dashes : job_of (codes "run" ∷ codes "--" ∷ codes "-b" ∷ []) ≡ record { subcommand = Run; file = Some (codes "-b") }
+file_behind_dashes : job_of (codes "run" ∷ codes "--" ∷ codes "-b" ∷ []) ≡ record plain { file = Some (codes "-b") }
 unfolding clap_on_literals
 file_behind_dashes = refl
 
@@ -39,7 +42,7 @@ file_without_command : fault_of ick_app (codes "f" ∷ []) ≡ kind.UnknownArgum
 unfolding clap_on_literals
 file_without_command = refl
 
-check_file : job_of (codes "check" ∷ codes "f" ∷ []) ≡ record { subcommand = Check; file = Some (codes "f") }
+check_file : job_of (codes "check" ∷ codes "f" ∷ []) ≡ record { task = to_check; file = Some (codes "f") }
 unfolding clap_on_literals
 check_file = refl
 
@@ -47,7 +50,7 @@ check_is_a_job : HasJob (codes "check" ∷ [])
 unfolding clap_on_literals
 check_is_a_job = refl
 
-list_alone : job_of (codes "list" ∷ []) ≡ record { subcommand = ListVerb; file = None }
+list_alone : job_of (codes "list" ∷ []) ≡ record { task = to_list; file = None }
 unfolding clap_on_literals
 list_alone = refl
 
@@ -62,3 +65,43 @@ check_limit = refl
 help_asked : fault_of ick_app (codes "run" ∷ codes "--help" ∷ []) ≡ kind.DisplayHelp ∷ []
 unfolding clap_on_literals
 help_asked = refl
+
+no_choices : job_of (codes "run" ∷ codes "-b" ∷ codes "--choices=-" ∷ codes "f" ∷ [])
+    ≡ record { task = to_run (Some (codes "-")) None 1000000; file = Some (codes "f") }
+unfolding clap_on_literals
+no_choices = refl
+
+dash_alone : job_of (codes "run" ∷ codes "--choices" ∷ codes "-" ∷ [])
+    ≡ record { task = to_run (Some (codes "-")) None 1000000; file = None }
+unfolding clap_on_literals
+dash_alone = refl
+
+choices_with_seed : job_of (codes "run" ∷ codes "--seed" ∷ codes "1" ∷ codes "--choices" ∷ codes "0" ∷ codes "--limit=3" ∷ [])
+    ≡ record { task = to_run (Some (codes "0")) (Some 1) 3; file = None }
+unfolding clap_on_literals
+choices_with_seed = refl
+
+choices_with_seed_is_a_job : HasJob (codes "run" ∷ codes "--seed" ∷ codes "1" ∷ codes "--choices" ∷ codes "0" ∷ codes "--limit=3" ∷ [])
+unfolding clap_on_literals
+choices_with_seed_is_a_job = refl
+
+runs_alone : job_of (codes "runs" ∷ []) ≡ record { task = to_list_runs None 1000 10000; file = None }
+unfolding clap_on_literals
+runs_alone = refl
+
+runs_from : job_of (codes "runs" ∷ codes "--limit" ∷ codes "3" ∷ codes "--from" ∷ codes "10" ∷ codes "--count=1" ∷ [])
+    ≡ record { task = to_list_runs (Some (codes "10")) 1 3; file = None }
+unfolding clap_on_literals
+runs_from = refl
+
+runs_from_is_a_job : HasJob (codes "runs" ∷ codes "--limit" ∷ codes "3" ∷ codes "--from" ∷ codes "10" ∷ codes "--count=1" ∷ [])
+unfolding clap_on_literals
+runs_from_is_a_job = refl
+
+none_counted : fault_of ick_app (codes "runs" ∷ codes "--count=0" ∷ []) ≡ kind.ValueValidation ∷ []
+unfolding clap_on_literals
+none_counted = refl
+
+run_counted : fault_of ick_app (codes "run" ∷ codes "--count=1" ∷ []) ≡ kind.UnknownArgument ∷ []
+unfolding clap_on_literals
+run_counted = refl

@@ -3,10 +3,10 @@ use Rattle.std.proofs.Common.{◌≡◌, ◌<◌, ◌++◌, ◌⊎◌, inl, inr,
 use Rattle.std.proofs.lemmas.Bool.{cases_order}
 use Rattle.ick_cli.specs.Ending.{Answers, Leaves, ending_status, ending_text, message_text}
 use Rattle.ick_cli.specs.Serve.{Failures, Finishes, FinishesDue, IsDue, IsServed, IsStatus, counts}
-use Rattle.ick_cli.specs.Serve.{nothing_failed, file_failed, read_failed, write_failed, memory_failed, answered, cut_by_read, cut_by_write, cut_by_memory}
+use Rattle.ick_cli.specs.Serve.{nothing_failed, file_failed, read_failed, write_failed, input_long, memory_failed, answered, cut_by_read, cut_by_write, cut_by_memory}
 use Rattle.ick_cli.specs.Tool.{Answer}
 use Rattle.ick_cli.specs.declared.ending.Ending.{Ending}
-use Rattle.ick_cli.specs.declared.ending.Ending.TheVariants.{Answered, NoMemory, FileNotRead, ReadFailed, WriteFailed}
+use Rattle.ick_cli.specs.declared.ending.Ending.TheVariants.{Answered, NoMemory, InputTooLong, FileNotRead, ReadFailed, WriteFailed}
 
 -- counts that are the same one by one
 same_counts : (f f' r r' w w' : ℕ) → f' ≡ f → r' ≡ r → w' ≡ w → counts f' r' w' ≡ counts f r w
@@ -17,9 +17,11 @@ pub due : (ending : Ending) (f f' r r' w w' : ℕ) → Leaves ending f f' r r' w
     → IsDue (counts f r w) (counts f' r' w') (ending_text ending) (ending_status ending)
 due (Answered status message) f f' r r' w w' x =
     nothing_failed (message_text message) status (same_counts _ _ _ _ _ _ (omega (arith, x.opened)) (omega (arith, x.read)) (omega (arith, x.wrote)))
-    (inl x.proper)
+    x.proper
 due NoMemory f f' r r' w w' x =
     memory_failed (same_counts _ _ _ _ _ _ (omega (arith, x.opened)) (omega (arith, x.read)) (omega (arith, x.wrote)))
+due InputTooLong f f' r r' w w' x =
+    input_long (same_counts _ _ _ _ _ _ (omega (arith, x.opened)) (omega (arith, x.read)) (omega (arith, x.wrote)))
 due FileNotRead f f' r r' w w' x =
     file_failed (same_counts _ _ _ _ _ _ (omega (arith, x.opened)) (omega (arith, x.read)) (omega (arith, x.wrote)))
 due ReadFailed f f' r r' w w' x =
@@ -38,6 +40,8 @@ all_answered answer old new out out' text status has_status has_text reads write
 pub served : (answer : Answer) (ending : Ending) (f f' r r' w w' : ℕ) (out out' : List ℕ) → Leaves ending f f' r r' w w' → Answers answer ending out out'
     → IsServed answer (counts f r w) (counts f' r' w') out out' (ending_text ending) (ending_status ending)
 served answer (Answered status message) f f' r r' w w' out out' x has =
+    all_answered answer _ _ out out' _ _ has.0.0 has.0.1 (omega (arith, x.read)) (omega (arith, x.wrote)) has.1
+served answer InputTooLong f f' r r' w w' out out' x has =
     all_answered answer _ _ out out' _ _ has.0.0 has.0.1 (omega (arith, x.read)) (omega (arith, x.wrote)) has.1
 served answer FileNotRead f f' r r' w w' out out' x has =
     all_answered answer _ _ out out' _ _ has.0.0 has.0.1 (omega (arith, x.read)) (omega (arith, x.wrote)) has.1
@@ -62,6 +66,7 @@ four_due old new text status (nothing_failed t s same one) some = absurd (none_f
 four_due old new text status (file_failed e) some = refl
 four_due old new text status (read_failed e) some = refl
 four_due old new text status (write_failed e) some = refl
+four_due old new text status (input_long e) some = refl
 four_due old new text status (memory_failed e) some = refl
 
 four_finished : (told : Bool) (status : ℕ) (text : List ℕ) (e e' : ℕ) (errs errs' : List ℕ) (code : ℕ)
@@ -89,6 +94,7 @@ status_due old new text status (nothing_failed t s same (inr usage)) = inr usage
 status_due old new text status (file_failed e) = inl (omega arith)
 status_due old new text status (read_failed e) = inl (omega arith)
 status_due old new text status (write_failed e) = inl (omega arith)
+status_due old new text status (input_long e) = inl (omega arith)
 status_due old new text status (memory_failed e) = inl (omega arith)
 
 pub finished_status : (old new : Failures) (told : Bool) (e e' : ℕ) (errs errs' : List ℕ) (code : ℕ)

@@ -1,10 +1,11 @@
 -- What the work leaves, by how it ends.
-use Rattle.std.specs.Prelude.{◌≡◌, ◌≤◌, ◌+◌, ◌++◌, ◌==◌, if◌then◌else◌, take}
+use Rattle.std.specs.Prelude.{◌≡◌, ◌≤◌, ◌+◌, ◌++◌, ◌⊎◌, ◌==◌, if◌then◌else◌, is_some, take}
 use Rattle.std.specs.Prelude.{ℕ, List, [], Option, Some, None}
 use Rattle.ick_cli.specs.Notice.{notice_text}
 use Rattle.ick_cli.specs.Tool.{Answer}
 use Rattle.ick_cli.specs.declared.ending.Ending.{Ending}
-use Rattle.ick_cli.specs.declared.ending.Ending.TheVariants.{Answered, NoMemory, FileNotRead, ReadFailed, WriteFailed}
+use Rattle.ick_cli.specs.declared.ending.Ending.TheVariants.{Answered, NoMemory, InputTooLong, FileNotRead}
+use Rattle.ick_cli.specs.declared.ending.Ending.TheVariants.{ReadFailed, WriteFailed}
 use Rattle.ick_cli.specs.declared.notice.Message.{Message}
 use Rattle.ick_cli.specs.declared.notice.Message.TheVariants as message
 use Rattle.ick_cli.specs.declared.notice.Notice.TheVariants as notice
@@ -23,6 +24,7 @@ ending_status _ = 4
 abbrev pub ending_text : Ending → List ℕ
 ending_text (Answered status message) = message_text message
 ending_text NoMemory = notice_text notice.OutOfMemory
+ending_text InputTooLong = notice_text notice.InputTooLong
 ending_text FileNotRead = notice_text notice.FileNotRead
 ending_text ReadFailed = notice_text notice.ReadFailed
 ending_text WriteFailed = notice_text notice.WriteFailed
@@ -40,9 +42,9 @@ abbrev pub failed_writes : Ending → ℕ
 failed_writes WriteFailed = 1
 failed_writes _ = 0
 
--- an ending by an answer has one of the statuses of answers
+-- an ending by an answer has one of the statuses of answers, or that of usage
 abbrev pub IsProper : Ending → Type 0
-IsProper (Answered status message) = status ≤ 3
+IsProper (Answered status message) = (status ≤ 3) ⊎ (status ≡ 64)
 IsProper _ = Unit {0}
 
 -- The work ended so, and the counts of failures of files, reader and writer say what it opened, read and wrote: the one
@@ -53,9 +55,12 @@ pub record Leaves (ending : Ending) (files files' reads reads' writes writes' : 
   pub read : reads' ≡ reads + failed_reads ending
   pub wrote : writes' ≡ writes + failed_writes ending
 
--- the same of work that neither opens nor reads
+-- the same of work that does not open, and of work that does not read either
+abbrev pub LeavesStreams : Ending → ℕ → ℕ → ℕ → ℕ → Type 0
+LeavesStreams ending reads reads' writes writes' = Leaves ending 0 0 reads reads' writes writes'
+
 abbrev pub LeavesWriter : Ending → ℕ → ℕ → Type 0
-LeavesWriter ending writes writes' = Leaves ending 0 0 0 0 writes writes'
+LeavesWriter ending writes writes' = LeavesStreams ending 0 0 writes writes'
 
 -- an answer with this status and error text, or want of memory
 abbrev pub EndsBy : ℕ → List ℕ → Ending → Type 0
@@ -66,12 +71,14 @@ EndsBy status text _ = ⊥
 -- the ending that an answer has
 abbrev pub HasAnswer : Answer → Ending → Type 0
 HasAnswer answer (Answered status message) = (status ≡ answer.status) × (message_text message ≡ answer.errors)
+HasAnswer answer InputTooLong = (4 ≡ answer.status) × (notice_text notice.InputTooLong ≡ answer.errors)
 HasAnswer answer FileNotRead = (4 ≡ answer.status) × (notice_text notice.FileNotRead ≡ answer.errors)
 HasAnswer answer _ = Unit {0}
 
 -- all of the answer's output went out where the ending has the answer, and else a beginning of it
 abbrev pub Sends : List ℕ → Ending → List ℕ → List ℕ → Type 0
 Sends output (Answered status message) before after = after ≡ before ++ output
+Sends output InputTooLong before after = after ≡ before ++ output
 Sends output FileNotRead before after = after ≡ before ++ output
 Sends output _ before after = (n : ℕ) × (after ≡ before ++ take n output)
 
@@ -83,3 +90,7 @@ Answers answer ending before after = HasAnswer answer ending × Sends answer.out
 abbrev pub source_of : Option (List ℕ) → (List ℕ → List ℕ) → ℕ → ℕ → List ℕ → Option (List ℕ)
 source_of None named before after left = Some left
 source_of (Some name) named before after left = if before == after then Some (named name) else None
+
+-- the input of a job: what the reader has, where the source is a file's
+abbrev pub input_of : Option (List ℕ) → List ℕ → List ℕ
+input_of file left = if is_some file then left else []

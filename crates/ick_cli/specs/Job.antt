@@ -1,38 +1,87 @@
 -- The job that words ask for, by the matches that clap defines.
-use Rattle.std.specs.Prelude.{◌≡◌, Bool, List, [], Option, codes, is_some, if◌then◌else◌, option_map}
+use Rattle.std.specs.Prelude.{◌≡◌, ◌^◌, ◌&&◌, ℕ, Bool, true, false, List, [], Option, Some, None, codes, is_some}
+use Rattle.std.specs.Prelude.{if◌then◌else◌, nat_lt, option_and_then, option_map, unwrap_or}
 use Rattle.std.specs.Option.{option_map_or}
 use Rattle.std.specs.Str.{bytes_eq}
-use Rattle.clap.specs.Words.{Row, Text, fault_of, first_of, subcommand_of}
+use Rattle.std.specs.Str.Parse.{digits_value, without_leading_plus}
+use Rattle.clap.specs.ValueTests.{is_numeral}
+use Rattle.clap.specs.Words.{Row, Text, fault_of, first_of, one_of, subcommand_of}
 use Rattle.ick_cli.specs.Words.{ick_app}
 use Rattle.ick_cli.specs.declared.words.job.Job.{Job}
 use Rattle.ick_cli.specs.declared.words.job.Subcommand.{Subcommand}
-use Rattle.ick_cli.specs.declared.words.job.Subcommand.TheVariants.{Check, List as ListVerb, Run}
+use Rattle.ick_cli.specs.declared.words.job.Subcommand.TheVariants.{Check, List as ListStatements, Run, Runs}
 
--- command and FILE
+-- what is to be done with a program
+pub data Task : Type 0 where
+  to_check : Task
+  to_list : Task
+  to_run : (choices : Option Text) (seed : Option ℕ) (limit : ℕ) → Task
+  to_list_runs : (from : Option Text) (count limit : ℕ) → Task
+
+-- the task and FILE
 pub record Asked : Type 0 where
-  pub subcommand : Subcommand
+  pub task : Task
   pub file : Option Text
 
 -- it names a file
 abbrev pub has_file : Asked → Bool
 has_file a = is_some a.file
 
--- what a job is, whatever memory its texts lie in
-abbrev pub asked : Job → Asked
-asked j = record { subcommand = j.subcommand; file = option_map (λ s. s.now) j.file }
+-- it takes an input
+abbrev pub takes_input : Task → Bool
+takes_input to_check = false
+takes_input to_list = false
+takes_input (to_run choices seed limit) = true
+takes_input (to_list_runs from count limit) = true
 
--- the command of a name
-abbrev pub subcommand_named : Text → Subcommand
-subcommand_named name = if bytes_eq name (codes "check") then Check
-    else (if bytes_eq name (codes "list") then ListVerb else Run)
+-- what a job is, whatever memory its texts lie in
+abbrev pub task_of : Subcommand → Task
+task_of Check = to_check
+task_of ListStatements = to_list
+task_of (Run choices seed limit) = to_run (option_map (λ s. s.now) choices) seed limit
+task_of (Runs from count limit) = to_list_runs (option_map (λ s. s.now) from) count limit
+
+abbrev pub asked : Job → Asked
+asked j = record { task = task_of j.subcommand; file = option_map (λ s. s.now) j.file }
+
+-- the number that a text of decimal digits writes, if it has so many bits
+abbrev pub number_of : ℕ → Text → Option ℕ
+number_of bits text =
+    let digits = without_leading_plus text in
+    if is_numeral digits && nat_lt (digits_value 10 digits) (2 ^ bits) then Some (digits_value 10 digits) else None
+
+-- what the matches of a command have: a text, a number, or what stands in place of a number that isn't given
+abbrev pub text_in : Text → List Row → Option Text
+text_in id rows = first_of id rows
+
+abbrev pub number_in : ℕ → Text → List Row → Option ℕ
+number_in bits id rows = option_and_then (number_of bits) (one_of id rows)
+
+abbrev pub number_or : Text → List Row → ℕ → ℕ
+number_or id rows usual = unwrap_or (number_in 32 id rows) usual
+
+-- a run, and a listing of runs, with what is usual where a number isn't given
+abbrev pub run_in : List Row → Task
+run_in rows =
+    to_run (text_in (codes "choices") rows) (number_in 64 (codes "seed") rows) (number_or (codes "limit") rows 1000000)
+
+abbrev pub runs_in : List Row → Task
+runs_in rows =
+    to_list_runs (text_in (codes "from") rows) (number_or (codes "count") rows 1000) (number_or (codes "limit") rows 10000)
+
+-- the task of a command's name
+abbrev pub task_named : Text → List Row → Task
+task_named name rows = if bytes_eq name (codes "check") then to_check
+    else (if bytes_eq name (codes "list") then to_list
+    else (if bytes_eq name (codes "runs") then runs_in rows else run_in rows))
 
 -- what the matches of a command ask for
-abbrev pub asked_of : Subcommand → List Row → Asked
-asked_of subcommand rows = record { subcommand = subcommand; file = first_of (codes "file") rows }
+abbrev pub asked_of : Text → List Row → Asked
+asked_of name rows = record { task = task_named name rows; file = text_in (codes "file") rows }
 
 -- where no command is named, a run with no argument
 abbrev pub asked_in : Option (Text × List Row) → Asked
-asked_in found = option_map_or (λ p. asked_of (subcommand_named p.0) p.1) found (asked_of Run [])
+asked_in found = option_map_or (λ p. asked_of p.0 p.1) found (record { task = run_in []; file = None })
 
 -- the words ask for a job: by the law of clap their parse fails for want of memory alone
 abbrev pub HasJob : List Text → Type 0

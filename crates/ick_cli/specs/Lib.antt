@@ -1,9 +1,11 @@
 pub mod Built
 pub mod Ending
+pub mod Input
 pub mod Job
 pub mod Laws
 pub mod Notice
-pub mod Run
+pub mod Placed
+pub mod Plan
 pub mod Serve
 pub mod Stopped
 pub mod Summary

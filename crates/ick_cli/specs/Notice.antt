@@ -1,11 +1,16 @@
 -- The lines that stand in the program, each with its line end.
 use Rattle.std.specs.Prelude.{ℕ, List, codes}
 use Rattle.ick_cli.specs.declared.notice.Notice.{Notice}
-use Rattle.ick_cli.specs.declared.notice.Notice.TheVariants.{SourceTooLong, FileNotRead, ReadFailed}
-use Rattle.ick_cli.specs.declared.notice.Notice.TheVariants.{WriteFailed, OutOfMemory, WordsNotRead}
+use Rattle.ick_cli.specs.declared.notice.Notice.TheVariants.{ChoicesAndSeed, BadCursor, NoSuchRun, SourceTooLong}
+use Rattle.ick_cli.specs.declared.notice.Notice.TheVariants.{InputTooLong, FileNotRead, ReadFailed, WriteFailed}
+use Rattle.ick_cli.specs.declared.notice.Notice.TheVariants.{OutOfMemory, WordsNotRead}
 
 abbrev pub notice_text : Notice → List ℕ
+notice_text ChoicesAndSeed = codes "CHOICES AND SEED TOGETHER\n"
+notice_text BadCursor = codes "BAD CURSOR\n"
+notice_text NoSuchRun = codes "NO SUCH RUN\n"
 notice_text SourceTooLong = codes "SOURCE TOO LONG\n"
+notice_text InputTooLong = codes "INPUT TOO LONG\n"
 notice_text FileNotRead = codes "FILE NOT READ\n"
 notice_text ReadFailed = codes "READ FAILED\n"
 notice_text WriteFailed = codes "WRITE FAILED\n"

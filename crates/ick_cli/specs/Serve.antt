@@ -2,7 +2,8 @@
 use Rattle.std.specs.Prelude.{◌≡◌, ◌+◌, ◌<◌, ◌≤◌, ◌++◌, ◌⊎◌, ℕ, Bool, true, List, take}
 use Rattle.ick_cli.specs.Notice.{notice_text}
 use Rattle.ick_cli.specs.Tool.{Answer}
-use Rattle.ick_cli.specs.declared.notice.Notice.TheVariants.{FileNotRead, ReadFailed, WriteFailed, OutOfMemory}
+use Rattle.ick_cli.specs.declared.notice.Notice.TheVariants.{InputTooLong, FileNotRead, ReadFailed}
+use Rattle.ick_cli.specs.declared.notice.Notice.TheVariants.{WriteFailed, OutOfMemory}
 
 -- how many calls of the files, the reader and the writer have failed
 pub record Failures : Type 0 where
@@ -18,12 +19,14 @@ abbrev pub IsStatus : ℕ → Type 0
 IsStatus code = (code ≤ 4) ⊎ (code ≡ 64)
 
 -- The error text and the status that are due. No device failed, and the status is any but 4; or it is 4, and the text
--- is the line of the device that failed, once, or that of want of memory, where none failed.
+-- is the line of the device that failed, once, or that of an input that is too long or of want of memory, where none
+-- failed.
 pub data IsDue (old new : Failures) : List ℕ → ℕ → Type 0 where
   nothing_failed : (text : List ℕ) (status : ℕ) → new ≡ old → (status ≤ 3) ⊎ (status ≡ 64) → IsDue old new text status
   file_failed : new ≡ record old { files = old.files + 1 } → IsDue old new (notice_text FileNotRead) 4
   read_failed : new ≡ record old { reads = old.reads + 1 } → IsDue old new (notice_text ReadFailed) 4
   write_failed : new ≡ record old { writes = old.writes + 1 } → IsDue old new (notice_text WriteFailed) 4
+  input_long : new ≡ old → IsDue old new (notice_text InputTooLong) 4
   memory_failed : new ≡ old → IsDue old new (notice_text OutOfMemory) 4
 
 -- The error text and the status that are due to a job that has this answer, behind what was written. They are the

@@ -1,17 +1,23 @@
--- What a run that was made stands for.
-use Rattle.ick_bits.specs.declared.faults.Fault.{Fault}
-use Rattle.ick_cli.specs.Run.{End, gave_up, fault, Stop as StopTree, at_end, at_choice, Ran as RanTree}
-use Rattle.ick_cli.specs.declared.execution.Ran.{Ran}
-use Rattle.ick_cli.specs.declared.execution.Stop.{Stop}
-use Rattle.ick_cli.specs.declared.execution.Stop.TheVariants.{GaveUp, Faulted, Wants}
+-- How a run that was made stopped.
+use Rattle.std.specs.Prelude.{ℕ, List}
+use Rattle.ick_machine.specs.Asked.{finish_of}
+use Rattle.ick_runs.specs.Runs.{Stop, ends, wants}
+use Rattle.ick_runs.specs.declared.ordinary.Ran.{Ran}
+use Rattle.ick_runs.specs.declared.ordinary.Ran.TheVariants.{Ended, Wants}
+use Rattle.ick_cli.specs.Tool.{Answer, stop_answer}
 
-abbrev pub fault_of : Fault → End
-fault_of f = fault f.kind f.statement f.subject.now
+abbrev pub ran_output : Ran → List ℕ
+ran_output (Ended output end used steps) = output.items
+ran_output (Wants output steps) = output.items
 
-abbrev pub stop_of : Stop → StopTree
-stop_of GaveUp = at_end gave_up
-stop_of (Faulted f) = at_end (fault_of f)
-stop_of Wants = at_choice
+abbrev pub ran_stop : Ran → Stop
+ran_stop (Ended output end used steps) = ends (finish_of end)
+ran_stop (Wants output steps) = wants
 
-abbrev pub ran_of : Ran → RanTree
-ran_of r = record { output = r.output.items; stop = stop_of r.stop; steps = r.steps }
+abbrev pub ran_steps : Ran → ℕ
+ran_steps (Ended output end used steps) = steps
+ran_steps (Wants output steps) = steps
+
+-- the answer of a run that was made
+abbrev pub ran_answer : Ran → Answer
+ran_answer r = stop_answer (ran_output r) (ran_stop r) (ran_steps r)

@@ -3,7 +3,9 @@
 mod check;
 mod list;
 mod run;
+mod runs;
 
 pub use check::answer_check;
 pub use list::answer_list;
-pub use run::answer_run;
+pub use run::{answer_drawn, answer_run};
+pub use runs::answer_runs;

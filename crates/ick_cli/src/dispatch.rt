@@ -1,19 +1,28 @@
-//! From a job to its command: the file, the source, the program, and what is done with it.
-ghost use Rattle.std.specs.Prelude.{◌≡◌, ◌+◌, ◌<◌, ◌^◌, Some, [], false, true};
+//! From a job to its command: the plan, the file, the source, the program, the input, and what is
+//! done with them.
+ghost use Rattle.std.specs.Prelude.{◌≡◌, ◌+◌, ◌<◌, ◌≤◌, ◌^◌, Some, [], false, length, true};
 ghost use Rattle.ick_bits.specs.Faults.{message_of};
 ghost use Rattle.ick_source.specs.Programs.{trees_of};
-ghost use Rattle.ick_cli.specs.Ending.{Answers, EndsBy, Leaves, LeavesWriter, source_of};
-ghost use Rattle.ick_cli.specs.Job.{asked, has_file};
-ghost use Rattle.ick_cli.specs.Tool.{Answer, IsSourceAnswer, IsToolAnswer, program_answer};
+ghost use Rattle.ick_code.specs.Compiled.{code_program};
+ghost use Rattle.ick_cli.specs.Ending.{Answers, EndsBy, Leaves, LeavesStreams, LeavesWriter};
+ghost use Rattle.ick_cli.specs.Ending.{input_of, source_of};
+ghost use Rattle.ick_cli.specs.Job.{asked, has_file, takes_input};
+ghost use Rattle.ick_cli.specs.Plan.{IsUnplanned, reads_input};
+ghost use Rattle.ick_cli.specs.Tool.{Answer, IsExecuted, IsProgramAnswer, IsReadAnswer};
+ghost use Rattle.ick_cli.specs.Tool.{IsSourceAnswer, IsToolAnswer};
+ghost use Rattle.ick_cli.specs.declared.notice.Notice.{Notice};
 
-use crate::commands::{answer_check, answer_list, answer_run};
+use crate::commands::{answer_check, answer_drawn, answer_list, answer_run, answer_runs};
 use crate::ending::Ending;
 use crate::files::Files;
+use crate::input::read_input;
 use crate::notice::{Message, Notice};
+use crate::plan::{Plan, Runs, plan_of};
 use crate::stopped::fault_message;
-use crate::words::{Job, Subcommand};
+use crate::words::Job;
 use ick_bits::{Fault, FaultKind, NoMemory};
-use ick_runs::{ByteSink, ByteSource, ReadFault, read_first};
+use ick_code::{Code, compile};
+use ick_runs::{ByteSink, ByteSource, ReadFault, SliceSource, read_first};
 use ick_source::{Program, Refusal, read_source};
 use std::alloc::Global;
 
@@ -33,33 +42,45 @@ pub fn perform<F: Files, R: ByteSource, W: ByteSink>(
     requires writer_sound { W.failed writer.old + 1 < 2 ^ 64 }
     ensures leaves { Leaves result (F.failed files.old) (F.failed files.new)
         (R.failed reader.old) (R.failed reader.new) (W.failed writer.old) (W.failed writer.new) }
-    ensures reader_kept { has_file (asked job.now) ≡ true → reader.new ≡ reader.old }
+    ensures reader_kept { has_file (asked job.now) ≡ true → takes_input (asked job.now).task ≡ false
+        → reader.new ≡ reader.old }
     ensures files_kept { has_file (asked job.now) ≡ false → files.new ≡ files.old }
+    ensures unplanned { (line : Notice) → IsUnplanned (asked job.now).task line
+        → (files.new ≡ files.old) × (reader.new ≡ reader.old) }
     ensures answer { F.told ≡ true → R.told ≡ true → W.told ≡ true → (answer : Answer)
-        → IsToolAnswer job.now.subcommand (source_of (asked job.now).file (F.named files.old)
-        (F.failed files.old) (F.failed files.new) (R.left reader.old)) answer
+        → IsToolAnswer (asked job.now).task
+        (source_of (asked job.now).file (F.named files.old)
+        (F.failed files.old) (F.failed files.new) (R.left reader.old))
+        (input_of (asked job.now).file (R.left reader.old)) answer
         → Answers answer result (W.written writer.old) (W.written writer.new) }
 {
+    let plan = match plan_of(alloc, &job.subcommand) {
+        Ok(plan) => plan,
+        Err(ending) => return ending,
+    };
     match job.file {
-        Some(name) => perform_on_file(alloc, job.subcommand, name, files, writer),
-        None => perform_on_reader(alloc, job.subcommand, reader, writer),
+        Some(name) => perform_on_file(alloc, &plan, name, files, reader, writer),
+        None => perform_on_reader(alloc, &plan, reader, writer),
     }
 }
 
-/// The job whose source is in a file.
-fn perform_on_file<F: Files, W: ByteSink>(
+/// The plan over a source in a file, and over the input that the reader has.
+fn perform_on_file<F: Files, R: ByteSource, W: ByteSink>(
     alloc: Global,
-    subcommand: Subcommand,
+    plan: &Plan,
     name: &str,
     files: &mut F,
+    reader: &mut R,
     writer: &mut W,
 ) -> Ending
     requires files_sound { F.failed files.old + 1 < 2 ^ 64 }
+    requires reader_sound { R.failed reader.old + 1 < 2 ^ 64 }
     requires writer_sound { W.failed writer.old + 1 < 2 ^ 64 }
     ensures leaves { Leaves result (F.failed files.old) (F.failed files.new)
-        0 0 (W.failed writer.old) (W.failed writer.new) }
-    ensures answer { F.told ≡ true → W.told ≡ true → (answer : Answer)
-        → IsToolAnswer subcommand (source_of (Some name.now) (F.named files.old)
+        (R.failed reader.old) (R.failed reader.new) (W.failed writer.old) (W.failed writer.new) }
+    ensures reader_kept { reads_input plan.now ≡ false → reader.new ≡ reader.old }
+    ensures answer { F.told ≡ true → R.told ≡ true → W.told ≡ true → (answer : Answer)
+        → IsReadAnswer plan.now (R.left reader.old) (source_of (Some name.now) (F.named files.old)
         (F.failed files.old) (F.failed files.new) []) answer
         → Answers answer result (W.written writer.old) (W.written writer.new) }
 {
@@ -67,48 +88,56 @@ fn perform_on_file<F: Files, W: ByteSink>(
         return Ending::FileNotRead;
     }
     match read_first(alloc, files, MOST_READ) {
-        Ok(source) => answer_source(alloc, subcommand, source.as_slice(), writer),
+        Ok(source) => answer_source(alloc, plan, source.as_slice(), reader, writer),
         Err(ReadFault::NoMemory) => Ending::NoMemory,
         Err(ReadFault::Failed) => Ending::FileNotRead,
     }
 }
 
-/// The job whose source is in the reader.
+/// The plan over a source in the reader, and over no input.
 fn perform_on_reader<R: ByteSource, W: ByteSink>(
     alloc: Global,
-    subcommand: Subcommand,
+    plan: &Plan,
     reader: &mut R,
     writer: &mut W,
 ) -> Ending
     requires reader_sound { R.failed reader.old + 1 < 2 ^ 64 }
     requires writer_sound { W.failed writer.old + 1 < 2 ^ 64 }
-    ensures leaves { Leaves result 0 0 (R.failed reader.old) (R.failed reader.new)
+    ensures leaves { LeavesStreams result (R.failed reader.old) (R.failed reader.new)
         (W.failed writer.old) (W.failed writer.new) }
     ensures answer { R.told ≡ true → W.told ≡ true → (answer : Answer)
-        → IsSourceAnswer subcommand (R.left reader.old) answer
+        → IsSourceAnswer plan.now (R.left reader.old) [] answer
         → Answers answer result (W.written writer.old) (W.written writer.new) }
 {
     match read_first(alloc, reader, MOST_READ) {
-        Ok(source) => answer_source(alloc, subcommand, source.as_slice(), writer),
+        Ok(source) => {
+            let mut nothing = SliceSource::new(&[]);
+            answer_source(alloc, plan, source.as_slice(), &mut nothing, writer)
+        }
         Err(ReadFault::NoMemory) => Ending::NoMemory,
         Err(ReadFault::Failed) => Ending::ReadFailed,
     }
 }
 
 /// Answers a source: it is refused, or its program is answered.
-fn answer_source<W: ByteSink>(
+fn answer_source<R: ByteSource, W: ByteSink>(
     alloc: Global,
-    subcommand: Subcommand,
+    plan: &Plan,
     source: &[u8],
+    reader: &mut R,
     writer: &mut W,
 ) -> Ending
-    requires { W.failed writer.old + 1 < 2 ^ 64 }
-    ensures leaves { LeavesWriter result (W.failed writer.old) (W.failed writer.new) }
-    ensures answer { W.told ≡ true → (answer : Answer) → IsSourceAnswer subcommand source.now answer
+    requires reader_sound { R.failed reader.old + 1 < 2 ^ 64 }
+    requires writer_sound { W.failed writer.old + 1 < 2 ^ 64 }
+    ensures leaves { LeavesStreams result (R.failed reader.old) (R.failed reader.new)
+        (W.failed writer.old) (W.failed writer.new) }
+    ensures reader_kept { reads_input plan.now ≡ false → reader.new ≡ reader.old }
+    ensures answer { R.told ≡ true → W.told ≡ true → (answer : Answer)
+        → IsSourceAnswer plan.now source.now (R.left reader.old) answer
         → Answers answer result (W.written writer.old) (W.written writer.new) }
 {
     match read_source(alloc, source) {
-        Ok(program) => answer_program(alloc, subcommand, &program, writer),
+        Ok(program) => answer_program(alloc, plan, &program, reader, writer),
         Err(Refusal::Fault(kind, statement)) => refuse(alloc, kind, statement),
         Err(Refusal::TooLong) => Ending::Answered {
             status: 2,
@@ -133,21 +162,74 @@ fn refuse(alloc: Global, kind: FaultKind, statement: u32) -> Ending
     }
 }
 
-/// Answers a program by its command.
-fn answer_program<W: ByteSink>(
+/// Answers a program: it is counted, listed or run.
+fn answer_program<R: ByteSource, W: ByteSink>(
     alloc: Global,
-    subcommand: Subcommand,
+    plan: &Plan,
     program: &Program<'_>,
+    reader: &mut R,
+    writer: &mut W,
+) -> Ending
+    requires reader_sound { R.failed reader.old + 1 < 2 ^ 64 }
+    requires writer_sound { W.failed writer.old + 1 < 2 ^ 64 }
+    ensures leaves { LeavesStreams result (R.failed reader.old) (R.failed reader.new)
+        (W.failed writer.old) (W.failed writer.new) }
+    ensures reader_kept { reads_input plan.now ≡ false → reader.new ≡ reader.old }
+    ensures answer { R.told ≡ true → W.told ≡ true → (answer : Answer)
+        → IsProgramAnswer (trees_of program.now) (R.left reader.old) plan.now answer
+        → Answers answer result (W.written writer.old) (W.written writer.new) }
+{
+    match plan {
+        Plan::Check => answer_check(alloc, program, writer),
+        Plan::List => answer_list(alloc, program, writer),
+        Plan::Execute(runs) => execute(alloc, runs, program, reader, writer),
+    }
+}
+
+/// Answers a program by its runs: it is compiled, and its input is read whole.
+fn execute<R: ByteSource, W: ByteSink>(
+    alloc: Global,
+    runs: &Runs,
+    program: &Program<'_>,
+    reader: &mut R,
+    writer: &mut W,
+) -> Ending
+    requires reader_sound { R.failed reader.old + 1 < 2 ^ 64 }
+    requires writer_sound { W.failed writer.old + 1 < 2 ^ 64 }
+    ensures leaves { LeavesStreams result (R.failed reader.old) (R.failed reader.new)
+        (W.failed writer.old) (W.failed writer.new) }
+    ensures answer { R.told ≡ true → W.told ≡ true → (answer : Answer)
+        → IsProgramAnswer (trees_of program.now) (R.left reader.old) (Plan.Execute runs.now) answer
+        → Answers answer result (W.written writer.old) (W.written writer.new) }
+{
+    let Ok(code) = compile(alloc, program) else {
+        return Ending::NoMemory;
+    };
+    match read_input(alloc, reader) {
+        Ok(input) => answer_code(alloc, runs, &code, input.as_slice(), writer),
+        Err(ending) => ending,
+    }
+}
+
+/// Answers code and its input by its runs.
+fn answer_code<W: ByteSink>(
+    alloc: Global,
+    runs: &Runs,
+    code: &Code<'_>,
+    input: &[u8],
     writer: &mut W,
 ) -> Ending
     requires { W.failed writer.old + 1 < 2 ^ 64 }
     ensures leaves { LeavesWriter result (W.failed writer.old) (W.failed writer.new) }
-    ensures answer { W.told ≡ true → Answers (program_answer subcommand (trees_of program.now))
-        result (W.written writer.old) (W.written writer.new) }
+    ensures answer { W.told ≡ true → (answer : Answer)
+        → IsExecuted (code_program code.now) input.now runs.now answer
+        → Answers answer result (W.written writer.old) (W.written writer.new) }
 {
-    match subcommand {
-        Subcommand::Check => answer_check(alloc, program, writer),
-        Subcommand::List => answer_list(alloc, program, writer),
-        Subcommand::Run => answer_run(alloc, program, writer),
+    match runs {
+        Runs::Given { choices, limit } => answer_run(alloc, code, input, choices, *limit, writer),
+        Runs::Drawn { seed, limit } => answer_drawn(alloc, code, input, *seed, *limit, writer),
+        Runs::Listed { from, count, limit } => {
+            answer_runs(alloc, code, input, from, *count, *limit, writer)
+        }
     }
 }

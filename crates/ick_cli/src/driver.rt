@@ -3,9 +3,11 @@ ghost use Rattle.std.specs.Prelude.{◌≡◌, ◌+◌, ◌<◌, ◌^◌, ◌⊎
 ghost use Rattle.clap.specs.Walk.{texts};
 ghost use Rattle.clap.specs.Words.{fault_of};
 ghost use Rattle.ick_cli.specs.Words.{ick_app};
-ghost use Rattle.ick_cli.specs.Ending.{source_of};
-ghost use Rattle.ick_cli.specs.Job.{HasJob, has_file, job_of};
+ghost use Rattle.ick_cli.specs.Ending.{input_of, source_of};
+ghost use Rattle.ick_cli.specs.Job.{HasJob, has_file, job_of, takes_input};
 ghost use Rattle.ick_cli.specs.Notice.{notice_text};
+ghost use Rattle.ick_cli.specs.Plan.{IsUnplanned};
+ghost use Rattle.ick_cli.specs.declared.notice.Notice.{Notice};
 ghost use Rattle.ick_cli.specs.Serve.{Finishes, FinishesDue, IsDue, IsServed, IsStatus, counts};
 ghost use Rattle.ick_cli.specs.Tool.{Answer, IsToolAnswer};
 ghost use Rattle.ick_cli.specs.Usage.{AreMistakes, AreRequests, IsHelped, IsRefused};
@@ -24,9 +26,10 @@ use std::alloc::Global;
 /// Does the job that the words ask for, and says with which status the program ends.
 ///
 /// The words are without the program's own name. The source is the file that they name, which
-/// `files` opens, or else what `reader` has; the other of the two is left alone. The output goes to
-/// `writer`, and what is to be said of a refusal, a fault or a failure to `errors`, after the
-/// output up to there. The words, the statuses and the texts are this profile's.
+/// `files` opens, and the input of a run is then what `reader` has; without a file the source is
+/// what `reader` has, and the input is empty. The output goes to `writer`, and what is to be said of
+/// a refusal, a fault or a failure to `errors`, after the output up to there. The words, the
+/// statuses and the texts are this profile's.
 pub fn serve<F: Files, R: ByteSource, W: ByteSink, E: ByteSink>(
     alloc: Global,
     words: &[&str],
@@ -45,8 +48,9 @@ pub fn serve<F: Files, R: ByteSource, W: ByteSink, E: ByteSink>(
     ensures job { HasJob (texts words.entry.now) → F.told ≡ true → R.told ≡ true → W.told ≡ true →
         let job = job_of (texts words.entry.now) in
         (answer : Answer)
-        × IsToolAnswer job.subcommand (source_of job.file (F.named files.old)
-        (F.failed files.old) (F.failed files.new) (R.left reader.old)) answer
+        × IsToolAnswer job.task (source_of job.file (F.named files.old)
+        (F.failed files.old) (F.failed files.new) (R.left reader.old))
+        (input_of job.file (R.left reader.old)) answer
         × FinishesDue (IsServed answer
         (counts (F.failed files.old) (R.failed reader.old) (W.failed writer.old))
         (counts (F.failed files.new) (R.failed reader.new) (W.failed writer.new))
@@ -54,9 +58,13 @@ pub fn serve<F: Files, R: ByteSource, W: ByteSink, E: ByteSink>(
         E.told (E.failed errors.old) (E.failed errors.new)
         (E.written errors.old) (E.written errors.new) result }
     ensures reader_kept { HasJob (texts words.entry.now)
-        → has_file (job_of (texts words.entry.now)) ≡ true → reader.new ≡ reader.old }
+        → has_file (job_of (texts words.entry.now)) ≡ true
+        → takes_input (job_of (texts words.entry.now)).task ≡ false → reader.new ≡ reader.old }
     ensures files_kept { HasJob (texts words.entry.now)
         → has_file (job_of (texts words.entry.now)) ≡ false → files.new ≡ files.old }
+    ensures unplanned { HasJob (texts words.entry.now) → (line : Notice)
+        → IsUnplanned (job_of (texts words.entry.now)).task line
+        → (files.new ≡ files.old) × (reader.new ≡ reader.old) }
 
     // Other words: a mistake in them, or a request for help.
     ensures usage { AreMistakes (fault_of ick_app (texts words.entry.now))

@@ -9,12 +9,23 @@ use crate::notice::{Message, Notice};
 pub enum Ending {
     Answered { status: u8, message: Message },
     NoMemory,
+    InputTooLong,
     FileNotRead,
     ReadFailed,
     WriteFailed,
 }
 
 impl Ending {
+    /// The ending by a line, with the status of usage.
+    pub fn usage(line: Notice) -> Ending
+        ensures { result ≡ Ending.Answered 64 (Message.Notice line) }
+    {
+        Ending::Answered {
+            status: 64,
+            message: Message::Notice(line),
+        }
+    }
+
     /// The exit status.
     pub fn status(&self) -> u8
         ensures { result ≡ ending_status self.now }
@@ -32,6 +43,7 @@ impl Ending {
         match self {
             Ending::Answered { message, .. } => message.bytes(),
             Ending::NoMemory => Notice::OutOfMemory.text(),
+            Ending::InputTooLong => Notice::InputTooLong.text(),
             Ending::FileNotRead => Notice::FileNotRead.text(),
             Ending::ReadFailed => Notice::ReadFailed.text(),
             Ending::WriteFailed => Notice::WriteFailed.text(),

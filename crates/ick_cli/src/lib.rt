@@ -3,10 +3,11 @@
 //!
 //! - `files`: files that are opened by name
 //! - `words`: the commands and arguments, and the job that words ask for
+//! - `plan`: what is done with a program, once texts of choices were read
 //! - `notice`: what is said on the error stream
 //! - `ending`: how the work of a job ends
 //! - `output`: the output of an answer
-//! - `execution`: the run of a program
+//! - `input`: the input of a run
 //! - `stopped`: the status and the error text of a run that has stopped
 //! - `commands`: what each command does with a program
 //! - `dispatch`: from a job to its command
@@ -21,11 +22,12 @@ mod commands;
 mod dispatch;
 mod driver;
 mod ending;
-mod execution;
 mod files;
+mod input;
 mod laws;
 mod notice;
 mod output;
+mod plan;
 mod report;
 mod status;
 mod stopped;

@@ -6,7 +6,11 @@ ghost use Rattle.ick_cli.specs.Notice.{notice_text};
 /// A line that stands in the program, so that it takes no memory.
 #[derive(Clone, Copy, Debug, PartialEq, Eq)]
 pub enum Notice {
+    ChoicesAndSeed,
+    BadCursor,
+    NoSuchRun,
     SourceTooLong,
+    InputTooLong,
     FileNotRead,
     ReadFailed,
     WriteFailed,
@@ -20,7 +24,11 @@ impl Notice {
         ensures { result.now ≡ notice_text self }
     {
         match self {
+            Notice::ChoicesAndSeed => b"CHOICES AND SEED TOGETHER\n",
+            Notice::BadCursor => b"BAD CURSOR\n",
+            Notice::NoSuchRun => b"NO SUCH RUN\n",
             Notice::SourceTooLong => b"SOURCE TOO LONG\n",
+            Notice::InputTooLong => b"INPUT TOO LONG\n",
             Notice::FileNotRead => b"FILE NOT READ\n",
             Notice::ReadFailed => b"READ FAILED\n",
             Notice::WriteFailed => b"WRITE FAILED\n",

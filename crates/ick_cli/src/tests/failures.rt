@@ -27,18 +27,23 @@ fn files_fail(rt: HostRuntime) {
         (["check", "g"].as_slice(), ALWAYS),
         (["list", "g"].as_slice(), ALWAYS),
         (["run", "g"].as_slice(), ALWAYS),
+        (["runs", "g"].as_slice(), ALWAYS),
         (["check", "f"].as_slice(), 0),
         (["list", "f"].as_slice(), 0),
         (["run", "f"].as_slice(), 0),
+        (["runs", "f"].as_slice(), 0),
         (["check", "f"].as_slice(), 1),
         (["list", "f"].as_slice(), 1),
         (["run", "f"].as_slice(), 1),
+        (["runs", "f"].as_slice(), 1),
     ] {
         let call = Call {
             words,
             source: ONE_NUMERAL,
+            entered: ONE_NUMERAL,
             more: 0,
-            reads,
+            file_reads: reads,
+            reads: ALWAYS,
             writer_room: AMPLE,
             errors_room: AMPLE,
         };
@@ -51,17 +56,22 @@ fn files_are_opened_once(rt: HostRuntime) {
     for (words, opened, unread) in [
         (["check", "f"].as_slice(), 1, ONE_NUMERAL.len()),
         (["list", "f"].as_slice(), 1, ONE_NUMERAL.len()),
-        (["run", "f"].as_slice(), 1, ONE_NUMERAL.len()),
+        (["run", "f"].as_slice(), 1, 0),
+        (["runs", "f"].as_slice(), 1, 0),
+        (["run", "--choices=2", "f"].as_slice(), 0, ONE_NUMERAL.len()),
         (["check"].as_slice(), 0, 0),
         (["list"].as_slice(), 0, 0),
         (["run"].as_slice(), 0, 0),
+        (["runs"].as_slice(), 0, 0),
         (["run", "--help"].as_slice(), 0, ONE_NUMERAL.len()),
         (["run", "f", "g"].as_slice(), 0, ONE_NUMERAL.len()),
     ] {
         let call = Call {
             words,
             source: ONE_NUMERAL,
+            entered: ONE_NUMERAL,
             more: 0,
+            file_reads: ALWAYS,
             reads: ALWAYS,
             writer_room: AMPLE,
             errors_room: AMPLE,
@@ -74,11 +84,20 @@ fn files_are_opened_once(rt: HostRuntime) {
 
 #[test]
 fn reads_fail(rt: HostRuntime) {
-    for word in ["check", "list", "run"] {
+    for words in [
+        ["check"].as_slice(),
+        ["list"].as_slice(),
+        ["run"].as_slice(),
+        ["runs"].as_slice(),
+        ["run", "f"].as_slice(),
+        ["runs", "f"].as_slice(),
+    ] {
         let worn = Call {
-            words: &[word],
+            words,
             source: ONE_NUMERAL,
+            entered: ONE_NUMERAL,
             more: 0,
+            file_reads: ALWAYS,
             reads: 2,
             writer_room: AMPLE,
             errors_room: AMPLE,
@@ -113,11 +132,14 @@ fn writes_fail(rt: HostRuntime) {
 ",
         ),
         ("run", b"\nI\n"),
+        ("runs", b"- GIVE-UP \"\\nI\\n\"\nDONE\n"),
     ] {
         let whole = Call {
             words: &[word],
             source: ONE_NUMERAL,
+            entered: ONE_NUMERAL,
             more: 0,
+            file_reads: ALWAYS,
             reads: ALWAYS,
             writer_room: text.len(),
             errors_room: 0,
@@ -160,7 +182,9 @@ fn help_fails(rt: HostRuntime) {
     let short = Call {
         words: &["--help"],
         source: b"",
+        entered: b"",
         more: 0,
+        file_reads: ALWAYS,
         reads: ALWAYS,
         writer_room: 6,
         errors_room: AMPLE,

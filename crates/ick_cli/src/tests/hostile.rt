@@ -1,26 +1,8 @@
 //! Sources at the limits, and of strange bytes.
-use super::table::{Row, assert_row};
+use super::table::{Row, assert_row, assert_row_over, joined, repeated};
 use std::alloc::{AllocError, Global};
 use std::process::Abort;
 use std::test::Fail;
-
-// A piece, so many times.
-fn repeated(alloc: Global, piece: &[u8], count: usize) -> Result<Vec<u8>, AllocError> {
-    let mut text = Vec::new(alloc);
-    for _ in 0..count {
-        text.extend_from_slice(piece)?;
-    }
-    Ok(text)
-}
-
-// Pieces, one after another.
-fn joined(alloc: Global, pieces: &[&[u8]]) -> Result<Vec<u8>, AllocError> {
-    let mut text = Vec::new(alloc);
-    for piece in pieces {
-        text.extend_from_slice(piece)?;
-    }
-    Ok(text)
-}
 
 #[test]
 fn sources_have_a_longest(rt: HostRuntime) -> Result<(), Fail> {
@@ -58,7 +40,7 @@ fn sources_have_a_longest(rt: HostRuntime) -> Result<(), Fail> {
         error_text: b"SOURCE TOO LONG\n",
         code: 2,
     };
-    for subcommand in ["check", "list", "run"] {
+    for subcommand in ["check", "list", "run", "runs"] {
         assert_row(&rt, rt.alloc(), &[subcommand], &row);
         assert_row(&rt, rt.alloc(), &[subcommand, "f"], &row);
     }
@@ -137,5 +119,44 @@ fn bytes_are_strange(rt: HostRuntime) -> Result<(), Fail> {
         code: 1,
     };
     assert_row(&rt, rt.alloc(), &["run"], &row);
+    Ok(())
+}
+
+#[test]
+fn inputs_have_a_longest(rt: HostRuntime) -> Result<(), Fail> {
+    let longest = repeated(rt.alloc(), b"\n", 1_048_576)?;
+    let longer = repeated(rt.alloc(), b"\n", 1_048_577)?;
+    let source = b"DO WRITE IN .1\nPLEASE READ OUT .1\nDO GIVE UP\n".as_slice();
+    for (subcommand, output) in [
+        ("run", b"_\n\n".as_slice()),
+        ("runs", b"- GIVE-UP \"_\\n\\n\"\nDONE\n"),
+    ] {
+        let row = Row {
+            source,
+            output,
+            error_text: b"",
+            code: 0,
+        };
+        assert_row_over(&rt, rt.alloc(), &[subcommand, "f"], &longest, &row);
+        let refused = Row {
+            output: b"",
+            error_text: b"INPUT TOO LONG\n",
+            code: 4,
+            ..row
+        };
+        assert_row_over(&rt, rt.alloc(), &[subcommand, "f"], &longer, &refused);
+    }
+    for subcommand in ["check", "list"] {
+        let refused = Row {
+            source: b"DO READ OUT #70000\n",
+            output: b"",
+            error_text: b"ICL017I DO YOU EXPECT ME TO FIGURE THIS OUT?
+        ON THE WAY TO 2
+        CORRECT SOURCE AND RESUBNIT
+",
+            code: 2,
+        };
+        assert_row_over(&rt, rt.alloc(), &[subcommand, "f"], &longer, &refused);
+    }
     Ok(())
 }

@@ -2,7 +2,7 @@
 //! it.
 use super::fakes::{NamedFile, Shelf, WornSink, WornSource};
 use crate::serve;
-use std::alloc::Global;
+use std::alloc::{AllocError, Global};
 use std::process::Abort;
 
 /// More reads than any test makes.
@@ -14,13 +14,15 @@ pub const AMPLE: usize = usize::MAX;
 /// A program that prints one numeral.
 pub const ONE_NUMERAL: &[u8] = b"DO READ OUT #1\nPLEASE GIVE UP\n";
 
-/// The words of a call, what its reader and the file `f` have, how many bytes above one a read of
-/// the reader gives, how many reads are good, and how many bytes each sink takes.
+/// The words of a call, what the file `f` and the reader have, how many bytes above one a read of
+/// the reader gives, how many reads of each are good, and how many bytes each sink takes.
 #[derive(Clone, Copy)]
 pub struct Call<'a> {
     pub words: &'a [&'a str],
     pub source: &'a [u8],
+    pub entered: &'a [u8],
     pub more: u16,
+    pub file_reads: u32,
     pub reads: u32,
     pub writer_room: usize,
     pub errors_room: usize,
@@ -51,12 +53,12 @@ pub fn left_by(alloc: Global, call: &Call<'_>) -> Left {
             },
         ],
         rest: b"",
-        good: call.reads,
+        good: call.file_reads,
         opened: 0,
         failures: 0,
     };
     let mut reader = WornSource {
-        rest: call.source,
+        rest: call.entered,
         more: call.more,
         good: call.reads,
         failures: 0,
@@ -89,13 +91,15 @@ pub fn left_by(alloc: Global, call: &Call<'_>) -> Left {
 }
 
 /// What a call leaves over devices that never fail.
-pub fn left_by_words(alloc: Global, words: &[&str], source: &[u8]) -> Left {
+pub fn left_by_words(alloc: Global, words: &[&str], source: &[u8], entered: &[u8]) -> Left {
     left_by(
         alloc,
         &Call {
             words,
             source,
+            entered,
             more: u16::MAX,
+            file_reads: ALWAYS,
             reads: ALWAYS,
             writer_room: AMPLE,
             errors_room: AMPLE,
@@ -112,10 +116,21 @@ pub struct Row<'a> {
     pub code: u8,
 }
 
-/// Words leave what the row says, where the reader has its source, and the file `f` too.
+/// Words leave what the row says, where the file `f` has its source, and the reader too.
 pub fn assert_row(rt: &impl Abort, alloc: Global, words: &[&str], row: &Row<'_>) {
+    assert_row_over(rt, alloc, words, row.source, row);
+}
+
+/// Words leave what the row says, where the file `f` has its source, and the reader this text.
+pub fn assert_row_over(
+    rt: &impl Abort,
+    alloc: Global,
+    words: &[&str],
+    entered: &[u8],
+    row: &Row<'_>,
+) {
     let source = row.source;
-    let left = left_by_words(alloc, words, source);
+    let left = left_by_words(alloc, words, source, entered);
     assert!(rt;
         left.code == row.code,
         "status {} of {words:?} over {source:?}",
@@ -129,4 +144,68 @@ pub fn assert_row(rt: &impl Abort, alloc: Global, words: &[&str], row: &Row<'_>)
         left.error_text.as_slice() == row.error_text,
         "error text of {words:?} over {source:?}"
     );
+}
+
+/// A program and its input; and what its run leaves: the output, and, where it faults, the first
+/// line of the message behind `ICL`, with the number that it is on the way to.
+#[derive(Clone, Copy)]
+pub struct RunRow<'a> {
+    pub source: &'a [u8],
+    pub input: &'a [u8],
+    pub output: &'a [u8],
+    pub fault: &'a [u8],
+    pub next: &'a [u8],
+}
+
+/// The words of a run, with the program in the file `f`, leave what the row says.
+pub fn assert_run(
+    rt: &impl Abort,
+    alloc: Global,
+    words: &[&str],
+    row: &RunRow<'_>,
+) -> Result<(), AllocError> {
+    let message = message(alloc, row.fault, row.next)?;
+    let left = Row {
+        source: row.source,
+        output: row.output,
+        error_text: message.as_slice(),
+        code: if row.fault.is_empty() { 0 } else { 1 },
+    };
+    assert_row_over(rt, alloc, words, row.input, &left);
+    Ok(())
+}
+
+/// The message of a fault, or nothing where there is none.
+pub fn message(alloc: Global, fault: &[u8], next: &[u8]) -> Result<Vec<u8>, AllocError> {
+    if fault.is_empty() {
+        return Ok(Vec::new(alloc));
+    }
+    joined(
+        alloc,
+        &[
+            b"ICL",
+            fault,
+            b"\n        ON THE WAY TO ",
+            next,
+            b"\n        CORRECT SOURCE AND RESUBNIT\n",
+        ],
+    )
+}
+
+/// A piece, so many times.
+pub fn repeated(alloc: Global, piece: &[u8], count: usize) -> Result<Vec<u8>, AllocError> {
+    let mut text = Vec::new(alloc);
+    for _ in 0..count {
+        text.extend_from_slice(piece)?;
+    }
+    Ok(text)
+}
+
+/// Pieces, one after another.
+pub fn joined(alloc: Global, pieces: &[&[u8]]) -> Result<Vec<u8>, AllocError> {
+    let mut text = Vec::new(alloc);
+    for piece in pieces {
+        text.extend_from_slice(piece)?;
+    }
+    Ok(text)
 }

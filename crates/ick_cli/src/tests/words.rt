@@ -11,7 +11,9 @@ const IN_CHECK: &[u8] = b"Usage: ick check [FILE]\n\nFor more information, try '
 
 const IN_LIST: &[u8] = b"Usage: ick list [FILE]\n\nFor more information, try '--help'.\n";
 
-const IN_RUN: &[u8] = b"Usage: ick run [FILE]\n\nFor more information, try '--help'.\n";
+const MORE_BY_HELP: &[u8] = b"For more information, try '--help'.\n";
+
+const IN_RUN: &[u8] = b"Usage: ick run [OPTIONS] [FILE]\n\nFor more information, try '--help'.\n";
 
 #[test]
 fn refuses_words(rt: HostRuntime) {
@@ -42,6 +44,11 @@ fn refuses_words(rt: HostRuntime) {
             IN_CHECK,
         ),
         (
+            ["runs", "--count=0"].as_slice(),
+            b"error: invalid value '0' for '--count <N>': 0 is not in 1..=1000000\n\n",
+            MORE_BY_HELP,
+        ),
+        (
             ["run", "f", "g", "h"].as_slice(),
             b"error: unexpected argument 'g' found\n\n",
             IN_RUN,
@@ -55,10 +62,10 @@ fn refuses_words(rt: HostRuntime) {
 fn refuses_words_with_a_tip(rt: HostRuntime) {
     for (words, front, back) in [
         (
-            ["runs"].as_slice(),
-            b"error: unrecognized subcommand 'runs'
+            ["chec"].as_slice(),
+            b"error: unrecognized subcommand 'chec'
 
-  tip: a similar subcommand exists: 'run'
+  tip: a similar subcommand exists: 'check'
 
 "
                 .as_slice(),
@@ -89,7 +96,7 @@ fn refuses_words_with_a_tip(rt: HostRuntime) {
 
 // The words are refused with a text of these two parts, and nothing is read.
 fn assert_refused(rt: &impl Abort, alloc: Global, words: &[&str], front: &[u8], back: &[u8]) {
-    let left = left_by_words(alloc, words, ONE_NUMERAL);
+    let left = left_by_words(alloc, words, ONE_NUMERAL, ONE_NUMERAL);
     assert!(rt; left.code == 64, "{words:?}");
     assert!(rt; left.output.is_empty());
     assert!(rt; left.unread == ONE_NUMERAL.len());
@@ -106,6 +113,7 @@ Commands:
   check  Counts the statements of a program
   list   Lists the statements of a program
   run    Runs a program
+  runs   Lists the runs of a program
   help   Print this message or the help of the given subcommand(s)
 
 Options:
@@ -117,8 +125,8 @@ Exit status:
   0   all went well
   1   a fault of the run
   2   the source is refused
-  3   the run wants a choice
-  4   a file, a stream or memory failed
+  3   the run was cut short, or wants a choice
+  4   a file, a stream or memory failed, or the input is too long
   64  the words ask for nothing
 
 Example:
@@ -127,22 +135,29 @@ Example:
 
 const HELP_OF_RUN: &[u8] = b"Runs a program
 
-Usage: ick run [FILE]
+Usage: ick run [OPTIONS] [FILE]
 
 Arguments:
   [FILE]  The source; standard input where none is named
 
 Options:
-  -h, --help  Print help
+  -b                 Changes nothing: there is no random compiler bug to switch off
+      --choices <C>  The choices of the run, as in a listing: --choices=- for none
+      --seed <N>     Draws the choices of the run by this seed
+      --limit <N>    The steps after which a run is cut short
+  -h, --help         Print help
 
-Prints what the program reads out.
+Prints what the program reads out. With FILE its input is standard input, and without it the
+input is empty. A run that asks for more choices than it is given stops there; with neither
+--choices nor --seed it is given none. It is cut short after 1000000 steps where no limit is
+given.
 
 Exit status:
   0   the program gave up
   1   a fault of the run
   2   the source is refused
-  3   the run wants a choice
-  4   a file, a stream or memory failed
+  3   the run was cut short, or wants a choice
+  4   a file, a stream or memory failed, or the input is too long
   64  the words ask for nothing
 
 Example:
@@ -157,7 +172,7 @@ fn gives_help(rt: HostRuntime) {
         (["run", "--help"].as_slice(), HELP_OF_RUN),
         (["help", "run"].as_slice(), HELP_OF_RUN),
     ] {
-        let left = left_by_words(rt.alloc(), words, b"");
+        let left = left_by_words(rt.alloc(), words, b"", b"");
         assert!(rt; left.code == 0, "{words:?}");
         assert!(rt; left.output.as_slice() == text, "{words:?}");
         assert!(rt; left.error_text.is_empty());
@@ -171,8 +186,12 @@ fn gives_help(rt: HostRuntime) {
             ["list", "-h"].as_slice(),
             b"Lists the statements of a program\n\nUsage: ick list [FILE]\n",
         ),
+        (
+            ["runs", "-h"].as_slice(),
+            b"Lists the runs of a program\n\nUsage: ick runs [OPTIONS] [FILE]\n",
+        ),
     ] {
-        let left = left_by_words(rt.alloc(), words, b"");
+        let left = left_by_words(rt.alloc(), words, b"", b"");
         assert!(rt; left.code == 0, "{words:?}");
         assert!(rt; left.output.starts_with(front), "{words:?}");
         assert!(rt; left.error_text.is_empty());

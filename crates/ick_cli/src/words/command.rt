@@ -1,7 +1,7 @@
 //! The command `ick`, with its commands.
 ghost use Rattle.std.specs.Prelude.{IfOk};
 ghost use Rattle.ick_cli.specs.Built.{Reads};
-ghost use Rattle.ick_cli.specs.Words.{check_app, list_app, run_app, ick_app};
+ghost use Rattle.ick_cli.specs.Words.{check_app, list_app, run_app, runs_app, ick_app};
 
 use crate::words::{arguments, help};
 use clap::Command;
@@ -34,6 +34,24 @@ fn run_command<'a>(alloc: Global) -> Result<Command<'a>, AllocError>
     Command::new(alloc, "run")
         .about("Runs a program")
         .after_help(help::RUN)
+        .arg(arguments::bug_argument(alloc))?
+        .arg(arguments::choices_argument(alloc))?
+        .arg(arguments::seed_argument(alloc))?
+        .arg(arguments::limit_argument(alloc))?
+        .arg(arguments::file_argument(alloc))
+}
+
+/// The command `runs`.
+fn runs_command<'a>(alloc: Global) -> Result<Command<'a>, AllocError>
+    ensures { IfOk result (λ c. Reads c runs_app) }
+{
+    Command::new(alloc, "runs")
+        .about("Lists the runs of a program")
+        .after_help(help::RUNS)
+        .arg(arguments::bug_argument(alloc))?
+        .arg(arguments::from_argument(alloc))?
+        .arg(arguments::count_argument(alloc))?
+        .arg(arguments::limit_argument(alloc))?
         .arg(arguments::file_argument(alloc))
 }
 
@@ -48,5 +66,6 @@ pub fn ick_command<'a>(alloc: Global) -> Result<Command<'a>, AllocError>
         .no_binary_name(true)
         .subcommand(check_command(alloc)?)?
         .subcommand(list_command(alloc)?)?
-        .subcommand(run_command(alloc)?)
+        .subcommand(run_command(alloc)?)?
+        .subcommand(runs_command(alloc)?)
 }

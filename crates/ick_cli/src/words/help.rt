@@ -7,8 +7,8 @@ Exit status:
   0   all went well
   1   a fault of the run
   2   the source is refused
-  3   the run wants a choice
-  4   a file, a stream or memory failed
+  3   the run was cut short, or wants a choice
+  4   a file, a stream or memory failed, or the input is too long
   64  the words ask for nothing
 
 Example:
@@ -40,15 +40,35 @@ Example:
   ick list examples/bodies.i";
 
 /// Of `ick run --help`.
-pub const RUN: &str = "Prints what the program reads out.
+pub const RUN: &str =
+    "Prints what the program reads out. With FILE its input is standard input, and without it the
+input is empty. A run that asks for more choices than it is given stops there; with neither
+--choices nor --seed it is given none. It is cut short after 1000000 steps where no limit is
+given.
 
 Exit status:
   0   the program gave up
   1   a fault of the run
   2   the source is refused
-  3   the run wants a choice
-  4   a file, a stream or memory failed
+  3   the run was cut short, or wants a choice
+  4   a file, a stream or memory failed, or the input is too long
   64  the words ask for nothing
 
 Example:
   ick run examples/numerals.i";
+
+/// Of `ick runs --help`.
+pub const RUNS: &str = "Prints a line for each run that the program can make, in the order of
+their choices: the choices, the end and the output. Then comes MORE where there are further
+runs, and else DONE. With --from the listing goes on after the run with these choices. With
+FILE the input is standard input. Each run is cut short after 10000 steps where no limit is
+given.
+
+Exit status:
+  0   the runs were listed
+  2   the source is refused
+  4   a file, a stream or memory failed, or the input is too long
+  64  the words ask for nothing
+
+Example:
+  ick runs examples/choice.i";

@@ -1,10 +1,11 @@
 //! The job that words ask for.
 ghost use Rattle.std.specs.Prelude.{◌≡◌, IfOk, option_map};
-ghost use Rattle.clap.specs.Words.{fault_of, first_of, found_of, rows_of, subcommand_rows_of};
+ghost use Rattle.clap.specs.Words.{fault_of, found_of, rows_of, subcommand_rows_of};
 ghost use Rattle.clap.specs.Kinds.{FailsBy};
 ghost use Rattle.clap.specs.Walk.{texts};
 ghost use Rattle.ick_cli.specs.Words.{ick_app};
-ghost use Rattle.ick_cli.specs.Job.{asked, asked_in, asked_of, job_of, subcommand_named};
+ghost use Rattle.ick_cli.specs.Job.{asked, asked_in, asked_of, job_of, number_in, run_in};
+ghost use Rattle.ick_cli.specs.Job.{runs_in, task_named, task_of, text_in};
 
 use crate::words::command::ick_command;
 use clap::{ArgMatches, Error};
@@ -12,20 +13,30 @@ use std::alloc::Global;
 
 /// What is to be done with a program.
 #[derive(Clone, Copy, Debug, PartialEq, Eq)]
-pub enum Subcommand {
+pub enum Subcommand<'a> {
     /// Its statements are counted.
     Check,
     /// Its statements are listed.
     List,
-    /// It is run.
-    Run,
+    /// It is run: with the choices of a text, or with those that a seed draws.
+    Run {
+        choices: Option<&'a str>,
+        seed: Option<u64>,
+        limit: u32,
+    },
+    /// Its runs are listed, from the one on that the text of a cursor names.
+    Runs {
+        from: Option<&'a str>,
+        count: u32,
+        limit: u32,
+    },
 }
 
 /// What the words ask for: what is to be done with the source in a file, or in what is read where
 /// none is named.
 #[derive(Clone, Copy, Debug)]
 pub struct Job<'a> {
-    pub subcommand: Subcommand,
+    pub subcommand: Subcommand<'a>,
     pub file: Option<&'a str>,
 }
 
@@ -46,40 +57,82 @@ fn job_in<'a>(matches: &ArgMatches<'a>) -> Job<'a>
     ensures { asked result ≡ asked_in (subcommand_rows_of matches.now) }
 {
     match matches.subcommand() {
-        Some((name, inner)) => job_by(subcommand_named(name), inner),
+        Some((name, inner)) => job_by(name, inner),
         None => Job {
-            subcommand: Subcommand::Run,
+            subcommand: Subcommand::Run {
+                choices: None,
+                seed: None,
+                limit: 1_000_000,
+            },
             file: None,
         },
     }
 }
 
 /// The job of the matches of a command.
-fn job_by<'a>(subcommand: Subcommand, matches: &ArgMatches<'a>) -> Job<'a>
-    ensures { asked result ≡ asked_of subcommand (rows_of (found_of matches.now)) }
+fn job_by<'a>(name: &str, matches: &ArgMatches<'a>) -> Job<'a>
+    ensures { asked result ≡ asked_of name.now (rows_of (found_of matches.now)) }
 {
     Job {
-        subcommand,
+        subcommand: subcommand_named(name, matches),
         file: text(matches, "file"),
     }
 }
 
-/// The command of a name.
-fn subcommand_named(name: &str) -> Subcommand
-    ensures { result ≡ subcommand_named name.now }
+/// The command of a name, with its options.
+fn subcommand_named<'a>(name: &str, matches: &ArgMatches<'a>) -> Subcommand<'a>
+    ensures { task_of result ≡ task_named name.now (rows_of (found_of matches.now)) }
 {
     if name == "check" {
         Subcommand::Check
     } else if name == "list" {
         Subcommand::List
+    } else if name == "runs" {
+        runs_in(matches)
     } else {
-        Subcommand::Run
+        run_in(matches)
+    }
+}
+
+/// A run, by its options.
+fn run_in<'a>(matches: &ArgMatches<'a>) -> Subcommand<'a>
+    ensures { task_of result ≡ run_in (rows_of (found_of matches.now)) }
+{
+    Subcommand::Run {
+        choices: text(matches, "choices"),
+        seed: long_number(matches, "seed"),
+        limit: number(matches, "limit").unwrap_or(1_000_000),
+    }
+}
+
+/// A listing of runs, by its options.
+fn runs_in<'a>(matches: &ArgMatches<'a>) -> Subcommand<'a>
+    ensures { task_of result ≡ runs_in (rows_of (found_of matches.now)) }
+{
+    Subcommand::Runs {
+        from: text(matches, "from"),
+        count: number(matches, "count").unwrap_or(1000),
+        limit: number(matches, "limit").unwrap_or(10_000),
     }
 }
 
 /// The text that an argument was given.
 fn text<'a>(matches: &ArgMatches<'a>, id: &str) -> Option<&'a str>
-    ensures { option_map (λ s. s.now) result ≡ first_of id.now (rows_of (found_of matches.now)) }
+    ensures { option_map (λ s. s.now) result ≡ text_in id.now (rows_of (found_of matches.now)) }
 {
     matches.get_str(id)
+}
+
+/// The number that an argument was given.
+fn number(matches: &ArgMatches<'_>, id: &str) -> Option<u32>
+    ensures { result ≡ number_in 32 id.now (rows_of (found_of matches.now)) }
+{
+    matches.get_one::<u32>(id)
+}
+
+/// The number of up to 64 bits that an argument was given.
+fn long_number(matches: &ArgMatches<'_>, id: &str) -> Option<u64>
+    ensures { result ≡ number_in 64 id.now (rows_of (found_of matches.now)) }
+{
+    matches.get_one::<u64>(id)
 }

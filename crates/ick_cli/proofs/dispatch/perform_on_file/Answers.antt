@@ -15,15 +15,17 @@ uncounted (Ok x) e = refl
 uncounted (Err x) e = absurd (cc)
 
 pub returns-in-Ok-clause-answer : goal.returns-in-Ok-clause-answer
-returns-in-Ok-clause-answer g c = λ files_told writer_told answer is.
+returns-in-Ok-clause-answer g c = λ files_told reader_told writer_told answer is.
     let files = c.args.files.now in
+    let plan = c.args.plan.now in
+    let input = g.R.ByteSource.left c.args.reader.now in
     let no_error = sym c.is_err.ensures.value ∙ c.if-is_err.false in
     let opened = kept c.open_named.result _ no_error (c.open_named.ensures.opened files_told) in
     let count = uncounted c.open_named.result no_error in
     let steady : g.F.ByteSource.failed c.read_first.new.source ≡ g.F.ByteSource.failed files =
     omega (arith, c.in-Ok.ensures.count, c.open_named.ensures.count) in
-    c.answer_source.ensures.answer writer_told answer
-    (subst (λ (source : List ℕ). IsSourceAnswer c.args.subcommand source answer) (sym (c.as_slice.ensures.value ∙ c.in-Ok.ensures.front files_told))
-    (subst (λ (left : List ℕ). IsSourceAnswer c.args.subcommand (take MOST_READ left) answer) (sym opened)
-    (answer_of_front c.args.subcommand MOST_READ (g.F.Files.named files c.args.name.now) (omega arith) answer
-    (read_source_of c.args.subcommand (g.F.Files.named files c.args.name.now) _ _ steady answer is))))
+    c.answer_source.ensures.answer reader_told writer_told answer
+    (subst (λ (source : List ℕ). IsSourceAnswer plan source input answer) (sym (c.as_slice.ensures.value ∙ c.in-Ok.ensures.front files_told))
+    (subst (λ (left : List ℕ). IsSourceAnswer plan (take MOST_READ left) input answer) (sym opened)
+    (answer_of_front plan MOST_READ (g.F.Files.named files c.args.name.now) input (omega arith) answer
+    (read_source_of plan (g.F.Files.named files c.args.name.now) input _ _ steady answer is))))

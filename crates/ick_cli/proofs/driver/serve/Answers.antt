@@ -4,7 +4,7 @@ use Rattle.clap.specs.Words.{Kinds, kind_of}
 use Rattle.clap.specs.declared.error.ErrorKind.{ErrorKind}
 use Rattle.clap.specs.declared.error.ErrorKind.TheVariants as kind
 use Rattle.clap.specs.declared.error.Error.{Error}
-use Rattle.ick_cli.specs.Ending.{source_of}
+use Rattle.ick_cli.specs.Ending.{input_of, source_of}
 use Rattle.ick_cli.specs.Job.{Asked}
 use Rattle.std.proofs.lemmas.List.{append-nil}
 use Rattle.ick_cli.specs.Serve.{counts, cut_by_memory}
@@ -30,10 +30,11 @@ memory_ran_out error kinds none (inr h) = absurd (subst (λ (ks : Kinds). IsAmon
 
 pub returns-in-Ok-clause-job : goal.returns-in-Ok-clause-job
 returns-in-Ok-clause-job g c = λ has_job files_told reader_told writer_told.
+    let left = g.R.ByteSource.left c.args.reader.now in
     let source = λ (job : Asked). source_of job.file (g.F.Files.named c.args.files.now)
-    (g.F.ByteSource.failed c.args.files.now) (g.F.ByteSource.failed c.perform-ending.new.files) (g.R.ByteSource.left c.args.reader.now) in
-    let found = tool_answer _ _ in
-    let asks = subst (λ (job : Asked). IsToolAnswer job.subcommand (source job) found.0) (sym c.in-Ok.ensures.job) found.1 in
+    (g.F.ByteSource.failed c.args.files.now) (g.F.ByteSource.failed c.perform-ending.new.files) left in
+    let found = tool_answer _ _ _ in
+    let asks = subst (λ (job : Asked). IsToolAnswer job.task (source job) (input_of job.file left) found.0) (sym c.in-Ok.ensures.job) found.1 in
     let work = c.perform-ending.ensures in (
       found.0,
       found.1,
@@ -58,7 +59,7 @@ returns-in-Ok-clause-status g c = finished_status _ _ _ _ _ _ _ _ (returns-in-Ok
 pub returns-in-Err-clause-job : goal.returns-in-Err-clause-job
 returns-in-Err-clause-job g c = λ has_job files_told reader_told writer_told.
     let memory = c.answer_words.ensures.memory (memory_ran_out c.in-Err.error _ has_job c.in-Err.ensures.law) in
-    let found = tool_answer _ _ in (
+    let found = tool_answer _ _ _ in (
       found.0,
       found.1,
       (

@@ -1,0 +1,72 @@
+-- An ending by a line.
+use Rattle.std.proofs.Common.{◌≡◌, ℕ, List, Option, ap, inr, refl, sym, subst, arith}
+use Rattle.std.proofs.lemmas.List.{append-nil}
+use Rattle.ick_cli.specs.Ending.{Answers, Leaves}
+use Rattle.ick_cli.specs.Job.{Task}
+use Rattle.ick_cli.specs.Notice.{notice_text}
+use Rattle.ick_cli.specs.Plan.{EndsByLine, IsPlanned, IsUnplanned}
+use Rattle.ick_cli.specs.Tool.{Answer, IsReadAnswer, IsToolAnswer, planned, refusal, unplanned}
+use Rattle.ick_cli.specs.declared.ending.Ending.{Ending}
+use Rattle.ick_cli.specs.declared.ending.Ending.TheVariants.{Answered, NoMemory, InputTooLong, FileNotRead, ReadFailed, WriteFailed}
+use Rattle.ick_cli.specs.declared.notice.Message.TheVariants as message
+use Rattle.ick_cli.specs.declared.notice.Notice.{Notice}
+use Rattle.ick_cli.specs.declared.plan.Plan.{Plan}
+use Rattle.ick_cli.proofs.Planned.{line_unique, plan_unique, planned_not_unplanned}
+
+pub leaves_by_line : (IsLine : Notice → Type 0) (ending : Ending) (files reads writes : ℕ) → EndsByLine IsLine ending
+    → Leaves ending files files reads reads writes writes
+leaves_by_line IsLine (Answered status (message.Notice line)) files reads writes h =
+    record { proper = inr h.0; opened = omega arith; read = omega arith; wrote = omega arith }
+leaves_by_line IsLine (Answered status message.Nothing) files reads writes h = absurd h
+leaves_by_line IsLine (Answered status (message.Text text)) files reads writes h = absurd h
+leaves_by_line IsLine NoMemory files reads writes h = record { proper = tt; opened = omega arith; read = omega arith; wrote = omega arith }
+leaves_by_line IsLine InputTooLong files reads writes h = absurd h
+leaves_by_line IsLine FileNotRead files reads writes h = absurd h
+leaves_by_line IsLine ReadFailed files reads writes h = absurd h
+leaves_by_line IsLine WriteFailed files reads writes h = absurd h
+
+pub by_other_line : (IsLine IsOther : Notice → Type 0) (ending : Ending) → ((line : Notice) → IsLine line → IsOther line)
+    → EndsByLine IsLine ending → EndsByLine IsOther ending
+by_other_line IsLine IsOther (Answered status (message.Notice line)) other h = (h.0, other line h.1)
+by_other_line IsLine IsOther (Answered status message.Nothing) other h = absurd h
+by_other_line IsLine IsOther (Answered status (message.Text text)) other h = absurd h
+by_other_line IsLine IsOther NoMemory other h = tt
+by_other_line IsLine IsOther InputTooLong other h = absurd h
+by_other_line IsLine IsOther FileNotRead other h = absurd h
+by_other_line IsLine IsOther ReadFailed other h = absurd h
+by_other_line IsLine IsOther WriteFailed other h = absurd h
+
+pub by_usage : (IsLine : Notice → Type 0) (ending : Ending) (line : Notice) → ending ≡ Answered 64 (message.Notice line) → IsLine line
+    → EndsByLine IsLine ending
+by_usage IsLine ending line is h = subst (λ (e : Ending). EndsByLine IsLine e) (sym is) (refl, h)
+
+pub answers_by_line : (IsLine : Notice → Type 0) (ending : Ending) (before : List ℕ) (answer : Answer) → EndsByLine IsLine ending
+    → ((line : Notice) → IsLine line → answer ≡ refusal 64 (notice_text line)) → Answers answer ending before before
+answers_by_line IsLine (Answered status (message.Notice line)) before answer h is =
+    subst (λ (a : Answer). Answers a (Answered status (message.Notice line)) before before) (sym (is line h.1))
+    ((h.0, refl), sym (append-nil before))
+answers_by_line IsLine (Answered status message.Nothing) before answer h is = absurd h
+answers_by_line IsLine (Answered status (message.Text text)) before answer h is = absurd h
+answers_by_line IsLine NoMemory before answer h is = (tt, (0, sym (append-nil before)))
+answers_by_line IsLine InputTooLong before answer h is = absurd h
+answers_by_line IsLine FileNotRead before answer h is = absurd h
+answers_by_line IsLine ReadFailed before answer h is = absurd h
+answers_by_line IsLine WriteFailed before answer h is = absurd h
+
+-- the answer to a task that has no plan, and to one that has one
+pub unplanned_answer : (task : Task) (source : Option (List ℕ)) (input : List ℕ) (answer : Answer) → IsToolAnswer task source input answer
+    → (line : Notice) → IsUnplanned task line → answer ≡ refusal 64 (notice_text line)
+unplanned_answer task source input answer (unplanned other h) line is =
+    ap (λ (l : Notice). refusal 64 (notice_text l)) (line_unique task line other is h)
+unplanned_answer task source input answer (planned plan given h found) line is = absurd (planned_not_unplanned task plan line h is)
+
+pub answered_unplanned : (task : Task) (source : Option (List ℕ)) (input : List ℕ) (ending : Ending) (before : List ℕ) → EndsByLine (IsUnplanned task) ending
+    → (answer : Answer) → IsToolAnswer task source input answer → Answers answer ending before before
+answered_unplanned task source input ending before ends answer is =
+    answers_by_line (IsUnplanned task) ending before answer ends (unplanned_answer task source input answer is)
+
+pub answer_planned : (task : Task) (plan : Plan) (source : Option (List ℕ)) (input : List ℕ) (answer : Answer) → IsPlanned task plan
+    → IsToolAnswer task source input answer → IsReadAnswer plan input source answer
+answer_planned task plan source input answer is (unplanned line h) = absurd (planned_not_unplanned task plan line is h)
+answer_planned task plan source input answer is (planned other given h found) =
+    subst (λ (p : Plan). IsReadAnswer p input source answer) (plan_unique task plan other is h) found

@@ -1,0 +1,60 @@
+-- What a task comes to once its text of choices was read, before anything else is.
+use Rattle.std.specs.Prelude.{◌≡◌, ◌<◌, ◌≤◌, ℕ, Bool, true, false, List, Option, Some, None, length}
+use Rattle.clap.specs.Words.{Text}
+use Rattle.ick_runs.specs.ChoiceTexts.{IsTextOf}
+use Rattle.ick_cli.specs.Job.{Task, to_check, to_list, to_run, to_list_runs}
+use Rattle.ick_cli.specs.declared.ending.Ending.{Ending}
+use Rattle.ick_cli.specs.declared.ending.Ending.TheVariants.{Answered, NoMemory}
+use Rattle.ick_cli.specs.declared.notice.Message.TheVariants.{Notice as Line}
+use Rattle.ick_cli.specs.declared.notice.Notice.{Notice}
+use Rattle.ick_cli.specs.declared.notice.Notice.TheVariants.{ChoicesAndSeed, BadCursor, NoSuchRun}
+use Rattle.ick_cli.specs.declared.plan.Plan.{Plan}
+use Rattle.ick_cli.specs.declared.plan.Plan.TheVariants.{Check, List as ListStatements, Execute}
+use Rattle.ick_cli.specs.declared.plan.Runs.TheVariants.{Given, Drawn, Listed}
+
+-- the choices that a text has, at most so many; none where there is no text
+abbrev pub AreChoices : Option Text → ℕ → Option (List Bool) → Type 0
+AreChoices None most choices = choices ≡ None
+AreChoices (Some text) most None = ⊥
+AreChoices (Some text) most (Some choices) = IsTextOf text choices × (length choices ≤ most)
+
+-- the line of a text that has none: it is no cursor's text, or has more choices
+pub data IsUnread (most : ℕ) : Option Text → Notice → Type 0 where
+  bad : (text : Text) → ((choices : List Bool) → ¬ IsTextOf text choices) → IsUnread most (Some text) BadCursor
+  long : (text : Text) (choices : List Bool) → IsTextOf text choices → most < length choices
+      → IsUnread most (Some text) NoSuchRun
+
+-- the most choices of a run that are read
+unfoldable pub most_choices : ℕ
+most_choices = 1000000
+
+-- the plan of a task
+pub data IsPlanned : Task → Plan → Type 0 where
+  check_planned : IsPlanned to_check Check
+  list_planned : IsPlanned to_list ListStatements
+  run_planned : (text : Option Text) (limit : ℕ) (choices : Option (List Bool)) → AreChoices text most_choices choices
+      → IsPlanned (to_run text None limit) (Execute (Given choices limit))
+  seed_planned : (seed limit : ℕ) → IsPlanned (to_run None (Some seed) limit) (Execute (Drawn seed limit))
+  runs_planned : (text : Option Text) (count limit : ℕ) (from : Option (List Bool)) → AreChoices text limit from
+      → IsPlanned (to_list_runs text count limit) (Execute (Listed from count limit))
+
+-- the line of a task that has no plan
+pub data IsUnplanned : Task → Notice → Type 0 where
+  together : (text : Text) (seed limit : ℕ) → IsUnplanned (to_run (Some text) (Some seed) limit) ChoicesAndSeed
+  choices_unread : (text : Option Text) (limit : ℕ) (line : Notice) → IsUnread most_choices text line
+      → IsUnplanned (to_run text None limit) line
+  from_unread : (text : Option Text) (count limit : ℕ) (line : Notice) → IsUnread limit text line
+      → IsUnplanned (to_list_runs text count limit) line
+
+-- an ending by one of these lines, with the status of usage, or want of memory
+abbrev pub EndsByLine : (Notice → Type 0) → Ending → Type 0
+EndsByLine IsLine (Answered status (Line line)) = (status ≡ 64) × IsLine line
+EndsByLine IsLine (Answered status _) = ⊥
+EndsByLine IsLine NoMemory = Unit {0}
+EndsByLine IsLine _ = ⊥
+
+-- whether a plan takes an input
+abbrev pub reads_input : Plan → Bool
+reads_input Check = false
+reads_input ListStatements = false
+reads_input (Execute runs) = true

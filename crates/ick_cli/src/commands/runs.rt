@@ -1,0 +1,124 @@
+//! `ick runs`: the runs of a program are listed.
+ghost use Rattle.std.specs.Prelude.{◌≡◌, ◌+◌, ◌<◌, ◌≤◌, ◌^◌, IfErr, IfOk, [], false, true};
+ghost use Rattle.ick_code.specs.Compiled.{code_program};
+ghost use Rattle.ick_code.specs.meaning.State.{State};
+ghost use Rattle.ick_runs.specs.Explorers.{explored};
+ghost use Rattle.ick_runs.specs.Standing.{Stands};
+ghost use Rattle.ick_cli.specs.Ending.{Answers, LeavesWriter};
+ghost use Rattle.ick_cli.specs.Placed.{IsNoRun, IsPlaced, IsRunsAnswerAt, cut_ending};
+ghost use Rattle.ick_cli.specs.Plan.{EndsByLine};
+ghost use Rattle.ick_cli.specs.Tool.{Answer, IsExecuted, IsRunsAnswer};
+
+use crate::ending::Ending;
+use crate::notice::{Message, Notice};
+use crate::plan::Runs;
+use ick_code::Code;
+use ick_machine::{Asks, Trailed};
+use ick_runs::{ByteSink, Cursor, Explorer, RunsError, write_runs};
+use std::alloc::Global;
+
+/// Answers code by the listing of its runs over an input: all of them, or those after a
+/// cursor's.
+pub fn answer_runs<W: ByteSink>(
+    alloc: Global,
+    code: &Code<'_>,
+    input: &[u8],
+    from: &Option<Cursor>,
+    count: u32,
+    limit: u32,
+    writer: &mut W,
+) -> Ending
+    requires { W.failed writer.old + 1 < 2 ^ 64 }
+    ensures leaves { LeavesWriter result (W.failed writer.old) (W.failed writer.new) }
+    ensures answer { W.told ≡ true → (answer : Answer)
+        → IsExecuted (code_program code.now) input.now (Runs.Listed from.now count limit) answer
+        → Answers answer result (W.written writer.old) (W.written writer.new) }
+{
+    match Trailed::new(alloc, code, input, 0) {
+        Ok(machine) => list_runs(alloc, machine, from, count, limit, writer),
+        Err(_) => Ending::NoMemory,
+    }
+}
+
+/// Answers by the listing of the runs from a machine's state.
+fn list_runs<'c, M: Asks<'c>, W: ByteSink>(
+    alloc: Global,
+    machine: M,
+    from: &Option<Cursor>,
+    count: u32,
+    limit: u32,
+    writer: &mut W,
+) -> Ending
+    requires sound { W.failed writer.old + 1 < 2 ^ 64 }
+    requires unmarked { (M.seen machine).marks ≡ [] }
+    requires unworn { (M.seen machine).work ≡ 0 }
+    ensures leaves { LeavesWriter result (W.failed writer.old) (W.failed writer.new) }
+    ensures answer { W.told ≡ true → (answer : Answer)
+        → IsRunsAnswer (M.seen machine).program (M.seen machine).state limit count from.now answer
+        → Answers answer result (W.written writer.old) (W.written writer.new) }
+{
+    match explorer_from(alloc, machine, from, limit) {
+        Ok(explorer) => list_from(alloc, explorer, count, writer),
+        Err(ending) => ending,
+    }
+}
+
+/// An explorer that stands before all runs, or after the one of a cursor, or the ending of work
+/// whose cursor isn't a run's.
+fn explorer_from<'c, M: Asks<'c>>(
+    alloc: Global,
+    machine: M,
+    from: &Option<Cursor>,
+    limit: u32,
+) -> Result<Explorer<M>, Ending>
+    requires unmarked { (M.seen machine).marks ≡ [] }
+    requires unworn { (M.seen machine).work ≡ 0 }
+    ensures ok { IfOk result (λ e. IsPlaced (M.seen machine) limit from.now (explored e)) }
+    ensures err { IfErr result (EndsByLine (IsNoRun (M.seen machine) limit from.now)) }
+{
+    let Some(cursor) = from else {
+        return Ok(Explorer::start(alloc, machine, limit));
+    };
+    match Explorer::after(alloc, machine, limit, cursor) {
+        Ok(explorer) => Ok(explorer),
+        Err(RunsError::NoSuchRun) => Err(Ending::usage(Notice::NoSuchRun)),
+        Err(_) => Err(Ending::NoMemory),
+    }
+}
+
+/// Answers by the listing of the runs after the place of an explorer.
+fn list_from<'c, M: Asks<'c>, W: ByteSink>(
+    alloc: Global,
+    explorer: Explorer<M>,
+    count: u32,
+    writer: &mut W,
+) -> Ending
+    requires sound { W.failed writer.old + 1 < 2 ^ 64 }
+    requires unfailed { (explored explorer).failed ≡ false }
+    requires small { (explored explorer).limit < 2 ^ 32 }
+    requires fresh { (explored explorer).work ≤ (explored explorer).limit }
+    ensures leaves { LeavesWriter result (W.failed writer.old) (W.failed writer.new) }
+    ensures answer { W.told ≡ true → (s : State) → Stands s (explored explorer) → (answer : Answer)
+        → IsRunsAnswerAt s count (explored explorer) answer
+        → Answers answer result (W.written writer.old) (W.written writer.new) }
+{
+    let mut explorer = explorer;
+    match write_runs(alloc, &mut explorer, count, writer) {
+        Ok(_) => Ending::Answered {
+            status: 0,
+            message: Message::Nothing,
+        },
+        Err(error) => cut_ending(error),
+    }
+}
+
+/// How the work ends whose listing was refused: the count of work can't have been full, so memory
+/// was wanting where no write failed.
+fn cut_ending(error: RunsError) -> Ending
+    ensures { result ≡ cut_ending error }
+{
+    match error {
+        RunsError::Write => Ending::WriteFailed,
+        _ => Ending::NoMemory,
+    }
+}
