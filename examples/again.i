@@ -1,0 +1,2 @@
+(1) DO %50 (1) NEXT
+PLEASE GIVE UP
