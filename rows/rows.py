@@ -3,14 +3,15 @@
 
   rows.py PROGRAM
 
-The rows of table.py; a large program by `list` and `run`; and streams that take or give nothing. The last line is
-'N passed, M failed', counting runs of the program.
+The rows of table.py and those of language.py; a large program by `list` and `run`; and streams that take or give
+nothing. The last line is 'N passed, M failed', counting runs of the program.
 """
 import os
 import subprocess
 import sys
 import tempfile
 
+from language import RUN, RUNS
 from large import large
 from table import FAULTS, PLAIN, PRINTS, SOURCE, SWEPT, Answer, Given
 
@@ -67,7 +68,7 @@ def main():
         sys.exit(__doc__)
     with tempfile.TemporaryDirectory() as folder:
         rows = Rows(sys.argv[1], folder)
-        for given, wanted in SWEPT + PLAIN:
+        for given, wanted in SWEPT + PLAIN + RUN + RUNS:
             rows.row(given, wanted)
         source, listing, printed = large()
         rows.row(Given("large, listed", ["list", "FILE"], source, b""), Answer(0, listing, b""))

@@ -22,6 +22,11 @@ FAULTS = b"DO READ OUT #1\nPLEASE READ OUT LOUD\nDO GIVE UP\n"
 FAULTED = Answer(1, b"\nI\n", message(0, "PLEASE READ OUT LOUD", 3))
 CHANCES = b"DO READ OUT #1\nDO %50 GIVE UP\n"
 WANTS = Answer(3, b"\nI\n", b"CHOICE WANTED AFTER 1 STEPS\n")
+LISTED_RUNS = b"""0 E633@2 "\\nI\\n"
+1 GIVE-UP "\\nI\\n"
+DONE
+"""
+ECHOES = b"DO WRITE IN .1\nPLEASE READ OUT .1\nDO GIVE UP\n"
 REFUSED = b"DO READ OUT #70000\nPLEASE GIVE UP\n"
 REFUSAL = Answer(2, b"", message(17, "DO YOU EXPECT ME TO FIGURE THIS OUT?", 2))
 LOST = b"(1) DO (2) NEXT\nPLEASE GIVE UP\n"
@@ -39,6 +44,7 @@ Commands:
   check  Counts the statements of a program
   list   Lists the statements of a program
   run    Runs a program
+  runs   Lists the runs of a program
   help   Print this message or the help of the given subcommand(s)
 
 Options:
@@ -50,8 +56,8 @@ Exit status:
   0   all went well
   1   a fault of the run
   2   the source is refused
-  3   the run wants a choice
-  4   a file, a stream or memory failed
+  3   the run was cut short, or wants a choice
+  4   a file, a stream or memory failed, or the input is too long
   64  the words ask for nothing
 
 Example:
@@ -99,6 +105,13 @@ SWEPT = [
     (Given("faults", ["run"], FAULTS, SOURCE), FAULTED),
     (Given("faults from FILE", ["run", "FILE"], FAULTS, b""), FAULTED),
     (Given("wants a choice", ["run", "FILE"], CHANCES, b""), WANTS),
+    (Given("choices", ["run", "--choices", "1", "FILE"], CHANCES, b""), Answer(0, b"\nI\n", b"")),
+    (Given("cut short", ["run", "--limit", "1", "FILE"], PRINTS, b""),
+     Answer(3, b"\nI\n", b"LIMIT REACHED AFTER 1 STEPS\n")),
+    (Given("reads a line", ["run", "FILE"], ECHOES, b"ONE OH\n"), Answer(0, b"\nX\n", b"")),
+    (Given("runs", ["runs", "FILE"], CHANCES, b""), Answer(0, LISTED_RUNS, b"")),
+    (Given("runs after one", ["runs", "--from", "0"], CHANCES, SOURCE),
+     Answer(0, b'1 GIVE-UP "\\nI\\n"\nDONE\n', b"")),
     (Given("refused", ["run"], REFUSED, SOURCE), REFUSAL),
     (Given("refused from FILE", ["run", "FILE"], REFUSED, b""), REFUSAL),
     (Given("check", ["check"], PRINTS, SOURCE), Answer(0, b"3 STATEMENTS, 1 POLITE\n", b"")),
@@ -115,6 +128,13 @@ SWEPT = [
 PLAIN = [
     (Given("dashes alone", ["--"], PRINTS, SOURCE), Answer(0, PRINTED, b"")),
     (Given("file behind dashes", ["run", "--", "FILE"], PRINTS, b""), Answer(0, PRINTED, b"")),
+    (Given("choices and seed", ["run", "--seed", "1", "--choices", "0", "no-such-file"], b"", b""),
+     Answer(64, b"", b"CHOICES AND SEED TOGETHER\n")),
+    (Given("no cursor", ["runs", "--from", "2", "no-such-file"], b"", b""), Answer(64, b"", b"BAD CURSOR\n")),
+    (Given("no run", ["runs", "--from", "01", "FILE"], CHANCES, b""), Answer(64, b"", b"NO SUCH RUN\n")),
+    (Given("input one byte too long", ["run", "FILE"], ECHOES, b"\n" * (LONGEST + 1)),
+     Answer(4, b"", b"INPUT TOO LONG\n")),
+    (Given("the longest input", ["run", "FILE"], ECHOES, b"\n" * LONGEST), Answer(0, b"_\n\n", b"")),
     (Given("standard input beside FILE", ["run", "FILE"], PRINTS, REFUSED), Answer(0, PRINTED, b"")),
     (Given("a third word", ["check", "FILE", "extra"], PRINTS, b""), Answer(64, b"", USAGE_OF_CHECK)),
     (Given("a fourth word", ["check", "FILE", "extra", "more"], PRINTS, b""), Answer(64, b"", USAGE_OF_CHECK)),
