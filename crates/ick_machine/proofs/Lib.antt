@@ -12,3 +12,6 @@ mod StepLemmas
 mod AnswerLemmas
 mod CopyLemmas
 mod NameLemmas
+mod FeedLemmas
+mod FedLemmas
+mod LiveLemmas

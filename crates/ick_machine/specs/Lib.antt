@@ -5,3 +5,7 @@ pub mod Run
 pub mod Walk
 pub mod Step
 pub mod Marks
+pub mod Feeds
+pub mod LiveAsk
+pub mod Message
+pub mod Live

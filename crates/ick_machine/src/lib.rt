@@ -1,4 +1,5 @@
-//! Machines: what runs a program step by step and can be set back to marked states.
+//! Machines: what runs a program step by step. Two can be set back to marked states, and one reads
+//! its input while it runs.
 //!
 //! | Module | What it has |
 //! |---|---|
@@ -25,6 +26,12 @@
 //! | `whole` | a step that is made whole or not at all |
 //! | `trailed` | a machine with marks that notes each change |
 //! | `copied` | a machine with marks that copies what it remembers |
+//! | `feed` | where the input of a run comes from that is read while it runs |
+//! | `feed_reader` | a feed as the input of a step |
+//! | `fed` | a step whose input comes from a feed |
+//! | `live_ask` | what a machine without marks asks |
+//! | `message` | the message that a run ends with |
+//! | `live` | a machine without marks, which takes its input from a feed |
 #![tactic(auto)]
 
 mod answer;
@@ -33,8 +40,14 @@ mod backtrack;
 mod control;
 mod copied;
 mod evaluate;
+mod fed;
+mod feed;
+mod feed_reader;
 mod halt;
 mod input;
+mod live;
+mod live_ask;
+mod message;
 mod met;
 mod names;
 mod operands;
@@ -46,6 +59,8 @@ mod size;
 mod step;
 mod store;
 mod tape;
+#[cfg(test)]
+mod tests;
 mod text;
 mod trailed;
 mod values;
@@ -54,4 +69,7 @@ mod whole;
 pub use asking::{Ask, End};
 pub use backtrack::{Asks, Backtrack};
 pub use copied::Copied;
+pub use feed::{Feed, FeedFault};
+pub use live::Live;
+pub use live_ask::{EndKind, LiveAsk};
 pub use trailed::Trailed;

@@ -59,7 +59,7 @@ impl<'c> Reader for TextReader<'c> {
 }
 
 /// How many bytes stand before the end of the line.
-fn line_length(rest: &[u8]) -> usize
+pub fn line_length(rest: &[u8]) -> usize
     ensures place { result ≡ position_or_len (λ b. b == 10) rest.now }
     ensures within { result ≤ length rest.now }
 {

@@ -1,0 +1,23 @@
+use Rattle.std.proofs.Common.{[], ap, sym, ◌∙◌}
+use Rattle.std.specs.Prelude.{if◌then◌else◌}
+use Rattle.ick_code.specs.Compiled.{code_program}
+use Rattle.ick_code.specs.meaning.Move.{ask}
+use Rattle.ick_memory.specs.View.{view_of, state_of}
+use Rattle.ick_machine.specs.declared.live_ask.LiveAsk.TheVariants.{Failed}
+use Rattle.ick_machine.specs.Asked.{asked_of}
+use Rattle.ick_machine.specs.Feeds.{input_after}
+use Rattle.ick_machine.specs.Live.{seen}
+use Rattle.ick_machine.specs.LiveAsk.{live_asked}
+use Rattle.ick_machine.proofs.LiveLemmas.{asks_same}
+use Rattle.ick_machine.proofs.live.Live.asks.Goals as goal
+
+pub returns : goal.returns
+unfolding seen
+returns c =
+    let live = c.args.self.now in
+    let code = live.code.now in
+    let v = view_of live.memory in
+    let asked = ask (code_program code) (state_of code (input_after live.line.items []) v) in
+    let same = asks_same code live.line.items c.deref.result.now v c.deref.ensures.value
+    (asked_of c.answer.result) c.answer.ensures in
+    c.of.ensures asked same ∙ ap (λ b. if b then Failed else live_asked asked) (sym c.if-self.false)

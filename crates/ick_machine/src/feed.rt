@@ -1,0 +1,92 @@
+//! Where the input of a run comes from that is read while it runs.
+
+ghost use Rattle.std.specs.Prelude.{◌≡◌, ◌≢◌, ◌+◌, ◌<◌, ◌^◌, ◌∷◌, ℕ, List, Bool, [], true, false};
+ghost use Rattle.std.specs.Prelude.{Ok, Some, None, IfErr};
+ghost use Rattle.ick_code.specs.meaning.InputOutput.{first_line, later_lines};
+ghost use Rattle.ick_machine.specs.Feeds.{feed_failures};
+ghost use Rattle.ick_machine.specs.declared.feed.FeedFault.TheVariants.{NoMemory as OutOfMemory};
+ghost use Rattle.ick_machine.specs.declared.feed.FeedFault.TheVariants.{Read as ReadFailed};
+
+use ick_bits::NoMemory;
+use std::alloc::{AllocError, AllocFailed};
+
+/// Why a feed gave nothing.
+#[derive(Clone, Copy, Debug, PartialEq, Eq)]
+pub enum FeedFault {
+    /// The line could not grow, since memory was refused.
+    NoMemory,
+    /// A read failed.
+    Read,
+}
+
+impl From<NoMemory> for FeedFault {
+    ghost from_gives = { λ _ fault. fault ≡ OutOfMemory };
+
+    fn from(_refused: NoMemory) -> FeedFault {
+        FeedFault::NoMemory
+    }
+}
+
+impl From<AllocError> for FeedFault {
+    ghost from_gives = { λ _ fault. fault ≡ OutOfMemory };
+
+    fn from(_refused: AllocError) -> FeedFault {
+        FeedFault::NoMemory
+    }
+}
+
+impl<T: Drop> From<AllocFailed<T>> for FeedFault {
+    ghost from_gives = { λ _ fault. fault ≡ OutOfMemory };
+
+    fn from(_refused: AllocFailed<T>) -> FeedFault {
+        FeedFault::NoMemory
+    }
+}
+
+/// Input that is read while a run needs it, line by line or byte by byte, and no byte more.
+///
+/// A call takes off the front of the input just what it answers, and the end of a line with the
+/// line. Before each call the count of failures must be below its greatest value.
+pub trait Feed {
+    /// Whether `left` is what really comes.
+    ghost told: { Bool };
+
+    /// The input that is left.
+    ghost left: { Self → List ℕ };
+
+    /// How many reads have failed.
+    ghost failed: { Self → ℕ };
+
+    /// The name of the reference that the feed holds, which every call keeps; any number where it
+    /// holds none.
+    ghost held: { Self → ℕ };
+
+    /// How many reads have failed.
+    fn failures(&self) -> u64
+        ensures { result ≡ failed self.now };
+
+    /// The target becomes the next line, without its end; false where no input is left. `Read`
+    /// raises the count of failures by one, and every other answer leaves it.
+    fn line(&mut self, target: &mut Vec<u8>) -> Result<bool, FeedFault>
+        requires { failed self.old + 1 < 2 ^ 64 }
+        ensures count { failed self.new ≡ failed self.old + feed_failures result }
+        ensures held { held self.new ≡ held self.old }
+        ensures one { result ≡ Ok true → first_line target.new.items ≡ target.new.items }
+        ensures some { told ≡ true → result ≡ Ok true → (left self.old ≢ []) ×
+            (target.new.items ≡ first_line (left self.old)) ×
+            (left self.new ≡ later_lines (left self.old)) }
+        ensures none { told ≡ true → result ≡ Ok false →
+            (left self.old ≡ []) × (left self.new ≡ []) };
+
+    /// The next byte, or nothing where no input is left. It takes no memory. `Read` raises the
+    /// count of failures by one, and every other answer leaves it.
+    fn byte(&mut self) -> Result<Option<u8>, FeedFault>
+        requires { failed self.old + 1 < 2 ^ 64 }
+        ensures count { failed self.new ≡ failed self.old + feed_failures result }
+        ensures held { held self.new ≡ held self.old }
+        ensures errors { IfErr result (λ fault. fault ≡ ReadFailed) }
+        ensures some { told ≡ true → (byte : ℕ) → result ≡ Ok (Some byte) →
+            left self.old ≡ byte ∷ left self.new }
+        ensures none { told ≡ true → result ≡ Ok None →
+            (left self.old ≡ []) × (left self.new ≡ []) };
+}

@@ -1,0 +1,4 @@
+//! What no contract says: that calls succeed, and worked values from outside.
+
+mod feeds;
+mod live;

@@ -1,0 +1,67 @@
+//! Feeds over memory.
+
+ghost use Rattle.std.specs.Prelude.{true};
+
+use crate::text::line_length;
+use crate::{Feed, FeedFault};
+
+/// The input is a text, of which so many bytes can't be read.
+#[derive(Drop)]
+pub struct TextFeed<'t> {
+    pub text: &'t [u8],
+    pub unread: usize,
+    pub failures: u64,
+}
+
+impl<'t> TextFeed<'t> {
+    /// A text that can be read whole.
+    pub fn new(text: &'t [u8]) -> TextFeed<'t> {
+        TextFeed {
+            text,
+            unread: usize::MAX,
+            failures: 0,
+        }
+    }
+}
+
+impl Feed for TextFeed<'_> {
+    ghost told = { true };
+
+    ghost left = { λ feed. feed.text.now };
+
+    ghost failed = { λ feed. feed.failures };
+
+    ghost held = { λ _. 0 };
+
+    fn failures(&self) -> u64 {
+        self.failures
+    }
+
+    fn line(&mut self, target: &mut Vec<u8>) -> Result<bool, FeedFault> {
+        if self.text.len() == self.unread {
+            self.failures += 1;
+            return Err(FeedFault::Read);
+        }
+        if self.text.is_empty() {
+            return Ok(false);
+        }
+        let length = line_length(self.text);
+        target.clear();
+        target.extend_from_slice(&self.text[..length])?;
+        let next = (length + 1).min(self.text.len());
+        self.text = &self.text[next..];
+        Ok(true)
+    }
+
+    fn byte(&mut self) -> Result<Option<u8>, FeedFault> {
+        if self.text.len() == self.unread {
+            self.failures += 1;
+            return Err(FeedFault::Read);
+        }
+        let Some((byte, rest)) = self.text.split_first() else {
+            return Ok(None);
+        };
+        self.text = rest;
+        Ok(Some(*byte))
+    }
+}
