@@ -11,7 +11,8 @@ the table of exit statuses allows:
   alloc        status 4 and OUT OF MEMORY alone on standard error; the output is a beginning of the row's.
                Where one request alone is refused, the row's answer too: the standard library's collect and extend
                ask for less room when they are refused the room that they were told of
-  open, read   status 4 and FILE NOT READ where the row names a file, else READ FAILED, alone; no output
+  open, read   status 4 and FILE NOT READ where the row names a file, or READ FAILED where standard input is read,
+               which for `run` and `runs` it is in any case, alone; no output
   write        status 4; the output is a beginning of the row's, and WRITE FAILED alone; or, where it was standard
                error that failed, all of the output, and a beginning of the row's error text
   short-read   the row's answer
@@ -85,13 +86,18 @@ class Sweep:
             print(line)
 
 
-def notice(given, kind):
-    """The line that a failure of this kind has."""
+def notices(given, kind):
+    """The lines that a failure of this kind may have."""
     if kind == "alloc":
-        return b"OUT OF MEMORY\n"
+        return [b"OUT OF MEMORY\n"]
     if kind.startswith("write"):
-        return b"WRITE FAILED\n"
-    return b"FILE NOT READ\n" if len(given.words) == 2 else b"READ FAILED\n"
+        return [b"WRITE FAILED\n"]
+    found = []
+    if "FILE" in given.words or "no-such-file" in given.words:
+        found.append(b"FILE NOT READ\n")
+    if not found or given.words[0].startswith("run"):
+        found.append(b"READ FAILED\n")
+    return found
 
 
 def mistake(given, kind, to, on_errors, found, wanted):
@@ -106,7 +112,7 @@ def mistake(given, kind, to, on_errors, found, wanted):
         if not wanted.errors.startswith(found.errors) or found.errors == wanted.errors:
             return "the error text is no beginning of the row's"
         return None if found.output == wanted.output else "another output"
-    if found.errors != notice(given, kind):
+    if found.errors not in notices(given, kind):
         return "error text"
     if kind == "open" or kind.startswith("read"):
         return "output" if found.output else None
