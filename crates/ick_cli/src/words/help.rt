@@ -58,10 +58,11 @@ Example:
   ick run examples/numerals.i";
 
 /// Of `ick runs --help`.
-pub const RUNS: &str = "Prints a line for each run that the program can make, in the order of
-their choices: the choices, the end and the output. Then comes MORE where there are further
-runs, and else DONE. With --from the listing goes on after the run with these choices. With
-FILE the input is standard input. Each run is cut short after 10000 steps where no limit is
+pub const RUNS: &str =
+    "Prints a line for each run that the program can make, in the order of their choices:
+the choices, the end and the output. Then comes MORE where there are further runs, and
+else DONE. With --from the listing goes on after the run with these choices. With FILE
+the input is standard input. Each run is cut short after 10000 steps where no limit is
 given.
 
 Exit status:
