@@ -5,39 +5,41 @@
 
 It needs the built program (a call of ./ick builds it), Python 3.8 and Linux.
 
-Two programs, each with twenty chances and so 1,048,576 runs: one makes 40,000 steps before its first chance and prints
-nothing, and of the other each run prints a numeral. Of each the first 1,000 and the first 1,000,000 runs are listed:
-the least processor time of five listings, the runs a second, the steps a second, and the largest resident memory.
-Nothing is judged.
+Three programs. Two have twenty chances and so 1,048,576 runs: one makes 40,000 steps before its first chance and prints
+nothing, and of the other each run prints a numeral. The third has ten chances, and then each run goes through the loops
+of workloads.py: there nearly all steps are made in the runs' own parts, while marks stand. Listed are the first 1,000
+runs, and of the first two programs 1,000,000: the least processor time of five listings, the runs and the steps a
+second, the nanoseconds a step, and the largest resident memory. Nothing is judged.
 """
 import os
 import subprocess
 import sys
 import tempfile
 
+from workloads import loop, polite
+
 HERE = os.path.dirname(os.path.realpath(__file__))
 ROUNDS = 5
-CHANCES = 20
 
 
-def program(before, after):
-    """A program of statements that do nothing, twenty chances, and what comes after; every fourth is polite."""
-    bodies = ["FORGET #0"] * before + ["%50 FORGET #0"] * CHANCES + after + ["GIVE UP"]
-    return "".join(f"{'PLEASE' if number % 4 == 3 else 'DO'} {body}\n" for number, body in enumerate(bodies))
+def program(before, chances, after):
+    """A program of statements that do nothing, chances, and what comes after."""
+    return polite([(None, "FORGET #0")] * before + [(None, "%50 FORGET #0")] * chances + after + [(None, "GIVE UP")])
 
 
+# the source; the steps before the chances, the chances, the steps behind them; and how many runs are listed
 PROGRAMS = {
-    "long before the chances": (program(40_000, []), 40_000, 1),
-    "a numeral a run": (program(0, ["READ OUT #1"]), 0, 2),
+    "long before the chances": (program(40_000, 20, []), 40_000, 20, 1, (1_000, 1_000_000)),
+    "a numeral a run": (program(0, 20, [(None, "READ OUT #1")]), 0, 20, 2, (1_000, 1_000_000)),
+    "loops behind the chances": (program(0, 10, loop(3, [])), 0, 10, 27_301, (1_000,)),
 }
 
 
-def steps(before, after, runs):
+def steps(before, chances, after, runs):
     """The steps of the first runs: what two neighbours share is made once."""
-    made = before + CHANCES + after
+    made = before + chances + after
     for number in range(1, runs):
-        same = CHANCES - (number ^ (number - 1)).bit_length()
-        made += CHANCES - same + after
+        made += (number ^ (number - 1)).bit_length() + after
     return made
 
 
@@ -56,19 +58,20 @@ def main():
         sys.exit(__doc__)
     if not os.access(ick, os.X_OK) or os.path.isdir(ick):
         sys.exit(f"listings.py: {ick} is no program that can be run: a call of ./ick builds ick")
-    print("| Program | runs | s | runs a second | steps a second | MiB |")
-    print("|---|---|---|---|---|---|")
+    print("| Program | runs | s | runs a second | steps a second | ns a step | MiB |")
+    print("|---|---|---|---|---|---|---|")
     with tempfile.TemporaryDirectory() as folder:
-        for name, (source, before, after) in PROGRAMS.items():
+        for name, (source, before, chances, after, counts) in PROGRAMS.items():
             path = os.path.join(folder, "program.i")
             with open(path, "w", encoding="ascii") as file:
                 file.write(source)
-            for runs in (1_000, 1_000_000):
+            for runs in counts:
                 words = [ick, "runs", "--limit", "50000", "--count", str(runs), path]
                 found = [measured(words) for _ in range(ROUNDS)]
                 time, memory = min(it[0] for it in found), max(it[1] for it in found)
-                print(f"| {name} | {runs:,} | {time:.3f} | {runs / time:,.0f} | {steps(before, after, runs) / time:,.0f} "
-                      f"| {memory / 1024:.0f} |", flush=True)
+                made = steps(before, chances, after, runs)
+                print(f"| {name} | {runs:,} | {time:.3f} | {runs / time:,.0f} | {made / time:,.0f} "
+                      f"| {time / made * 1e9:.1f} | {memory / 1024:.0f} |", flush=True)
 
 
 if __name__ == "__main__":
