@@ -1,6 +1,7 @@
 //! States to go back to. A mark is the number of changes that the trail had when it was made.
 
 ghost use Rattle.std.specs.Prelude.{◌≡◌, ◌<◌, [], ◌∷◌, ◌++◌, length, OnOk, OnErr, true};
+ghost use Rattle.ick_memory.specs.History.{history};
 ghost use Rattle.ick_memory.specs.View.{view_of, shape_of};
 ghost use Rattle.ick_memory.specs.Undo.{all_but_last};
 ghost use Rattle.ick_memory.specs.Marks.{marked_views, are_marks};
@@ -17,6 +18,7 @@ pub fn settle(memory: &Memory, trail: &mut Trail, marks: &Vec<usize>)
     ensures same { marked_views trail.new memory.now marks.now ≡
         marked_views trail.old memory.now marks.now }
     ensures marks { are_marks trail.new memory.now marks.now ≡ true }
+    ensures empty { marks.now.items ≡ [] → history trail.new ≡ [] }
 {
     let _ = memory;
     if marks.is_empty() {
@@ -62,6 +64,7 @@ pub fn drop_mark(memory: &Memory, trail: &mut Trail, marks: &mut Vec<usize>)
     ensures dropped { marked_views trail.new memory.now marks.new ≡ all_but_last
         (marked_views trail.old memory.now marks.old) }
     ensures marks { are_marks trail.new memory.now marks.new ≡ true }
+    ensures empty { marks.new.items ≡ [] → history trail.new ≡ [] }
 {
     if let Some(_last) = marks.pop() {
         settle(memory, trail, marks);
