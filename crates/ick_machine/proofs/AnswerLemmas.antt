@@ -1,6 +1,7 @@
 -- What a machine asks, by what it remembers.
-use Rattle.std.proofs.Common.{◌≡◌, ℕ, Bool, true, false, Option, Some, None, refl, sym, ap, ◌∙◌, IsSomeAnd}
-use Rattle.std.specs.Prelude.{option_map, if◌then◌else◌}
+use Rattle.std.proofs.Common.{◌≡◌, ℕ, Bool, true, false, Option, Some, None, refl, sym, ap, ◌∙◌, subst, IsSomeAnd}
+use Rattle.std.specs.Prelude.{option_map, if◌then◌else◌, is_some, not}
+use Rattle.std.proofs.lemmas.Bool.{false≢true, not-true, not-false}
 use Rattle.ick_source.specs.StatementTree.{StatementTree}
 use Rattle.ick_code.specs.declared.code.Code.{Code}
 use Rattle.ick_code.specs.meaning.State.{Ending, statement_at}
@@ -11,7 +12,15 @@ use Rattle.ick_memory.specs.declared.memory.Ended.TheVariants.{GaveUp, Faulted, 
 use Rattle.ick_memory.specs.Met.{is_open}
 use Rattle.ick_memory.specs.View.{View, Input, state_of, end_of}
 use Rattle.ick_machine.specs.Asked.{Finish, finished, asked_at_end, IsGoing}
+use Rattle.ick_machine.specs.Steps.{IsPlain}
 use Rattle.ick_machine.proofs.StepLemmas.{there, OddsOf}
+
+-- answers that are one
+same_asked : (a b : Asking) → Some a ≡ Some b → a ≡ b
+same_asked a b is = cc
+
+plain_apart : (chance : ℕ) → choice chance ≡ plain → ⊥
+plain_apart chance is = cc
 
 module _ (code : Code) (input : Input) (v : View) where
   -- what is asked where the run ended so
@@ -64,3 +73,36 @@ module _ (code : Code) (input : Input) (v : View) where
       cases (Some (Faulted kind n)) h = absurd h
       cases (Some (Unknown n)) h = absurd h
       cases (Some (Word n from to)) h = absurd h
+
+  -- nothing is asked where the run goes on, unless it is by a statement that asks a choice
+  abbrev pub IsFree : Type 0
+  IsFree = IsPlain (code_program code) (state_of code input v)
+
+  no_end : (o : Option Ended) → is_some o ≡ false → o ≡ None
+  no_end None is = refl
+  no_end (Some e) is = absurd (false≢true (sym is))
+
+  pub bound_by_end : is_some v.end ≡ true → ¬ IsFree
+  bound_by_end is free =
+      let none = goes_on (subst IsGoing (sym free) tt) in
+      absurd (false≢true (ap is_some (sym none) ∙ is))
+
+  pub free_past : is_some v.end ≡ false → statement_at (code_program code) v.place ≡ None → IsFree
+  free_past going none =
+      sym (same_asked plain (ask (code_program code) (state_of code input v)) (asks_none (no_end v.end going) none))
+
+  module _ (odds : ℕ) (chance : Bool) (going : is_some v.end ≡ false)
+      (met : IsSomeAnd (statement_at (code_program code) v.place) (OddsOf odds v)) (is : chance ≡ is_open odds) where
+    asked_at : ask (code_program code) (state_of code input v) ≡ (if chance then choice odds else plain)
+    asked_at =
+        sym (same_asked (if is_open odds then choice odds else plain) (ask (code_program code) (state_of code input v))
+        (asks_odds odds (no_end v.end going) met))
+        ∙ ap (λ b. if b then choice odds else plain) (sym is)
+
+    pub free_at : not chance ≡ true → IsFree
+    free_at sure = asked_at ∙ ap (λ b. if b then choice odds else plain) (not-true chance sure)
+
+    pub bound_at : not chance ≡ false → ¬ IsFree
+    bound_at chosen free =
+        let asked = ap (λ b. if b then choice odds else plain) (not-false chance chosen) in
+        plain_apart odds (sym (asked_at ∙ asked) ∙ free)

@@ -10,8 +10,10 @@ mod LoopLemmas
 mod TextLemmas
 mod StepLemmas
 mod AnswerLemmas
+mod StepsLemmas
 mod CopyLemmas
 mod NameLemmas
 mod FeedLemmas
 mod FedLemmas
 mod LiveLemmas
+mod PlanLemmas

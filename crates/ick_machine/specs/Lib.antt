@@ -1,10 +1,13 @@
 pub mod Machine
 pub mod Asked
+pub mod Steps
 pub mod Reads
+pub mod Planned
 pub mod Run
 pub mod Walk
 pub mod Step
 pub mod Marks
+pub mod Seen
 pub mod Feeds
 pub mod LiveAsk
 pub mod Message

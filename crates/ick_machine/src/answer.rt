@@ -1,13 +1,16 @@
 //! What a machine asks, by what it remembers.
 
 ghost use Rattle.std.specs.Prelude.{◌≡◌, Some, slice_range, option_map, if◌then◌else◌};
+ghost use Rattle.std.specs.Prelude.{true, false};
 ghost use Rattle.ick_code.specs.meaning.State.{statement_at};
 ghost use Rattle.ick_code.specs.meaning.Move.{ask, plain, choice};
 ghost use Rattle.ick_code.specs.Compiled.{code_program};
-ghost use Rattle.ick_memory.specs.View.{view_of, state_of, input_of, text_of as text_in, Fits};
+ghost use Rattle.ick_memory.specs.View.{Input, view_of, state_of, input_of, text_of as text_in};
+ghost use Rattle.ick_memory.specs.View.{Fits};
 ghost use Rattle.ick_memory.specs.View.{end_of as ending_of};
 ghost use Rattle.ick_memory.specs.Met.{is_open};
 ghost use Rattle.ick_machine.specs.Asked.{asked_of, finish_of, finished};
+ghost use Rattle.ick_machine.specs.Steps.{IsPlain};
 
 use crate::asking::{Ask, End};
 use crate::met::met;
@@ -88,5 +91,30 @@ pub fn answer<'c, 'a>(code: &'c Code<'a>, memory: &Memory, text: &'c [u8]) -> As
     match met(code, memory) {
         Some(odds) => asked_at(odds),
         None => Ask::Plain,
+    }
+}
+
+/// Whether a choice is asked at a chance in percent.
+fn is_chance(odds: u8) -> bool
+    ensures { result ≡ is_open odds }
+{
+    odds > 0 && odds < 100
+}
+
+/// Whether nothing is asked before the next step, since there is one way to go on (Revised Manual,
+/// 4.3).
+pub fn is_plain(code: &Code, memory: &Memory) -> bool
+    requires { Fits code.now (view_of memory.now) }
+    ensures plain { (input : Input) → result ≡ true → IsPlain (code_program code.now) (state_of
+        code.now input (view_of memory.now)) }
+    ensures asked { (input : Input) → result ≡ false → ¬ IsPlain (code_program code.now) (state_of
+        code.now input (view_of memory.now)) }
+{
+    if memory.end.is_some() {
+        return false;
+    }
+    match met(code, memory) {
+        Some(odds) => !is_chance(odds),
+        None => true,
     }
 }

@@ -1,10 +1,11 @@
 //! Machines with marks.
 
-ghost use Rattle.std.specs.Prelude.{◌≡◌, ◌+◌, ◌-◌, ◌<◌, ◌^◌, [], ◌∷◌, ◌++◌, length, take, Some};
-ghost use Rattle.std.specs.Prelude.{OnOk, OnErr};
+ghost use Rattle.std.specs.Prelude.{◌≡◌, ◌+◌, ◌-◌, ◌<◌, ◌≤◌, ◌^◌, ℕ, [], ◌∷◌, ◌++◌, length, take};
+ghost use Rattle.std.specs.Prelude.{Some, IfOk, OnOk, OnErr};
 ghost use Rattle.ick_code.specs.meaning.Move.{ask, advance};
 ghost use Rattle.ick_machine.specs.Machine.{Machine};
 ghost use Rattle.ick_machine.specs.Asked.{asked_of, IsGoing};
+ghost use Rattle.ick_machine.specs.Steps.{IsPlain, HasRun, Rests};
 
 use crate::asking::Ask;
 use ick_bits::NoMemory;
@@ -67,7 +68,7 @@ pub trait Backtrack: Drop {
         } };
 }
 
-/// A machine with marks that tells what it asks. `'c` is the life of the code whose texts the
+/// A machine with marks that tells what it asks, and goes on while it asks nothing. `'c` is the life of the code whose texts the
 /// messages of its faults have.
 pub trait Asks<'c>: Backtrack {
     /// What is asked before the next step (Revised Manual, 4.3): whether a statement is done that
@@ -76,4 +77,18 @@ pub trait Asks<'c>: Backtrack {
     fn asks(&self) -> Ask<'c>
         ensures { let machine = Self.seen self.now in
             asked_of result ≡ Some (ask machine.program machine.state) };
+
+    /// Makes steps, as many as the limit allows, while nothing is asked and the run hasn't ended.
+    /// Answers their number, by which the count of work rises; marks stay.
+    ///
+    /// The count of work must have the limit left. After `NoMemory` fewer steps were made, each of
+    /// them whole, and the count of work rose by their number.
+    fn run(&mut self, limit: u32) -> Result<u32, NoMemory>
+        requires { (Self.seen self.old).work + limit < 2 ^ 64 }
+        ensures ok { IfOk result (λ k. HasRun (Self.seen self.old) k (Self.seen self.new)) }
+        ensures err { OnErr result ((k : ℕ) × (k < limit)
+            × HasRun (Self.seen self.old) k (Self.seen self.new)) }
+        ensures within { IfOk result (λ k. k ≤ limit) }
+        ensures rests { let new = Self.seen self.new in
+            IfOk result (λ k. Rests IsPlain new.program limit k new.state) };
 }

@@ -9,11 +9,12 @@ ghost use Rattle.ick_memory.specs.View.{view_of, Fits};
 ghost use Rattle.ick_machine.specs.Run.{IsReady};
 ghost use Rattle.ick_machine.specs.Marks.{copied_views};
 
-use crate::answer::answer;
+use crate::answer::{answer, is_plain};
 use crate::asking::Ask;
 use crate::backtrack::{Asks, Backtrack};
+use crate::engine::{Engine, engine_for};
 use crate::whole::whole_step;
-use ick_bits::{NoMemory, Value};
+use ick_bits::NoMemory;
 use ick_code::Code;
 use ick_memory::{Memory, Trail, copy_memory, fresh_memory};
 use std::alloc::Global;
@@ -26,11 +27,11 @@ pub struct Copied<'c, 'a> {
     code: &'c Code<'a>,
     input: &'c [u8],
     memory: Memory,
-    operands: Vec<Value>,
+    engine: Engine,
     trail: Trail,
     copies: Vec<Memory>,
     work: u64,
-    ghost ready: { IsReady code.now operands (view_of memory) } by { Prim.hlevel props },
+    ghost ready: { IsReady code.now engine (view_of memory) } by { Prim.hlevel props },
     ghost fits: { All (Fits code.now) (copied_views copies) } by { Prim.hlevel props },
 }
 
@@ -51,13 +52,13 @@ impl<'c, 'a> Copied<'c, 'a> {
         }) }
     {
         let memory = fresh_memory(alloc, code)?;
-        let operands = Vec::with_capacity(alloc, code.operands())?;
+        let engine = engine_for(alloc, code)?;
         Ok(Copied {
             alloc,
             code,
             input,
             memory,
-            operands,
+            engine,
             trail: Trail::new(alloc),
             copies: Vec::new(alloc),
             work,
@@ -66,18 +67,9 @@ impl<'c, 'a> Copied<'c, 'a> {
 }
 
 impl<'c, 'a> Backtrack for Copied<'c, 'a> {
-    ghost use Rattle.std.specs.Prelude.{map};
-    ghost use Rattle.ick_code.specs.Compiled.{code_program};
-    ghost use Rattle.ick_memory.specs.View.{view_of, state_of, input_of};
-    ghost use Rattle.ick_machine.specs.Marks.{copied_views};
+    ghost use Rattle.ick_machine.specs.Seen.{copied_machine};
 
-    ghost seen = { λ machine. record {
-      program = code_program machine.code.now;
-      state = state_of machine.code.now (input_of machine.input.now) (view_of machine.memory);
-      marks = map (state_of machine.code.now (input_of machine.input.now))
-          (copied_views machine.copies);
-      work = machine.work;
-    } };
+    ghost seen = { copied_machine };
 
     fn output(&self) -> &[u8] {
         &self.memory.output
@@ -96,7 +88,7 @@ impl<'c, 'a> Backtrack for Copied<'c, 'a> {
             self.alloc,
             self.code,
             self.input,
-            &mut self.operands,
+            &mut self.engine,
             &mut self.memory,
             &mut self.trail,
             done,
@@ -126,5 +118,17 @@ impl<'c, 'a> Backtrack for Copied<'c, 'a> {
 impl<'c, 'a> Asks<'c> for Copied<'c, 'a> {
     fn asks(&self) -> Ask<'c> {
         answer(self.code, &self.memory, self.input)
+    }
+
+    fn run(&mut self, limit: u32) -> Result<u32, NoMemory> {
+        let mut made = 0;
+        'steps: while made < limit {
+            if !is_plain(self.code, &self.memory) {
+                return Ok(made);
+            }
+            self.step(false)?;
+            made += 1;
+        }
+        Ok(made)
     }
 }

@@ -2,6 +2,7 @@
 
 ghost use Rattle.std.specs.Prelude.{◌≡◌};
 ghost use Rattle.ick_machine.specs.declared.halt.Halt.TheVariants.{NoMemory as OutOfMemory};
+ghost use Rattle.ick_machine.specs.declared.halt.Halt.TheVariants.{Fault as Faulted};
 
 use ick_bits::{FaultKind, NoMemory};
 
@@ -23,5 +24,13 @@ impl From<NoMemory> for Halt {
 
     fn from(_refused: NoMemory) -> Halt {
         Halt::NoMemory
+    }
+}
+
+impl From<FaultKind> for Halt {
+    ghost from_gives = { λ kind halt. halt ≡ Faulted kind };
+
+    fn from(kind: FaultKind) -> Halt {
+        Halt::Fault(kind)
     }
 }

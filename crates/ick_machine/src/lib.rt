@@ -20,6 +20,8 @@
 //! | `evaluate` | operations of expressions |
 //! | `operate` | operations that take operands and change what a run remembers |
 //! | `operation` | one operation, and a list of them |
+//! | `engine` | what statements are worked with, beside the memory |
+//! | `planned` | statements that are done by their plans |
 //! | `met` | the statement that is met next |
 //! | `step` | one step of a run |
 //! | `answer` | what a machine asks, by what it remembers |
@@ -39,6 +41,7 @@ mod asking;
 mod backtrack;
 mod control;
 mod copied;
+mod engine;
 mod evaluate;
 mod fed;
 mod feed;
@@ -54,6 +57,7 @@ mod operands;
 mod operate;
 mod operation;
 mod place;
+mod planned;
 mod reader;
 mod size;
 mod step;

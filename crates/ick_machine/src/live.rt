@@ -5,11 +5,12 @@ ghost use Rattle.ick_memory.specs.View.{view_of};
 ghost use Rattle.ick_machine.specs.Run.{IsReady};
 
 use crate::answer::answer;
-use crate::fed::fed_step;
+use crate::engine::{Engine, engine_for};
+use crate::fed::{fed_step, fed_steps};
 use crate::feed::{Feed, FeedFault};
 use crate::live_ask::LiveAsk;
 use crate::message::append_end;
-use ick_bits::{NoMemory, Value};
+use ick_bits::NoMemory;
 use ick_code::Code;
 use ick_memory::{Memory, fresh_memory};
 use std::alloc::Global;
@@ -24,11 +25,11 @@ pub struct Live<'c, 'a> {
     alloc: Global,
     code: &'c Code<'a>,
     memory: Memory,
-    operands: Vec<Value>,
+    engine: Engine,
     /// The last line that was read.
     line: Vec<u8>,
     failed: bool,
-    ghost ready: { IsReady code.now operands (view_of memory) } by { Prim.hlevel props },
+    ghost ready: { IsReady code.now engine (view_of memory) } by { Prim.hlevel props },
 }
 
 impl<'c, 'a> Live<'c, 'a> {
@@ -37,6 +38,7 @@ impl<'c, 'a> Live<'c, 'a> {
     ghost use Rattle.ick_code.specs.Compiled.{code_program};
     ghost use Rattle.ick_code.specs.meaning.Move.{ask, advance, first_state};
     ghost use Rattle.ick_machine.specs.Asked.{IsGoing};
+    ghost use Rattle.ick_machine.specs.Steps.{IsQuiet, RunsOn, Rests};
     ghost use Rattle.ick_machine.specs.Feeds.{feed_failures};
     ghost use Rattle.ick_machine.specs.Live.{seen, fed, cleared, live_ask, fault_message};
 
@@ -53,7 +55,7 @@ impl<'c, 'a> Live<'c, 'a> {
             alloc,
             code,
             memory: fresh_memory(alloc, code)?,
-            operands: Vec::with_capacity(alloc, code.operands())?,
+            engine: engine_for(alloc, code)?,
             line: Vec::new(alloc),
             failed: false,
         })
@@ -98,7 +100,7 @@ impl<'c, 'a> Live<'c, 'a> {
         let stepped = fed_step(
             self.alloc,
             self.code,
-            &mut self.operands,
+            &mut self.engine,
             &mut self.memory,
             &mut self.line,
             feed,
@@ -106,6 +108,45 @@ impl<'c, 'a> Live<'c, 'a> {
         );
         self.failed = stepped.is_err();
         stepped
+    }
+
+    /// Makes steps, as many as the limit allows, while the run goes on by itself: nothing is asked,
+    /// and no output is held, so that it can leave before more input is taken. Answers their number.
+    /// Each takes off the feed what a single step takes.
+    ///
+    /// The machine must not have failed, and the feed's count of failures must be below its greatest
+    /// value. After an error it has failed, and holds no output. `Read` raises the feed's count of
+    /// failures by one, and every other answer leaves it.
+    #[tactic(auto, unfolding(crate::specs::Live::seen))]
+    pub fn run<F: Feed>(&mut self, limit: u32, feed: &mut F) -> Result<u32, FeedFault>
+        requires sound { (seen self.old).failed ≡ false }
+        requires room { F.failed feed.old + 1 < 2 ^ 64 }
+        ensures runs { let old = seen self.old in F.told ≡ true → IfOk result (λ k. RunsOn IsQuiet
+            old.program (fed (F.left feed.old) old.state) k
+            (fed (F.left feed.new) (seen self.new).state)) }
+        ensures within { IfOk result (λ k. k ≤ limit) }
+        ensures moves { let old = seen self.old in IfOk result (λ k. IsQuiet
+            old.program old.state → 0 < limit → 0 < k) }
+        ensures rests { let new = seen self.new in IfOk result (λ k. Rests IsQuiet
+            new.program limit k new.state) }
+        ensures program { (seen self.new).program ≡ (seen self.old).program }
+        ensures ok { OnOk result ((seen self.new).failed ≡ false) }
+        ensures err { OnErr result ((seen self.new).failed ≡ true) }
+        ensures output { OnErr result ((seen self.new).state.output ≡ []) }
+        ensures count { F.failed feed.new ≡ F.failed feed.old + feed_failures result }
+        ensures held { F.held feed.new ≡ F.held feed.old }
+    {
+        let ran = fed_steps(
+            self.alloc,
+            self.code,
+            &mut self.engine,
+            &mut self.memory,
+            &mut self.line,
+            feed,
+            limit,
+        );
+        self.failed = ran.is_err();
+        ran
     }
 
     /// What was written since the output was last cleared.

@@ -10,10 +10,7 @@ pub fn push(operands: &mut Vec<Value>, value: Value)
     ensures items { reverse operands.new.items ≡ value ∷ reverse operands.old.items }
     ensures capacity { vec_capacity operands.old ≤ vec_capacity operands.new }
 {
-    match operands.push(value) {
-        Ok(()) => (),
-        Err(_) => unreachable!(),
-    }
+    operands.push_reserved(value);
 }
 
 /// The last operand, which is there.

@@ -8,3 +8,5 @@ mod machines;
 mod pairs;
 mod refused;
 mod rows;
+mod statements;
+mod words;

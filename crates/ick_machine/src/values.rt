@@ -1,10 +1,10 @@
 //! Numbers that variables hold.
 
 ghost use Rattle.std.specs.Prelude.{◌≡◌, nat_lt};
-ghost use Rattle.ick_code.specs.meaning.Value.{sized};
-ghost use Rattle.ick_code.specs.meaning.Store.{bound_of};
+ghost use Rattle.ick_bits.specs.Values.{limit_of};
+ghost use Rattle.ick_code.specs.meaning.Value.{sized, width_for};
 
-use ick_bits::Value;
+use ick_bits::{Value, Width};
 use ick_source::NameKind;
 
 /// A number in the width of a kind of variable.
@@ -17,12 +17,22 @@ pub fn loaded(kind: NameKind, number: u32) -> Value
     }
 }
 
-/// Whether a kind of variable can hold a number.
-pub fn fits_in(kind: NameKind, number: u32) -> bool
-    ensures { result ≡ nat_lt number (bound_of kind) }
+/// The width of a kind of variable.
+pub fn width_of(kind: NameKind) -> Width
+    ensures { result ≡ width_for kind }
 {
     match kind {
-        NameKind::Onespot | NameKind::Tail => number < 65536,
-        NameKind::Twospot | NameKind::Hybrid => true,
+        NameKind::Onespot | NameKind::Tail => Width::Sixteen,
+        NameKind::Twospot | NameKind::Hybrid => Width::ThirtyTwo,
+    }
+}
+
+/// Whether a number fits in a width.
+pub fn fits_in(width: Width, number: u32) -> bool
+    ensures { result ≡ nat_lt number (limit_of width) }
+{
+    match width {
+        Width::Sixteen => number < 65536,
+        Width::ThirtyTwo => true,
     }
 }

@@ -1,9 +1,12 @@
-//! Pseudo-random programs: both machines side by side, through steps and marks in any order.
+//! Pseudo-random programs: both machines with marks side by side, through steps and marks in any
+//! order; and many steps in one call beside as many single ones.
 
 ghost use Rattle.std.specs.Prelude.{◌<◌};
 
+use super::feeds::TextFeed;
 use super::machines::{code_of, goes_on, is_same};
-use crate::{Asks, Copied, Trailed};
+use super::words::Words;
+use crate::{Asks, Copied, Feed, Live, LiveAsk, Trailed};
 use ick_bits::append_decimal;
 use std::alloc::Global;
 use std::process::Abort;
@@ -13,6 +16,8 @@ const PROGRAMS: u32 = 1000;
 const TURNS: u32 = 120;
 
 const INPUT: &[u8] = b"ONE\nTWO\nTEN FOUR\nAB\nSIX FIVE FIVE THREE SIX\nthree\n";
+
+const BEGINNING: &[u8] = b"DO ,1 <- #2\nDO ;1 <- #1\nPLEASE STASH .1+,1+;1\n";
 
 const BODIES: [&[u8]; 48] = [
     b"READ OUT #1",
@@ -65,29 +70,10 @@ const BODIES: [&[u8]; 48] = [
     b"%20 SOMETHING ELSE",
 ];
 
-/// Words that look random.
-#[derive(Drop)]
-struct Words {
-    state: u64,
-}
-
-impl Words {
-    /// The next word below a bound.
-    fn below(&mut self, bound: u32) -> u32
-        requires { 0 < bound }
-        ensures { result < bound }
-    {
-        self.state = self
-            .state
-            .wrapping_mul(6_364_136_223_846_793_005)
-            .wrapping_add(1_442_695_040_888_963_407);
-        ((self.state >> 33) % u64::from(bound)) as u32
-    }
-}
-
-/// Four to twelve of the bodies, with labels from 1 on. Every fourth statement is polite.
+/// Arrays and stashes, and then four to twelve of the bodies, with labels from 1 on. Every fourth of
+/// them is polite.
 fn source_of(rt: &impl Abort, alloc: Global, words: &mut Words) -> Vec<u8> {
-    let mut source = Vec::new(alloc);
+    let mut source = Vec::from_slice(alloc, BEGINNING).expect(rt, "memory");
     let last = 4 + words.below(9);
     for label in 1..=last {
         let body = words.below(48);
@@ -123,10 +109,10 @@ fn turn<'c, A: Asks<'c>, B: Asks<'c>>(
     words: &mut Words,
 ) {
     let turn = words.below(16);
-    if turn < 11 {
+    if turn < 10 {
         let done = words.below(2) == 0;
         assert!(rt; goes_on(rt, one, done) == goes_on(rt, other, done));
-    } else if turn < 14 {
+    } else if turn < 13 {
         one.mark().expect(rt, "memory");
         other.mark().expect(rt, "memory");
     } else if one.marks() > 0 && other.marks() > 0 {
@@ -153,6 +139,102 @@ fn both_machines_agree_at_every_point(rt: HostRuntime) {
         for _ in 0..TURNS {
             turn(&rt, &mut copied, &mut trailed, &mut words);
             assert_alike(&rt, &copied, &trailed);
+        }
+    }
+}
+
+/// Single steps, as many as the limit allows, while the machine asks nothing and holds no output;
+/// their number.
+fn single_steps(
+    rt: &impl Abort,
+    live: &mut Live<'_, '_>,
+    feed: &mut TextFeed<'_>,
+    limit: u32,
+) -> u32 {
+    for made in 0..limit {
+        if feed.failures() > 0 || !live.output().is_empty() {
+            return made;
+        }
+        match live.asks() {
+            LiveAsk::Plain => assert!(rt; live.step(false, feed).is_ok()),
+            _ => return made,
+        }
+    }
+    limit
+}
+
+/// Two machines over feeds do one thing alike: many steps of the one are as many single ones of the
+/// other, or both make a step by a choice. Whether they go on.
+fn turn_alike(
+    rt: &impl Abort,
+    one: &mut Live<'_, '_>,
+    one_feed: &mut TextFeed<'_>,
+    other: &mut Live<'_, '_>,
+    other_feed: &mut TextFeed<'_>,
+    words: &mut Words,
+) -> bool {
+    let limit = words.below(8);
+    let done = words.below(2) == 0;
+    if one_feed.failures() > 0 || other_feed.failures() > 0 {
+        return false;
+    }
+    match (one.asks(), other.asks()) {
+        (LiveAsk::Plain, LiveAsk::Plain) => {
+            let made = single_steps(rt, one, one_feed, limit);
+            assert!(rt; other.run(limit, other_feed) == Ok(made));
+            true
+        }
+        (LiveAsk::Choice(_), LiveAsk::Choice(_)) => {
+            assert!(rt; other.run(limit, other_feed) == Ok(0));
+            assert!(rt; one.step(done, one_feed).is_ok());
+            single_choice(rt, other, other_feed, done);
+            true
+        }
+        _ => false,
+    }
+}
+
+/// A step by a choice, which the machine asks.
+fn single_choice(rt: &impl Abort, live: &mut Live<'_, '_>, feed: &mut TextFeed<'_>, done: bool) {
+    if feed.failures() > 0 {
+        return;
+    }
+    match live.asks() {
+        LiveAsk::Choice(_) => assert!(rt; live.step(done, feed).is_ok()),
+        _ => assert!(rt; false, "a machine that asks a choice"),
+    }
+}
+
+#[test]
+fn many_steps_are_as_many_single_ones(rt: HostRuntime) {
+    let alloc = rt.alloc();
+    let mut words = Words { state: 1973 };
+    for _ in 0..PROGRAMS {
+        let source = source_of(&rt, alloc, &mut words);
+        let code = code_of(&rt, alloc, &source);
+        let mut one = Live::new(alloc, &code).expect(&rt, "memory");
+        let mut other = Live::new(alloc, &code).expect(&rt, "memory");
+        let mut one_feed = TextFeed::new(INPUT);
+        let mut other_feed = TextFeed::new(INPUT);
+        for _ in 0..TURNS {
+            let goes_on = turn_alike(
+                &rt,
+                &mut one,
+                &mut one_feed,
+                &mut other,
+                &mut other_feed,
+                &mut words,
+            );
+            assert!(rt; one.asks() == other.asks());
+            assert!(rt; one.output() == other.output());
+            assert!(rt; one_feed.text == other_feed.text);
+            if !goes_on {
+                break;
+            }
+            if words.below(2) == 0 {
+                one.clear_output();
+                other.clear_output();
+            }
         }
     }
 }

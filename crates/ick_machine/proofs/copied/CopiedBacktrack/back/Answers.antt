@@ -6,6 +6,6 @@ invariant_of-self c =
     let m = c.args.self.now in
     let left = one_less m.code.now c.pop.new.self.items m.copies.items c.in-Some.copy c.in-Some.ensures.items m.fits in
     record {
-      ready = record { fits = left.1; empty = m.ready.empty; room = m.ready.room };
+      ready = record { fits = left.1; empty = m.ready.empty; able = m.ready.able };
       fits = left.0;
     }
