@@ -18,3 +18,7 @@ pub mod ReadingLaws
 pub mod OrdinaryLaws
 pub mod DrawLaws
 pub mod SeededLaws
+pub mod ChosenLaws
+pub mod LineLaws
+pub mod OutputLaws
+pub mod StreamLaws

@@ -1,20 +1,21 @@
 -- How one run goes whose choices are given.
-use Rattle.std.proofs.Common.{◌≡◌, ℕ, zero, suc, ◌+◌, ◌<◌, ◌≤◌, Bool, false, List, [], ◌∷◌, ◌++◌, length, take, drop}
+use Rattle.std.proofs.Common.{◌≡◌, ℕ, zero, suc, ◌+◌, ◌<◌, ◌≤◌, Bool, List, [], ◌∷◌, ◌++◌, length, take, drop}
 use Rattle.std.proofs.Common.{get_or, refl, ap, sym, ◌∙◌, subst, arith}
 use Rattle.std.specs.Prelude.{Result, Ok, Err, IfOk}
 use Rattle.std.proofs.Math.Seq.{take-suc}
 use Rattle.std.proofs.lemmas.List.{take-append-drop}
 use Rattle.ick_bits.specs.declared.memory.NoMemory.{NoMemory}
-use Rattle.ick_code.specs.meaning.Move.{plain, choice, ask, advance}
+use Rattle.ick_code.specs.meaning.Move.{choice, ask, advance}
 use Rattle.ick_machine.specs.Machine.{Machine}
 use Rattle.ick_machine.specs.Asked.{Finish}
+use Rattle.ick_machine.specs.Steps.{IsPlain, RunsOn, HasRun}
 use Rattle.ick_runs.specs.declared.ordinary.Ran.{Ran}
 use Rattle.ick_runs.specs.declared.ordinary.Ran.TheVariants.{Ended, Wants}
 use Rattle.ick_runs.specs.Runs.{ends, wants, run}
 use Rattle.ick_runs.specs.Paths.{Leads, RunsTo}
 use Rattle.ick_runs.specs.Walks.{EndsHere}
 use Rattle.ick_runs.specs.Ordinary.{IsRan, IgnoresUnused, HasEnded, IsWanting}
-use Rattle.ick_runs.proofs.RunLaws.{Leads-plain, Leads-choice, Leads-wants, Leads-ends}
+use Rattle.ick_runs.proofs.RunLaws.{Leads-on, Leads-choice, Leads-wants, Leads-ends}
 use Rattle.ick_runs.proofs.Walking.{after_step}
 
 pub take_whole : (c : List Bool) (used : ℕ) → used ≡ length c → take used c ≡ c
@@ -23,15 +24,15 @@ take_whole [] (suc k) e = refl
 take_whole (x ∷ c) zero e = absurd (omega arith)
 take_whole (x ∷ c) (suc k) e = ap (λ r. x ∷ r) (take_whole c k (omega arith))
 
--- a plain step
-pub runs_plain : (l : ℕ) (m₀ m m' : Machine) (c : List Bool) (n : ℕ) → RunsTo l m₀ c m n → ask m.program m.state ≡ plain → n < l →
-    m' ≡ after_step false m → RunsTo l m₀ c m' (n + 1)
-runs_plain l m₀ m m' c n h a lt e = subst (λ x. RunsTo l m₀ c x (n + 1)) (sym e) (record {
-  program = h.program;
-  work = let w = h.work in omega arith;
-  leads = subst (λ x. Leads m₀.program m₀.state l c x (n + 1)) (ap (λ p. advance p m.state false) (sym h.program))
-      (Leads-plain m₀.program m₀.state l c m.state n h.leads (ap (λ p. ask p m.state) (sym h.program) ∙ a) lt);
-})
+-- as many steps as were made by themselves
+pub runs_plain : (l : ℕ) (m₀ m m' : Machine) (c : List Bool) (n k : ℕ) → RunsTo l m₀ c m n → HasRun m k m' → n + k ≤ l →
+    RunsTo l m₀ c m' (n + k)
+runs_plain l m₀ m m' c n k h ran within = record {
+  program = ap (λ x. x.program) ran.machine_is ∙ h.program;
+  work = let w = h.work in let more = ap (λ x. x.work) ran.machine_is in omega (arith, w, more);
+  leads = Leads-on m₀.program m₀.state l c m.state m'.state n k h.leads
+      (subst (λ p. RunsOn IsPlain p m.state k m'.state) h.program ran.runs) within;
+}
 
 -- a step by a choice
 pub runs_choice : (l : ℕ) (m₀ m m' : Machine) (c : List Bool) (n k : ℕ) (b : Bool) → RunsTo l m₀ c m n → ask m.program m.state ≡ choice k → n < l →

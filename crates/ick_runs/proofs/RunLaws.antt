@@ -10,6 +10,7 @@ use Rattle.ick_code.specs.meaning.Move.{Asking, plain, choice, ended, ask, advan
 use Rattle.ick_code.specs.meaning.State.{Ending}
 use Rattle.ick_machine.specs.Asked.{Finish, finished, at_limit}
 use Rattle.ick_machine.specs.Asked.{IsGoing}
+use Rattle.ick_machine.specs.Steps.{after_steps, IsPlain, RunsOn}
 use Rattle.ick_runs.specs.Runs.{ends, wants, Execution, stays, stepped, run_at_limit, run_on, run, IsEnd, IsWhole}
 use Rattle.ick_runs.specs.Listings.{IsBelow}
 use Rattle.ick_runs.specs.Paths.{later, Leads}
@@ -69,6 +70,21 @@ Leads-plain p s l c t n h a lt = record {
   goes_on = λ m more e. let f : n + suc m ≡ l = omega arith in
       h.goes_on (suc m) more f ∙ (ap (later n) (run-plain p t m more a) ∙ later-stepped n (run p (advance p t false) m more));
 }
+
+-- .. and by many
+pub Leads-on : (p : Program) (s : State) (l : ℕ) (c : List Bool) (t u : State) (n k : ℕ) →
+    Leads p s l c t n → RunsOn IsPlain p t k u → n + k ≤ l → Leads p s l c u (n + k)
+Leads-on p s l c t u n k h runs within =
+    subst (λ x. Leads p s l c x (n + k)) (sym runs.leads) (up_to k (omega arith))
+  where
+    up_to : (i : ℕ) → i ≤ k → Leads p s l c (after_steps p t i) (n + i)
+    up_to zero le = let none : n ≡ n + 0 = omega arith in subst (Leads p s l c t) none h
+    up_to (suc i) le =
+        let next : n + i + 1 ≡ n + suc i = omega arith in
+        let lt : i < k = omega (arith, le) in
+        subst (Leads p s l c (after_steps p t (suc i))) next
+        (Leads-plain p s l c (after_steps p t i) (n + i) (up_to i (omega (arith, le))) (runs.on i lt)
+        (omega (arith, within, lt)))
 
 -- .. and by a choice
 pub Leads-choice : (p : Program) (s : State) (l : ℕ) (c : List Bool) (t : State) (n k : ℕ) (b : Bool) →

@@ -37,10 +37,10 @@ seeded_ended l seed m₀ m c g n f h here (Ok d) same ended =
     }
 seeded_ended l seed m₀ m c g n f h here (Err x) same ended = record { choices = tt; ran = tt }
 
--- a plain step draws nothing
-pub draws_plain : (l seed : ℕ) (m₀ m m' : Machine) (c : List Bool) (g : Lcg) (n : ℕ) → Draws l seed m₀ c g m n → RunsTo l m₀ c m' (n + 1) →
-    Draws l seed m₀ c g m' (n + 1)
-draws_plain l seed m₀ m m' c g n h on = record { generator_is = h.generator_is; runs = on; drawn = h.drawn }
+-- steps that nothing is asked at draw nothing
+pub draws_plain : (l seed : ℕ) (m₀ m m' : Machine) (c : List Bool) (g : Lcg) (n k : ℕ) → Draws l seed m₀ c g m n → RunsTo l m₀ c m' (n + k) →
+    Draws l seed m₀ c g m' (n + k)
+draws_plain l seed m₀ m m' c g n k h on = record { generator_is = h.generator_is; runs = on; drawn = h.drawn }
 
 -- a step by a choice that was drawn
 pub draws_choice : (l seed : ℕ) (m₀ m m' : Machine) (c c' : List Bool) (g g' : Lcg) (n chance word : ℕ) (b : Bool) → Draws l seed m₀ c g m n →

@@ -1,5 +1,5 @@
 -- How an explorer is led along a run, and back from its end.
-use Rattle.std.proofs.Common.{◌≡◌, ℕ, ◌+◌, ◌<◌, Bool, true, false, List, [], ◌∷◌, ◌++◌, map, length, refl, ap, sym, ◌∙◌}
+use Rattle.std.proofs.Common.{◌≡◌, ℕ, zero, suc, ◌+◌, ◌-◌, ◌<◌, ◌≤◌, inl, inr, Bool, true, false, List, [], ◌∷◌, ◌++◌, map, length, refl, ap, sym, ◌∙◌}
 use Rattle.std.proofs.Common.{subst, arith, append_assoc, length-append}
 use Rattle.std.proofs.lemmas.List.{map-append}
 use Rattle.std.specs.Prelude.{Some}
@@ -7,6 +7,7 @@ use Rattle.ick_code.specs.meaning.State.{State}
 use Rattle.ick_code.specs.meaning.Move.{plain, choice, ask, advance}
 use Rattle.ick_machine.specs.Machine.{Program, Machine}
 use Rattle.ick_machine.specs.Asked.{Finish, finished, at_limit, finish_of, asked_at_end, asked_of, IsGoing}
+use Rattle.ick_machine.specs.Steps.{IsPlain, HasRun, Rests}
 use Rattle.ick_machine.specs.declared.asking.End.{End}
 use Rattle.ick_machine.specs.declared.asking.Ask.{Ask}
 use Rattle.ick_machine.specs.declared.asking.Ask.TheVariants.{Plain, Choice, Ended}
@@ -16,7 +17,7 @@ use Rattle.ick_runs.specs.Paths.{Leads, AllOnes, AllZeros, TurnsAt}
 use Rattle.ick_runs.specs.Marked.{is_choice, IsMarked}
 use Rattle.ick_runs.specs.Standing.{Keeps, StandsAfter}
 use Rattle.ick_runs.specs.Walks.{Walks, IsChoosing, EndsHere, Moves, GoesDown, TurnsBack}
-use Rattle.ick_runs.proofs.RunLaws.{Leads-plain, Leads-choice, Leads-wants, Stops, wants-stops, use-wants}
+use Rattle.ick_runs.proofs.RunLaws.{Leads-on, Leads-choice, Leads-wants, Stops, wants-stops, use-wants}
 use Rattle.ick_runs.proofs.RunLaws.{ends_finished}
 use Rattle.ick_runs.proofs.Orders.{before_zeros-zero, before_zeros-one, before_zeros-turns}
 use Rattle.ick_runs.proofs.Marks.{choice_of, zeros-ones, marked_step, marked_one, marked_zero, unmarked}
@@ -65,16 +66,33 @@ after_step done m = record m { state = advance m.program m.state done; work = m.
 abbrev pub after_mark : Machine → Machine
 after_mark m = record m { marks = m.marks ++ m.state ∷ [] }
 
--- a plain step
-pub moves_plain : (l : ℕ) (m m' : Machine) (c : List Bool) (points : List ℕ) (n : ℕ) → n < l → ask m.program m.state ≡ plain →
-    m' ≡ after_step false m → Moves l m c points n m' c points (n + 1)
-moves_plain l m m' c points n lt a e = subst (λ x. Moves l m c points n x c points (n + 1)) (sym e) (record {
-  program = refl;
-  work = omega arith;
-  within = omega arith;
-  marked = λ k. marked_step l m (after_step false m) c points refl refl k;
-  walks = λ s w. record { leads = Leads-plain m.program s l c m.state n w.leads a lt; keeps = w.keeps };
-})
+-- as many steps as were made by themselves
+pub moves_plain : (l : ℕ) (m m' : Machine) (c : List Bool) (points : List ℕ) (n k : ℕ) → n + k ≤ l → HasRun m k m' →
+    Moves l m c points n m' c points (n + k)
+moves_plain l m m' c points n k within ran =
+    let same_program = ap (λ x. x.program) ran.machine_is in
+    let same_marks = ap (λ x. x.marks) ran.machine_is in
+    record {
+      program = same_program;
+      work = let more = ap (λ x. x.work) ran.machine_is in omega (arith, more);
+      within = within;
+      marked = λ h. marked_step l m m' c points same_program same_marks h;
+      walks = λ s w. record {
+        leads = subst (λ p. Leads p s l c m'.state (n + k)) (sym same_program)
+            (Leads-on m.program s l c m.state m'.state n k w.leads ran.runs within);
+        keeps = subst (λ p. Keeps p s l c m'.marks points) (sym same_program)
+            (subst (λ x. Keeps m.program s l c x points) (sym same_marks) w.keeps);
+      };
+    }
+
+-- a step is due where nothing is asked before the limit
+pub made_some : (m m' : Machine) (limit n k : ℕ) → HasRun m k m' → Rests IsPlain m'.program (limit - n) k m'.state →
+    IsPlain m.program m.state → n < limit → 0 < k
+made_some m m' limit n zero ran (inl all) free lt = absurd (omega (arith, all, lt))
+made_some m m' limit n zero ran (inr rests) free lt =
+    absurd (rests (subst (λ p. IsPlain p m'.state) (sym (ap (λ x. x.program) ran.machine_is))
+    (subst (IsPlain m.program) (sym ran.runs.leads) free)))
+made_some m m' limit n (suc k) ran rests free lt = omega arith
 
 keeps_zero : (p : Program) (s : State) (l : ℕ) (c : List Bool) (marks : List State) (points : List ℕ) (t : State) (n k : ℕ) →
     Keeps p s l c marks points → Leads p s l c t n → ask p t ≡ choice k → n < l → Keeps p s l (c ++ false ∷ []) (marks ++ t ∷ []) (points ++ n ∷ [])

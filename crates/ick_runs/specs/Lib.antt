@@ -15,4 +15,7 @@ pub mod Writes
 pub mod WritingSteps
 pub mod Ordinary
 pub mod Draws
+pub mod Chosen
+pub mod Streams
+pub mod Streaming
 pub mod Laws

@@ -1,9 +1,11 @@
 //! Why the calls of this crate refuse.
 
 ghost use Rattle.std.specs.Prelude.{◌≡◌};
+ghost use Rattle.ick_runs.specs.Streaming.{error_of};
 ghost use Rattle.ick_runs.specs.declared.errors.RunsError.TheVariants.{NoMemory as no_memory};
 
 use ick_bits::NoMemory;
+use ick_machine::FeedFault;
 use std::alloc::{AllocError, AllocFailed};
 use thiserror::Error;
 
@@ -38,6 +40,17 @@ impl From<NoMemory> for RunsError {
 
     fn from(_refused: NoMemory) -> RunsError {
         RunsError::NoMemory
+    }
+}
+
+impl From<FeedFault> for RunsError {
+    ghost from_gives = { λ fault error. error ≡ error_of fault };
+
+    fn from(fault: FeedFault) -> RunsError {
+        match fault {
+            FeedFault::NoMemory => RunsError::NoMemory,
+            FeedFault::Read => RunsError::Read,
+        }
     }
 }
 

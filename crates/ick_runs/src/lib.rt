@@ -1,5 +1,5 @@
-//! Runs of a program: one with given choices, one whose choices a seed draws, and the listing of
-//! all, each once, in the order of their choices.
+//! Runs of a program: one with given choices, one whose choices a seed draws, one whose input and
+//! output are streams, and the listing of all, each once, in the order of their choices.
 //!
 //! | Module | What it has |
 //! |---|---|
@@ -7,6 +7,9 @@
 //! | `errors` | why calls refuse |
 //! | `ordinary` | one run with given choices |
 //! | `draws`, `seeded` | one run whose choices a seed draws |
+//! | `chooser` | where the choices of a streamed run come from |
+//! | `feeds` | a source of bytes as the input of a machine |
+//! | `turn`, `streamed` | one run whose input and output are streams |
 //! | `choice_texts` | lists of choices as text |
 //! | `reading`, `groups` | such a text read |
 //! | `cursor` | a place in a listing |
@@ -18,11 +21,13 @@
 #![tactic(auto)]
 
 mod choice_texts;
+mod chooser;
 mod cursor;
 mod devices;
 mod draws;
 mod errors;
 mod explorer;
+mod feeds;
 mod groups;
 mod laws;
 mod lines;
@@ -32,9 +37,12 @@ mod path;
 mod reading;
 mod run;
 mod seeded;
+mod streamed;
+mod turn;
 mod walk;
 mod writing;
 
+pub use chooser::Chooser;
 pub use cursor::Cursor;
 pub use devices::{
     ByteSink, ByteSource, DeviceFault, ReadFault, SliceSource, VecSink, read_first, write_whole,
@@ -47,6 +55,7 @@ pub use listing::Listed2;
 pub use ordinary::{Ran, run_from, run_with};
 pub use run::Run;
 pub use seeded::{Drawn, run_seeded, run_seeded_from};
+pub use streamed::{Streamed, run_stream};
 pub use writing::write_runs;
 
 #[cfg(test)]

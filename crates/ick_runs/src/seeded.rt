@@ -77,8 +77,8 @@ pub fn run_seeded_from<'c, M: Asks<'c>>(
             steps += 1;
             continue;
         }
-        machine.step(false)?;
-        steps += 1;
+        let made = machine.run(limit - steps)?;
+        steps += made;
     }
 }
 

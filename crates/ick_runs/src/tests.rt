@@ -9,4 +9,6 @@ mod listings;
 mod many;
 mod programs;
 mod seeds;
+mod streams;
+mod worn;
 mod writers;

@@ -107,8 +107,8 @@ fn go_down<'c, M: Asks<'c>>(
             steps += 1;
             continue;
         }
-        machine.step(false)?;
-        steps += 1;
+        let made = machine.run(limit - steps)?;
+        steps += made;
     }
 }
 
@@ -150,8 +150,8 @@ pub(crate) fn follow<'c, M: Asks<'c>>(
             steps += 1;
             continue;
         }
-        machine.step(false)?;
-        steps += 1;
+        let made = machine.run(limit - steps)?;
+        steps += made;
     }
 }
 

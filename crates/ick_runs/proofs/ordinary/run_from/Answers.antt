@@ -2,7 +2,7 @@ use Rattle.std.proofs.Common.{◌≡◌, ◌<◌, length, arith}
 use Rattle.std.proofs.lemmas.Grind.{common_steps}
 use Rattle.ick_machine.specs.Asked.{at_limit, finish_of}
 use Rattle.ick_runs.proofs.RunLaws.{ends_limit}
-use Rattle.ick_runs.proofs.Walking.{asks_end, asks_chance, asks_plain, asks_going}
+use Rattle.ick_runs.proofs.Walking.{asks_end, asks_chance, asks_plain, asks_going, made_some}
 use Rattle.ick_runs.proofs.OrdinaryLaws.{runs_plain, runs_next, ran_ended, ran_wants}
 use Rattle.ick_runs.proofs.ordinary.run_from.Goals as goal
 
@@ -55,9 +55,18 @@ along-preserved g c =
     let seen = g.M.Backtrack.seen in
     let i = c.along.invariant in
     let lt : c.along.steps < c.args.limit = grind (arith, common_steps) in
+    let made = c.in_ok-made.ensures in
     record {
       used = i.used;
-      runs = runs_plain c.args.limit (seen c.args.machine) (seen c.along.machine) (seen c.step-in-along.new.self) _ c.along.steps i.runs
-          (asks_plain c.asks-asked.result (seen c.along.machine) c.in_default-asked.not-Choice c.in_default.not-Ended c.asks-asked.ensures) lt
-          c.in_ok-step-2.ensures.ok;
+      runs = runs_plain c.args.limit (seen c.args.machine) (seen c.along.machine) (seen c.run.new.self) _ c.along.steps
+          c.in_ok-made.made i.runs made.ok (omega (arith, made.within, lt));
     }
+
+pub along-smaller : goal.along-smaller
+along-smaller g c =
+    let m = g.M.Backtrack.seen c.along.machine in
+    let lt : c.along.steps < c.args.limit = grind (arith, common_steps) in
+    let some = made_some m (g.M.Backtrack.seen c.run.new.self) c.args.limit c.along.steps c.in_ok-made.made
+    c.in_ok-made.ensures.ok c.in_ok-made.ensures.rests
+    (asks_plain c.asks-asked.result m c.in_default-asked.not-Choice c.in_default.not-Ended c.asks-asked.ensures) lt in
+    omega (arith, some, lt)

@@ -3,7 +3,7 @@ use Rattle.std.proofs.lemmas.Grind.{common_steps}
 use Rattle.ick_machine.specs.Asked.{at_limit, finish_of}
 use Rattle.ick_code.proofs.AskLaws.{chance_between}
 use Rattle.ick_runs.proofs.RunLaws.{ends_limit}
-use Rattle.ick_runs.proofs.Walking.{asks_end, asks_chance, asks_plain, asks_going}
+use Rattle.ick_runs.proofs.Walking.{asks_end, asks_chance, asks_plain, asks_going, made_some}
 use Rattle.ick_runs.proofs.OrdinaryLaws.{runs_plain}
 use Rattle.ick_runs.proofs.SeededLaws.{seeded_ended, draws_plain, draws_choice}
 use Rattle.ick_runs.proofs.seeded.run_seeded_from.Goals as goal
@@ -51,10 +51,19 @@ along-preserved g c =
     let seen = g.M.Backtrack.seen in
     let d = c.along.invariant.draws in
     let lt : c.along.steps < c.args.limit = grind (arith, common_steps) in
+    let made = c.in_ok-made.ensures in
     record {
-      draws = draws_plain c.args.limit c.args.seed (seen c.args.machine) (seen c.along.machine) (seen c.step-in-along.new.self) c.along.choices.items
-          c.along.generator c.along.steps d
-          (runs_plain c.args.limit (seen c.args.machine) (seen c.along.machine) (seen c.step-in-along.new.self) c.along.choices.items c.along.steps d.runs
-          (asks_plain c.asks-asked.result (seen c.along.machine) c.in_default-asked.not-Choice c.in_default.not-Ended c.asks-asked.ensures) lt
-          c.in_ok-step-2.ensures.ok);
+      draws = draws_plain c.args.limit c.args.seed (seen c.args.machine) (seen c.along.machine) (seen c.run.new.self) c.along.choices.items
+          c.along.generator c.along.steps c.in_ok-made.made d
+          (runs_plain c.args.limit (seen c.args.machine) (seen c.along.machine) (seen c.run.new.self) c.along.choices.items c.along.steps
+          c.in_ok-made.made d.runs made.ok (omega (arith, made.within, lt)));
     }
+
+pub along-smaller : goal.along-smaller
+along-smaller g c =
+    let m = g.M.Backtrack.seen c.along.machine in
+    let lt : c.along.steps < c.args.limit = grind (arith, common_steps) in
+    let some = made_some m (g.M.Backtrack.seen c.run.new.self) c.args.limit c.along.steps c.in_ok-made.made
+    c.in_ok-made.ensures.ok c.in_ok-made.ensures.rests
+    (asks_plain c.asks-asked.result m c.in_default-asked.not-Choice c.in_default.not-Ended c.asks-asked.ensures) lt in
+    omega (arith, some, lt)

@@ -1,0 +1,72 @@
+-- A line that is read byte by byte is the first line of what was there, and no byte more was taken.
+use Rattle.std.proofs.Common.{◌≡◌, ◌≢◌, ℕ, ◌==◌, Bool, true, false, not, List, [], ◌∷◌, ◌++◌, length, take, drop}
+use Rattle.std.proofs.Common.{ap, sym, ◌∙◌, arith, ◌+◌, refl}
+use Rattle.std.specs.List.{position_or_len}
+use Rattle.std.proofs.Math.Seq.{take-append_seam, drop-append-add, take-length, get_or-append_seam}
+use Rattle.std.proofs.lemmas.List.{append-nil, length-append, drop_all, get_or_append_left}
+use Rattle.std.proofs.lemmas.List.Sums.{position_or_len_is}
+use Rattle.std.specs.Prelude.{Result, Ok}
+use Rattle.ick_code.specs.meaning.InputOutput.{first_line, later_lines}
+use Rattle.ick_machine.specs.declared.feed.FeedFault.{FeedFault}
+use Rattle.ick_runs.specs.Streaming.{HasNoEnd}
+
+place_of_end : (bytes rest : List ℕ) → HasNoEnd bytes →
+    position_or_len (λ b. b == 10) (bytes ++ 10 ∷ rest) ≡ length bytes
+place_of_end bytes rest h =
+    let size = length-append bytes (10 ∷ rest) in
+    position_or_len_is (λ b. b == 10) (bytes ++ 10 ∷ rest) (length bytes) 0 (omega arith)
+    (λ k lt. ap (λ x. x == 10) (get_or_append_left bytes (10 ∷ rest) 0 k lt) ∙ h k lt)
+    (λ lt. ap (λ x. x == 10) (get_or-append_seam bytes 10 rest 0))
+
+no_place : (bytes : List ℕ) → HasNoEnd bytes → position_or_len (λ b. b == 10) bytes ≡ length bytes
+no_place bytes h =
+    position_or_len_is (λ b. b == 10) bytes (length bytes) 0 (omega arith) h (λ lt. absurd (omega arith))
+
+-- bytes without an end are one line
+pub one_line : (bytes : List ℕ) → HasNoEnd bytes → first_line bytes ≡ bytes
+one_line bytes h = ap (λ k. take k bytes) (no_place bytes h) ∙ take-length bytes
+
+not_nil : (bytes rest : List ℕ) (b : ℕ) → bytes ++ b ∷ rest ≢ []
+not_nil [] rest b e = cc
+not_nil (x ∷ bytes) rest b e = cc
+
+-- these bytes are the first line of what was there, of which `new` is left
+pub record IsLine (old bytes new : List ℕ) : Type 0 where
+  pub some : old ≢ []
+  pub line : bytes ≡ first_line old
+  pub rest : new ≡ later_lines old
+
+pub line_with_end : (old bytes now new : List ℕ) (b : ℕ) → old ≡ bytes ++ now → now ≡ b ∷ new → b ≡ 10 →
+    HasNoEnd bytes → IsLine old bytes new
+line_with_end old bytes now new b e f ten h =
+    let whole : old ≡ bytes ++ 10 ∷ new = e ∙ ap (λ x. bytes ++ x) (f ∙ ap (λ x. x ∷ new) ten) in
+    let at = place_of_end bytes new h in
+    record {
+      some = λ z. not_nil bytes new 10 (sym whole ∙ z);
+      line = sym (ap first_line whole
+          ∙ (ap (λ k. take k (bytes ++ 10 ∷ new)) at ∙ take-append_seam bytes (10 ∷ new)));
+      rest = sym (ap later_lines whole
+          ∙ (ap (λ k. drop (k + 1) (bytes ++ 10 ∷ new)) at ∙ drop-append-add bytes (10 ∷ new) 1));
+    }
+
+pub line_at_end : (old bytes now new : List ℕ) → old ≡ bytes ++ now → now ≡ [] → new ≡ [] → HasNoEnd bytes →
+    bytes ≢ [] → IsLine old bytes new
+line_at_end old bytes now new e none left h some =
+    let whole : old ≡ bytes = e ∙ (ap (λ x. bytes ++ x) none ∙ append-nil bytes) in
+    let at = no_place bytes h in
+    record {
+      some = λ z. some (sym whole ∙ z);
+      line = sym (ap first_line whole ∙ one_line bytes h);
+      rest = left ∙ sym (ap later_lines whole
+          ∙ (ap (λ k. drop (k + 1) bytes) at ∙ drop_all (length bytes + 1) bytes (omega arith)));
+    }
+
+pub not_true : (b : Bool) → not b ≡ true → b ≡ false
+not_true false e = refl
+not_true true e = cc
+
+pub ok_same : (a b : Bool) → (let x : Result Bool FeedFault = Ok a in x) ≡ Ok b → a ≡ b
+ok_same a b e = cc
+
+pub some_bytes : (bytes : List ℕ) (empty : Bool) → empty ≡ (length bytes == 0) → empty ≡ false → bytes ≢ []
+some_bytes bytes empty e f z = let x : true ≡ false = sym (e ∙ ap (λ i. length i == 0) z) ∙ f in cc

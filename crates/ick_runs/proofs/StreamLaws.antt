@@ -1,0 +1,358 @@
+-- How a streamed run goes.
+use Rattle.std.proofs.Common.{◌≡◌, ℕ, zero, suc, ◌+◌, ◌-◌, ◌<◌, ◌≤◌, le_refl, Bool, true, false, List, [], ◌∷◌, ◌++◌, length}
+use Rattle.std.proofs.Common.{take, drop, refl, ap, sym, ◌∙◌, subst, arith, append_assoc}
+use Rattle.std.specs.Prelude.{Result, Ok, Err, IfOk, Some, if◌then◌else◌}
+use Rattle.std.proofs.lemmas.Bool.{false≢true}
+use Rattle.std.proofs.Math.Seq.{take-append-add}
+use Rattle.std.proofs.lemmas.List.{append-nil, take-append-drop, take-append-le}
+use Rattle.ick_code.specs.meaning.State.{State, Ending}
+use Rattle.ick_code.specs.meaning.Move.{Asking, plain, choice, ended, ask, advance}
+use Rattle.ick_code.specs.Laws.{after_output}
+use Rattle.ick_code.proofs.AskLaws.{ask_same}
+use Rattle.ick_code.proofs.Frames.{advance_frame}
+use Rattle.ick_machine.specs.Machine.{Program, Machine}
+use Rattle.ick_machine.specs.Asked.{Finish, finished, at_limit, IsGoing}
+use Rattle.ick_machine.specs.Steps.{after_steps, IsQuiet, RunsOn}
+use Rattle.ick_machine.specs.LiveAsk.{end_kind_of, live_asked}
+use Rattle.ick_machine.specs.Live.{LiveMachine, fed, cleared, live_ask, fault_message}
+use Rattle.ick_machine.specs.Message.{asked_message}
+use Rattle.ick_machine.specs.declared.live_ask.LiveAsk.{LiveAsk}
+use Rattle.ick_machine.specs.declared.live_ask.LiveAsk.TheVariants.{Choice, Ended, Failed}
+use Rattle.ick_machine.specs.declared.live_ask.EndKind.{EndKind}
+use Rattle.ick_machine.specs.declared.live_ask.EndKind.TheVariants.{Wants, Limit}
+use Rattle.ick_runs.specs.Runs.{ends, wants, run}
+use Rattle.ick_runs.specs.Paths.{Leads}
+use Rattle.ick_runs.specs.Walks.{EndsHere}
+use Rattle.ick_runs.specs.Chosen.{Chosen, IsChosen, answer_of}
+use Rattle.ick_runs.specs.Streams.{finish_kind, finish_message, stop_kind, stop_message, HasStreamed, Streams}
+use Rattle.ick_runs.specs.Streaming.{Turns, Strides, IsAlong, AreTaken}
+use Rattle.ick_runs.specs.declared.streamed.Streamed.{Streamed}
+use Rattle.ick_runs.specs.declared.errors.RunsError.{RunsError}
+use Rattle.ick_runs.proofs.RunLaws.{Leads-start, Leads-plain, Leads-choice, Leads-wants, Leads-ends}
+use Rattle.ick_runs.proofs.RunLaws.{ends_finished, ends_limit}
+use Rattle.ick_runs.proofs.OutputLaws.{leads_grows}
+use Rattle.ick_runs.proofs.ChosenLaws.{taken_on}
+
+-- what a state asks rests neither on its input nor on its output
+ask_fed : (p : Program) (s : State) (input : List ℕ) → ask p (fed input s) ≡ ask p s
+ask_fed p s input = ask_same p s (fed input s) refl refl refl
+
+ask_after : (p : Program) (s : State) (o : List ℕ) → ask p (after_output o s) ≡ ask p s
+ask_after p s o = ask_same p s (after_output o s) refl refl refl
+
+taken_split : (c taken : List Bool) → AreTaken c taken → taken ++ drop (length taken) c ≡ c
+taken_split c taken f = ap (λ x. x ++ drop (length taken) c) f.same ∙ take-append-drop (length taken) c
+
+pub none_taken : (c : List Bool) → AreTaken c []
+none_taken c = record { within = omega arith; same = refl }
+
+-- the beginning of a longer text
+part_of : (before sent out rest whole after : List ℕ) (k : ℕ) → k ≤ length out → whole ≡ (sent ++ out) ++ rest →
+    after ≡ (before ++ sent) ++ take k out → after ≡ before ++ take (length sent + k) whole
+part_of before sent out rest whole after k le e f =
+    f ∙ (append_assoc before sent (take k out) ∙ ap (λ x. before ++ x)
+    (ap (λ x. sent ++ x) (sym (take-append-le k out rest le))
+    ∙ (sym (take-append-add sent (out ++ rest) k)
+    ∙ ap (take (length sent + k)) (sym (append_assoc sent out rest) ∙ sym e))))
+
+-- a state whose output has left is the same with what was written before it
+left_then : (sent : List ℕ) (u : State) → after_output sent u ≡ after_output (sent ++ u.output) (cleared u)
+left_then sent u = ap (λ x. record u { output = x }) (sym (append-nil (sent ++ u.output)))
+
+-- where nothing is held, what has left is all
+last_of : (sent : List ℕ) (now : State) → now.output ≡ [] → (after_output sent now).output ≡ sent
+last_of sent now e = ap (λ x. sent ++ x) e ∙ append-nil sent
+
+same_choice : (a : Asking) (k : ℕ) → live_asked a ≡ Choice k → a ≡ choice k
+same_choice plain k h = cc
+same_choice (choice j) k h = let x : j ≡ k = cc in ap choice x
+same_choice (ended e) k h = cc
+
+same_end : (a : Asking) (kind : EndKind) → live_asked a ≡ Ended kind →
+    (e : Ending) × (a ≡ ended e) × (end_kind_of e ≡ kind)
+same_end plain kind h = cc
+same_end (choice k) kind h = cc
+same_end (ended e) kind h = let x : end_kind_of e ≡ kind = cc in (e, refl, x)
+
+same_plain : (a : Asking) (r : LiveAsk) → live_asked a ≡ r → ((k : ℕ) → r ≡ Choice k → ⊥) →
+    ((kind : EndKind) → r ≡ Ended kind → ⊥) → a ≡ plain
+same_plain plain r h i j = refl
+same_plain (choice k) r h i j = absurd (i k (sym h))
+same_plain (ended e) r h i j = absurd (j (end_kind_of e) (sym h))
+
+still_going : (a : Asking) (r : LiveAsk) → live_asked a ≡ r → ((kind : EndKind) → r ≡ Ended kind → ⊥) → IsGoing a
+still_going plain r h j = tt
+still_going (choice k) r h j = tt
+still_going (ended e) r h j = absurd (j (end_kind_of e) (sym h))
+
+asked_by : (m : LiveMachine) (r : LiveAsk) → r ≡ live_ask m → m.failed ≡ false → live_asked (ask m.program m.state) ≡ r
+asked_by m r e f = sym (e ∙ ap (λ b. if b then Failed else live_asked (ask m.program m.state)) f)
+
+pub asks_chance : (m : LiveMachine) (r : LiveAsk) (chance : ℕ) → m.failed ≡ false → r ≡ live_ask m →
+    r ≡ Choice chance → ask m.program m.state ≡ choice chance
+asks_chance m r chance sound e f = same_choice _ chance (asked_by m r e sound ∙ f)
+
+-- where nothing is asked and no output is held, a run goes on by itself
+pub goes_by_itself : (m : LiveMachine) (r : LiveAsk) → m.failed ≡ false → r ≡ live_ask m →
+    ((k : ℕ) → r ≡ Choice k → ⊥) → ((kind : EndKind) → r ≡ Ended kind → ⊥) → m.state.output ≡ [] →
+    IsQuiet m.program m.state
+goes_by_itself m r sound e i j empty = (same_plain (ask m.program m.state) r (asked_by m r e sound) i j, empty)
+
+-- as many steps were made, and of their output k bytes left
+pub stride_refused : (told : Bool) (p : Program) (s now : State) (l steps : ℕ) (u : State) (written written' : List ℕ)
+    (error : RunsError) → steps ≤ l → RunsOn IsQuiet p s steps u →
+    (told ≡ true → (k : ℕ) × (k ≤ length u.output) × (written' ≡ written ++ take k u.output)) →
+    Strides told p s l now written written' (Err error)
+stride_refused told p s now l steps u written written' error within runs wrote = record {
+  steps = steps;
+  made = tt;
+  within = within;
+  state = u;
+  runs = runs;
+  turns = cases told refl;
+}
+  where
+    cases : (tells : Bool) → told ≡ tells →
+        (k : ℕ) × (k ≤ length u.output) × (told ≡ true → written' ≡ written ++ take k u.output)
+    cases true is = let (k, le, same) = wrote is in (k, le, λ _. same)
+    cases false is = (0, omega arith, λ tells. absurd (false≢true (sym is ∙ tells)))
+
+-- and where none of its steps was made
+pub no_stride : (told : Bool) (p : Program) (s now : State) (l : ℕ) (written : List ℕ) (error : RunsError) →
+    Strides told p s l now written written (Err error)
+no_stride told p s now l written error =
+    let none : RunsOn IsQuiet p s 0 s = record { leads = refl; on = λ i lt. absurd (omega (arith, lt)) } in
+    stride_refused told p s now l 0 s written written error (omega arith) none
+    (λ tells. (0, omega arith, sym (append-nil written)))
+
+-- a streamed run: whether its writer is told, its program, first state and limit
+module _ (told : Bool) (p : Program) (s : State) (l : ℕ) where
+  -- the start
+  pub along_start : (written : List ℕ) → IsAlong told p s l [] s written written 0
+  along_start written = record {
+    sent = [];
+    leads = Leads-start p s l;
+    text = λ t. sym (append-nil written);
+  }
+
+  -- a run that was refused where it had come to u, of whose output k bytes left
+  refused : (c taken : List Bool) (u : State) (sent before mid after left : List ℕ) (n k : ℕ) (e : RunsError) →
+      AreTaken c taken → Leads p s l taken (after_output sent u) n → (told ≡ true → mid ≡ before ++ sent) →
+      k ≤ length u.output → (told ≡ true → after ≡ mid ++ take k u.output) →
+      Streams told (run p s l c) c before after left (Err e)
+  refused c taken u sent before mid after left n k e f w so_far le wrote =
+      let r = leads_grows p s l taken (drop (length taken) c) (after_output sent u) n w in (
+        length sent + k,
+        λ t. part_of before sent u.output r.0 (run p s l c).last.output after k le
+            (ap (λ x. (run p s l x).last.output) (sym (taken_split c taken f)) ∙ r.1)
+            (wrote t ∙ ap (λ x. x ++ take k u.output) (so_far t)),
+      )
+
+  -- one step onwards
+  leads_choice : (c : List Bool) (now : State) (sent : List ℕ) (n chance : ℕ) (b : Bool) →
+      Leads p s l c (after_output sent now) n → ask p now ≡ choice chance → n < l →
+      Leads p s l (c ++ b ∷ []) (after_output sent (advance p now b)) (n + 1)
+  leads_choice c now sent n chance b h a lt =
+      subst (λ x. Leads p s l (c ++ b ∷ []) x (n + 1)) (advance_frame p now b sent)
+      (Leads-choice p s l c (after_output sent now) n chance b h (ask_after p now sent ∙ a) lt)
+
+  leads_plain : (c : List Bool) (now : State) (sent : List ℕ) (n : ℕ) →
+      Leads p s l c (after_output sent now) n → ask p now ≡ plain → n < l →
+      Leads p s l c (after_output sent (advance p now false)) (n + 1)
+  leads_plain c now sent n h a lt =
+      subst (λ x. Leads p s l c x (n + 1)) (advance_frame p now false sent)
+      (Leads-plain p s l c (after_output sent now) n h (ask_after p now sent ∙ a) lt)
+
+  -- and many, where the run goes on by itself
+  leads_on : (c : List Bool) (now u : State) (sent : List ℕ) (n k : ℕ) →
+      Leads p s l c (after_output sent now) n → RunsOn IsQuiet p now k u → n + k ≤ l →
+      Leads p s l c (after_output sent u) (n + k)
+  leads_on c now u sent n k h runs within =
+      subst (λ x. Leads p s l c (after_output sent x) (n + k)) (sym runs.leads) (leads_up_to k (le_refl k))
+    where
+      leads_up_to : (i : ℕ) → i ≤ k → Leads p s l c (after_output sent (after_steps p now i)) (n + i)
+      leads_up_to zero le =
+          let none : n ≡ n + 0 = omega arith in subst (Leads p s l c (after_output sent now)) none h
+      leads_up_to (suc i) le =
+          let next : n + i + 1 ≡ n + suc i = omega arith in
+          let lt : i < k = omega (arith, le) in
+          subst (Leads p s l c (after_output sent (after_steps p now (suc i)))) next
+          (leads_plain c (after_steps p now i) sent (n + i) (leads_up_to i (omega (arith, le))) (runs.on i lt).0
+          (omega (arith, within, lt)))
+
+  turned : (c : List Bool) (u now' : State) (sent before mid after : List ℕ) (n : ℕ) →
+      Leads p s l c (after_output sent u) n → (told ≡ true → mid ≡ before ++ sent) →
+      now' ≡ cleared u → (told ≡ true → after ≡ mid ++ u.output) → IsAlong told p s l c now' before after n
+  turned c u now' sent before mid after n h so_far is wrote = record {
+    sent = sent ++ u.output;
+    leads = subst (λ x. Leads p s l c x n) (left_then sent u ∙ ap (after_output (sent ++ u.output)) (sym is)) h;
+    text = λ t. wrote t ∙ (ap (λ x. x ++ u.output) (so_far t) ∙ append_assoc before sent u.output);
+  }
+
+  -- the answer at an end
+  streamed_end : (c taken : List Bool) (now : State) (before after left : List ℕ) (n : ℕ) (f : Finish) (m : Machine)
+      (r : Streamed) (along : IsAlong told p s l taken now before after n) → AreTaken c taken → now.output ≡ [] →
+      now.input ≡ left → m.program ≡ p → m.state ≡ after_output along.sent now → EndsHere l m n f →
+      r.end ≡ finish_kind f → r.message.items ≡ finish_message f → r.choices.items ≡ taken → r.steps ≡ n →
+      HasStreamed told (run p s l c) c before after left r
+  streamed_end c taken now before after left n f m r along first empty input same state here is message choices steps =
+      let sent = along.sent in
+      let whole : run p s l c ≡ record {
+        last = after_output sent now;
+        stop = ends f;
+        steps = n;
+        unused = drop (length taken) c;
+      } =
+      ap (run p s l) (sym (taken_split c taken first))
+      ∙ (subst (λ q. run q s l (taken ++ drop (length taken) c)
+      ≡ record { last = m.state; stop = ends f; steps = n; unused = drop (length taken) c }) same
+      (Leads-ends s l m taken (drop (length taken) c) n f
+      (subst (λ q. Leads q s l taken m.state n) (sym same)
+      (subst (λ x. Leads p s l taken x n) (sym state) along.leads)) here)
+      ∙ ap (λ x. record { last = x; stop = ends f; steps = n; unused = drop (length taken) c }) state) in
+      record {
+        end = is ∙ sym (ap (λ x. stop_kind x.stop) whole);
+        message = message ∙ sym (ap (λ x. stop_message x.stop) whole);
+        steps = steps ∙ sym (ap (λ x. x.steps) whole);
+        choices = ap (λ x. x ++ (run p s l c).unused) choices
+            ∙ (ap (λ x. taken ++ x.unused) whole ∙ taken_split c taken first);
+        input = sym input ∙ sym (ap (λ x. x.last.input) whole);
+        output = λ t. along.text t
+            ∙ ap (λ x. before ++ x) (sym (ap (λ x. x.last.output) whole ∙ last_of sent now empty));
+      }
+
+  -- and where a choice is wanted
+  streamed_wants : (c taken : List Bool) (now : State) (before after left : List ℕ) (n chance : ℕ) (r : Streamed) →
+      IsAlong told p s l taken now before after n → taken ≡ c → now.output ≡ [] → now.input ≡ left →
+      ask p now ≡ choice chance → n < l → r.end ≡ Wants → r.message.items ≡ [] → r.choices.items ≡ taken →
+      r.steps ≡ n → HasStreamed told (run p s l c) c before after left r
+  streamed_wants c taken now before after left n chance r along all empty input a lt is message choices steps =
+      let sent = along.sent in
+      let whole : run p s l c ≡ record { last = after_output sent now; stop = wants; steps = n; unused = [] } =
+      ap (run p s l) (sym all)
+      ∙ Leads-wants p s l taken (after_output sent now) n chance along.leads (ask_after p now sent ∙ a) lt in
+      record {
+        end = is ∙ sym (ap (λ x. stop_kind x.stop) whole);
+        message = message ∙ sym (ap (λ x. stop_message x.stop) whole);
+        steps = steps ∙ sym (ap (λ x. x.steps) whole);
+        choices = ap (λ x. x ++ (run p s l c).unused) choices
+            ∙ (ap (λ x. taken ++ x.unused) whole ∙ (append-nil taken ∙ all));
+        input = sym input ∙ sym (ap (λ x. x.last.input) whole);
+        output = λ t. along.text t
+            ∙ ap (λ x. before ++ x) (sym (ap (λ x. x.last.output) whole ∙ last_of sent now empty));
+      }
+
+  -- where a streamed run stands
+  pub record Here (taken : List Bool) (m : LiveMachine) (left before mid : List ℕ) (n : ℕ) : Type 0 where
+    pub along : IsAlong told p s l taken (fed left m.state) before mid n
+    pub program : m.program ≡ p
+    pub sound : m.failed ≡ false
+    pub empty : m.state.output ≡ []
+
+  module _ {taken : List Bool} {m : LiveMachine} {left before mid : List ℕ} {n : ℕ}
+      (h : Here taken m left before mid n) where
+    asks_fed : ask p (fed left m.state) ≡ ask m.program m.state
+    asks_fed = ask_fed p m.state left ∙ ap (λ x. ask x m.state) (sym h.program)
+
+    pub here_stays : (c : List Bool) → AreTaken c taken → (left' : List ℕ) (e : RunsError) →
+        Streams told (run p s l c) c before mid left' (Err e)
+    here_stays c f left' e =
+        refused c taken (fed left m.state) h.along.sent before mid mid left' n 0 e f h.along.leads h.along.text
+        (omega arith) (λ t. sym (append-nil mid))
+
+    abbrev machine_here : Machine
+    machine_here = record { program = p; state = after_output h.along.sent (fed left m.state); marks = []; work = 0 }
+
+    asks_here : ask p machine_here.state ≡ ask m.program m.state
+    asks_here = ask_after p (fed left m.state) h.along.sent ∙ asks_fed
+
+    pub here_ended : (c : List Bool) → AreTaken c taken → (r : LiveAsk) (kind : EndKind) → r ≡ live_ask m →
+        r ≡ Ended kind → (answer : Result Streamed RunsError) → IfOk answer (λ a. a.end ≡ kind) →
+        IfOk answer (λ a. a.message.items ≡ fault_message m) → IfOk answer (λ a. a.choices.items ≡ taken) →
+        IfOk answer (λ a. a.steps ≡ n) → Streams told (run p s l c) c before mid left answer
+    here_ended c f r kind e g (Ok a) is message choices steps =
+        let (end, asks, same) = same_end (ask m.program m.state) kind (asked_by m r e h.sound ∙ g) in
+        streamed_end c taken (fed left m.state) before mid left n (finished end) machine_here a h.along f h.empty
+        refl refl refl (ends_finished l machine_here n end (asks_here ∙ asks))
+        (is ∙ sym same) (message ∙ ap asked_message asks) choices steps
+    here_ended c f r kind e g (Err x) is message choices steps = here_stays c f left x
+
+    pub here_limit : (c : List Bool) → AreTaken c taken → (r : LiveAsk) (a : Streamed) → r ≡ live_ask m →
+        ((kind : EndKind) → r ≡ Ended kind → ⊥) → n ≡ l → a.end ≡ Limit → a.message.items ≡ [] →
+        a.choices.items ≡ taken → a.steps ≡ n → HasStreamed told (run p s l c) c before mid left a
+    here_limit c f r a e g all is message choices steps =
+        streamed_end c taken (fed left m.state) before mid left n at_limit machine_here a h.along f h.empty
+        refl refl refl
+        (ends_limit l machine_here n all
+        (subst IsGoing (sym asks_here) (still_going (ask m.program m.state) r (asked_by m r e h.sound) g)))
+        is message choices steps
+
+    -- where a choice is asked
+    module _ {r : LiveAsk} {chance : ℕ} (e : r ≡ live_ask m) (g : r ≡ Choice chance) (lt : n < l) where
+      asks_choice : ask p (fed left m.state) ≡ choice chance
+      asks_choice = asks_fed ∙ asks_chance m r chance h.sound e g
+
+      pub here_wants : (c : List Bool) → taken ≡ c → (a : Streamed) → a.end ≡ Wants → a.message.items ≡ [] →
+          a.choices.items ≡ taken → a.steps ≡ n → HasStreamed told (run p s l c) c before mid left a
+      here_wants c all a is message choices steps =
+          streamed_wants c taken (fed left m.state) before mid left n chance a h.along all h.empty refl asks_choice lt
+          is message choices steps
+
+      pub taken_choice : (chosen : Chosen) (c taken' : List Bool) (b : Bool) → IsChosen p s l chosen c →
+          AreTaken c taken → Some b ≡ answer_of chosen (length taken) chance → taken' ≡ taken ++ b ∷ [] →
+          AreTaken c taken'
+      taken_choice chosen c taken' b is f answer x =
+          taken_on p s l chosen c taken taken' machine_here.state n chance b is h.along.leads
+          (ask_after p (fed left m.state) h.along.sent ∙ asks_choice) lt f answer x
+
+      leads_by_choice : (taken' : List Bool) (b : Bool) → taken' ≡ taken ++ b ∷ [] →
+          Leads p s l taken' (after_output h.along.sent (advance m.program (fed left m.state) b)) (n + 1)
+      leads_by_choice taken' b x =
+          let state : Program → State = λ q. after_output h.along.sent (advance q (fed left m.state) b) in
+          subst (λ y. Leads p s l y (state m.program) (n + 1)) (sym x)
+          (subst (λ q. Leads p s l (taken ++ b ∷ []) (state q) (n + 1)) (sym h.program)
+          (leads_choice taken (fed left m.state) h.along.sent n chance b h.along.leads asks_choice lt))
+
+      pub choice_turned : (taken' : List Bool) (b : Bool) (now' : State) (after : List ℕ) (unit : Unit {0}) →
+          taken' ≡ taken ++ b ∷ [] →
+          Turns told (advance m.program (fed left m.state) b) now' mid after (Ok unit) →
+          IsAlong told p s l taken' now' before after (n + 1)
+      choice_turned taken' b now' after unit x turns =
+          turned taken' (advance m.program (fed left m.state) b) now' h.along.sent before mid after (n + 1)
+          (leads_by_choice taken' b x) h.along.text turns.0 turns.1
+
+      pub choice_refused : (c taken' : List Bool) (b : Bool) (now' : State) (after left' : List ℕ)
+          (error : RunsError) → AreTaken c taken' → taken' ≡ taken ++ b ∷ [] →
+          Turns {T = Unit {0}} told (advance m.program (fed left m.state) b) now' mid after (Err error) →
+          Streams told (run p s l c) c before after left' (Err error)
+      choice_refused c taken' b now' after left' error f x (k, le, wrote) =
+          refused c taken' (advance m.program (fed left m.state) b) h.along.sent before mid after left' (n + 1) k
+          error f (leads_by_choice taken' b x) h.along.text le wrote
+
+    -- and where nothing is asked
+    module _ {r : LiveAsk} (e : r ≡ live_ask m) (i : (k : ℕ) → r ≡ Choice k → ⊥)
+        (j : (kind : EndKind) → r ≡ Ended kind → ⊥) (lt : n < l) where
+      -- the state that the run came to by itself
+      module _ (answer : Result ℕ RunsError) (now' : State) (after : List ℕ)
+          (strides : Strides told m.program (fed left m.state) (l - n) now' mid after answer) where
+        leads_by_itself : Leads p s l taken (after_output h.along.sent strides.state) (n + strides.steps)
+        leads_by_itself =
+            leads_on taken (fed left m.state) strides.state h.along.sent n strides.steps h.along.leads
+            (subst (λ q. RunsOn IsQuiet q (fed left m.state) strides.steps strides.state) h.program strides.runs)
+            (let within = strides.within in omega (arith, within, lt))
+
+      pub plain_turned : (k : ℕ) (now' : State) (after : List ℕ) →
+          Strides told m.program (fed left m.state) (l - n) now' mid after (Ok k) →
+          IsAlong told p s l taken now' before after (n + k)
+      plain_turned k now' after strides =
+          subst (λ steps. IsAlong told p s l taken now' before after (n + steps)) (sym strides.made)
+          (turned taken strides.state now' h.along.sent before mid after (n + strides.steps)
+          (leads_by_itself (Ok k) now' after strides) h.along.text strides.turns.0 strides.turns.1)
+
+      pub plain_refused : (c : List Bool) (now' : State) (after left' : List ℕ) (error : RunsError) →
+          AreTaken c taken → Strides told m.program (fed left m.state) (l - n) now' mid after (Err error) →
+          Streams told (run p s l c) c before after left' (Err error)
+      plain_refused c now' after left' error f strides =
+          let (k, le, wrote) = strides.turns in
+          refused c taken strides.state h.along.sent before mid after left' (n + strides.steps) k
+          error f (leads_by_itself (Err error) now' after strides) h.along.text le wrote

@@ -1,0 +1,15 @@
+use Rattle.std.proofs.Common.{◌≡◌, ◌^◌, ◌-◌, ◌++◌, length, true}
+use Rattle.ick_runs.specs.Streaming.{HasNoEnd}
+use Rattle.ick_runs.proofs.feeds.SourceFeedFeed.line.Given as goal
+
+abbrev pub invariant-bytes : goal.invariant-bytes
+invariant-bytes g l = record {
+  count : g.R.ByteSource.failed l.self.source.now ≡ g.R.ByteSource.failed l.initial.self.source.now;
+  held : l.self.source.ghost_name ≡ l.initial.self.source.ghost_name;
+  so_far : g.R.ByteSource.told ≡ true →
+      g.R.ByteSource.left l.initial.self.source.now ≡ l.target.items ++ g.R.ByteSource.left l.self.source.now;
+  no_end : HasNoEnd l.target.items;
+}
+
+abbrev pub decreases-bytes : goal.decreases-bytes
+decreases-bytes g l = 2 ^ 64 - length l.target.items

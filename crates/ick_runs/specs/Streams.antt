@@ -1,0 +1,57 @@
+-- What a streamed run answers, what it wrote and what it took.
+use Rattle.std.specs.Prelude.{◌≡◌, ℕ, Bool, true, List, [], ◌++◌, take, Result, Ok, Err}
+use Rattle.ick_machine.specs.Asked.{Finish, finished, at_limit}
+use Rattle.ick_machine.specs.LiveAsk.{end_kind_of}
+use Rattle.ick_machine.specs.Message.{end_message}
+use Rattle.ick_machine.specs.declared.live_ask.EndKind.{EndKind}
+use Rattle.ick_machine.specs.declared.live_ask.EndKind.TheVariants.{Limit, Wants}
+use Rattle.ick_runs.specs.Runs.{Stop, ends, wants, Execution}
+use Rattle.ick_runs.specs.declared.errors.RunsError.{RunsError}
+use Rattle.ick_runs.specs.declared.errors.RunsError.TheVariants.{NoMemory, NoSuchRun, WorkFull, Failed, BadCursor, Read}
+use Rattle.ick_runs.specs.declared.errors.RunsError.TheVariants.{Write}
+use Rattle.ick_runs.specs.declared.streamed.Streamed.{Streamed}
+
+-- how a run stops, without the subject of a fault
+abbrev pub finish_kind : Finish → EndKind
+finish_kind (finished ending) = end_kind_of ending
+finish_kind at_limit = Limit
+
+abbrev pub stop_kind : Stop → EndKind
+stop_kind (ends finish) = finish_kind finish
+stop_kind wants = Wants
+
+-- the message of the fault that it has ended by, or nothing
+abbrev pub finish_message : Finish → List ℕ
+finish_message (finished ending) = end_message ending
+finish_message at_limit = []
+
+abbrev pub stop_message : Stop → List ℕ
+stop_message (ends finish) = finish_message finish
+stop_message wants = []
+
+-- the answer is the run x with the choices c: all its output was written, and just its input was taken
+pub record HasStreamed (told : Bool) (x : Execution) (c : List Bool) (written written' left : List ℕ)
+    (answer : Streamed) : Type 0 where
+  pub end : answer.end ≡ stop_kind x.stop
+  pub message : answer.message.items ≡ stop_message x.stop
+  pub steps : answer.steps ≡ x.steps
+  pub choices : answer.choices.items ++ x.unused ≡ c
+  pub input : left ≡ x.last.input
+  pub output : told ≡ true → written' ≡ written ++ x.last.output
+
+-- and after each refusal what was written is a beginning of its output
+abbrev pub Streams : Bool → Execution → List Bool → List ℕ → List ℕ → List ℕ → Result Streamed RunsError → Type 0
+Streams told x c written written' left (Ok answer) = HasStreamed told x c written written' left answer
+Streams told x c written written' left (Err error) =
+    (n : ℕ) × (told ≡ true → written' ≡ written ++ take n x.last.output)
+
+-- by how much a call raises the source's count of failures
+abbrev pub source_failures : {T : Type 0} → Result T RunsError → ℕ
+source_failures (Ok _) = 0
+source_failures (Err Read) = 1
+source_failures (Err NoMemory) = 0
+source_failures (Err NoSuchRun) = 0
+source_failures (Err WorkFull) = 0
+source_failures (Err Failed) = 0
+source_failures (Err BadCursor) = 0
+source_failures (Err Write) = 0

@@ -1,0 +1,145 @@
+//! Steps of a run whose input and output are streams.
+
+ghost use Rattle.std.specs.Prelude.{◌≡◌, ◌+◌, ◌<◌, ◌≤◌, ◌^◌, ◌⊎◌, ◌++◌, ℕ, [], true, false};
+ghost use Rattle.std.specs.Prelude.{IfOk, IfErr, OnOk, length, take};
+ghost use Rattle.ick_code.specs.meaning.Move.{ask, advance};
+ghost use Rattle.ick_machine.specs.Asked.{IsGoing};
+ghost use Rattle.ick_machine.specs.Steps.{IsQuiet, RunsOn};
+ghost use Rattle.ick_machine.specs.Live.{seen, fed, cleared};
+ghost use Rattle.ick_runs.specs.Streams.{source_failures};
+ghost use Rattle.ick_runs.specs.Streaming.{Turns, Strides};
+ghost use Rattle.ick_runs.specs.Writes.{write_failures};
+
+use crate::devices::{ByteSink, ByteSource, write_whole};
+use crate::errors::RunsError;
+use crate::feeds::SourceFeed;
+use ick_machine::Live;
+
+/// Makes a step, which takes its input from a source.
+fn step_from<R: ByteSource>(
+    machine: &mut Live<'_, '_>,
+    reader: &mut R,
+    done: bool,
+) -> Result<(), RunsError>
+    requires sound { (seen machine.old).failed ≡ false }
+    requires going { IsGoing (ask (seen machine.old).program (seen machine.old).state) }
+    requires reads { R.failed reader.old + 1 < 2 ^ 64 }
+    ensures moved { let old = seen machine.old in R.told ≡ true → OnOk result (
+        fed (R.left reader.new) (seen machine.new).state
+        ≡ advance old.program (fed (R.left reader.old) old.state) done) }
+    ensures program { (seen machine.new).program ≡ (seen machine.old).program }
+    ensures sound { OnOk result ((seen machine.new).failed ≡ false) }
+    ensures reads { R.failed reader.new ≡ R.failed reader.old + source_failures result }
+    ensures errors { IfErr result (λ e. (e ≡ RunsError.NoMemory) ⊎ (e ≡ RunsError.Read)) }
+{
+    let mut feed = SourceFeed::new(reader);
+    machine.step(done, &mut feed)?;
+    Ok(())
+}
+
+/// Makes steps, as many as the limit allows, while the run goes on by itself. They take their input
+/// from a source.
+fn run_from<R: ByteSource>(
+    machine: &mut Live<'_, '_>,
+    reader: &mut R,
+    limit: u32,
+) -> Result<u32, RunsError>
+    requires sound { (seen machine.old).failed ≡ false }
+    requires reads { R.failed reader.old + 1 < 2 ^ 64 }
+    ensures runs { let old = seen machine.old in R.told ≡ true → IfOk result (λ k. RunsOn IsQuiet
+        old.program (fed (R.left reader.old) old.state) k
+        (fed (R.left reader.new) (seen machine.new).state)) }
+    ensures within { IfOk result (λ k. k ≤ limit) }
+    ensures moves { let old = seen machine.old in IfOk result (λ k. IsQuiet
+        old.program old.state → 0 < limit → 0 < k) }
+    ensures program { (seen machine.new).program ≡ (seen machine.old).program }
+    ensures sound { OnOk result ((seen machine.new).failed ≡ false) }
+    ensures reads { R.failed reader.new ≡ R.failed reader.old + source_failures result }
+    ensures errors { IfErr result (λ e. (e ≡ RunsError.NoMemory) ⊎ (e ≡ RunsError.Read)) }
+{
+    let mut feed = SourceFeed::new(reader);
+    let made = machine.run(limit, &mut feed)?;
+    Ok(made)
+}
+
+/// Writes the output that the machine holds, which is then empty.
+fn leave<W: ByteSink>(machine: &mut Live<'_, '_>, writer: &mut W) -> Result<(), RunsError>
+    requires writes { W.failed writer.old + 1 < 2 ^ 64 }
+    ensures clears { OnOk result (seen machine.new
+        ≡ record (seen machine.old) { state = cleared (seen machine.old).state }) }
+    ensures program { (seen machine.new).program ≡ (seen machine.old).program }
+    ensures all { let output = (seen machine.old).state.output in W.told ≡ true →
+        OnOk result (W.written writer.new ≡ W.written writer.old ++ output) }
+    ensures beginning { let output = (seen machine.old).state.output in W.told ≡ true →
+        (n : ℕ) × (n ≤ length output)
+        × (W.written writer.new ≡ W.written writer.old ++ take n output) }
+    ensures writes { W.failed writer.new ≡ W.failed writer.old + write_failures result }
+    ensures errors { IfErr result (λ e. e ≡ RunsError.Write) }
+{
+    match write_whole(writer, machine.output()) {
+        Ok(()) => {
+            machine.clear_output();
+            Ok(())
+        }
+        Err(_) => Err(RunsError::Write),
+    }
+}
+
+/// Makes a step, after which its output leaves: so it has left before the next line is read.
+pub(crate) fn turn<R: ByteSource, W: ByteSink>(
+    machine: &mut Live<'_, '_>,
+    reader: &mut R,
+    writer: &mut W,
+    done: bool,
+) -> Result<(), RunsError>
+    requires sound { (seen machine.old).failed ≡ false }
+    requires going { IsGoing (ask (seen machine.old).program (seen machine.old).state) }
+    requires reads { R.failed reader.old + 1 < 2 ^ 64 }
+    requires writes { W.failed writer.old + 1 < 2 ^ 64 }
+    ensures moved { let old = seen machine.old in R.told ≡ true → Turns W.told
+        (advance old.program (fed (R.left reader.old) old.state) done)
+        (fed (R.left reader.new) (seen machine.new).state)
+        (W.written writer.old) (W.written writer.new) result }
+    ensures program { (seen machine.new).program ≡ (seen machine.old).program }
+    ensures sound { OnOk result ((seen machine.new).failed ≡ false) }
+    ensures empty { OnOk result ((seen machine.new).state.output ≡ []) }
+    ensures reads { R.failed reader.new ≡ R.failed reader.old + source_failures result }
+    ensures writes { W.failed writer.new ≡ W.failed writer.old + write_failures result }
+    ensures errors { IfErr result (λ e. (e ≡ RunsError.NoMemory)
+        ⊎ ((e ≡ RunsError.Read) ⊎ (e ≡ RunsError.Write))) }
+{
+    step_from(machine, reader, done)?;
+    leave(machine, writer)
+}
+
+/// Makes steps, as many as the limit allows, while the run goes on by itself, after which their
+/// output leaves. Answers their number. There is a step to make, and no output is held yet.
+pub(crate) fn stride<R: ByteSource, W: ByteSink>(
+    machine: &mut Live<'_, '_>,
+    reader: &mut R,
+    writer: &mut W,
+    limit: u32,
+) -> Result<u32, RunsError>
+    requires sound { (seen machine.old).failed ≡ false }
+    requires some { 0 < limit }
+    requires quiet { IsQuiet (seen machine.old).program (seen machine.old).state }
+    requires reads { R.failed reader.old + 1 < 2 ^ 64 }
+    requires writes { W.failed writer.old + 1 < 2 ^ 64 }
+    ensures moved { let old = seen machine.old in R.told ≡ true → Strides W.told
+        old.program (fed (R.left reader.old) old.state) limit
+        (fed (R.left reader.new) (seen machine.new).state)
+        (W.written writer.old) (W.written writer.new) result }
+    ensures some { IfOk result (λ k. 0 < k) }
+    ensures within { IfOk result (λ k. k ≤ limit) }
+    ensures program { (seen machine.new).program ≡ (seen machine.old).program }
+    ensures sound { OnOk result ((seen machine.new).failed ≡ false) }
+    ensures empty { OnOk result ((seen machine.new).state.output ≡ []) }
+    ensures reads { R.failed reader.new ≡ R.failed reader.old + source_failures result }
+    ensures writes { W.failed writer.new ≡ W.failed writer.old + write_failures result }
+    ensures errors { IfErr result (λ e. (e ≡ RunsError.NoMemory)
+        ⊎ ((e ≡ RunsError.Read) ⊎ (e ≡ RunsError.Write))) }
+{
+    let made = run_from(machine, reader, limit)?;
+    leave(machine, writer)?;
+    Ok(made)
+}
