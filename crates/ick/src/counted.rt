@@ -1,11 +1,11 @@
 //! Reads and writes of the system that count their failures. Any error is a failure, an
 //! interruption too; nothing is tried again.
 ghost use Rattle.std.specs.Prelude.{◌≡◌, ◌+◌, ◌<◌, ◌≤◌, ◌^◌, if◌then◌else◌};
-ghost use Rattle.std.specs.Prelude.{IfOk, is_ok, length};
-ghost use Rattle.std.specs.Io.KnownBytes.{ReadConsumes, WriteAppends};
+ghost use Rattle.std.specs.Prelude.{IfOk, OnErr, OnSome, is_ok, length, take};
+ghost use Rattle.std.specs.Io.KnownBytes.{Consumes, IsAtEnd, Keeps, ReadConsumes, WriteAppends};
 
 use ick_runs::DeviceFault;
-use std::io::{Read, Write};
+use std::io::{BufRead, Read, Write};
 
 /// Reads some bytes. No byte for a target that isn't empty is the end of the stream.
 pub fn read_from<R: Read>(
@@ -26,6 +26,32 @@ pub fn read_from<R: Read>(
             Err(DeviceFault)
         }
     }
+}
+
+/// Reads some bytes of those that a stream has read ahead, which then reads ahead where none is
+/// left. No byte for a target that isn't empty is the end of the stream.
+pub fn read_ahead_from<R: BufRead>(
+    stream: &mut R,
+    failures: &mut u64,
+    target: &mut [u8],
+) -> Result<usize, DeviceFault>
+    requires { failures.old + 1 < 2 ^ 64 }
+    ensures count { failures.new ≡ failures.old + (if is_ok result then 0 else 1) }
+    ensures fits { IfOk result (λ n. n ≤ length target.old) }
+    ensures bytes { IfOk result (λ n.
+        Consumes (R.remaining stream.old) (R.remaining stream.new) (take n target.new)) }
+    ensures end { IfOk result (λ n. n ≡ 0 → 0 < length target.old →
+        OnSome (R.remaining stream.old) (IsAtEnd (R.remaining stream.new))) }
+    ensures kept { OnErr result (Keeps (R.remaining stream.old) (R.remaining stream.new)) }
+{
+    let Ok(ahead) = stream.fill_buf() else {
+        *failures += 1;
+        return Err(DeviceFault);
+    };
+    let count = ahead.len().min(target.len());
+    target[..count].copy_from_slice(&ahead[..count]);
+    stream.consume(count);
+    Ok(count)
 }
 
 /// Writes some bytes of the front of a text. A write that takes no byte of a text that isn't empty

@@ -17,6 +17,7 @@ mod words;
 use disk::DiskFiles;
 use ick_cli::{Status, WordsFault, refuse_words, serve};
 use ick_runs::ByteSink;
+use std::io::Lock;
 use std::process::ExitCode;
 use streams::{InStream, OutStream};
 use words::{arguments, words_of};
@@ -38,7 +39,7 @@ fn answer<E: ByteSink>(rt: &HostRuntime, arguments: &[String], errors: &mut E) -
         return refuse_words(WordsFault::NoMemory, errors);
     };
     let mut files = DiskFiles::new(rt);
-    let mut reader = InStream::new(rt.stdin());
+    let mut reader = InStream::new(rt.stdin().lock());
     let mut writer = OutStream::new(rt.stdout());
     serve(
         rt.alloc(),

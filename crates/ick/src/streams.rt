@@ -1,18 +1,19 @@
 //! Devices over the streams of the system. Nothing is told of their bytes.
 ghost use Rattle.std.specs.Prelude.{◌≡◌, [], false};
 
-use crate::counted::{read_from, write_to};
+use crate::counted::{read_ahead_from, read_from, write_to};
 use ick_runs::{ByteSink, ByteSource, DeviceFault};
-use std::io::{Read, Write};
+use std::io::{BufRead, Write};
 
-/// A stream that is read.
+/// A stream that is read. Single bytes are taken from what it has read ahead, and longer targets
+/// are filled from the system.
 #[derive(Drop)]
 pub struct InStream<R> {
     stream: R,
     failures: u64,
 }
 
-impl<R: Read> InStream<R> {
+impl<R: BufRead> InStream<R> {
     /// The stream, of which no call has failed.
     pub fn new(stream: R) -> InStream<R>
         ensures { result.failures ≡ 0 }
@@ -24,7 +25,7 @@ impl<R: Read> InStream<R> {
     }
 }
 
-impl<R: Read> ByteSource for InStream<R> {
+impl<R: BufRead> ByteSource for InStream<R> {
     ghost told = { false };
 
     ghost left = { λ _. [] };
@@ -36,7 +37,11 @@ impl<R: Read> ByteSource for InStream<R> {
     }
 
     fn read(&mut self, target: &mut [u8]) -> Result<usize, DeviceFault> {
-        read_from(&mut self.stream, &mut self.failures, target)
+        if target.len() == 1 {
+            read_ahead_from(&mut self.stream, &mut self.failures, target)
+        } else {
+            read_from(&mut self.stream, &mut self.failures, target)
+        }
     }
 }
 

@@ -1,5 +1,6 @@
 -- An answer to a source, and the ending that has it.
-use Rattle.std.proofs.Common.{◌≡◌, ◌∙◌, ◌<◌, ◌≤◌, ◌==◌, ℕ, Bool, List, [], Option, Some, None, ap₂, inl, refl, sym, subst, arith, take, length, if◌then◌else◌, eq-eqb, true}
+use Rattle.std.proofs.Common.{◌≡◌, ◌<◌, ◌≤◌, ◌==◌, ℕ, Bool, List, [], Option, Some, None, ap₂, inl, refl, sym}
+use Rattle.std.proofs.Common.{subst, arith, take, if◌then◌else◌, eq-eqb, true}
 use Rattle.std.proofs.lemmas.List.{append-nil, length-take, take_all}
 use Rattle.ick_bits.specs.Faults.{message_of}
 use Rattle.ick_bits.specs.declared.faults.FaultKind.{FaultKind}
@@ -7,24 +8,29 @@ use Rattle.ick_source.specs.RefusalAnswers.{IsOnlyRefused}
 use Rattle.ick_source.specs.Refusals.{Compiles, IsRefused, longest}
 use Rattle.ick_source.specs.StatementTree.{StatementTree}
 use Rattle.ick_cli.specs.Ending.{Answers, EndsBy, LeavesStreams, input_of, source_of}
-use Rattle.ick_cli.specs.Input.{EndsUnread}
 use Rattle.ick_cli.specs.Job.{Task}
-use Rattle.ick_cli.specs.Tool.{Answer, IsExecuted, IsProgramAnswer, IsReadAnswer, IsSourceAnswer, IsToolAnswer, compiled, executed, input_too_long, longest_input, read, refusal, refused, too_long}
+use Rattle.ick_cli.specs.Tool.{Answer, IsExecuted, IsProgramAnswer, IsReadAnswer, IsSourceAnswer, IsToolAnswer}
+use Rattle.ick_cli.specs.Tool.{compiled, executed, read, refusal, refused, too_long}
 use Rattle.ick_cli.specs.declared.ending.Ending.{Ending}
-use Rattle.ick_cli.specs.declared.ending.Ending.TheVariants.{Answered, NoMemory, InputTooLong, FileNotRead, ReadFailed, WriteFailed}
+use Rattle.ick_cli.specs.declared.ending.Ending.TheVariants.{Answered, NoMemory, InputTooLong, FileNotRead, ReadFailed}
+use Rattle.ick_cli.specs.declared.ending.Ending.TheVariants.{WriteFailed}
 use Rattle.ick_cli.specs.declared.plan.Plan.{Plan}
 use Rattle.ick_cli.specs.declared.plan.Plan.TheVariants.{Execute}
 use Rattle.ick_cli.specs.declared.plan.Runs.{Runs}
 
-pub answered_program : (plan : Plan) (source input : List ℕ) (trees : List StatementTree) (ending : Ending) (before after : List ℕ) → Compiles source trees
+pub answered_program : (plan : Plan) (source input : List ℕ) (trees : List StatementTree) (ending : Ending)
+    (before after : List ℕ) → Compiles source trees
     → ((others : List StatementTree) → Compiles source others → others ≡ trees)
     → ((kind : FaultKind) (n : ℕ) → IsRefused source kind n → ⊥)
     → ((answer : Answer) → IsProgramAnswer trees input plan answer → Answers answer ending before after)
     → (answer : Answer) → IsSourceAnswer plan source input answer → Answers answer ending before after
 answered_program plan source input trees ending before after compiles only not_refused answered answer (too_long h) =
     let fits = compiles.fits in absurd (omega arith)
-answered_program plan source input trees ending before after compiles only not_refused answered answer (refused kind n h) = absurd (not_refused kind n h)
-answered_program plan source input trees ending before after compiles only not_refused answered answer (compiled others given h is) =
+answered_program plan source input trees ending before after compiles only not_refused answered answer
+    (refused kind n h) =
+    absurd (not_refused kind n h)
+answered_program plan source input trees ending before after compiles only not_refused answered answer
+    (compiled others given h is) =
     answered answer (subst (λ (ts : List StatementTree). IsProgramAnswer ts input plan answer) (only others h) is)
 
 refused_answer : (plan : Plan) (source input : List ℕ) (kind : FaultKind) (n : ℕ) → IsOnlyRefused source kind n
@@ -43,46 +49,39 @@ ends_refused status text FileNotRead before h = absurd h
 ends_refused status text ReadFailed before h = absurd h
 ends_refused status text WriteFailed before h = absurd h
 
-pub answered_refusal : (plan : Plan) (source input : List ℕ) (kind : FaultKind) (n : ℕ) (ending : Ending) (before : List ℕ) → IsOnlyRefused source kind n
+pub answered_refusal : (plan : Plan) (source input : List ℕ) (kind : FaultKind) (n : ℕ) (ending : Ending)
+    (before : List ℕ) → IsOnlyRefused source kind n
     → EndsBy 2 (message_of kind n []) ending
     → (answer : Answer) → IsSourceAnswer plan source input answer → Answers answer ending before before
 answered_refusal plan source input kind n ending before is ends answer h =
     subst (λ (a : Answer). Answers a ending before before) (refused_answer plan source input kind n is answer h)
     (ends_refused 2 (message_of kind n []) ending before ends)
 
-pub leaves_refused : (text : List ℕ) (ending : Ending) (reads writes : ℕ) → EndsBy 2 text ending → LeavesStreams ending reads reads writes writes
-leaves_refused text (Answered given message) reads writes h =
+-- an ending by a status of answers leaves the devices unfailed
+pub leaves_by : (status : ℕ) (text : List ℕ) (ending : Ending) (reads reads' writes writes' : ℕ) → status ≤ 3
+    → EndsBy status text ending → reads' ≡ reads → writes' ≡ writes
+    → LeavesStreams ending reads reads' writes writes'
+leaves_by status text (Answered given message) reads reads' writes writes' small h calm_reads calm_writes =
     record { proper = inl (omega (arith, h.0)); opened = refl; read = omega arith; wrote = omega arith }
-leaves_refused text NoMemory reads writes h = record { proper = tt; opened = refl; read = omega arith; wrote = omega arith }
-leaves_refused text InputTooLong reads writes h = absurd h
-leaves_refused text FileNotRead reads writes h = absurd h
-leaves_refused text ReadFailed reads writes h = absurd h
-leaves_refused text WriteFailed reads writes h = absurd h
-
--- a program whose input was not read, and one whose input was
-pub answered_unread : (trees : List StatementTree) (input : List ℕ) (runs : Runs) (ending : Ending) (before : List ℕ) → EndsUnread input ending
-    → (answer : Answer) → IsProgramAnswer trees input (Execute runs) answer → Answers answer ending before before
-answered_unread trees input runs InputTooLong before long answer (input_too_long same h) = ((refl, refl), sym (append-nil before))
-answered_unread trees input runs InputTooLong before long answer (executed same given fits h) = absurd (omega arith)
-answered_unread trees input runs NoMemory before h answer is = (tt, (0, sym (append-nil before)))
-answered_unread trees input runs ReadFailed before h answer is = (tt, (0, sym (append-nil before)))
-answered_unread trees input runs (Answered status message) before h answer is = absurd h
-answered_unread trees input runs FileNotRead before h answer is = absurd h
-answered_unread trees input runs WriteFailed before h answer is = absurd h
-
-read_answer : (trees : List StatementTree) (input : List ℕ) (runs : Runs) (answer : Answer) → length input ≤ longest_input
-    → IsProgramAnswer trees input (Execute runs) answer → IsExecuted trees input runs answer
-read_answer trees input runs answer fits (input_too_long same h) = absurd (omega arith)
-read_answer trees input runs answer fits (executed same given below h) = h
+leaves_by status text NoMemory reads reads' writes writes' small h calm_reads calm_writes =
+    record { proper = tt; opened = refl; read = omega arith; wrote = omega arith }
+leaves_by status text InputTooLong reads reads' writes writes' small h calm_reads calm_writes = absurd h
+leaves_by status text FileNotRead reads reads' writes writes' small h calm_reads calm_writes = absurd h
+leaves_by status text ReadFailed reads reads' writes writes' small h calm_reads calm_writes = absurd h
+leaves_by status text WriteFailed reads reads' writes writes' small h calm_reads calm_writes = absurd h
 
 -- the front of a source has the answer of the whole, where it is long enough to show what is too long
-pub answer_of_front : (plan : Plan) (most : ℕ) (source input : List ℕ) → longest < most → (answer : Answer) → IsSourceAnswer plan source input answer
+pub answer_of_front : (plan : Plan) (most : ℕ) (source input : List ℕ) → longest < most → (answer : Answer)
+    → IsSourceAnswer plan source input answer
     → IsSourceAnswer plan (take most source) input answer
-answer_of_front plan most source input long answer (too_long h) = too_long (let front = length-take most source in omega arith)
+answer_of_front plan most source input long answer (too_long h) =
+    too_long (let front = length-take most source in omega arith)
 answer_of_front plan most source input long answer (refused kind n h) =
-    refused kind n (subst (λ (t : List ℕ). IsRefused t kind n) (sym (take_all most source (let fits = h.fits in omega arith))) h)
+    refused kind n (subst (λ (t : List ℕ). IsRefused t kind n)
+    (sym (take_all most source (let fits = h.fits in omega arith))) h)
 answer_of_front plan most source input long answer (compiled trees given h is) =
-    compiled trees answer (subst (λ (t : List ℕ). Compiles t trees) (sym (take_all most source (let fits = h.fits in omega arith))) h) is
+    compiled trees answer
+    (subst (λ (t : List ℕ). Compiles t trees) (sym (take_all most source (let fits = h.fits in omega arith))) h) is
 
 pub source_read : (plan : Plan) (input source : List ℕ) (answer : Answer) → IsReadAnswer plan input (Some source) answer
     → IsSourceAnswer plan source input answer
@@ -90,28 +89,32 @@ source_read plan input source answer (read same given h) = h
 
 -- the source of a job whose file was read
 pub read_source_of : (plan : Plan) (source input : List ℕ) (failed failed' : ℕ) → failed' ≡ failed → (answer : Answer)
-    → IsReadAnswer plan input (if failed == failed' then Some source else None) answer → IsSourceAnswer plan source input answer
+    → IsReadAnswer plan input (if failed == failed' then Some source else None) answer
+    → IsSourceAnswer plan source input answer
 read_source_of plan source input failed failed' same answer h =
     let unread : (failed == failed') ≡ true = eq-eqb failed failed' (sym same) in
-    source_read plan input source answer (subst (λ (b : Bool). IsReadAnswer plan input (if b then Some source else None) answer) unread h)
+    source_read plan input source answer
+    (subst (λ (b : Bool). IsReadAnswer plan input (if b then Some source else None) answer) unread h)
 
--- what a program's input that was read whole comes to, with the code that was compiled
-pub executed_so : (trees program : List StatementTree) (left input held : List ℕ) (runs : Runs) (answer : Answer) → program ≡ trees → held ≡ input → input ≡ left
-    → length input ≤ longest_input → IsProgramAnswer trees left (Execute runs) answer → IsExecuted program held runs answer
-executed_so trees program left input held runs answer from same whole fits is =
-    subst (λ (p : List StatementTree). IsExecuted p held runs answer) (sym from)
-    (subst (λ (t : List ℕ). IsExecuted trees t runs answer) (sym (same ∙ whole))
-    (read_answer trees left runs answer (subst (λ (t : List ℕ). length t ≤ longest_input) whole fits) is))
+-- the answer of a program's runs is that of the code that was compiled
+pub executed_so : (trees program : List StatementTree) (input : List ℕ) (runs : Runs) (answer : Answer)
+    → program ≡ trees → IsProgramAnswer trees input (Execute runs) answer → IsExecuted program input runs answer
+executed_so trees program input runs answer from (executed same given h) =
+    subst (λ (p : List StatementTree). IsExecuted p input runs answer) (sym from) h
 
 -- the answer to a task by the file that it names, or where it names none
-pub file_named : (task : Task) (file : Option (List ℕ)) (name : List ℕ) (named : List ℕ → List ℕ) (failed failed' : ℕ) (left : List ℕ) (answer : Answer)
+pub file_named : (task : Task) (file : Option (List ℕ)) (name : List ℕ) (named : List ℕ → List ℕ) (failed failed' : ℕ)
+    (left : List ℕ) (answer : Answer)
     → file ≡ Some name → IsToolAnswer task (source_of file named failed failed' left) (input_of file left) answer
     → IsToolAnswer task (source_of (Some name) named failed failed' []) left answer
 file_named task file name named failed failed' left answer is h =
-    subst (λ (f : Option (List ℕ)). IsToolAnswer task (source_of f named failed failed' left) (input_of f left) answer) is h
+    subst (λ (f : Option (List ℕ)). IsToolAnswer task (source_of f named failed failed' left)
+    (input_of f left) answer) is h
 
-pub file_unnamed : (task : Task) (file : Option (List ℕ)) (named : List ℕ → List ℕ) (failed failed' : ℕ) (left : List ℕ) (answer : Answer)
+pub file_unnamed : (task : Task) (file : Option (List ℕ)) (named : List ℕ → List ℕ) (failed failed' : ℕ)
+    (left : List ℕ) (answer : Answer)
     → file ≡ None → IsToolAnswer task (source_of file named failed failed' left) (input_of file left) answer
     → IsToolAnswer task (Some left) [] answer
 file_unnamed task file named failed failed' left answer is h =
-    subst (λ (f : Option (List ℕ)). IsToolAnswer task (source_of f named failed failed' left) (input_of f left) answer) is h
+    subst (λ (f : Option (List ℕ)). IsToolAnswer task (source_of f named failed failed' left)
+    (input_of f left) answer) is h

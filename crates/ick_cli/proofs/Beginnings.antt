@@ -1,5 +1,6 @@
 -- Beginnings of texts, and of a listing's.
-use Rattle.std.proofs.Common.{◌≡◌, ◌∙◌, ◌+◌, ◌≤◌, ◌++◌, ℕ, zero, suc, Bool, List, [], ◌∷◌, ap, append_assoc, arith, drop, length, refl, sym, take}
+use Rattle.std.proofs.Common.{◌≡◌, ◌∙◌, ◌+◌, ◌≤◌, ◌++◌, ℕ, zero, suc, Bool, List, [], ◌∷◌, ap, append_assoc, arith}
+use Rattle.std.proofs.Common.{drop, length, refl, sym, take}
 use Rattle.std.proofs.Math.Seq.{take-append-add, take-append_seam}
 use Rattle.std.proofs.lemmas.Grind.{flat_map-append}
 use Rattle.std.proofs.lemmas.List.{take-append-drop}
@@ -33,20 +34,25 @@ take-take (suc k) (suc n) (c ∷ cs) h = ap (λ r. c ∷ r) (take-take k n cs (o
 rest_text : Program → State → ℕ → List (List Bool) → ℕ → ℕ → List ℕ
 rest_text p s l cs count k = run_lines p s l (drop k (take count cs)) ++ last_line (listed_of cs count)
 
-shown_after : (p : Program) (s : State) (l : ℕ) (cs : List (List Bool)) (count k : ℕ) → take k (take count cs) ≡ take k cs
+shown_after : (p : Program) (s : State) (l : ℕ) (cs : List (List Bool)) (count k : ℕ)
+    → take k (take count cs) ≡ take k cs
     → shown p s l cs count ≡ run_lines p s l (take k cs) ++ rest_text p s l cs count k
 unfolding rest_text
 shown_after p s l cs count k same =
     ap (λ xs. run_lines p s l xs ++ last_line (listed_of cs count)) (sym (take-append-drop k (take count cs)))
-    ∙ (ap (λ t. t ++ last_line (listed_of cs count)) (flat_map-append (run_line p s l) (take k (take count cs)) (drop k (take count cs)))
-    ∙ (append_assoc (run_lines p s l (take k (take count cs))) (run_lines p s l (drop k (take count cs))) (last_line (listed_of cs count))
-    ∙ ap (λ xs. run_lines p s l xs ++ (run_lines p s l (drop k (take count cs)) ++ last_line (listed_of cs count))) same))
+    ∙ (ap (λ t. t ++ last_line (listed_of cs count))
+    (flat_map-append (run_line p s l) (take k (take count cs)) (drop k (take count cs)))
+    ∙ (append_assoc (run_lines p s l (take k (take count cs))) (run_lines p s l (drop k (take count cs)))
+    (last_line (listed_of cs count))
+    ∙ ap (λ xs. run_lines p s l xs ++
+    (run_lines p s l (drop k (take count cs)) ++ last_line (listed_of cs count))) same))
 
 -- whole lines are a beginning
 pub lines_begin : (p : Program) (s : State) (l : ℕ) (cs : List (List Bool)) (count k : ℕ) → k ≤ count
     → IsBeginning (run_lines p s l (take k cs)) (shown p s l cs count)
 lines_begin p s l cs count k h =
-    let r = begins_front (run_lines p s l (take k cs)) (run_lines p s l (take k cs)) (rest_text p s l cs count k) refl in
+    let r = begins_front (run_lines p s l (take k cs)) (run_lines p s l (take k cs))
+    (rest_text p s l cs count k) refl in
     (r.0, r.1 ∙ ap (take r.0) (sym (shown_after p s l cs count k (take-take k count cs h))))
 
 -- the next line stands at the front of the rest
@@ -62,7 +68,8 @@ pub part_begins : (p : Program) (s : State) (l : ℕ) (cs : List (List Bool)) (c
     → IsBeginning (run_lines p s l (take k cs) ++ take n (line_after p s l cs count k)) (shown p s l cs count)
 unfolding rest_text
 part_begins p s l cs count k n h =
-    let r = begins_behind (run_lines p s l (take k cs)) (take n (line_after p s l cs count k)) (rest_text p s l cs count k)
+    let r = begins_behind (run_lines p s l (take k cs)) (take n (line_after p s l cs count k))
+    (rest_text p s l cs count k)
     (next_in_front p s l (drop k (take count cs)) (last_line (listed_of cs count)) n) in
     (r.0, r.1 ∙ ap (take r.0) (sym (shown_after p s l cs count k (first_of_all k count cs h))))
   where

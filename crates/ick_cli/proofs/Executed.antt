@@ -1,49 +1,99 @@
 -- The answers of runs that were made.
-use Rattle.std.proofs.Common.{◌≡◌, ℕ, Bool, List, [], Option, ap, refl, subst, sym, ◌∙◌}
+use Rattle.std.proofs.Common.{◌≡◌, ◌∙◌, ◌≤◌, ◌++◌, ℕ, Bool, true, List, [], Option, ap, arith, length, refl, subst}
+use Rattle.std.proofs.Common.{sym}
+use Rattle.std.proofs.Math.Seq.{take-length}
+use Rattle.std.proofs.lemmas.List.{append-nil}
 use Rattle.std.specs.Prelude.{unwrap_or}
+use Rattle.ick_code.specs.meaning.State.{gave_up, faulted}
 use Rattle.ick_code.specs.meaning.Move.{first_state}
+use Rattle.ick_machine.specs.Asked.{finished, at_limit}
 use Rattle.ick_machine.specs.Machine.{Program}
-use Rattle.ick_machine.specs.Asked.{finish_of}
 use Rattle.ick_runs.specs.Draws.{IsDrawn, word_of}
-use Rattle.ick_runs.specs.Ordinary.{IsRan}
 use Rattle.ick_runs.specs.Runs.{Execution, Stop, ends, run, wants}
-use Rattle.ick_runs.specs.declared.ordinary.Ran.{Ran}
-use Rattle.ick_runs.specs.declared.ordinary.Ran.TheVariants.{Ended, Wants}
-use Rattle.ick_runs.proofs.DrawLaws.{one_drawn}
-use Rattle.ick_cli.specs.Ending.{Answers}
-use Rattle.ick_cli.specs.Stopped.{ran_answer}
-use Rattle.ick_cli.specs.Tool.{Answer, IsExecuted, IsRunsAnswer, drawn, listed_runs, ran, run_answer, stop_answer}
+use Rattle.ick_runs.specs.Streams.{HasStreamed, stop_kind, stop_message}
+use Rattle.ick_runs.specs.declared.streamed.Streamed.{Streamed}
+use Rattle.ick_cli.specs.Ending.{Answers, EndsBy}
+use Rattle.ick_cli.specs.Input.{EndsUnread}
+use Rattle.ick_cli.specs.Stopped.{kind_status, kind_text}
+use Rattle.ick_cli.specs.Tool.{Answer, IsExecuted, IsRunsAnswer, run_answer, stop_status, stop_text}
+use Rattle.ick_cli.specs.Tool.{drawn, input_too_long, listed_runs, longest_input, ran}
 use Rattle.ick_cli.specs.declared.ending.Ending.{Ending}
+use Rattle.ick_cli.specs.declared.ending.Ending.TheVariants.{Answered, NoMemory, InputTooLong, FileNotRead, ReadFailed}
+use Rattle.ick_cli.specs.declared.ending.Ending.TheVariants.{WriteFailed}
 use Rattle.ick_cli.specs.declared.plan.Runs.TheVariants.{Given, Drawn, Listed}
 
-stopped_so : (o p : List ℕ) (s t : Stop) (m n : ℕ) → o ≡ p → s ≡ t → m ≡ n → stop_answer p t n ≡ stop_answer o s m
-stopped_so o p s t m n output stop steps = cc
+-- the status and the error text of a run, by how it stopped
+status_of_kind : (stop : Stop) → kind_status (stop_kind stop) ≡ stop_status stop
+status_of_kind (ends (finished gave_up)) = refl
+status_of_kind (ends (finished (faulted kind statement subject))) = refl
+status_of_kind (ends at_limit) = refl
+status_of_kind wants = refl
 
-ran_is : (c : List Bool) (x : Execution) (r : Ran) → IsRan c x r → run_answer x ≡ ran_answer r
-ran_is c x (Ended output end used steps) is = stopped_so output.items x.last.output (ends (finish_of end)) x.stop steps x.steps is.0 (stop_back is.1) is.2
-  where
-    stop_back : x.stop ≡ ends (finish_of end) → ends (finish_of end) ≡ x.stop
-    stop_back e = cc
-ran_is c x (Wants output steps) is = stopped_so output.items x.last.output wants x.stop steps x.steps is.0 (stop_back is.1) is.2
-  where
-    stop_back : x.stop ≡ wants → wants ≡ x.stop
-    stop_back e = cc
+text_of_kind : (stop : Stop) (steps : ℕ) → kind_text (stop_kind stop) (stop_message stop) steps ≡ stop_text stop steps
+text_of_kind (ends (finished gave_up)) steps = refl
+text_of_kind (ends (finished (faulted kind statement subject))) steps = refl
+text_of_kind (ends at_limit) steps = refl
+text_of_kind wants steps = refl
 
-pub given_answer : (p : Program) (input : List ℕ) (choices : Option (List Bool)) (limit : ℕ) (answer : Answer) → IsExecuted p input (Given choices limit) answer
-    → answer ≡ run_answer (run p (first_state p input) limit (unwrap_or choices []))
-given_answer p input choices limit answer (ran c l) = refl
+-- the ending of a run whose output was written has the run's answer
+pub answers_streamed : (told : Bool) (x : Execution) (c : List Bool) (before after left : List ℕ) (s : Streamed)
+    (ending : Ending)
+    → told ≡ true → HasStreamed told x c before after left s
+    → EndsBy (kind_status s.end) (kind_text s.end s.message.items s.steps) ending
+    → Answers (run_answer x) ending before after
+answers_streamed told x c before after left s (Answered status message) is_told has h =
+    let text = ap (λ k. kind_text k s.message.items s.steps) has.end
+    ∙ (ap (λ m. kind_text (stop_kind x.stop) m s.steps) has.message
+    ∙ (ap (λ n. kind_text (stop_kind x.stop) (stop_message x.stop) n) has.steps ∙ text_of_kind x.stop x.steps)) in
+    ((h.0 ∙ (ap kind_status has.end ∙ status_of_kind x.stop), h.1 ∙ text), has.output is_told)
+answers_streamed told x c before after left s NoMemory is_told has h =
+    (tt, (length x.last.output, has.output is_told ∙ ap (λ t. before ++ t) (sym (take-length x.last.output))))
+answers_streamed told x c before after left s InputTooLong is_told has h = absurd h
+answers_streamed told x c before after left s FileNotRead is_told has h = absurd h
+answers_streamed told x c before after left s ReadFailed is_told has h = absurd h
+answers_streamed told x c before after left s WriteFailed is_told has h = absurd h
 
-pub drawn_answer : (p : Program) (input : List ℕ) (seed limit : ℕ) (answer : Answer) (c : List Bool) → IsExecuted p input (Drawn seed limit) answer
-    → IsDrawn p (first_state p input) limit (word_of seed) c → answer ≡ run_answer (run p (first_state p input) limit c)
-drawn_answer p input seed limit answer c (drawn k l d h) is =
-    ap (λ x. run_answer (run p (first_state p input) limit x)) (one_drawn p (first_state p input) limit (word_of seed) d c h is)
+-- the answer of runs, by what they are
+pub answers_given : (p : Program) (input : List ℕ) (choices : Option (List Bool)) (limit : ℕ) (answer : Answer)
+    (ending : Ending) (before after : List ℕ)
+    → IsExecuted p input (Given choices limit) answer
+    → Answers (run_answer (run p (first_state p input) limit (unwrap_or choices []))) ending before after
+    → Answers answer ending before after
+answers_given p input choices limit answer ending before after (ran c l) h = h
 
-pub listed_answer : (p : Program) (input : List ℕ) (from : Option (List Bool)) (count limit : ℕ) (answer : Answer) → IsExecuted p input (Listed from count limit) answer
-    → IsRunsAnswer p (first_state p input) limit count from answer
-listed_answer p input from count limit answer (listed_runs f n l a h) = h
+pub answers_drawn : (p : Program) (input : List ℕ) (seed limit : ℕ) (answer : Answer) (ending : Ending)
+    (before after : List ℕ)
+    → IsExecuted p input (Drawn seed limit) answer
+    → ((c : List Bool) → IsDrawn p (first_state p input) limit (word_of seed) c
+    → Answers (run_answer (run p (first_state p input) limit c)) ending before after)
+    → Answers answer ending before after
+answers_drawn p input seed limit answer ending before after (drawn k l c is) h = h c is
 
--- the ending that has the answer of a run that was made
-pub answers_run : (c : List Bool) (x : Execution) (r : Ran) (answer : Answer) (ending : Ending) (before after : List ℕ) → answer ≡ run_answer x → IsRan c x r
-    → Answers (ran_answer r) ending before after → Answers answer ending before after
-answers_run c x r answer ending before after is made h =
-    subst (λ (a : Answer). Answers a ending before after) (sym (is ∙ ran_is c x r made)) h
+-- .. of a listing whose input was not read, and of one whose input was
+pub answered_unread : (p : Program) (input : List ℕ) (from : Option (List Bool)) (count limit : ℕ) (ending : Ending)
+    (before : List ℕ)
+    → EndsUnread input ending → (answer : Answer) → IsExecuted p input (Listed from count limit) answer
+    → Answers answer ending before before
+answered_unread p input from count limit InputTooLong before above answer (input_too_long f n l h) =
+    ((refl, refl), sym (append-nil before))
+answered_unread p input from count limit InputTooLong before above answer (listed_runs f n l a fits h) =
+    absurd (omega arith)
+answered_unread p input from count limit NoMemory before h answer is = (tt, (0, sym (append-nil before)))
+answered_unread p input from count limit ReadFailed before h answer is = (tt, (0, sym (append-nil before)))
+answered_unread p input from count limit (Answered status message) before h answer is = absurd h
+answered_unread p input from count limit FileNotRead before h answer is = absurd h
+answered_unread p input from count limit WriteFailed before h answer is = absurd h
+
+listed_answer : (p : Program) (input : List ℕ) (from : Option (List Bool)) (count limit : ℕ) (answer : Answer)
+    → length input ≤ longest_input
+    → IsExecuted p input (Listed from count limit) answer → IsRunsAnswer p (first_state p input) limit count from answer
+listed_answer p input from count limit answer fits (input_too_long f n l h) = absurd (omega arith)
+listed_answer p input from count limit answer fits (listed_runs f n l a below h) = h
+
+pub listed_over : (p : Program) (left input held : List ℕ) (from : Option (List Bool)) (count limit : ℕ)
+    (answer : Answer) → held ≡ input → input ≡ left
+    → length input ≤ longest_input → IsExecuted p left (Listed from count limit) answer
+    → IsRunsAnswer p (first_state p held) limit count from answer
+listed_over p left input held from count limit answer same whole fits is =
+    subst (λ (t : List ℕ). IsRunsAnswer p (first_state p t) limit count from answer) (sym (same ∙ whole))
+    (listed_answer p left from count limit answer (subst (λ (t : List ℕ). length t ≤ longest_input) whole fits) is)

@@ -1,12 +1,15 @@
 -- The first fault of statements is found, or they have none: each kind of fault can be told at each statement.
-use Rattle.std.proofs.Common.{◌≡◌, ◌<◌, ◌≤◌, ◌/◌, ◌+◌, ◌⊎◌, inl, inr, ℕ, zero, suc, List, [], ◌∷◌, Bool, true, false, Option, Some, None, ap, refl, subst, arith, length}
+use Rattle.std.proofs.Common.{◌≡◌, ◌<◌, ◌≤◌, ◌/◌, ◌+◌, ◌⊎◌, inl, inr, ℕ, zero, suc, List, [], ◌∷◌, Bool, true, false}
+use Rattle.std.proofs.Common.{Option, Some, None, ap, refl, subst, arith, length}
 use Rattle.std.specs.Prelude.{IsTrue, option_and_then}
 use Rattle.std.proofs.lemmas.Bool.{cases_eq, cases_lt}
 use Rattle.ick_bits.specs.declared.faults.FaultKind.{FaultKind}
-use Rattle.ick_bits.specs.declared.faults.FaultKind.TheVariants.{MeshTooLarge, NameRange, LabelRange, SameLabel, NoNextLabel, NoAbstainLabel, Impolite, Fawning}
+use Rattle.ick_bits.specs.declared.faults.FaultKind.TheVariants.{MeshTooLarge, NameRange, LabelRange, SameLabel}
+use Rattle.ick_bits.specs.declared.faults.FaultKind.TheVariants.{NoNextLabel, NoAbstainLabel, Impolite, Fawning}
 use Rattle.ick_source.specs.declared.labels.LabelUse.{LabelUse}
 use Rattle.ick_source.specs.declared.labels.LabelUse.TheVariants.{Next, Abstain}
-use Rattle.ick_source.specs.Refusals.{HoldsAt, IsFaultAt, IsFawningAt, HasLabel, IsImpoliteAt, IsFirstFault, IsSound, IsSoundBelow, IsLostAt, IsSameLabelAt, rank, used_label}
+use Rattle.ick_source.specs.Refusals.{HoldsAt, IsFaultAt, IsFawningAt, HasLabel, IsImpoliteAt, IsFirstFault, IsSound}
+use Rattle.ick_source.specs.Refusals.{IsSoundBelow, IsLostAt, IsSameLabelAt, rank, used_label}
 use Rattle.ick_source.specs.StatementFaults.{faults_of_statement}
 use Rattle.ick_source.specs.StatementTree.{StatementTree, polite_in}
 use Rattle.ick_source.proofs.RefusalLemmas.{HoldsAt-inside, sound_all, sound_below_none, sound_more}
@@ -39,7 +42,8 @@ first_below P each (suc k) = elim (first_below P each k) [
 ]
 
 -- whether the statement with a number is such
-at_decided : (P : StatementTree → Type 0) → ((t : StatementTree) → Decided (P t)) → (trees : List StatementTree) (n : ℕ) → Decided (HoldsAt P trees n)
+at_decided : (P : StatementTree → Type 0) → ((t : StatementTree) → Decided (P t))
+    → (trees : List StatementTree) (n : ℕ) → Decided (HoldsAt P trees n)
 at_decided P each trees zero = inr (λ h. h)
 at_decided P each [] (suc k) = inr (λ h. h)
 at_decided P each (x ∷ xs) (suc zero) = each x
@@ -73,7 +77,8 @@ same_decided trees n = elim (value_at (λ t. t.label) trees n) [
   | inl own ↦ elim (first_below (HoldsAt (HasLabel own.0) trees) (labelled_decided trees own.0) n) [
     | inl found ↦ inl (record { label = own.0; earlier = found.0; before = found.1; first = found.2; again = own.1 })
     | inr none ↦ inr (λ s. none s.earlier s.before
-        (subst (λ l. HoldsAt (HasLabel l) trees s.earlier) (value_one (λ t. t.label) trees n s.label own.0 s.again own.1) s.first))
+        (subst (λ l. HoldsAt (HasLabel l) trees s.earlier)
+        (value_one (λ t. t.label) trees n s.label own.0 s.again own.1) s.first))
   ]
 ]
 
@@ -144,10 +149,12 @@ FirstFault trees = ((kind : FaultKind) × (n : ℕ) × IsFirstFault trees kind n
 -- one more kind is looked for
 then : (kind : FaultKind) (trees : List StatementTree) → rank kind < 8 → IsSoundBelow (rank kind) trees
     → (IsSoundBelow (rank kind + 1) trees → FirstFault trees) → FirstFault trees
-then kind trees known below next = elim (first_below (IsFaultAt kind trees) (fault_decided kind trees) (length trees + 1)) [
-  | inl found ↦ inl (kind, found.0, record { fault = found.2; first = found.3; least = below })
-  | inr none ↦ next (sound_more kind refl known below (λ n f. none n (let inside = fault_inside kind trees n f in omega arith) f))
-]
+then kind trees known below next =
+    elim (first_below (IsFaultAt kind trees) (fault_decided kind trees) (length trees + 1)) [
+      | inl found ↦ inl (kind, found.0, record { fault = found.2; first = found.3; least = below })
+      | inr none ↦ next (sound_more kind refl known below
+          (λ n f. none n (let inside = fault_inside kind trees n f in omega arith) f))
+    ]
 
 pub first_fault : (trees : List StatementTree) → FirstFault trees
 first_fault trees =

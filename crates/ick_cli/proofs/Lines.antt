@@ -7,7 +7,8 @@ use Rattle.ick_cli.specs.Notice.{notice_text}
 use Rattle.ick_cli.specs.Plan.{EndsByLine, IsPlanned, IsUnplanned}
 use Rattle.ick_cli.specs.Tool.{Answer, IsReadAnswer, IsToolAnswer, planned, refusal, unplanned}
 use Rattle.ick_cli.specs.declared.ending.Ending.{Ending}
-use Rattle.ick_cli.specs.declared.ending.Ending.TheVariants.{Answered, NoMemory, InputTooLong, FileNotRead, ReadFailed, WriteFailed}
+use Rattle.ick_cli.specs.declared.ending.Ending.TheVariants.{Answered, NoMemory, InputTooLong, FileNotRead, ReadFailed}
+use Rattle.ick_cli.specs.declared.ending.Ending.TheVariants.{WriteFailed}
 use Rattle.ick_cli.specs.declared.notice.Message.TheVariants as message
 use Rattle.ick_cli.specs.declared.notice.Notice.{Notice}
 use Rattle.ick_cli.specs.declared.plan.Plan.{Plan}
@@ -19,13 +20,15 @@ leaves_by_line IsLine (Answered status (message.Notice line)) files reads writes
     record { proper = inr h.0; opened = omega arith; read = omega arith; wrote = omega arith }
 leaves_by_line IsLine (Answered status message.Nothing) files reads writes h = absurd h
 leaves_by_line IsLine (Answered status (message.Text text)) files reads writes h = absurd h
-leaves_by_line IsLine NoMemory files reads writes h = record { proper = tt; opened = omega arith; read = omega arith; wrote = omega arith }
+leaves_by_line IsLine NoMemory files reads writes h =
+    record { proper = tt; opened = omega arith; read = omega arith; wrote = omega arith }
 leaves_by_line IsLine InputTooLong files reads writes h = absurd h
 leaves_by_line IsLine FileNotRead files reads writes h = absurd h
 leaves_by_line IsLine ReadFailed files reads writes h = absurd h
 leaves_by_line IsLine WriteFailed files reads writes h = absurd h
 
-pub by_other_line : (IsLine IsOther : Notice → Type 0) (ending : Ending) → ((line : Notice) → IsLine line → IsOther line)
+pub by_other_line : (IsLine IsOther : Notice → Type 0) (ending : Ending)
+    → ((line : Notice) → IsLine line → IsOther line)
     → EndsByLine IsLine ending → EndsByLine IsOther ending
 by_other_line IsLine IsOther (Answered status (message.Notice line)) other h = (h.0, other line h.1)
 by_other_line IsLine IsOther (Answered status message.Nothing) other h = absurd h
@@ -36,11 +39,13 @@ by_other_line IsLine IsOther FileNotRead other h = absurd h
 by_other_line IsLine IsOther ReadFailed other h = absurd h
 by_other_line IsLine IsOther WriteFailed other h = absurd h
 
-pub by_usage : (IsLine : Notice → Type 0) (ending : Ending) (line : Notice) → ending ≡ Answered 64 (message.Notice line) → IsLine line
+pub by_usage : (IsLine : Notice → Type 0) (ending : Ending) (line : Notice)
+    → ending ≡ Answered 64 (message.Notice line) → IsLine line
     → EndsByLine IsLine ending
 by_usage IsLine ending line is h = subst (λ (e : Ending). EndsByLine IsLine e) (sym is) (refl, h)
 
-pub answers_by_line : (IsLine : Notice → Type 0) (ending : Ending) (before : List ℕ) (answer : Answer) → EndsByLine IsLine ending
+pub answers_by_line : (IsLine : Notice → Type 0) (ending : Ending) (before : List ℕ) (answer : Answer)
+    → EndsByLine IsLine ending
     → ((line : Notice) → IsLine line → answer ≡ refusal 64 (notice_text line)) → Answers answer ending before before
 answers_by_line IsLine (Answered status (message.Notice line)) before answer h is =
     subst (λ (a : Answer). Answers a (Answered status (message.Notice line)) before before) (sym (is line h.1))
@@ -54,18 +59,22 @@ answers_by_line IsLine ReadFailed before answer h is = absurd h
 answers_by_line IsLine WriteFailed before answer h is = absurd h
 
 -- the answer to a task that has no plan, and to one that has one
-pub unplanned_answer : (task : Task) (source : Option (List ℕ)) (input : List ℕ) (answer : Answer) → IsToolAnswer task source input answer
+pub unplanned_answer : (task : Task) (source : Option (List ℕ)) (input : List ℕ) (answer : Answer)
+    → IsToolAnswer task source input answer
     → (line : Notice) → IsUnplanned task line → answer ≡ refusal 64 (notice_text line)
 unplanned_answer task source input answer (unplanned other h) line is =
     ap (λ (l : Notice). refusal 64 (notice_text l)) (line_unique task line other is h)
-unplanned_answer task source input answer (planned plan given h found) line is = absurd (planned_not_unplanned task plan line h is)
+unplanned_answer task source input answer (planned plan given h found) line is =
+    absurd (planned_not_unplanned task plan line h is)
 
-pub answered_unplanned : (task : Task) (source : Option (List ℕ)) (input : List ℕ) (ending : Ending) (before : List ℕ) → EndsByLine (IsUnplanned task) ending
+pub answered_unplanned : (task : Task) (source : Option (List ℕ)) (input : List ℕ) (ending : Ending) (before : List ℕ)
+    → EndsByLine (IsUnplanned task) ending
     → (answer : Answer) → IsToolAnswer task source input answer → Answers answer ending before before
 answered_unplanned task source input ending before ends answer is =
     answers_by_line (IsUnplanned task) ending before answer ends (unplanned_answer task source input answer is)
 
-pub answer_planned : (task : Task) (plan : Plan) (source : Option (List ℕ)) (input : List ℕ) (answer : Answer) → IsPlanned task plan
+pub answer_planned : (task : Task) (plan : Plan) (source : Option (List ℕ)) (input : List ℕ) (answer : Answer)
+    → IsPlanned task plan
     → IsToolAnswer task source input answer → IsReadAnswer plan input source answer
 answer_planned task plan source input answer is (unplanned line h) = absurd (planned_not_unplanned task plan line is h)
 answer_planned task plan source input answer is (planned other given h found) =

@@ -1,5 +1,7 @@
 -- What a listing that was written comes to.
-use Rattle.std.proofs.Common.{◌≡◌, ◌∙◌, ◌+◌, ◌*◌, ◌^◌, ◌<◌, ◌≤◌, ◌++◌, ℕ, Bool, true, List, Option, Some, None, Result, Ok, Err, ap, arith, refl, subst, sym, take}
+use Rattle.std.proofs.Common.{◌⊎◌, inl, inr, ◌≡◌, ◌∙◌, ◌+◌, ◌*◌, ◌^◌, ◌<◌, ◌≤◌, ◌++◌, ℕ, Bool, true, List, Option, Some}
+use Rattle.std.proofs.Common.{None}
+use Rattle.std.proofs.Common.{Ok, Err, ap, arith, refl, subst, sym, take}
 use Rattle.std.proofs.lemmas.Nat.{mul-le}
 use Rattle.ick_code.specs.meaning.State.{State}
 use Rattle.ick_machine.specs.Machine.{Machine, Program}
@@ -9,10 +11,11 @@ use Rattle.ick_runs.specs.Runs.{IsWhole}
 use Rattle.ick_runs.specs.Standing.{Explored, IsListingAt, Stands, StandsFrom}
 use Rattle.ick_runs.specs.Writes.{Writes, write_failures}
 use Rattle.ick_runs.specs.declared.errors.RunsError.{RunsError}
-use Rattle.ick_runs.specs.declared.errors.RunsError.TheVariants.{NoMemory, NoSuchRun, WorkFull, Failed, BadCursor, Read, Write}
+use Rattle.ick_runs.specs.declared.errors.RunsError.TheVariants.{NoMemory, NoSuchRun, WorkFull, Failed, BadCursor, Read}
+use Rattle.ick_runs.specs.declared.errors.RunsError.TheVariants.{Write}
 use Rattle.ick_runs.specs.declared.listing.Listed2.{Listed2}
-use Rattle.ick_cli.specs.Ending.{Answers, LeavesWriter}
-use Rattle.ick_cli.specs.Placed.{IsNoRun, IsPlaced, IsRunsAnswerAt, cut_ending}
+use Rattle.ick_cli.specs.Ending.{Answers, LeavesWriter, refused_ending}
+use Rattle.ick_cli.specs.Placed.{IsNoRun, IsPlaced, IsRunsAnswerAt}
 use Rattle.ick_cli.specs.Tool.{Answer, IsRunsAnswer, listed, no_such_run, refusal, shown}
 use Rattle.ick_cli.specs.Notice.{notice_text}
 use Rattle.ick_cli.specs.declared.ending.Ending.TheVariants.{Answered, NoMemory as WithoutMemory, WriteFailed}
@@ -22,7 +25,8 @@ use Rattle.ick_cli.specs.declared.notice.Message.TheVariants.{Nothing}
 use Rattle.ick_cli.proofs.Beginnings.{IsBeginning, lines_begin, part_begins}
 
 -- the answer at the place of an explorer is a listing's
-stands_whole : (p : Program) (s : State) (l : ℕ) (c : List Bool) (present : State) (marks : List State) (points : List ℕ)
+stands_whole : (p : Program) (s : State) (l : ℕ) (c : List Bool) (present : State) (marks : List State)
+    (points : List ℕ)
     → StandsFrom p s l (Some c) present marks points → IsWhole p s l c
 stands_whole p s l c present marks points h = h.whole
 
@@ -43,11 +47,13 @@ pub is_listed : (s : State) (count : ℕ) (e : Explored) (answer : Answer) → S
 is_listed s count e answer stands is =
     let found = listed_at e.program s e.limit count e.from answer
     (λ c same. stands_whole e.program s e.limit c e.present e.marks e.points
-    (subst (λ (from : Option (List Bool)). StandsFrom e.program s e.limit from e.present e.marks e.points) same stands.at_place)) is in
+    (subst (λ (from : Option
+    (List Bool)). StandsFrom e.program s e.limit from e.present e.marks e.points) same stands.at_place)) is in
     record { runs = found.0; listing = found.1; shown_is = found.2 }
 
 -- what is known of the ending by what was written
-pub wrote_all : (told : Bool) (s : State) (count : ℕ) (old new : Explored) (w w' : List ℕ) (says : Listed2) (answer : Answer) → told ≡ true
+pub wrote_all : (told : Bool) (s : State) (count : ℕ) (old new : Explored) (w w' : List ℕ) (says : Listed2)
+    (answer : Answer) → told ≡ true
     → ((cs : List (List Bool)) → IsListingAt s old cs → Writes told s cs count old new w w' (Ok says))
     → IsListed s count old answer → Answers answer (Answered 0 Nothing) w w'
 wrote_all told s count old new w w' says answer is_told writes is =
@@ -63,10 +69,12 @@ never_full : (work limit count : ℕ) → limit < 2 ^ 32 → count < 2 ^ 32 → 
 never_full work limit count small few fresh full =
     let most = mul-le count limit 4294967295 4294967295 (omega arith) (omega arith) in omega arith
 
-pub wrote_cut : (told : Bool) (s : State) (count : ℕ) (old new : Explored) (w w' : List ℕ) (e : RunsError) (answer : Answer) → told ≡ true
-    → (e ≡ WorkFull → 2 ^ 64 ≤ old.work + count * old.limit) → old.limit < 2 ^ 32 → count < 2 ^ 32 → old.work ≤ old.limit
+pub wrote_cut : (told : Bool) (s : State) (count : ℕ) (old new : Explored) (w w' : List ℕ) (e : RunsError)
+    (answer : Answer) → told ≡ true
+    → (e ≡ WorkFull → 2 ^ 64 ≤ old.work + count * old.limit) → old.limit < 2 ^ 32 → count < 2 ^ 32
+    → old.work ≤ old.limit
     → ((cs : List (List Bool)) → IsListingAt s old cs → Writes told s cs count old new w w' (Err e))
-    → IsListed s count old answer → Answers answer (cut_ending e) w w'
+    → IsListed s count old answer → Answers answer (refused_ending e) w w'
 wrote_cut told s count old new w w' NoMemory answer is_told full small few fresh writes is =
     let wrote = writes is.runs is.listing in
     subst (λ (a : Answer). Answers a WithoutMemory w w') (sym is.shown_is) (
@@ -76,32 +84,40 @@ wrote_cut told s count old new w w' NoMemory answer is_told full small few fresh
     )
 wrote_cut told s count old new w w' Write answer is_told full small few fresh writes is =
     let wrote = writes is.runs is.listing in
-    subst (λ (a : Answer). Answers a WriteFailed w w') (sym is.shown_is)
-    (tt, behind w w' _ _ (wrote.2.text is_told) (part_begins old.program s old.limit is.runs count wrote.0 wrote.1 wrote.2.within))
+    subst (λ (a : Answer). Answers a WriteFailed w w') (sym is.shown_is) (
+      tt,
+      behind w w' _ _ (wrote.2.text is_told)
+          (part_begins old.program s old.limit is.runs count wrote.0 wrote.1 wrote.2.within),
+    )
 wrote_cut told s count old new w w' WorkFull answer is_told full small few fresh writes is =
     absurd (never_full old.work old.limit count small few fresh (full refl))
-wrote_cut told s count old new w w' Failed answer is_told full small few fresh writes is = absurd (writes is.runs is.listing)
-wrote_cut told s count old new w w' NoSuchRun answer is_told full small few fresh writes is = absurd (writes is.runs is.listing)
-wrote_cut told s count old new w w' BadCursor answer is_told full small few fresh writes is = absurd (writes is.runs is.listing)
-wrote_cut told s count old new w w' Read answer is_told full small few fresh writes is = absurd (writes is.runs is.listing)
+wrote_cut told s count old new w w' Failed answer is_told full small few fresh writes is =
+    absurd (writes is.runs is.listing)
+wrote_cut told s count old new w w' NoSuchRun answer is_told full small few fresh writes is =
+    absurd (writes is.runs is.listing)
+wrote_cut told s count old new w w' BadCursor answer is_told full small few fresh writes is =
+    absurd (writes is.runs is.listing)
+wrote_cut told s count old new w w' Read answer is_told full small few fresh writes is =
+    absurd (writes is.runs is.listing)
 
--- the one write that failed, or none
-pub leaves_cut : (r : Result Listed2 RunsError) (e : RunsError) (writes writes' : ℕ) → r ≡ Err e → writes' ≡ writes + write_failures r
-    → LeavesWriter (cut_ending e) writes writes'
-leaves_cut (Ok x) e writes writes' same count = cc
-leaves_cut (Err f) e writes writes' same count = let one : f ≡ e = cc in by_error e (subst (λ (x : RunsError). writes' ≡ writes + write_failures {T = Listed2} (Err x)) one count)
-  where
-    by_error : (e : RunsError) → writes' ≡ writes + write_failures {T = Listed2} (Err e) → LeavesWriter (cut_ending e) writes writes'
-    by_error NoMemory h = record { proper = tt; opened = refl; read = refl; wrote = h }
-    by_error NoSuchRun h = record { proper = tt; opened = refl; read = refl; wrote = h }
-    by_error WorkFull h = record { proper = tt; opened = refl; read = refl; wrote = h }
-    by_error Failed h = record { proper = tt; opened = refl; read = refl; wrote = h }
-    by_error BadCursor h = record { proper = tt; opened = refl; read = refl; wrote = h }
-    by_error Read h = record { proper = tt; opened = refl; read = refl; wrote = h }
-    by_error Write h = record { proper = tt; opened = refl; read = refl; wrote = h }
+-- the one write that failed, or none; nothing was read
+pub leaves_listing : (e : RunsError) (writes writes' : ℕ)
+    → (e ≡ NoMemory) ⊎ ((e ≡ WorkFull) ⊎ ((e ≡ Write) ⊎ (e ≡ Failed)))
+    → writes' ≡ writes + write_failures {T = Listed2} (Err e) → LeavesWriter (refused_ending e) writes writes'
+leaves_listing NoMemory writes writes' one h = record { proper = tt; opened = refl; read = refl; wrote = h }
+leaves_listing NoSuchRun writes writes' one h = record { proper = tt; opened = refl; read = refl; wrote = h }
+leaves_listing WorkFull writes writes' one h = record { proper = tt; opened = refl; read = refl; wrote = h }
+leaves_listing Failed writes writes' one h = record { proper = tt; opened = refl; read = refl; wrote = h }
+leaves_listing BadCursor writes writes' one h = record { proper = tt; opened = refl; read = refl; wrote = h }
+leaves_listing Write writes writes' one h = record { proper = tt; opened = refl; read = refl; wrote = h }
+leaves_listing Read writes writes' (inl e) h = cc
+leaves_listing Read writes writes' (inr (inl e)) h = cc
+leaves_listing Read writes writes' (inr (inr (inl e))) h = cc
+leaves_listing Read writes writes' (inr (inr (inr e))) h = cc
 
 -- the answer from a machine's state is the one at the place of its explorer
-pub answer_placed : (m : Machine) (limit count : ℕ) (from : Option (List Bool)) (e : Explored) (answer : Answer) → IsPlaced m limit from e
+pub answer_placed : (m : Machine) (limit count : ℕ) (from : Option (List Bool)) (e : Explored) (answer : Answer)
+    → IsPlaced m limit from e
     → IsRunsAnswer m.program m.state limit count from answer → IsRunsAnswerAt m.state count e answer
 answer_placed m limit count from e answer placed is =
     subst (λ (f : Option (List Bool)). IsRunsAnswer e.program m.state e.limit count f answer) (sym placed.place)
@@ -109,7 +125,8 @@ answer_placed m limit count from e answer placed is =
     (subst (λ (p : Program). IsRunsAnswer p m.state limit count from answer) (sym placed.program) is))
 
 -- a list that isn't whole has one answer
-unplaced_by : (p : Program) (s : State) (l count : ℕ) (from : Option (List Bool)) (c : List Bool) (answer : Answer) → from ≡ Some c
+unplaced_by : (p : Program) (s : State) (l count : ℕ) (from : Option (List Bool)) (c : List Bool) (answer : Answer)
+    → from ≡ Some c
     → ¬ IsWhole p s l c → IsRunsAnswer p s l count from answer
     → answer ≡ refusal 64 (notice_text NoSuchRun_line)
 unplaced_by p s l count None c answer same not_whole (listed f cs place is) = cc
@@ -117,7 +134,8 @@ unplaced_by p s l count (Some d) c answer same not_whole (listed f cs place is) 
     let one : d ≡ c = cc in absurd (not_whole (subst (λ (x : List Bool). IsWhole p s l x) one place))
 unplaced_by p s l count from c answer same not_whole (no_such_run d other) = refl
 
-pub answer_unplaced : (m : Machine) (limit count : ℕ) (from : Option (List Bool)) (line : Notice) (answer : Answer) → IsNoRun m limit from line
+pub answer_unplaced : (m : Machine) (limit count : ℕ) (from : Option (List Bool)) (line : Notice) (answer : Answer)
+    → IsNoRun m limit from line
     → IsRunsAnswer m.program m.state limit count from answer → answer ≡ refusal 64 (notice_text line)
 answer_unplaced m limit count from line answer none is =
     unplaced_by m.program m.state limit count from none.choices answer none.from_is none.not_whole is
@@ -125,6 +143,7 @@ answer_unplaced m limit count from line answer none is =
 
 -- the answer of a machine that was made is the one from the state that it stands in
 pub answer_from : (m made : Machine) (limit count : ℕ) (from : Option (List Bool)) (answer : Answer) → m ≡ made
-    → IsRunsAnswer made.program made.state limit count from answer → IsRunsAnswer m.program m.state limit count from answer
+    → IsRunsAnswer made.program made.state limit count from answer
+    → IsRunsAnswer m.program m.state limit count from answer
 answer_from m made limit count from answer same is =
     subst (λ (x : Machine). IsRunsAnswer x.program x.state limit count from answer) (sym same) is

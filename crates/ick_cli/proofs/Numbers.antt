@@ -1,5 +1,6 @@
 -- A typed getter reads the number that the text writes.
-use Rattle.std.proofs.Common.{◌≡◌, ◌^◌, ◌&&◌, ℕ, Bool, List, [], ◌∷◌, true, false, refl, ap, ap₂, Option, Some, None, Result, Ok, Err, length, nat_lt, if◌then◌else◌}
+use Rattle.std.proofs.Common.{◌≡◌, ◌^◌, ◌&&◌, ℕ, Bool, List, [], ◌∷◌, true, false, refl, ap, ap₂, Option, Some, None}
+use Rattle.std.proofs.Common.{Result, Ok, Err, length, nat_lt, if◌then◌else◌}
 use Rattle.std.proofs.lemmas.Bool.{ltb-true, lt-ltb}
 use Rattle.std.specs.List.{list_all}
 use Rattle.std.specs.Prelude.{option_and_then}

@@ -4,7 +4,9 @@ use Rattle.std.specs.Prelude.{option_map}
 use Rattle.clap.specs.Words.{Text}
 use Rattle.ick_runs.proofs.GroupLaws.{reads_one}
 use Rattle.ick_cli.specs.Job.{Task, takes_input, to_check, to_list, to_run, to_list_runs}
-use Rattle.ick_cli.specs.Plan.{AreChoices, IsPlanned, IsUnplanned, IsUnread, bad, check_planned, choices_unread, from_unread, list_planned, long, most_choices, reads_input, run_planned, runs_planned, seed_planned, together}
+use Rattle.ick_cli.specs.Plan.{AreChoices, IsPlanned, IsUnplanned, IsUnread, bad, check_planned, choices_unread}
+use Rattle.ick_cli.specs.Plan.{from_unread, list_planned, long, most_choices, reads_input, run_planned, runs_planned}
+use Rattle.ick_cli.specs.Plan.{seed_planned, together}
 use Rattle.ick_cli.specs.declared.notice.Notice.{Notice}
 use Rattle.ick_cli.specs.declared.notice.Notice.TheVariants.{ChoicesAndSeed}
 use Rattle.ick_cli.specs.declared.plan.Plan.{Plan}
@@ -12,13 +14,15 @@ use Rattle.ick_cli.specs.declared.plan.Plan.TheVariants.{Execute}
 use Rattle.ick_cli.specs.declared.plan.Runs.TheVariants.{Given, Drawn, Listed}
 
 -- a text has one list of choices or one line
-choices_unique : (text : Option Text) (most : ℕ) (c d : Option (List Bool)) → AreChoices text most c → AreChoices text most d → d ≡ c
+choices_unique : (text : Option Text) (most : ℕ) (c d : Option (List Bool)) → AreChoices text most c
+    → AreChoices text most d → d ≡ c
 choices_unique None most c d g h = h ∙ sym g
 choices_unique (Some text) most None d g h = absurd g
 choices_unique (Some text) most (Some c) None g h = absurd h
 choices_unique (Some text) most (Some c) (Some d) g h = ap (λ x. Some x) (reads_one text d c h.0 g.0)
 
-read_not_unread : (text : Option Text) (most : ℕ) (c : Option (List Bool)) (line : Notice) → AreChoices text most c → IsUnread most text line → ⊥
+read_not_unread : (text : Option Text) (most : ℕ) (c : Option (List Bool)) (line : Notice) → AreChoices text most c
+    → IsUnread most text line → ⊥
 read_not_unread text most None line g (bad t none) = absurd g
 read_not_unread text most (Some c) line g (bad t none) = none c g.0
 read_not_unread text most None line g (long t d reads above) = absurd g
@@ -42,8 +46,10 @@ plan_unique (to_run (Some text) (Some seed) limit) a b g h = elim g [ ]
 plan_unique (to_list_runs text count limit) a b (runs_planned t k l c g) (runs_planned u n m d h) =
     ap (λ x. Execute (Listed x k l)) (choices_unique text limit c d g h)
 
-pub planned_not_unplanned : (task : Task) (plan : Plan) (line : Notice) → IsPlanned task plan → IsUnplanned task line → ⊥
-planned_not_unplanned task plan line (run_planned t l c g) (choices_unread u m n h) = read_not_unread t most_choices c line g h
+pub planned_not_unplanned : (task : Task) (plan : Plan) (line : Notice) → IsPlanned task plan → IsUnplanned task line
+    → ⊥
+planned_not_unplanned task plan line (run_planned t l c g) (choices_unread u m n h) =
+    read_not_unread t most_choices c line g h
 planned_not_unplanned task plan line check_planned h = elim h [ ]
 planned_not_unplanned task plan line list_planned h = elim h [ ]
 planned_not_unplanned task plan line (seed_planned s l) h = elim h [ ]
@@ -70,27 +76,33 @@ pub given_none : {T : Type 0} (f : T → Text) (text : Option T) → text ≡ No
 given_none f text is = ap (option_map f) is
 
 -- the plans of runs, by what is given
-at_most : (text : Option Text) (choices : Option (List Bool)) → AreChoices text 1000000 choices → AreChoices text most_choices choices
+at_most : (text : Option Text) (choices : Option (List Bool)) → AreChoices text 1000000 choices
+    → AreChoices text most_choices choices
 unfolding most_choices
 at_most text choices h = h
 
-pub plan_given : (text : Option Text) (seed : Option ℕ) (limit : ℕ) (choices : Option (List Bool)) → seed ≡ None → AreChoices text 1000000 choices
+pub plan_given : (text : Option Text) (seed : Option ℕ) (limit : ℕ) (choices : Option (List Bool)) → seed ≡ None
+    → AreChoices text 1000000 choices
     → IsPlanned (to_run text seed limit) (Execute (Given choices limit))
 plan_given text seed limit choices none is =
     subst (λ (s : Option ℕ). IsPlanned (to_run text s limit) (Execute (Given choices limit))) (sym none)
     (run_planned text limit choices (at_most text choices is))
 
-pub plan_drawn : (text : Option Text) (seed : Option ℕ) (n limit : ℕ) → text ≡ None → seed ≡ Some n → IsPlanned (to_run text seed limit) (Execute (Drawn n limit))
+pub plan_drawn : (text : Option Text) (seed : Option ℕ) (n limit : ℕ) → text ≡ None → seed ≡ Some n
+    → IsPlanned (to_run text seed limit) (Execute (Drawn n limit))
 plan_drawn text seed n limit none some =
     subst (λ (t : Option Text). IsPlanned (to_run t seed limit) (Execute (Drawn n limit))) (sym none)
-    (subst (λ (s : Option ℕ). IsPlanned (to_run None s limit) (Execute (Drawn n limit))) (sym some) (seed_planned n limit))
+    (subst (λ (s : Option ℕ). IsPlanned (to_run None s limit) (Execute (Drawn n limit))) (sym some)
+    (seed_planned n limit))
 
-pub no_plan : (text : Option Text) (seed : Option ℕ) (t : Text) (n limit : ℕ) → text ≡ Some t → seed ≡ Some n → IsUnplanned (to_run text seed limit) ChoicesAndSeed
+pub no_plan : (text : Option Text) (seed : Option ℕ) (t : Text) (n limit : ℕ) → text ≡ Some t → seed ≡ Some n
+    → IsUnplanned (to_run text seed limit) ChoicesAndSeed
 no_plan text seed t n limit given some =
     subst (λ (x : Option Text). IsUnplanned (to_run x seed limit) ChoicesAndSeed) (sym given)
     (subst (λ (s : Option ℕ). IsUnplanned (to_run (Some t) s limit) ChoicesAndSeed) (sym some) (together t n limit))
 
-pub unread_given : (text : Option Text) (seed : Option ℕ) (limit : ℕ) (line : Notice) → seed ≡ None → IsUnread 1000000 text line → IsUnplanned (to_run text seed limit) line
+pub unread_given : (text : Option Text) (seed : Option ℕ) (limit : ℕ) (line : Notice) → seed ≡ None
+    → IsUnread 1000000 text line → IsUnplanned (to_run text seed limit) line
 unfolding most_choices
 unread_given text seed limit line none h =
     subst (λ (s : Option ℕ). IsUnplanned (to_run text s limit) line) (sym none) (choices_unread text limit line h)

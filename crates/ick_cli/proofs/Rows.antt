@@ -76,12 +76,14 @@ dash_alone : job_of (codes "run" ∷ codes "--choices" ∷ codes "-" ∷ [])
 unfolding clap_on_literals
 dash_alone = refl
 
-choices_with_seed : job_of (codes "run" ∷ codes "--seed" ∷ codes "1" ∷ codes "--choices" ∷ codes "0" ∷ codes "--limit=3" ∷ [])
+choices_with_seed : job_of
+    (codes "run" ∷ codes "--seed" ∷ codes "1" ∷ codes "--choices" ∷ codes "0" ∷ codes "--limit=3" ∷ [])
     ≡ record { task = to_run (Some (codes "0")) (Some 1) 3; file = None }
 unfolding clap_on_literals
 choices_with_seed = refl
 
-choices_with_seed_is_a_job : HasJob (codes "run" ∷ codes "--seed" ∷ codes "1" ∷ codes "--choices" ∷ codes "0" ∷ codes "--limit=3" ∷ [])
+choices_with_seed_is_a_job : HasJob
+    (codes "run" ∷ codes "--seed" ∷ codes "1" ∷ codes "--choices" ∷ codes "0" ∷ codes "--limit=3" ∷ [])
 unfolding clap_on_literals
 choices_with_seed_is_a_job = refl
 
@@ -94,7 +96,8 @@ runs_from : job_of (codes "runs" ∷ codes "--limit" ∷ codes "3" ∷ codes "--
 unfolding clap_on_literals
 runs_from = refl
 
-runs_from_is_a_job : HasJob (codes "runs" ∷ codes "--limit" ∷ codes "3" ∷ codes "--from" ∷ codes "10" ∷ codes "--count=1" ∷ [])
+runs_from_is_a_job : HasJob
+    (codes "runs" ∷ codes "--limit" ∷ codes "3" ∷ codes "--from" ∷ codes "10" ∷ codes "--count=1" ∷ [])
 unfolding clap_on_literals
 runs_from_is_a_job = refl
 

@@ -3,10 +3,12 @@ use Rattle.std.proofs.Common.{◌≡◌, ◌<◌, ◌++◌, ◌⊎◌, inl, inr,
 use Rattle.std.proofs.lemmas.Bool.{cases_order}
 use Rattle.ick_cli.specs.Ending.{Answers, Leaves, ending_status, ending_text, message_text}
 use Rattle.ick_cli.specs.Serve.{Failures, Finishes, FinishesDue, IsDue, IsServed, IsStatus, counts}
-use Rattle.ick_cli.specs.Serve.{nothing_failed, file_failed, read_failed, write_failed, input_long, memory_failed, answered, cut_by_read, cut_by_write, cut_by_memory}
+use Rattle.ick_cli.specs.Serve.{nothing_failed, file_failed, read_failed, write_failed, input_long, memory_failed}
+use Rattle.ick_cli.specs.Serve.{answered, cut_by_read, cut_by_write, cut_by_memory}
 use Rattle.ick_cli.specs.Tool.{Answer}
 use Rattle.ick_cli.specs.declared.ending.Ending.{Ending}
-use Rattle.ick_cli.specs.declared.ending.Ending.TheVariants.{Answered, NoMemory, InputTooLong, FileNotRead, ReadFailed, WriteFailed}
+use Rattle.ick_cli.specs.declared.ending.Ending.TheVariants.{Answered, NoMemory, InputTooLong, FileNotRead, ReadFailed}
+use Rattle.ick_cli.specs.declared.ending.Ending.TheVariants.{WriteFailed}
 
 -- counts that are the same one by one
 same_counts : (f f' r r' w w' : ℕ) → f' ≡ f → r' ≡ r → w' ≡ w → counts f' r' w' ≡ counts f r w
@@ -16,7 +18,8 @@ same_counts f f' r r' w w' a b c = cc
 pub due : (ending : Ending) (f f' r r' w w' : ℕ) → Leaves ending f f' r r' w w'
     → IsDue (counts f r w) (counts f' r' w') (ending_text ending) (ending_status ending)
 due (Answered status message) f f' r r' w w' x =
-    nothing_failed (message_text message) status (same_counts _ _ _ _ _ _ (omega (arith, x.opened)) (omega (arith, x.read)) (omega (arith, x.wrote)))
+    nothing_failed (message_text message) status
+    (same_counts _ _ _ _ _ _ (omega (arith, x.opened)) (omega (arith, x.read)) (omega (arith, x.wrote)))
     x.proper
 due NoMemory f f' r r' w w' x =
     memory_failed (same_counts _ _ _ _ _ _ (omega (arith, x.opened)) (omega (arith, x.read)) (omega (arith, x.wrote)))
@@ -30,14 +33,17 @@ due WriteFailed f f' r r' w w' x =
     write_failed (same_counts _ _ _ _ _ _ (omega (arith, x.opened)) (omega (arith, x.read)) (omega (arith, x.wrote)))
 
 -- an error text and a status that are the answer's
-all_answered : (answer : Answer) (old new : Failures) (out out' text : List ℕ) (status : ℕ) → status ≡ answer.status → text ≡ answer.errors
-    → new.reads ≡ old.reads → new.writes ≡ old.writes → out' ≡ out ++ answer.output → IsServed answer old new out out' text status
+all_answered : (answer : Answer) (old new : Failures) (out out' text : List ℕ) (status : ℕ) → status ≡ answer.status
+    → text ≡ answer.errors
+    → new.reads ≡ old.reads → new.writes ≡ old.writes → out' ≡ out ++ answer.output
+    → IsServed answer old new out out' text status
 all_answered answer old new out out' text status has_status has_text reads writes sends =
     subst (λ (t : List ℕ). IsServed answer old new out out' t status) (sym has_text)
     (subst (λ (s : ℕ). IsServed answer old new out out' answer.errors s) (sym has_status) (answered reads writes sends))
 
 -- how an answer is served by an ending that has it
-pub served : (answer : Answer) (ending : Ending) (f f' r r' w w' : ℕ) (out out' : List ℕ) → Leaves ending f f' r r' w w' → Answers answer ending out out'
+pub served : (answer : Answer) (ending : Ending) (f f' r r' w w' : ℕ) (out out' : List ℕ)
+    → Leaves ending f f' r r' w w' → Answers answer ending out out'
     → IsServed answer (counts f r w) (counts f' r' w') out out' (ending_text ending) (ending_status ending)
 served answer (Answered status message) f f' r r' w w' out out' x has =
     all_answered answer _ _ out out' _ _ has.0.0 has.0.1 (omega (arith, x.read)) (omega (arith, x.wrote)) has.1
@@ -46,11 +52,14 @@ served answer InputTooLong f f' r r' w w' out out' x has =
 served answer FileNotRead f f' r r' w w' out out' x has =
     all_answered answer _ _ out out' _ _ has.0.0 has.0.1 (omega (arith, x.read)) (omega (arith, x.wrote)) has.1
 served answer NoMemory f f' r r' w w' out out' x has =
-    cut_by_memory has.1.0 (same_counts _ _ _ _ _ _ (omega (arith, x.opened)) (omega (arith, x.read)) (omega (arith, x.wrote))) has.1.1
+    cut_by_memory has.1.0
+    (same_counts _ _ _ _ _ _ (omega (arith, x.opened)) (omega (arith, x.read)) (omega (arith, x.wrote))) has.1.1
 served answer ReadFailed f f' r r' w w' out out' x has =
-    cut_by_read has.1.0 (same_counts _ _ _ _ _ _ (omega (arith, x.opened)) (omega (arith, x.read)) (omega (arith, x.wrote))) has.1.1
+    cut_by_read has.1.0 (same_counts _ _ _ _ _ _ (omega (arith, x.opened)) (omega (arith, x.read))
+    (omega (arith, x.wrote))) has.1.1
 served answer WriteFailed f f' r r' w w' out out' x has =
-    cut_by_write has.1.0 (same_counts _ _ _ _ _ _ (omega (arith, x.opened)) (omega (arith, x.read)) (omega (arith, x.wrote))) has.1.1
+    cut_by_write has.1.0 (same_counts _ _ _ _ _ _ (omega (arith, x.opened)) (omega (arith, x.read))
+    (omega (arith, x.wrote))) has.1.1
 
 -- a device failed
 abbrev pub SomeFailed : Failures → Failures → Type 0
@@ -61,7 +70,8 @@ none_failed old new same (inl h) = let e = ap (λ (f : Failures). f.files) same 
 none_failed old new same (inr (inl h)) = let e = ap (λ (f : Failures). f.reads) same in omega arith
 none_failed old new same (inr (inr h)) = let e = ap (λ (f : Failures). f.writes) same in omega arith
 
-four_due : (old new : Failures) (text : List ℕ) (status : ℕ) → IsDue old new text status → SomeFailed old new → status ≡ 4
+four_due : (old new : Failures) (text : List ℕ) (status : ℕ) → IsDue old new text status → SomeFailed old new
+    → status ≡ 4
 four_due old new text status (nothing_failed t s same one) some = absurd (none_failed old new same some)
 four_due old new text status (file_failed e) some = refl
 four_due old new text status (read_failed e) some = refl

@@ -1,6 +1,8 @@
 -- What the work leaves, by how it ends.
 use Rattle.std.specs.Prelude.{◌≡◌, ◌≤◌, ◌+◌, ◌++◌, ◌⊎◌, ◌==◌, if◌then◌else◌, is_some, take}
 use Rattle.std.specs.Prelude.{ℕ, List, [], Option, Some, None}
+use Rattle.ick_runs.specs.declared.errors.RunsError.{RunsError}
+use Rattle.ick_runs.specs.declared.errors.RunsError.TheVariants as error
 use Rattle.ick_cli.specs.Notice.{notice_text}
 use Rattle.ick_cli.specs.Tool.{Answer}
 use Rattle.ick_cli.specs.declared.ending.Ending.{Ending}
@@ -94,3 +96,9 @@ source_of (Some name) named before after left = if before == after then Some (na
 -- the input of a job: what the reader has, where the source is a file's
 abbrev pub input_of : Option (List ℕ) → List ℕ → List ℕ
 input_of file left = if is_some file then left else []
+
+-- how the work ends whose runs were refused, where no count of work can be full
+abbrev pub refused_ending : RunsError → Ending
+refused_ending error.Read = ReadFailed
+refused_ending error.Write = WriteFailed
+refused_ending _ = NoMemory

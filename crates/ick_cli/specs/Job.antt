@@ -67,7 +67,8 @@ run_in rows =
 
 abbrev pub runs_in : List Row → Task
 runs_in rows =
-    to_list_runs (text_in (codes "from") rows) (number_or (codes "count") rows 1000) (number_or (codes "limit") rows 10000)
+    to_list_runs (text_in (codes "from") rows) (number_or (codes "count") rows 1000)
+    (number_or (codes "limit") rows 10000)
 
 -- the task of a command's name
 abbrev pub task_named : Text → List Row → Task

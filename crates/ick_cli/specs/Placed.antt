@@ -1,14 +1,10 @@
--- Where the explorer of a listing stands, and how work ends that has no place or whose listing was refused.
+-- Where the explorer of a listing stands, or that it has no place.
 use Rattle.std.specs.Prelude.{◌≡◌, ◌≤◌, ℕ, Bool, List, Option, Some}
 use Rattle.ick_code.specs.meaning.State.{State}
 use Rattle.ick_machine.specs.Machine.{Machine}
 use Rattle.ick_runs.specs.Runs.{IsWhole}
 use Rattle.ick_runs.specs.Standing.{Explored, Stands}
-use Rattle.ick_runs.specs.declared.errors.RunsError.{RunsError}
-use Rattle.ick_runs.specs.declared.errors.RunsError.TheVariants.{Write}
 use Rattle.ick_cli.specs.Tool.{Answer, IsRunsAnswer}
-use Rattle.ick_cli.specs.declared.ending.Ending.{Ending}
-use Rattle.ick_cli.specs.declared.ending.Ending.TheVariants.{NoMemory, WriteFailed}
 use Rattle.ick_cli.specs.declared.notice.Notice.{Notice}
 use Rattle.ick_cli.specs.declared.notice.Notice.TheVariants.{NoSuchRun}
 
@@ -30,8 +26,3 @@ pub record IsNoRun (m : Machine) (limit : ℕ) (from : Option (List Bool)) (line
 -- the answer of the listing after the place of an explorer
 abbrev pub IsRunsAnswerAt : State → ℕ → Explored → Answer → Type 0
 IsRunsAnswerAt s count e answer = IsRunsAnswer e.program s e.limit count e.from answer
-
--- how the work ends whose listing was refused
-abbrev pub cut_ending : RunsError → Ending
-cut_ending Write = WriteFailed
-cut_ending _ = NoMemory

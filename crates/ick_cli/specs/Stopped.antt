@@ -1,23 +1,17 @@
--- How a run that was made stopped.
-use Rattle.std.specs.Prelude.{ℕ, List}
-use Rattle.ick_machine.specs.Asked.{finish_of}
-use Rattle.ick_runs.specs.Runs.{Stop, ends, wants}
-use Rattle.ick_runs.specs.declared.ordinary.Ran.{Ran}
-use Rattle.ick_runs.specs.declared.ordinary.Ran.TheVariants.{Ended, Wants}
-use Rattle.ick_cli.specs.Tool.{Answer, stop_answer}
+-- What is said of a streamed run that stopped.
+use Rattle.std.specs.Prelude.{ℕ, List, [], ◌++◌, codes, decimal}
+use Rattle.ick_machine.specs.declared.live_ask.EndKind.{EndKind}
+use Rattle.ick_machine.specs.declared.live_ask.EndKind.TheVariants.{GiveUp, Fault, Limit, Wants}
 
-abbrev pub ran_output : Ran → List ℕ
-ran_output (Ended output end used steps) = output.items
-ran_output (Wants output steps) = output.items
+-- the error text and the status of an end, by the message of its fault and the steps that were made
+abbrev pub kind_text : EndKind → List ℕ → ℕ → List ℕ
+kind_text GiveUp message steps = []
+kind_text (Fault kind statement) message steps = message
+kind_text Limit message steps = codes "LIMIT REACHED AFTER " ++ decimal steps ++ codes " STEPS\n"
+kind_text Wants message steps = codes "CHOICE WANTED AFTER " ++ decimal steps ++ codes " STEPS\n"
 
-abbrev pub ran_stop : Ran → Stop
-ran_stop (Ended output end used steps) = ends (finish_of end)
-ran_stop (Wants output steps) = wants
-
-abbrev pub ran_steps : Ran → ℕ
-ran_steps (Ended output end used steps) = steps
-ran_steps (Wants output steps) = steps
-
--- the answer of a run that was made
-abbrev pub ran_answer : Ran → Answer
-ran_answer r = stop_answer (ran_output r) (ran_stop r) (ran_steps r)
+abbrev pub kind_status : EndKind → ℕ
+kind_status GiveUp = 0
+kind_status (Fault kind statement) = 1
+kind_status Limit = 3
+kind_status Wants = 3

@@ -85,23 +85,23 @@ pub data IsRunsAnswer (program : Program) (s : State) (limit count : ℕ) : Opti
       → IsRunsAnswer program s limit count (Some c) (refusal 64 (notice_text notice.NoSuchRun))
 
 -- the answer of a program's runs over an input: of the one with given choices, of the one whose choices a seed draws,
--- or of their listing
+-- or of their listing, where the input isn't too long
 pub data IsExecuted (program : Program) (input : List ℕ) : Runs → Answer → Type 0 where
   ran : (choices : Option (List Bool)) (limit : ℕ) → IsExecuted program input (Given choices limit)
       (run_answer (run program (first_state program input) limit (unwrap_or choices [])))
   drawn : (seed limit : ℕ) (c : List Bool) → IsDrawn program (first_state program input) limit (word_of seed) c
       → IsExecuted program input (Drawn seed limit) (run_answer (run program (first_state program input) limit c))
-  listed_runs : (from : Option (List Bool)) (count limit : ℕ) (answer : Answer)
+  input_too_long : (from : Option (List Bool)) (count limit : ℕ) → longest_input < length input
+      → IsExecuted program input (Listed from count limit) (refusal 4 (notice_text notice.InputTooLong))
+  listed_runs : (from : Option (List Bool)) (count limit : ℕ) (answer : Answer) → length input ≤ longest_input
       → IsRunsAnswer program (first_state program input) limit count from answer
       → IsExecuted program input (Listed from count limit) answer
 
--- the answer to a program: it is counted, listed or run, where its input isn't too long
+-- the answer to a program: it is counted, listed or run
 pub data IsProgramAnswer (trees : List StatementTree) (input : List ℕ) : Plan → Answer → Type 0 where
   counted : IsProgramAnswer trees input Check (shown (summary trees))
   statements_listed : IsProgramAnswer trees input ListStatements (shown (listing trees))
-  input_too_long : (runs : Runs) → longest_input < length input
-      → IsProgramAnswer trees input (Execute runs) (refusal 4 (notice_text notice.InputTooLong))
-  executed : (runs : Runs) (answer : Answer) → length input ≤ longest_input → IsExecuted trees input runs answer
+  executed : (runs : Runs) (answer : Answer) → IsExecuted trees input runs answer
       → IsProgramAnswer trees input (Execute runs) answer
 
 -- the answer to a source: it is too long, or it is refused, or it compiles to a program

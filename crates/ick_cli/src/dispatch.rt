@@ -1,10 +1,10 @@
-//! From a job to its command: the plan, the file, the source, the program, the input, and what is
-//! done with them.
+//! From a job to its command: the plan, the file, the source, the program, and what is done with
+//! them.
 ghost use Rattle.std.specs.Prelude.{◌≡◌, ◌+◌, ◌<◌, ◌≤◌, ◌^◌, Some, [], false, length, true};
 ghost use Rattle.ick_bits.specs.Faults.{message_of};
 ghost use Rattle.ick_source.specs.Programs.{trees_of};
 ghost use Rattle.ick_code.specs.Compiled.{code_program};
-ghost use Rattle.ick_cli.specs.Ending.{Answers, EndsBy, Leaves, LeavesStreams, LeavesWriter};
+ghost use Rattle.ick_cli.specs.Ending.{Answers, EndsBy, Leaves, LeavesStreams};
 ghost use Rattle.ick_cli.specs.Ending.{input_of, source_of};
 ghost use Rattle.ick_cli.specs.Job.{asked, has_file, takes_input};
 ghost use Rattle.ick_cli.specs.Plan.{IsUnplanned, reads_input};
@@ -15,7 +15,6 @@ ghost use Rattle.ick_cli.specs.declared.notice.Notice.{Notice};
 use crate::commands::{answer_check, answer_drawn, answer_list, answer_run, answer_runs};
 use crate::ending::Ending;
 use crate::files::Files;
-use crate::input::read_input;
 use crate::notice::{Message, Notice};
 use crate::plan::{Plan, Runs, plan_of};
 use crate::stopped::fault_message;
@@ -186,7 +185,7 @@ fn answer_program<R: ByteSource, W: ByteSink>(
     }
 }
 
-/// Answers a program by its runs: it is compiled, and its input is read whole.
+/// Answers a program by its runs, once it is compiled.
 fn execute<R: ByteSource, W: ByteSink>(
     alloc: Global,
     runs: &Runs,
@@ -202,34 +201,33 @@ fn execute<R: ByteSource, W: ByteSink>(
         → IsProgramAnswer (trees_of program.now) (R.left reader.old) (Plan.Execute runs.now) answer
         → Answers answer result (W.written writer.old) (W.written writer.new) }
 {
-    let Ok(code) = compile(alloc, program) else {
-        return Ending::NoMemory;
-    };
-    match read_input(alloc, reader) {
-        Ok(input) => answer_code(alloc, runs, &code, input.as_slice(), writer),
-        Err(ending) => ending,
+    match compile(alloc, program) {
+        Ok(code) => answer_code(alloc, runs, &code, reader, writer),
+        Err(NoMemory) => Ending::NoMemory,
     }
 }
 
-/// Answers code and its input by its runs.
-fn answer_code<W: ByteSink>(
+/// Answers code by its runs over the input that the reader has.
+fn answer_code<R: ByteSource, W: ByteSink>(
     alloc: Global,
     runs: &Runs,
     code: &Code<'_>,
-    input: &[u8],
+    reader: &mut R,
     writer: &mut W,
 ) -> Ending
-    requires { W.failed writer.old + 1 < 2 ^ 64 }
-    ensures leaves { LeavesWriter result (W.failed writer.old) (W.failed writer.new) }
-    ensures answer { W.told ≡ true → (answer : Answer)
-        → IsExecuted (code_program code.now) input.now runs.now answer
+    requires reader_sound { R.failed reader.old + 1 < 2 ^ 64 }
+    requires writer_sound { W.failed writer.old + 1 < 2 ^ 64 }
+    ensures leaves { LeavesStreams result (R.failed reader.old) (R.failed reader.new)
+        (W.failed writer.old) (W.failed writer.new) }
+    ensures answer { R.told ≡ true → W.told ≡ true → (answer : Answer)
+        → IsExecuted (code_program code.now) (R.left reader.old) runs.now answer
         → Answers answer result (W.written writer.old) (W.written writer.new) }
 {
     match runs {
-        Runs::Given { choices, limit } => answer_run(alloc, code, input, choices, *limit, writer),
-        Runs::Drawn { seed, limit } => answer_drawn(alloc, code, input, *seed, *limit, writer),
+        Runs::Given { choices, limit } => answer_run(alloc, code, choices, *limit, reader, writer),
+        Runs::Drawn { seed, limit } => answer_drawn(alloc, code, *seed, *limit, reader, writer),
         Runs::Listed { from, count, limit } => {
-            answer_runs(alloc, code, input, from, *count, *limit, writer)
+            answer_runs(alloc, code, from, *count, *limit, reader, writer)
         }
     }
 }

@@ -27,8 +27,8 @@ use std::alloc::Global;
 ///
 /// The words are without the program's own name. The source is the file that they name, which
 /// `files` opens, and the input of a run is then what `reader` has; without a file the source is
-/// what `reader` has, and the input is empty. The output goes to `writer`, and what is to be said of
-/// a refusal, a fault or a failure to `errors`, after the output up to there. The words, the
+/// what `reader` has, and the input is empty. The output goes to `writer`, and what is to be said
+/// of a refusal, a fault or a failure to `errors`, after the output up to there. The words, the
 /// statuses and the texts are this profile's.
 pub fn serve<F: Files, R: ByteSource, W: ByteSink, E: ByteSink>(
     alloc: Global,

@@ -1,8 +1,9 @@
 //! How the work ends, before its error text is written.
 ghost use Rattle.std.specs.Prelude.{◌≡◌};
-ghost use Rattle.ick_cli.specs.Ending.{ending_status, ending_text};
+ghost use Rattle.ick_cli.specs.Ending.{ending_status, ending_text, refused_ending};
 
 use crate::notice::{Message, Notice};
+use ick_runs::RunsError;
 
 /// How the work ends: with an answer, or since memory or a device was wanting.
 #[derive(Debug, Drop)]
@@ -23,6 +24,18 @@ impl Ending {
         Ending::Answered {
             status: 64,
             message: Message::Notice(line),
+        }
+    }
+
+    /// The ending of work whose runs were refused. No count of work can be full here, nor is a
+    /// cursor at fault any more: so memory was wanting where no device failed.
+    pub fn refused(error: RunsError) -> Ending
+        ensures { result ≡ refused_ending error }
+    {
+        match error {
+            RunsError::Read => Ending::ReadFailed,
+            RunsError::Write => Ending::WriteFailed,
+            _ => Ending::NoMemory,
         }
     }
 

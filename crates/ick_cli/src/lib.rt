@@ -15,7 +15,7 @@
 //! - `report`: the error text and the status at the end of a call
 //! - `usage`: the answer to words that ask for no job
 //! - `driver`: the whole, from the words to the status
-//! - `laws`: what holds of each job
+//! - `laws`: what holds of each task
 #![tactic(auto)]
 
 mod commands;

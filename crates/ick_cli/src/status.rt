@@ -28,8 +28,9 @@ impl Status {
     }
 
     /// The exit status: 0 where all went well, 1 for a fault of the run, 2 for a source that is
-    /// refused, 3 for a run that was cut short or wants a choice, 4 where a file, a stream or memory
-    /// was wanting or the input was too long, 64 for words that ask for nothing (this profile).
+    /// refused, 3 for a run that was cut short or wants a choice, 4 where a file, a stream or
+    /// memory was wanting or the input was too long, 64 for words that ask for nothing (this
+    /// profile).
     pub fn code(&self) -> u8
         ensures { result ≡ self.now }
     {

@@ -1,25 +1,52 @@
 //! `ick runs`: the runs of a program are listed.
 ghost use Rattle.std.specs.Prelude.{◌≡◌, ◌+◌, ◌<◌, ◌≤◌, ◌^◌, IfErr, IfOk, [], false, true};
 ghost use Rattle.ick_code.specs.Compiled.{code_program};
+ghost use Rattle.ick_code.specs.meaning.Move.{first_state};
 ghost use Rattle.ick_code.specs.meaning.State.{State};
 ghost use Rattle.ick_runs.specs.Explorers.{explored};
 ghost use Rattle.ick_runs.specs.Standing.{Stands};
-ghost use Rattle.ick_cli.specs.Ending.{Answers, LeavesWriter};
-ghost use Rattle.ick_cli.specs.Placed.{IsNoRun, IsPlaced, IsRunsAnswerAt, cut_ending};
+ghost use Rattle.ick_cli.specs.Ending.{Answers, LeavesStreams, LeavesWriter};
+ghost use Rattle.ick_cli.specs.Placed.{IsNoRun, IsPlaced, IsRunsAnswerAt};
 ghost use Rattle.ick_cli.specs.Plan.{EndsByLine};
 ghost use Rattle.ick_cli.specs.Tool.{Answer, IsExecuted, IsRunsAnswer};
 
 use crate::ending::Ending;
+use crate::input::read_input;
 use crate::notice::{Message, Notice};
 use crate::plan::Runs;
 use ick_code::Code;
 use ick_machine::{Asks, Trailed};
-use ick_runs::{ByteSink, Cursor, Explorer, RunsError, write_runs};
+use ick_runs::{ByteSink, ByteSource, Cursor, Explorer, RunsError, write_runs};
 use std::alloc::Global;
 
-/// Answers code by the listing of its runs over an input: all of them, or those after a
-/// cursor's.
-pub fn answer_runs<W: ByteSink>(
+/// Answers code by the listing of its runs over an input, which is read whole: all of them, or
+/// those after a cursor's.
+pub fn answer_runs<R: ByteSource, W: ByteSink>(
+    alloc: Global,
+    code: &Code<'_>,
+    from: &Option<Cursor>,
+    count: u32,
+    limit: u32,
+    reader: &mut R,
+    writer: &mut W,
+) -> Ending
+    requires reader_sound { R.failed reader.old + 1 < 2 ^ 64 }
+    requires writer_sound { W.failed writer.old + 1 < 2 ^ 64 }
+    ensures leaves { LeavesStreams result (R.failed reader.old) (R.failed reader.new)
+        (W.failed writer.old) (W.failed writer.new) }
+    ensures answer { R.told ≡ true → W.told ≡ true → (answer : Answer)
+        → IsExecuted (code_program code.now) (R.left reader.old)
+        (Runs.Listed from.now count limit) answer
+        → Answers answer result (W.written writer.old) (W.written writer.new) }
+{
+    match read_input(alloc, reader) {
+        Ok(input) => list_over(alloc, code, input.as_slice(), from, count, limit, writer),
+        Err(ending) => ending,
+    }
+}
+
+/// Answers code by the listing of its runs over an input.
+fn list_over<W: ByteSink>(
     alloc: Global,
     code: &Code<'_>,
     input: &[u8],
@@ -30,8 +57,8 @@ pub fn answer_runs<W: ByteSink>(
 ) -> Ending
     requires { W.failed writer.old + 1 < 2 ^ 64 }
     ensures leaves { LeavesWriter result (W.failed writer.old) (W.failed writer.new) }
-    ensures answer { W.told ≡ true → (answer : Answer)
-        → IsExecuted (code_program code.now) input.now (Runs.Listed from.now count limit) answer
+    ensures answer { W.told ≡ true → (answer : Answer) → let program = code_program code.now in
+        IsRunsAnswer program (first_state program input.now) limit count from.now answer
         → Answers answer result (W.written writer.old) (W.written writer.new) }
 {
     match Trailed::new(alloc, code, input, 0) {
@@ -108,17 +135,6 @@ fn list_from<'c, M: Asks<'c>, W: ByteSink>(
             status: 0,
             message: Message::Nothing,
         },
-        Err(error) => cut_ending(error),
-    }
-}
-
-/// How the work ends whose listing was refused: the count of work can't have been full, so memory
-/// was wanting where no write failed.
-fn cut_ending(error: RunsError) -> Ending
-    ensures { result ≡ cut_ending error }
-{
-    match error {
-        RunsError::Write => Ending::WriteFailed,
-        _ => Ending::NoMemory,
+        Err(error) => Ending::refused(error),
     }
 }

@@ -56,7 +56,7 @@ fn files_are_opened_once(rt: HostRuntime) {
     for (words, opened, unread) in [
         (["check", "f"].as_slice(), 1, ONE_NUMERAL.len()),
         (["list", "f"].as_slice(), 1, ONE_NUMERAL.len()),
-        (["run", "f"].as_slice(), 1, 0),
+        (["run", "f"].as_slice(), 1, ONE_NUMERAL.len()),
         (["runs", "f"].as_slice(), 1, 0),
         (["run", "--choices=2", "f"].as_slice(), 0, ONE_NUMERAL.len()),
         (["check"].as_slice(), 0, 0),
@@ -89,7 +89,6 @@ fn reads_fail(rt: HostRuntime) {
         ["list"].as_slice(),
         ["run"].as_slice(),
         ["runs"].as_slice(),
-        ["run", "f"].as_slice(),
         ["runs", "f"].as_slice(),
     ] {
         let worn = Call {
@@ -119,6 +118,28 @@ fn reads_fail(rt: HostRuntime) {
         };
         assert_left(&rt, rt.alloc(), &unsaid, &cut);
     }
+}
+
+// What was read out before the input failed is written.
+#[test]
+fn inputs_fail(rt: HostRuntime) {
+    let call = Call {
+        words: &["run", "f"],
+        source: b"DO READ OUT #1\nDO WRITE IN .1\nPLEASE GIVE UP\n",
+        entered: b"ONE\n",
+        more: 0,
+        file_reads: ALWAYS,
+        reads: 0,
+        writer_room: AMPLE,
+        errors_room: AMPLE,
+    };
+    let read_failed = Row {
+        source: call.source,
+        output: b"\nI\n",
+        error_text: b"READ FAILED\n",
+        code: 4,
+    };
+    assert_left(&rt, rt.alloc(), &call, &read_failed);
 }
 
 #[test]

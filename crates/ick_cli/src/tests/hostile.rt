@@ -123,39 +123,45 @@ fn bytes_are_strange(rt: HostRuntime) -> Result<(), Fail> {
 }
 
 #[test]
-fn inputs_have_a_longest(rt: HostRuntime) -> Result<(), Fail> {
+fn inputs_of_listings_have_a_longest(rt: HostRuntime) -> Result<(), Fail> {
     let longest = repeated(rt.alloc(), b"\n", 1_048_576)?;
     let longer = repeated(rt.alloc(), b"\n", 1_048_577)?;
-    let source = b"DO WRITE IN .1\nPLEASE READ OUT .1\nDO GIVE UP\n".as_slice();
-    for (subcommand, output) in [
-        ("run", b"_\n\n".as_slice()),
-        ("runs", b"- GIVE-UP \"_\\n\\n\"\nDONE\n"),
-    ] {
-        let row = Row {
-            source,
-            output,
-            error_text: b"",
-            code: 0,
-        };
-        assert_row_over(&rt, rt.alloc(), &[subcommand, "f"], &longest, &row);
-        let refused = Row {
-            output: b"",
-            error_text: b"INPUT TOO LONG\n",
-            code: 4,
-            ..row
-        };
-        assert_row_over(&rt, rt.alloc(), &[subcommand, "f"], &longer, &refused);
-    }
-    for subcommand in ["check", "list"] {
-        let refused = Row {
-            source: b"DO READ OUT #70000\n",
-            output: b"",
-            error_text: b"ICL017I DO YOU EXPECT ME TO FIGURE THIS OUT?
+    let row = Row {
+        source: b"DO WRITE IN .1\nPLEASE READ OUT .1\nDO GIVE UP\n",
+        output: b"- GIVE-UP \"_\\n\\n\"\nDONE\n",
+        error_text: b"",
+        code: 0,
+    };
+    assert_row_over(&rt, rt.alloc(), &["runs", "f"], &longest, &row);
+    let refused = Row {
+        output: b"",
+        error_text: b"INPUT TOO LONG\n",
+        code: 4,
+        ..row
+    };
+    assert_row_over(&rt, rt.alloc(), &["runs", "f"], &longer, &refused);
+    let run = Row {
+        output: b"_\n\n",
+        ..row
+    };
+    assert_row_over(&rt, rt.alloc(), &["run", "f"], &longer, &run);
+    Ok(())
+}
+
+// Of an input that is too long nothing is said where the source is refused.
+#[test]
+fn sources_are_refused_before_inputs(rt: HostRuntime) -> Result<(), Fail> {
+    let longer = repeated(rt.alloc(), b"\n", 1_048_577)?;
+    let refused = Row {
+        source: b"DO READ OUT #70000\n",
+        output: b"",
+        error_text: b"ICL017I DO YOU EXPECT ME TO FIGURE THIS OUT?
         ON THE WAY TO 2
         CORRECT SOURCE AND RESUBNIT
 ",
-            code: 2,
-        };
+        code: 2,
+    };
+    for subcommand in ["check", "list", "run", "runs"] {
         assert_row_over(&rt, rt.alloc(), &[subcommand, "f"], &longer, &refused);
     }
     Ok(())

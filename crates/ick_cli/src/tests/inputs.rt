@@ -1,5 +1,5 @@
 //! Programs that are run, with an input.
-use super::table::{RunRow, assert_run};
+use super::table::{RunRow, assert_run, left_by_words};
 use std::test::Fail;
 
 #[test]
@@ -86,4 +86,14 @@ fn runs_over_no_input(rt: HostRuntime) -> Result<(), Fail> {
     };
     assert_run(&rt, rt.alloc(), &["run"], &row)?;
     Ok(())
+}
+
+// What stands behind the line that was needed is left to whoever reads next.
+#[test]
+fn takes_no_more_than_is_needed(rt: HostRuntime) {
+    let source = b"DO WRITE IN .1\nPLEASE READ OUT .1\nDO GIVE UP\n";
+    let left = left_by_words(rt.alloc(), &["run", "f"], source, b"oh NINER\nSIX\n");
+    assert!(rt; left.code == 0);
+    assert!(rt; left.output.as_slice() == b"\nIX\n".as_slice());
+    assert!(rt; left.unread == 4);
 }

@@ -64,13 +64,21 @@ fn runs_sources(rt: HostRuntime) -> Result<(), Fail> {
         ),
         (b"DO READOUT #1\nPLEASE GIVE UP\n", b"\nI\n", b"", b""),
         (
-            b"DO ,1 <- #2 BY #3\nDO ,1SUB'#2''#3' <- #7\nPLEASE READ OUT ,1SUB#2#3+,1SUB'#1$#0'#1\nDO GIVE UP\n",
+            b"DO ,1 <- #2 BY #3
+DO ,1SUB'#2''#3' <- #7
+PLEASE READ OUT ,1SUB#2#3+,1SUB'#1$#0'#1
+DO GIVE UP
+",
             b"\nVII\n_\n\n",
             b"",
             b"",
         ),
         (
-            b"DO ,1 <- #2 BY #3\nDO ,1SUB'#2''#3' <- #7\nPLEASE READ OUT ,1SUB#3#1+,1SUB'#1$#0'#1\nDO GIVE UP\n",
+            b"DO ,1 <- #2 BY #3
+DO ,1SUB'#2''#3' <- #7
+PLEASE READ OUT ,1SUB#3#1+,1SUB'#1$#0'#1
+DO GIVE UP
+",
             b"",
             b"241I VARIABLES MAY NOT BE STORED IN WEST HYPERSPACE",
             b"4",
@@ -88,13 +96,23 @@ fn runs_sources(rt: HostRuntime) -> Result<(), Fail> {
             b"2",
         ),
         (
-            b"DO :1 <- 'V#1~#1'\nDO :2 <- 'V#1~\"#65535$#65535\"'\nPLEASE READ OUT :1+:2\nDO GIVE UP\n",
+            b"DO :1 <- 'V#1~#1'
+DO :2 <- 'V#1~\"#65535$#65535\"'
+PLEASE READ OUT :1+:2
+DO GIVE UP
+",
             b"___\nXXXMMDCCLXIX\n      ________\nmmcxlvMMCDLXXXMMMDCXLIX\n",
             b"",
             b"",
         ),
         (
-            b"DO (1) NEXT\nDO READ OUT #1\nPLEASE GIVE UP\n(1) DO (2) NEXT\nDO READ OUT #3\n(2) DO RESUME #2\n",
+            b"DO (1) NEXT
+DO READ OUT #1
+PLEASE GIVE UP
+(1) DO (2) NEXT
+DO READ OUT #3
+(2) DO RESUME #2
+",
             b"\nI\n",
             b"",
             b"",
@@ -112,7 +130,16 @@ fn runs_sources(rt: HostRuntime) -> Result<(), Fail> {
             b"2",
         ),
         (
-            b"DO .1 <- #5\nDO STASH .1\nDO .1 <- #6\nDO IGNORE .1\nDO RETRIEVE .1\nPLEASE READ OUT .1\nDO REMEMBER .1\nDO RETRIEVE .1\nDO GIVE UP\n",
+            b"DO .1 <- #5
+DO STASH .1
+DO .1 <- #6
+DO IGNORE .1
+DO RETRIEVE .1
+PLEASE READ OUT .1
+DO REMEMBER .1
+DO RETRIEVE .1
+DO GIVE UP
+",
             b"\nVI\n",
             b"436I THROW STICK BEFORE RETRIEVING!",
             b"9",
@@ -125,7 +152,13 @@ fn runs_sources(rt: HostRuntime) -> Result<(), Fail> {
             b"2",
         ),
         (
-            b"DO ,1 <- #3\nDO ,1SUB#1 <- #238\nDO ,1SUB#2 <- #124\nDO ,1SUB#3 <- #70\nPLEASE READ OUT ,1\nDO GIVE UP\n",
+            b"DO ,1 <- #3
+DO ,1SUB#1 <- #238
+DO ,1SUB#2 <- #124
+DO ,1SUB#3 <- #70
+PLEASE READ OUT ,1
+DO GIVE UP
+",
             b"Hi\n",
             b"",
             b"",

@@ -34,10 +34,19 @@ fn lists_runs(rt: HostRuntime) {
             b"0 GIVE-UP \"\\nI\\n\"\n1 GIVE-UP \"\"\nDONE\n",
         ),
         (
-            b"DO %50 READ OUT #5\nDO %50 ABSTAIN FROM READING OUT\nPLEASE READ OUT #1\nDO GIVE UP\n",
+            b"DO %50 READ OUT #5
+DO %50 ABSTAIN FROM READING OUT
+PLEASE READ OUT #1
+DO GIVE UP
+",
             b"",
             "10000",
-            b"00 GIVE-UP \"\\nI\\n\"\n01 GIVE-UP \"\"\n10 GIVE-UP \"\\nV\\n\\nI\\n\"\n11 GIVE-UP \"\\nV\\n\"\nDONE\n",
+            b"00 GIVE-UP \"\\nI\\n\"
+01 GIVE-UP \"\"
+10 GIVE-UP \"\\nV\\n\\nI\\n\"
+11 GIVE-UP \"\\nV\\n\"
+DONE
+",
         ),
         (
             b"DO %0 READ OUT #1\nDO %100 READ OUT #2\nPLEASE GIVE UP\n",
@@ -70,7 +79,12 @@ fn lists_runs(rt: HostRuntime) {
             b"0 GIVE-UP \"\"\n1 GIVE-UP \"\"\nDONE\n",
         ),
         (
-            b"DO ,1 <- #1\nDO ,1SUB#1 <- #238\nDO %50 READ OUT ,1\nPLEASE READ OUT ,1\nDO GIVE UP\n",
+            b"DO ,1 <- #1
+DO ,1SUB#1 <- #238
+DO %50 READ OUT ,1
+PLEASE READ OUT ,1
+DO GIVE UP
+",
             b"",
             "10000",
             b"0 GIVE-UP \"H\"\n1 GIVE-UP \"H$\"\nDONE\n",

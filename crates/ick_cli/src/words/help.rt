@@ -51,7 +51,7 @@ Exit status:
   1   a fault of the run
   2   the source is refused
   3   the run was cut short, or wants a choice
-  4   a file, a stream or memory failed, or the input is too long
+  4   a file, a stream or memory failed
   64  the words ask for nothing
 
 Example:

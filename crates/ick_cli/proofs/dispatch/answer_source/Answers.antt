@@ -1,15 +1,18 @@
+use Rattle.std.proofs.Common.{arith, refl}
 use Rattle.ick_source.specs.Programs.{trees_of}
-use Rattle.ick_cli.proofs.Answered.{answered_program, answered_refusal, leaves_refused}
+use Rattle.ick_cli.proofs.Answered.{answered_program, answered_refusal, leaves_by}
 use Rattle.ick_cli.proofs.dispatch.answer_source.Goals as goal
 
 pub returns-in-Ok-clause-answer : goal.returns-in-Ok-clause-answer
 returns-in-Ok-clause-answer g c = λ reader_told writer_told.
-    answered_program c.args.plan.now _ _ (trees_of c.in-Ok.program) _ _ _ c.in-Ok.ensures.compiles c.in-Ok.ensures.only c.in-Ok.ensures.not_refused
+    answered_program c.args.plan.now _ _
+    (trees_of c.in-Ok.program) _ _ _ c.in-Ok.ensures.compiles c.in-Ok.ensures.only c.in-Ok.ensures.not_refused
     (c.answer_program.ensures.answer reader_told writer_told)
 
 pub returns-in-Err-Fault-clause-leaves : goal.returns-in-Err-Fault-clause-leaves
-returns-in-Err-Fault-clause-leaves g c = leaves_refused _ _ _ _ c.refuse.ensures
+returns-in-Err-Fault-clause-leaves g c = leaves_by 2 _ _ _ _ _ _ (omega arith) c.refuse.ensures refl refl
 
 pub returns-in-Err-Fault-clause-answer : goal.returns-in-Err-Fault-clause-answer
 returns-in-Err-Fault-clause-answer g c = λ reader_told writer_told.
-    answered_refusal c.args.plan.now _ _ _ _ _ _ (rw c.in-Err-Fault.field-0-is at c.in-Err-Fault.ensures.refused) c.refuse.ensures
+    answered_refusal c.args.plan.now _ _ _ _ _ _
+    (rw c.in-Err-Fault.field-0-is at c.in-Err-Fault.ensures.refused) c.refuse.ensures

@@ -17,7 +17,8 @@ returns-in-Some-clause-answer g c = λ files_told reader_told writer_told answer
     let task = task_of c.args.job.now.subcommand in
     c.perform_on_file.ensures.answer files_told reader_told writer_told answer
     (answer_planned task c.in-Ok.plan _ _ answer c.in-Ok.ensures.ok
-    (file_named task _ c.in-Some.name.now (g.F.Files.named c.args.files.now) _ _ (g.R.ByteSource.left c.args.reader.now) answer (given_some _ _ _ c.in-Some.is) is))
+    (file_named task _ c.in-Some.name.now (g.F.Files.named c.args.files.now) _ _
+    (g.R.ByteSource.left c.args.reader.now) answer (given_some _ _ _ c.in-Some.is) is))
 
 pub returns-clause-unplanned : goal.returns-clause-unplanned
 returns-clause-unplanned g c = λ line h. absurd (planned_not_unplanned _ c.in-Ok.plan line c.in-Ok.ensures.ok h)

@@ -1,4 +1,5 @@
-use Rattle.std.proofs.Common.{◌≡◌, ◌∙◌, List, ℕ, Result, Ok, Err, if◌then◌else◌, false, refl, arith, subst, sym, is_ok, take}
+use Rattle.std.proofs.Common.{◌≡◌, ◌∙◌, List, ℕ, Result, Ok, Err, if◌then◌else◌, false, refl, arith, subst, sym, is_ok}
+use Rattle.std.proofs.Common.{take}
 use Rattle.std.specs.Prelude.{IfOk, is_err}
 use Rattle.ick_cli.specs.Tool.{IsSourceAnswer}
 use Rattle.ick_cli.specs.declared.dispatch.TheConstants.{MOST_READ}
@@ -25,7 +26,8 @@ returns-in-Ok-clause-answer g c = λ files_told reader_told writer_told answer i
     let steady : g.F.ByteSource.failed c.read_first.new.source ≡ g.F.ByteSource.failed files =
     omega (arith, c.in-Ok.ensures.count, c.open_named.ensures.count) in
     c.answer_source.ensures.answer reader_told writer_told answer
-    (subst (λ (source : List ℕ). IsSourceAnswer plan source input answer) (sym (c.as_slice.ensures.value ∙ c.in-Ok.ensures.front files_told))
+    (subst (λ (source : List ℕ). IsSourceAnswer plan source input answer)
+    (sym (c.as_slice.ensures.value ∙ c.in-Ok.ensures.front files_told))
     (subst (λ (left : List ℕ). IsSourceAnswer plan (take MOST_READ left) input answer) (sym opened)
     (answer_of_front plan MOST_READ (g.F.Files.named files c.args.name.now) input (omega arith) answer
     (read_source_of plan (g.F.Files.named files c.args.name.now) input _ _ steady answer is))))

@@ -34,7 +34,8 @@ returns-in-Ok-clause-job g c = λ has_job files_told reader_told writer_told.
     let source = λ (job : Asked). source_of job.file (g.F.Files.named c.args.files.now)
     (g.F.ByteSource.failed c.args.files.now) (g.F.ByteSource.failed c.perform-ending.new.files) left in
     let found = tool_answer _ _ _ in
-    let asks = subst (λ (job : Asked). IsToolAnswer job.task (source job) (input_of job.file left) found.0) (sym c.in-Ok.ensures.job) found.1 in
+    let asks = subst (λ (job : Asked). IsToolAnswer job.task (source job) (input_of job.file left) found.0)
+    (sym c.in-Ok.ensures.job) found.1 in
     let work = c.perform-ending.ensures in (
       found.0,
       found.1,
@@ -48,7 +49,8 @@ returns-in-Ok-clause-job g c = λ has_job files_told reader_told writer_told.
     )
 
 pub returns-in-Ok-clause-said : goal.returns-in-Ok-clause-said
-returns-in-Ok-clause-said g c = (_, _, due c.perform-ending.result _ _ _ _ _ _ c.perform-ending.ensures.leaves, c.report.ensures)
+returns-in-Ok-clause-said g c =
+    (_, _, due c.perform-ending.result _ _ _ _ _ _ c.perform-ending.ensures.leaves, c.report.ensures)
 
 pub returns-in-Ok-clause-failed : goal.returns-in-Ok-clause-failed
 returns-in-Ok-clause-failed g c = failed_due _ _ _ _ _ _ _ _ (returns-in-Ok-clause-said g c)

@@ -9,7 +9,8 @@ all_of_front most front whole is short =
     let size = ap (λ (t : List ℕ). length t) is ∙ length-take (most + 1) whole in
     is ∙ take_all (most + 1) whole (omega arith)
 
-more_behind : (most : ℕ) (front whole : List ℕ) → front ≡ take (most + 1) whole → most < length front → most < length whole
+more_behind : (most : ℕ) (front whole : List ℕ) → front ≡ take (most + 1) whole → most < length front
+    → most < length whole
 more_behind most front whole is long =
     let size = ap (λ (t : List ℕ). length t) is ∙ length-take (most + 1) whole in omega arith
 

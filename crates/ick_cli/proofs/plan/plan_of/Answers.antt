@@ -1,6 +1,7 @@
 use Rattle.std.proofs.Common.{subst, sym}
 use Rattle.ick_cli.specs.Job.{task_of}
-use Rattle.ick_cli.specs.Plan.{EndsByLine, IsPlanned, IsUnplanned, check_planned, from_unread, list_planned, runs_planned}
+use Rattle.ick_cli.specs.Plan.{EndsByLine, IsPlanned, IsUnplanned, check_planned, from_unread, list_planned}
+use Rattle.ick_cli.specs.Plan.{runs_planned}
 use Rattle.ick_cli.specs.declared.plan.Plan.TheVariants.{Check, List as ListStatements, Execute}
 use Rattle.ick_cli.specs.declared.plan.Runs.TheVariants.{Listed}
 use Rattle.ick_cli.specs.declared.words.job.Subcommand.{Subcommand}
@@ -11,11 +12,13 @@ pub returns-in-Check-clause-ok : goal.returns-in-Check-clause-ok
 returns-in-Check-clause-ok c = subst (λ (s : Subcommand). IsPlanned (task_of s) Check) (sym c.in-Check.is) check_planned
 
 pub returns-in-List-clause-ok : goal.returns-in-List-clause-ok
-returns-in-List-clause-ok c = subst (λ (s : Subcommand). IsPlanned (task_of s) ListStatements) (sym c.in-List.is) list_planned
+returns-in-List-clause-ok c =
+    subst (λ (s : Subcommand). IsPlanned (task_of s) ListStatements) (sym c.in-List.is) list_planned
 
 pub returns-in-Ok-clause-ok : goal.returns-in-Ok-clause-ok
 returns-in-Ok-clause-ok c =
-    subst (λ (s : Subcommand). IsPlanned (task_of s) (Execute (Listed c.in-Ok.from c.in-Runs.count c.in-Runs.limit))) (sym c.in-Runs.is)
+    subst (λ (s : Subcommand). IsPlanned (task_of s) (Execute (Listed c.in-Ok.from c.in-Runs.count c.in-Runs.limit)))
+    (sym c.in-Runs.is)
     (runs_planned _ c.in-Runs.count c.in-Runs.limit c.in-Ok.from c.in-Ok.ensures.ok)
 
 pub returns-in-Err-clause-err : goal.returns-in-Err-clause-err

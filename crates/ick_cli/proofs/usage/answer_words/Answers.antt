@@ -5,11 +5,13 @@ use Rattle.ick_cli.proofs.usage.answer_words.Given.{Over}
 use Rattle.ick_cli.proofs.usage.answer_words.Goals as goal
 
 -- a text that was written whole left the count of failures
-steady : (g : Over) (c : goal.After-drop-text-in-Ok-write_whole g) → g.W.ByteSink.failed c.write_whole.new.sink ≡ g.W.ByteSink.failed c.args.writer.now
+steady : (g : Over) (c : goal.After-drop-text-in-Ok-write_whole g)
+    → g.W.ByteSink.failed c.write_whole.new.sink ≡ g.W.ByteSink.failed c.args.writer.now
 steady g c = omega (arith, c.in-Ok-write_whole.ensures.count)
 
 -- what was written of a text
-cut : (before after text : List ℕ) (most : ℕ) → (n : ℕ) × (n ≤ most) × (after ≡ before ++ take n text) → (n : ℕ) × (after ≡ before ++ take n text)
+cut : (before after text : List ℕ) (most : ℕ) → (n : ℕ) × (n ≤ most) × (after ≡ before ++ take n text)
+    → (n : ℕ) × (after ≡ before ++ take n text)
 cut before after text most h = (h.0, h.2)
 
 pub returns-then-eq-clause-usage : goal.returns-then-eq-clause-usage
@@ -38,11 +40,24 @@ returns-in-Ok-write_whole-clause-help g c = λ request.
     (_, _, helped _ (steady g c) c.in-Ok-write_whole.ensures.all, c.finish-in-Ok-write_whole.ensures)
 
 pub returns-in-Ok-write_whole-clause-said : goal.returns-in-Ok-write_whole-clause-said
-returns-in-Ok-write_whole-clause-said g c = λ files reads.
-    (_, _, nothing_failed [] 0 (ap (counts files reads) (steady g c)) (inl (omega arith)), c.finish-in-Ok-write_whole.ensures)
+returns-in-Ok-write_whole-clause-said g c = λ files reads. (
+  _,
+  _,
+  nothing_failed [] 0 (ap (counts files reads) (steady g c))
+      (inl (omega arith)),
+  c.finish-in-Ok-write_whole.ensures,
+)
 
 pub returns-clause-help : goal.returns-clause-help
-returns-clause-help g c = λ request. (_, _, help_cut _ c.in-Err.ensures.count (λ told. cut _ _ _ _ (c.in-Err.ensures.beginning told)), c.report-in-Err.ensures)
+returns-clause-help g c =
+    λ request. (
+      _,
+      _,
+      help_cut _ c.in-Err.ensures.count
+          (λ told. cut _ _ _ _ (c.in-Err.ensures.beginning told)),
+      c.report-in-Err.ensures,
+    )
 
 pub returns-clause-said : goal.returns-clause-said
-returns-clause-said g c = λ files reads. (_, _, write_failed (ap (counts files reads) c.in-Err.ensures.count), c.report-in-Err.ensures)
+returns-clause-said g c =
+    λ files reads. (_, _, write_failed (ap (counts files reads) c.in-Err.ensures.count), c.report-in-Err.ensures)

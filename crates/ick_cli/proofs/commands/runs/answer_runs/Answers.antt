@@ -1,10 +1,14 @@
 use Rattle.ick_code.specs.Compiled.{code_program}
-use Rattle.ick_cli.proofs.Executed.{listed_answer}
-use Rattle.ick_cli.proofs.Listed.{answer_from}
+use Rattle.ick_cli.proofs.Executed.{answered_unread, listed_over}
 use Rattle.ick_cli.proofs.commands.runs.answer_runs.Goals as goal
 
 pub returns-in-Ok-clause-answer : goal.returns-in-Ok-clause-answer
-returns-in-Ok-clause-answer g c = λ told answer is.
-    c.list_runs.ensures.answer told answer
-    (answer_from _ _ c.args.limit c.args.count c.args.from.now answer c.in-Ok.ensures
-    (listed_answer (code_program c.args.code.now) c.args.input.now c.args.from.now c.args.count c.args.limit answer is))
+returns-in-Ok-clause-answer g c = λ reader_told writer_told answer is.
+    c.list_over.ensures.answer writer_told answer
+    (listed_over (code_program c.args.code.now) _ c.in-Ok.input.items _ c.args.from.now c.args.count c.args.limit answer
+    c.as_slice.ensures.value (c.in-Ok.ensures.whole reader_told) c.in-Ok.ensures.fits is)
+
+pub returns-in-Err-clause-answer : goal.returns-in-Err-clause-answer
+returns-in-Err-clause-answer g c = λ reader_told writer_told.
+    answered_unread (code_program c.args.code.now) _ c.args.from.now c.args.count c.args.limit _ _
+    (c.in-Err.ensures.unread reader_told)

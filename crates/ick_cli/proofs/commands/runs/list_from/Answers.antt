@@ -11,7 +11,7 @@ returns-clause-answer g c = λ told s stands answer is.
     let new = explored c.write_runs.new.explorer in
     let before = g.W.ByteSink.written c.args.writer.now in
     let after = g.W.ByteSink.written c.write_runs.new.writer in
-    subst (λ (e : Ending). Answers answer e before after) (sym c.cut_ending.ensures)
+    subst (λ (e : Ending). Answers answer e before after) (sym c.refused.ensures)
     (wrote_cut g.W.ByteSink.told s c.args.count old new before after c.in-Err.error answer told
     (λ full. c.write_runs.ensures.enough (c.in-Err.is ∙ ap (λ e. Err e) full))
     c.requires.small c.ranges.count.fits c.requires.fresh (λ cs listing. c.in-Err.ensures.listing s cs stands listing)
