@@ -1,0 +1,98 @@
+#!/usr/bin/env python3
+"""Measures how long lines and numerals take: programs that read a line or print a numeral, or do both, 1,048,576 times,
+by the built program's `ick run`.
+
+  streams.py [PROGRAM]
+
+It needs the built program (a call of ./ick builds it), Python 3.8 and Linux. Where C-INTERCAL is installed (Debian's
+package `intercal`, whose compiler is called `ick` too), its compiled programs are measured beside, in the same rounds,
+without and with its optimiser (-O).
+
+Each is measured with files as standard input and output, and with pipes: the least processor time of five rounds, and
+what of it the system took. Nothing is judged.
+"""
+import os
+import subprocess
+import sys
+import tempfile
+
+from steps import commands
+from workloads import program
+
+HERE = os.path.dirname(os.path.realpath(__file__))
+ROUNDS = 5
+DEPTH = 5
+TURNS = 16 ** DEPTH
+LINE = b"ONE NINE SEVEN TWO\n"
+PROGRAMS = {
+    "lines in": program(DEPTH, ["WRITE IN .1"]),
+    "numerals out": program(DEPTH, ["READ OUT .1"], [(None, ".1 <- #1972")]),
+    "lines in, numerals out": program(DEPTH, ["WRITE IN .1", "READ OUT .1"]),
+}
+
+
+def seconds(words, source, target):
+    """The processor time of a command from a stream to a stream, and what of it the system took."""
+    child = subprocess.Popen(words, stdin=source, stdout=target)
+    _, status, usage = os.wait4(child.pid, 0)
+    child.returncode = status
+    if status:
+        sys.exit(f"streams.py: {words} ends with {status}")
+    return usage.ru_utime + usage.ru_stime, usage.ru_stime
+
+
+def over_files(words, lines):
+    with open(lines, "rb") as source, tempfile.TemporaryFile() as target:
+        return seconds(words, source, target)
+
+
+def over_pipes(words, lines):
+    feeder = subprocess.Popen(["cat", lines], stdout=subprocess.PIPE)
+    drain = subprocess.Popen(["cat"], stdin=subprocess.PIPE, stdout=subprocess.DEVNULL)
+    with feeder, drain:
+        found = seconds(words, feeder.stdout, drain.stdin)
+        feeder.stdout.close()
+        drain.stdin.close()
+    return found
+
+
+def least(table, over, lines):
+    """The least time of each command, where each round does all of them."""
+    rounds = [{name: over(words, lines) for name, words in table.items()} for _ in range(ROUNDS)]
+    return {name: min(it[name] for it in rounds) for name in table}
+
+
+def main():
+    built = os.path.abspath(sys.argv[1] if len(sys.argv) == 2 else os.path.join(HERE, "../crates/ick/out/ick"))
+    if len(sys.argv) > 2 or sys.argv[1:] in (["-h"], ["--help"]):
+        sys.exit(__doc__)
+    if not os.access(built, os.X_OK) or os.path.isdir(built):
+        sys.exit(f"streams.py: {built} is no program that can be run: a call of ./ick builds ick")
+    compiler = "/usr/bin/ick" if os.access("/usr/bin/ick", os.X_OK) else None
+    with tempfile.TemporaryDirectory() as folder:
+        lines = os.path.join(folder, "lines")
+        with open(lines, "wb") as file:
+            file.write(LINE * TURNS)
+        heading = None
+        for name, text in PROGRAMS.items():
+            source = os.path.join(folder, name.replace(" ", "-").replace(",", "") + ".i")
+            with open(source, "w", encoding="ascii") as file:
+                file.write(text)
+            table = commands(built, compiler, source, folder)
+            if heading is None:
+                heading = list(table)
+                print("| Program | over | " + " | ".join(f"{it}, ms | system" for it in heading) + " |")
+                print("|---|---|" + "---|" * 2 * len(heading))
+            for over, kind in ((over_files, "files"), (over_pipes, "pipes")):
+                best = least(table, over, lines)
+                row = [f"{part * 1000:.0f}" for it in heading for part in best.get(it, ())]
+                print(f"| {name} | {kind} | " + " | ".join(row) + " |", flush=True)
+
+
+if __name__ == "__main__":
+    try:
+        main()
+    except OSError as error:
+        sys.exit(f"streams.py: {error}")
+    except KeyboardInterrupt:
+        sys.exit(130)
