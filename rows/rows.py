@@ -8,9 +8,8 @@ nothing. The last line is 'N passed, M failed', counting runs of the program.
 """
 import os
 import subprocess
-import sys
-import tempfile
 
+from checks import Checks, entered, make
 from language import RUN, RUNS
 from large import large
 from table import FAULTS, PLAIN, PRINTS, SOURCE, SWEPT, Answer, Given
@@ -18,30 +17,14 @@ from table import FAULTS, PLAIN, PRINTS, SOURCE, SWEPT, Answer, Given
 SECONDS = 60
 
 
-class Rows:
-    def __init__(self, program, folder):
-        self.program, self.folder = os.path.abspath(program), folder
-        self.passed, self.failed = 0, 0
-
-    def answer(self, given, **streams):
-        """What the program leaves; streams are those of the system, in place of pipes."""
-        with open(os.path.join(self.folder, "source"), "wb") as file:
-            file.write(given.source)
-        words = ["source" if word == "FILE" else word for word in given.words]
-        entered = given.source if given.entered is SOURCE else given.entered
+class Rows(Checks):
+    def row(self, given, wanted, **streams):
+        """Checks what the program leaves; streams are those of the system, in place of pipes."""
         used = {"stdout": subprocess.PIPE, "stderr": subprocess.PIPE, **streams}
         if "stdin" not in used:
-            used["input"] = entered
-        done = subprocess.run([self.program, *words], cwd=self.folder, timeout=SECONDS, **used)
-        return Answer(done.returncode, done.stdout, done.stderr)
-
-    def row(self, given, wanted, **streams):
-        found = self.answer(given, **streams)
-        if found == wanted:
-            self.passed += 1
-        else:
-            self.failed += 1
-            print(f"{given.name}: {str(found)[:1000]}, and not {str(wanted)[:1000]}")
+            used["input"] = entered(given)
+        done = subprocess.run(self.command(given), cwd=self.folder, timeout=SECONDS, **used)
+        self.check(given.name, Answer(done.returncode, done.stdout, done.stderr), wanted)
 
     def streams(self):
         """Streams that take or give nothing."""
@@ -62,22 +45,15 @@ class Rows:
         with open(os.devnull, "wb") as unread:
             self.row(prints, Answer(4, b"", b"READ FAILED\n"), stdin=unread)
 
-
-def main():
-    if len(sys.argv) != 2:
-        sys.exit(__doc__)
-    with tempfile.TemporaryDirectory() as folder:
-        rows = Rows(sys.argv[1], folder)
+    def all(self):
         for given, wanted in SWEPT + PLAIN + RUN + RUNS:
-            rows.row(given, wanted)
+            self.row(given, wanted)
         source, listing, printed = large()
-        rows.row(Given("large, listed", ["list", "FILE"], source, b""), Answer(0, listing, b""))
-        rows.row(Given("large, listed from standard input", ["list"], source, SOURCE), Answer(0, listing, b""))
-        rows.row(Given("large, run", ["run", "FILE"], source, b""), Answer(0, printed, b""))
-        rows.streams()
-    print(f"{rows.passed} passed, {rows.failed} failed")
-    return 1 if rows.failed else 0
+        self.row(Given("large, listed", ["list", "FILE"], source, b""), Answer(0, listing, b""))
+        self.row(Given("large, listed from standard input", ["list"], source, SOURCE), Answer(0, listing, b""))
+        self.row(Given("large, run", ["run", "FILE"], source, b""), Answer(0, printed, b""))
+        self.streams()
 
 
 if __name__ == "__main__":
-    sys.exit(main())
+    make(Rows, __doc__)

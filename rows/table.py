@@ -27,6 +27,16 @@ LISTED_RUNS = b"""0 E633@2 "\\nI\\n"
 DONE
 """
 ECHOES = b"DO WRITE IN .1\nPLEASE READ OUT .1\nDO GIVE UP\n"
+TALKS = b"""DO READ OUT #1
+DO %50 WRITE IN .1
+PLEASE READ OUT .1
+DO ,1 <- #2
+DO WRITE IN ,1 + .2
+PLEASE READ OUT ,1SUB#1 + ,1SUB#2 + .2
+DO GIVE UP
+"""
+TALKED = b"\nI\n\nVI\n\nLXV\n\nI\n\nIX\n"
+ENTERED = b"SIX\nABoh NINER\nTWO\n"
 REFUSED = b"DO READ OUT #70000\nPLEASE GIVE UP\n"
 REFUSAL = Answer(2, b"", message(17, "DO YOU EXPECT ME TO FIGURE THIS OUT?", 2))
 LOST = b"(1) DO (2) NEXT\nPLEASE GIVE UP\n"
@@ -109,6 +119,10 @@ SWEPT = [
     (Given("cut short", ["run", "--limit", "1", "FILE"], PRINTS, b""),
      Answer(3, b"\nI\n", b"LIMIT REACHED AFTER 1 STEPS\n")),
     (Given("reads a line", ["run", "FILE"], ECHOES, b"ONE OH\n"), Answer(0, b"\nX\n", b"")),
+    (Given("talks", ["run", "--choices", "1", "FILE"], TALKS, ENTERED), Answer(0, TALKED, b"")),
+    (Given("talks, with a seed", ["run", "--seed", "1", "FILE"], TALKS, ENTERED), Answer(0, TALKED, b"")),
+    (Given("talks, and is told no digit", ["run", "--choices", "1", "FILE"], TALKS, b"SIX\nABTEN\nTWO\n"),
+     Answer(1, b"\nI\n\nVI\n", message(579, "WHAT BASE AND/OR LANGUAGE INCLUDES TEN?", 6))),
     (Given("runs", ["runs", "FILE"], CHANCES, b""), Answer(0, LISTED_RUNS, b"")),
     (Given("runs after one", ["runs", "--from", "0"], CHANCES, SOURCE),
      Answer(0, b'1 GIVE-UP "\\nI\\n"\nDONE\n', b"")),
@@ -132,9 +146,11 @@ PLAIN = [
      Answer(64, b"", b"CHOICES AND SEED TOGETHER\n")),
     (Given("no cursor", ["runs", "--from", "2", "no-such-file"], b"", b""), Answer(64, b"", b"BAD CURSOR\n")),
     (Given("no run", ["runs", "--from", "01", "FILE"], CHANCES, b""), Answer(64, b"", b"NO SUCH RUN\n")),
-    (Given("input one byte too long", ["run", "FILE"], ECHOES, b"\n" * (LONGEST + 1)),
+    (Given("input one byte too long for a listing", ["runs", "FILE"], ECHOES, b"\n" * (LONGEST + 1)),
      Answer(4, b"", b"INPUT TOO LONG\n")),
-    (Given("the longest input", ["run", "FILE"], ECHOES, b"\n" * LONGEST), Answer(0, b"_\n\n", b"")),
+    (Given("the longest input of a listing", ["runs", "FILE"], ECHOES, b"\n" * LONGEST),
+     Answer(0, b'- GIVE-UP "_\\n\\n"\nDONE\n', b"")),
+    (Given("a longer input of a run", ["run", "FILE"], ECHOES, b"\n" * (LONGEST + 1)), Answer(0, b"_\n\n", b"")),
     (Given("standard input beside FILE", ["run", "FILE"], PRINTS, REFUSED), Answer(0, PRINTED, b"")),
     (Given("a third word", ["check", "FILE", "extra"], PRINTS, b""), Answer(64, b"", USAGE_OF_CHECK)),
     (Given("a fourth word", ["check", "FILE", "extra", "more"], PRINTS, b""), Answer(64, b"", USAGE_OF_CHECK)),
