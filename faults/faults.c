@@ -2,7 +2,7 @@
  *
  *   FAULT      which kind of call: alloc, open, read, write; or read-interrupted, write-interrupted (by a signal),
  *              write-broken (a pipe that nobody reads); or short-read, short-write, which move one byte in place of
- *              many
+ *              many; or seek
  *   FAULT_AT   N, counted from 1: which call of that kind (0 or absent: none)
  *   FAULT_TO   one (or absent): the Nth call alone; all: the Nth and each later one
  *   FAULT_LOG  a file that afterwards holds "calls=C failed=F errors=E": the calls of that kind, those that failed,
@@ -20,10 +20,10 @@
 #include <sys/syscall.h>
 #include <unistd.h>
 
-enum kind { NONE, ALLOC, OPEN, READ, WRITE, READ_INTERRUPTED, WRITE_INTERRUPTED, WRITE_BROKEN, SHORT_READ, SHORT_WRITE, KINDS };
+enum kind { NONE, ALLOC, OPEN, READ, WRITE, READ_INTERRUPTED, WRITE_INTERRUPTED, WRITE_BROKEN, SHORT_READ, SHORT_WRITE, SEEK, KINDS };
 
 static const char *const names[KINDS] = {"", "alloc", "open", "read", "write", "read-interrupted", "write-interrupted",
-                                         "write-broken", "short-read", "short-write"};
+                                         "write-broken", "short-read", "short-write", "seek"};
 
 static enum kind wanted;
 static int and_later;
@@ -89,6 +89,12 @@ ssize_t read(int file, void *target, size_t size) {
     if (size > 1 && fails(SHORT_READ))
         size = 1;
     return syscall(SYS_read, file, target, size);
+}
+
+off_t lseek(int file, off_t offset, int whence) {
+    if (fails(SEEK))
+        return errno = ESPIPE, -1;
+    return syscall(SYS_lseek, file, offset, whence);
 }
 
 static ssize_t not_written(int file, int why) {

@@ -4,19 +4,20 @@
   sweep.py PROGRAM
 
 For each row of ../rows/table.py that is swept and each kind of failure, the program runs once with nothing failing,
-and then once for each N with its Nth call of that kind failing, until a run comes to its end with no call failed. A
-run in which nothing failed has to leave the row's answer. Each of the others has to end by itself with an answer that
-the table of exit statuses allows:
+and then once for each N with its Nth call of that kind failing, until a run comes to its end with no call failed. What
+a row enters comes from a pipe, and then all of it again from a file. A run in which nothing failed has to leave the
+row's answer. Each of the others has to end by itself with an answer that the table of exit statuses allows:
 
   alloc        status 4 and OUT OF MEMORY alone on standard error; the output is a beginning of the row's.
                Where one request alone is refused, the row's answer too: the standard library's collect and extend
                ask for less room when they are refused the room that they were told of
   open, read   status 4 and FILE NOT READ where the row names a file, or READ FAILED where standard input is read,
-               which for `run` and `runs` it is in any case, alone; no output
+               which for `run` and `runs` it is in any case, alone; the output is a beginning of the row's
   write        status 4; the output is a beginning of the row's, and WRITE FAILED alone; or, where it was standard
                error that failed, all of the output, and a beginning of the row's error text
   short-read   the row's answer
   short-write  the row's answer
+  seek         the row's answer: what can't be read ahead is read byte by byte
 
 A read or a write that a signal interrupts has failed, and so has a write to a pipe that nobody reads. A line is
 printed for each row and kind; the last line is 'N passed, M failed', counting runs of the program.
@@ -25,32 +26,37 @@ import collections
 import os
 import subprocess
 import sys
-import tempfile
 
 HERE = os.path.dirname(os.path.realpath(__file__))
 sys.path.insert(0, os.path.join(HERE, "..", "rows"))
-from table import SOURCE, SWEPT, Answer  # noqa: E402
+from checks import Checks, entered, make  # noqa: E402
+from table import SWEPT, Answer  # noqa: E402
 
 KINDS = [("alloc", "all"), ("alloc", "one"), ("open", "one"), ("read", "one"), ("read-interrupted", "one"),
          ("write", "one"), ("write-interrupted", "one"), ("write-broken", "one"), ("short-read", "one"),
-         ("short-write", "one")]
+         ("short-write", "one"), ("seek", "one")]
+PIPE, FILE = "from a pipe", "from a file"
 MOST = 20_000
 SECONDS = 60
 
 
-class Sweep:
-    def __init__(self, program, library, folder):
-        self.program, self.library, self.folder = os.path.abspath(program), library, folder
-        self.passed, self.failed = 0, 0
+class Sweep(Checks):
+    def __init__(self, program, folder):
+        super().__init__(program, folder)
+        self.library, self.input = (os.path.join(folder, name) for name in ("faults.so", "input"))
+        subprocess.run([os.environ.get("CC", "cc"), "-O1", "-Wall", "-shared", "-fPIC", "-o", self.library,
+                        os.path.join(HERE, "faults.c")], check=True)
 
-    def answer(self, given, kind, to, at):
+    def answer(self, given, form, kind, to, at):
         """What one run leaves, and how many calls failed in it, and how many of them on standard error."""
         log = os.path.join(self.folder, "log")
         env = {"LD_PRELOAD": self.library, "FAULT": kind, "FAULT_AT": str(at), "FAULT_TO": to, "FAULT_LOG": log}
-        words = ["source" if word == "FILE" else word for word in given.words]
-        entered = given.source if given.entered is SOURCE else given.entered
-        done = subprocess.run([self.program, *words], input=entered, env=env, cwd=self.folder, capture_output=True,
-                              timeout=SECONDS)
+        used = {"env": env, "cwd": self.folder, "capture_output": True, "timeout": SECONDS}
+        if form is PIPE:
+            done = subprocess.run(self.command(given), input=entered(given), **used)
+        else:
+            with open(self.input, "rb") as file:
+                done = subprocess.run(self.command(given), stdin=file, **used)
         found = Answer(done.returncode, done.stdout, done.stderr)
         try:
             with open(log, encoding="ascii") as file:
@@ -60,10 +66,10 @@ class Sweep:
             return found, None, None
         return found, int(counts["failed"]), int(counts["errors"])
 
-    def sweep(self, given, wanted, kind, to):
+    def sweep(self, given, wanted, form, kind, to):
         tally, mistakes = collections.Counter(), []
         for at in range(MOST):
-            found, failed, on_errors = self.answer(given, kind, to, at)
+            found, failed, on_errors = self.answer(given, form, kind, to, at)
             if failed is None:
                 wrong = "crashed"
             elif failed == 0:
@@ -81,9 +87,17 @@ class Sweep:
             mistakes.append(f"    no end after {MOST} runs")
         self.failed += len(mistakes)
         summary = "; ".join(f"{count} x {answer}" for answer, count in sorted(tally.items())) or "no such call"
-        print(f"{given.name}, {kind} ({to}): {summary}")
+        print(f"{given.name}, {form}, {kind} ({to}): {summary}")
         for line in mistakes:
             print(line)
+
+    def all(self):
+        for given, wanted in SWEPT:
+            with open(self.input, "wb") as file:
+                file.write(entered(given))
+            for form in (PIPE, FILE) if entered(given) else (PIPE,):
+                for kind, to in KINDS:
+                    self.sweep(given, wanted, form, kind, to)
 
 
 def notices(given, kind):
@@ -102,9 +116,10 @@ def notices(given, kind):
 
 def mistake(given, kind, to, on_errors, found, wanted):
     """What is wrong with the answer of a run in which a call failed, or None."""
-    if found == wanted and (kind.startswith("short") or (kind == "alloc" and to == "one")):
+    harmless = kind.startswith("short") or kind == "seek"
+    if found == wanted and (harmless or (kind == "alloc" and to == "one")):
         return None
-    if kind.startswith("short"):
+    if harmless:
         return "another answer"
     if found.status != 4:
         return f"status {found.status}"
@@ -114,27 +129,8 @@ def mistake(given, kind, to, on_errors, found, wanted):
         return None if found.output == wanted.output else "another output"
     if found.errors not in notices(given, kind):
         return "error text"
-    if kind == "open" or kind.startswith("read"):
-        return "output" if found.output else None
     return None if wanted.output.startswith(found.output) else "the output is no beginning of the row's"
 
 
-def main():
-    if len(sys.argv) != 2:
-        sys.exit(__doc__)
-    with tempfile.TemporaryDirectory() as folder:
-        library = os.path.join(folder, "faults.so")
-        subprocess.run([os.environ.get("CC", "cc"), "-O1", "-Wall", "-shared", "-fPIC", "-o", library,
-                        os.path.join(HERE, "faults.c")], check=True)
-        sweep = Sweep(sys.argv[1], library, folder)
-        for given, wanted in SWEPT:
-            with open(os.path.join(folder, "source"), "wb") as file:
-                file.write(given.source)
-            for kind, to in KINDS:
-                sweep.sweep(given, wanted, kind, to)
-    print(f"{sweep.passed} passed, {sweep.failed} failed")
-    return 1 if sweep.failed else 0
-
-
 if __name__ == "__main__":
-    sys.exit(main())
+    make(Sweep, __doc__)
