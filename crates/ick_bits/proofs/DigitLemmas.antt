@@ -1,5 +1,8 @@
 -- A line one place further, and its answer.
-use Rattle.std.proofs.Common.{◌≡◌, ℕ, zero, suc, ◌+◌, ◌-◌, ◌*◌, ◌<◌, ◌≤◌, List, [], ◌∷◌, ◌++◌, length, map, refl, ap, arith, ◌∙◌, Bool, true, false, min, Option, None, Some, Ok, Err, drop, ◌⊎◌, inl, inr, length-take, length-drop, append-nil, cond, get_or, Bor, ◌&&◌, drop-cons}
+use Rattle.std.proofs.Common.{◌≡◌, ℕ, zero, suc, ◌+◌, ◌-◌, ◌*◌, ◌<◌, ◌≤◌, List, []}
+use Rattle.std.proofs.Common.{◌∷◌, ◌++◌, length, map, refl, ap, arith, ◌∙◌, Bool, true, false, min}
+use Rattle.std.proofs.Common.{Option, None, Some, Ok, Err, drop, ◌⊎◌, inl, inr, length-take, length-drop}
+use Rattle.std.proofs.Common.{append-nil, cond, get_or, Bor, ◌&&◌, drop-cons}
 use Rattle.std.specs.Prelude.{is_none, unwrap_or, nat_lt, not, slice_range}
 use Rattle.std.specs.List.{filter, find, range_with_len, position_or_len}
 use Rattle.std.specs.Int.Digits.{number_from_digits}
@@ -12,13 +15,16 @@ use Rattle.std.proofs.lemmas.Bool.Decides.{nat_tests}
 use Rattle.ick_bits.specs.declared.digits.DigitFault.TheVariants.{Word, TooLarge}
 use Rattle.std.specs.Str.{str_eq_ignore_ascii_case}
 use Rattle.ick_bits.specs.White.{is_white_byte}
-use Rattle.ick_bits.specs.Digits.{begins_word, word_at, digit_in, digit_at, beginnings, first_unknown, number_of_words, line_answer}
+use Rattle.ick_bits.specs.Digits.{begins_word, word_at, digit_in, digit_at, beginnings, first_unknown, number_of_words}
+use Rattle.ick_bits.specs.Digits.{line_answer}
 
 -- a word has a byte at least
-pub ink_first : (line : List ℕ) (i : ℕ) → i < length line → begins_word line i ≡ true → 0 < position_or_len is_white_byte (drop i line)
+pub ink_first : (line : List ℕ) (i : ℕ) → i < length line → begins_word line i ≡ true →
+    0 < position_or_len is_white_byte (drop i line)
 unfolding begins_word
 ink_first line i l h =
-    let ink : is_white_byte (get_or line i 0) ≡ false = not-true (is_white_byte (get_or line i 0)) (and_parts (not (is_white_byte (get_or line i 0))) _ h).0 in
+    let ink : is_white_byte (get_or line i 0) ≡ false =
+    not-true (is_white_byte (get_or line i 0)) (and_parts (not (is_white_byte (get_or line i 0))) _ h).0 in
     rw (drop-cons line i 0 l, ink) (omega arith)
 
 -- what a loop has seen of the positions below n
@@ -33,85 +39,114 @@ number_below line n = number_from_digits 10 (map (λ i. unwrap_or (digit_at line
 
 range-more : (a n j : ℕ) → a + n ≡ j → range_with_len a (n + 1) ≡ range_with_len a n ++ j ∷ []
 range-more a zero j e = let h : a ≡ j = omega arith in rw h refl
-range-more a (suc n) j e = let h = range-more (a + 1) n j (omega arith) in let k : suc n + 1 ≡ suc (n + 1) = omega arith in rw k (ap (λ xs. a ∷ xs) h)
+range-more a (suc n) j e = let h = range-more (a + 1) n j (omega arith) in
+    let k : suc n + 1 ≡ suc (n + 1) = omega arith in rw k (ap (λ xs. a ∷ xs) h)
 
 -- up to the first white byte, by position
 at-most : (p : ℕ → Bool) (xs : List ℕ) → position_or_len p xs ≤ length xs
 at-most p [] = omega arith
-at-most p (x ∷ xs) = let ih = at-most p xs in elim (p x) as (λ b. cond (not b) (1 + position_or_len p xs) 0 ≤ suc (length xs)) [ true ↦ omega arith | false ↦ omega arith ]
+at-most p (x ∷ xs) = let ih = at-most p xs in
+    elim (p x) as (λ b. cond (not b) (1 + position_or_len p xs) 0 ≤ suc (length xs)) [
+      | true ↦
+          omega arith
+      | false ↦ omega arith
+    ]
 
 pub ink_le : (xs : List ℕ) → position_or_len is_white_byte xs ≤ length xs
 ink_le xs = at-most is_white_byte xs
 
-pub begins-yes : (line : List ℕ) (n : ℕ) → begins_word line n ≡ true → beginnings_below line (n + 1) ≡ beginnings_below line n ++ n ∷ []
+pub begins-yes : (line : List ℕ) (n : ℕ) → begins_word line n ≡ true →
+    beginnings_below line (n + 1) ≡ beginnings_below line n ++ n ∷ []
 unfolding beginnings_below
-begins-yes line n b = rw (range-more 0 n n (omega arith), filter-append (begins_word line) (range_with_len 0 n) (n ∷ []), b) refl
+begins-yes line n b =
+    rw (range-more 0 n n (omega arith), filter-append (begins_word line) (range_with_len 0 n) (n ∷ []), b) refl
 
-pub begins-no : (line : List ℕ) (n : ℕ) → begins_word line n ≡ false → beginnings_below line (n + 1) ≡ beginnings_below line n
+pub begins-no : (line : List ℕ) (n : ℕ) → begins_word line n ≡ false →
+    beginnings_below line (n + 1) ≡ beginnings_below line n
 unfolding beginnings_below
-begins-no line n b = rw (range-more 0 n n (omega arith), filter-append (begins_word line) (range_with_len 0 n) (n ∷ []), b) (append-nil (filter (begins_word line) (range_with_len 0 n)))
+begins-no line n b =
+    rw (range-more 0 n n (omega arith), filter-append (begins_word line) (range_with_len 0 n) (n ∷ []), b)
+    (append-nil (filter (begins_word line) (range_with_len 0 n)))
 
-find-none : (p : ℕ → Bool) (xs : List ℕ) (x : ℕ) → find p xs ≡ None → find p (xs ++ x ∷ []) ≡ cond (p x) (Some x) None
+find-none : (p : ℕ → Bool) (xs : List ℕ) (x : ℕ) → find p xs ≡ None →
+    find p (xs ++ x ∷ []) ≡ cond (p x) (Some x) None
 find-none p xs x h = find-append p xs (x ∷ []) ∙ rw h refl
 
 find-some : (p : ℕ → Bool) (xs ys : List ℕ) (x : ℕ) → find p xs ≡ Some x → find p (xs ++ ys) ≡ Some x
 find-some p xs ys x h = find-append p xs ys ∙ rw h refl
 
 -- no word begins at n
-pub known-no : (line : List ℕ) (n : ℕ) → begins_word line n ≡ false → unknown_below line n ≡ None → unknown_below line (n + 1) ≡ None
+pub known-no : (line : List ℕ) (n : ℕ) → begins_word line n ≡ false → unknown_below line n ≡ None →
+    unknown_below line (n + 1) ≡ None
 unfolding unknown_below
 known-no line n b k = rw (begins-no line n b) k
 
-pub number-no : (line : List ℕ) (n : ℕ) → begins_word line n ≡ false → number_below line (n + 1) ≡ number_below line n
+pub number-no : (line : List ℕ) (n : ℕ) → begins_word line n ≡ false →
+    number_below line (n + 1) ≡ number_below line n
 unfolding number_below
 number-no line n b = rw (begins-no line n b) refl
 
 -- a digit's name begins at n
-pub known-yes : (line : List ℕ) (n d : ℕ) → begins_word line n ≡ true → digit_at line n ≡ Some d → unknown_below line n ≡ None → unknown_below line (n + 1) ≡ None
+pub known-yes : (line : List ℕ) (n d : ℕ) → begins_word line n ≡ true → digit_at line n ≡ Some d →
+    unknown_below line n ≡ None → unknown_below line (n + 1) ≡ None
 unfolding unknown_below
-known-yes line n d b e k = rw (begins-yes line n b) (find-none (λ i. is_none (digit_at line i)) (beginnings_below line n) n k ∙ rw e refl)
+known-yes line n d b e k =
+    rw (begins-yes line n b) (find-none (λ i. is_none (digit_at line i)) (beginnings_below line n) n k ∙ rw e refl)
 
-pub number-yes : (line : List ℕ) (n d : ℕ) → begins_word line n ≡ true → digit_at line n ≡ Some d → number_below line (n + 1) ≡ number_below line n * 10 + d
+pub number-yes : (line : List ℕ) (n d : ℕ) → begins_word line n ≡ true → digit_at line n ≡ Some d →
+    number_below line (n + 1) ≡ number_below line n * 10 + d
 unfolding number_below
 number-yes line n d b e =
     let f = λ (i : ℕ). unwrap_or (digit_at line i) 0 in
-    rw (begins-yes line n b, map-append f (beginnings_below line n) (n ∷ [])) (number_push 10 (map f (beginnings_below line n)) (f n) ∙ rw e refl)
+    rw (begins-yes line n b, map-append f (beginnings_below line n) (n ∷ []))
+    (number_push 10 (map f (beginnings_below line n)) (f n) ∙ rw e refl)
 
 -- an unknown word begins at n
-unknown-here : (line : List ℕ) (n : ℕ) → begins_word line n ≡ true → digit_at line n ≡ None → unknown_below line n ≡ None → unknown_below line (n + 1) ≡ Some n
+unknown-here : (line : List ℕ) (n : ℕ) → begins_word line n ≡ true → digit_at line n ≡ None →
+    unknown_below line n ≡ None → unknown_below line (n + 1) ≡ Some n
 unfolding unknown_below
-unknown-here line n b e k = rw (begins-yes line n b) (find-none (λ i. is_none (digit_at line i)) (beginnings_below line n) n k ∙ rw e refl)
+unknown-here line n b e k =
+    rw (begins-yes line n b) (find-none (λ i. is_none (digit_at line i)) (beginnings_below line n) n k ∙ rw e refl)
 
-unknown-more : (line : List ℕ) (n m : ℕ) → unknown_below line m ≡ Some n → unknown_below line (m + 1) ≡ Some n
+unknown-more : (line : List ℕ) (n m : ℕ) → unknown_below line m ≡ Some n →
+    unknown_below line (m + 1) ≡ Some n
 unfolding unknown_below
 unknown-more line n m h = elim (cases_Bool (begins_word line m)) [
-  | inl b ↦ rw (begins-yes line m b) (find-some (λ i. is_none (digit_at line i)) (beginnings_below line m) (m ∷ []) n h)
+  | inl b ↦
+      rw (begins-yes line m b) (find-some (λ i. is_none (digit_at line i)) (beginnings_below line m) (m ∷ []) n h)
   | inr b ↦ rw (begins-no line m b) h
 ]
 
-unknown-stays : (line : List ℕ) (n k m : ℕ) → unknown_below line k ≡ Some n → unknown_below line (k + m) ≡ Some n
+unknown-stays : (line : List ℕ) (n k m : ℕ) → unknown_below line k ≡ Some n →
+    unknown_below line (k + m) ≡ Some n
 unknown-stays line n k zero h = let e : k + 0 ≡ k = omega arith in rw e h
-unknown-stays line n k (suc m) h = let e : k + suc m ≡ (k + m) + 1 = omega arith in rw e (unknown-more line n (k + m) (unknown-stays line n k m h))
+unknown-stays line n k (suc m) h = let e : k + suc m ≡ (k + m) + 1 = omega arith in
+    rw e (unknown-more line n (k + m) (unknown-stays line n k m h))
 
-pub unknown-all : (line : List ℕ) (n : ℕ) → n < length line → begins_word line n ≡ true → digit_at line n ≡ None → unknown_below line n ≡ None → unknown_below line (length line) ≡ Some n
+pub unknown-all : (line : List ℕ) (n : ℕ) → n < length line → begins_word line n ≡ true →
+    digit_at line n ≡ None → unknown_below line n ≡ None → unknown_below line (length line) ≡ Some n
 unknown-all line n l b e k =
     let s : length line ≡ (n + 1) + (length line - (n + 1)) = omega arith in
     rw s (unknown-stays line n (n + 1) (length line - (n + 1)) (unknown-here line n b e k))
 
 -- the answers
-pub answer-unknown : (line : List ℕ) (i j : ℕ) → unknown_below line (length line) ≡ Some i → i < j → j ≤ length line → slice_range line i j ≡ word_at line i → Err (Word i j) ≡ line_answer line
+pub answer-unknown : (line : List ℕ) (i j : ℕ) → unknown_below line (length line) ≡ Some i → i < j →
+    j ≤ length line → slice_range line i j ≡ word_at line i → Err (Word i j) ≡ line_answer line
 unfolding line_answer first_unknown number_of_words beginnings unknown_below number_below beginnings_below
 answer-unknown line i j h l m w =
-    let n : j ≡ i + length (word_at line i) = rw (← w) (omega (arith, length-take (j - i) (drop i line), length-drop i line)) in
+    let n : j ≡ i + length (word_at line i) =
+    rw (← w) (omega (arith, length-take (j - i) (drop i line), length-drop i line)) in
     rw (h, ← n) refl
 
-pub answer-large : (line : List ℕ) (v : ℕ) → unknown_below line (length line) ≡ None → v ≡ min (number_below line (length line)) 4294967296 → v ≡ 4294967296 → Err TooLarge ≡ line_answer line
+pub answer-large : (line : List ℕ) (v : ℕ) → unknown_below line (length line) ≡ None →
+    v ≡ min (number_below line (length line)) 4294967296 → v ≡ 4294967296 → Err TooLarge ≡ line_answer line
 unfolding line_answer first_unknown number_of_words beginnings unknown_below number_below beginnings_below
 answer-large line v h e l =
     let t : nat_lt (number_below line (length line)) 4294967296 ≡ false = grind (arith, nat_tests) in
     rw (h, t) refl
 
-pub answer-number : (line : List ℕ) (v : ℕ) → unknown_below line (length line) ≡ None → v ≡ min (number_below line (length line)) 4294967296 → v < 4294967296 → Ok v ≡ line_answer line
+pub answer-number : (line : List ℕ) (v : ℕ) → unknown_below line (length line) ≡ None →
+    v ≡ min (number_below line (length line)) 4294967296 → v < 4294967296 → Ok v ≡ line_answer line
 unfolding line_answer first_unknown number_of_words beginnings unknown_below number_below beginnings_below
 answer-number line v h e l =
     let t : nat_lt (number_below line (length line)) 4294967296 ≡ true = grind (arith, nat_tests) in
@@ -141,7 +176,8 @@ pub named-past : (word : List ℕ) (rows : List (Bor (List ℕ) × ℕ)) (i : �
 unfolding rows_of
 named-past word [] i h e = absurd (omega arith)
 named-past word (row ∷ rows) zero h e = rw e refl
-named-past word (row ∷ rows) (suc i) h e = let more : suc i + 1 ≡ suc (i + 1) = omega arith in rw more (named-past word rows i (omega arith) e)
+named-past word (row ∷ rows) (suc i) h e = let more : suc i + 1 ≡ suc (i + 1) = omega arith in
+    rw more (named-past word rows i (omega arith) e)
 
 -- the row that has it
 pub named-here : (word : List ℕ) (rows : List (Bor (List ℕ) × ℕ)) (i : ℕ) → i < length rows →
@@ -153,7 +189,8 @@ named-here word (row ∷ rows) zero h e = rw e refl
 named-here word (row ∷ rows) (suc i) h e = named-here word rows i (omega arith) e
 
 -- past the last row
-pub named-nowhere : (word : List ℕ) (rows : List (Bor (List ℕ) × ℕ)) (i : ℕ) → length rows ≤ i → digit_in word (drop i (rows_of rows)) ≡ None
+pub named-nowhere : (word : List ℕ) (rows : List (Bor (List ℕ) × ℕ)) (i : ℕ) → length rows ≤ i →
+    digit_in word (drop i (rows_of rows)) ≡ None
 unfolding rows_of
 named-nowhere word [] zero h = refl
 named-nowhere word [] (suc i) h = refl

@@ -1,5 +1,7 @@
 -- One digit of a number's text, and the symbols from it on.
-use Rattle.std.proofs.Common.{◌≡◌, ℕ, zero, suc, ◌+◌, ◌-◌, ◌^◌, ◌<◌, ◌≤◌, List, [], ◌∷◌, ◌++◌, length, map, refl, ap, arith, get_or, drop, length-append, length-drop, drop-cons, add-one, append-nil, ◌∙◌, sym}
+use Rattle.std.proofs.Common.{◌≡◌, ℕ, zero, suc, ◌+◌, ◌-◌, ◌^◌, ◌<◌, ◌≤◌, List, []}
+use Rattle.std.proofs.Common.{◌∷◌, ◌++◌, length, map, refl, ap, arith, get_or, drop, length-append}
+use Rattle.std.proofs.Common.{length-drop, drop-cons, add-one, append-nil, ◌∙◌, sym}
 use Rattle.std.proofs.lemmas.List.{length-map}
 use Rattle.std.proofs.Math.Seq.{drop-length}
 use Rattle.std.proofs.lemmas.Bool.Decides.{nat_tests}
@@ -15,7 +17,9 @@ use Rattle.ick_bits.proofs.NumeralLemmas.{length-numeral}
 pub digit-byte : (c : ℕ) → digit_value c < 10 → (48 ≤ c) × (c ≤ 57) × (digit_value c ≡ c - 48)
 digit-byte c h = grind (arith, nat_tests)
 
-pub digit-at : (t : List ℕ) → AllDigits 10 t → (i : ℕ) → i < length t → (48 ≤ get_or t i 0) × (get_or t i 0 ≤ 57) × (digit_value (get_or t i 0) ≡ get_or t i 0 - 48)
+pub digit-at : (t : List ℕ) → AllDigits 10 t → (i : ℕ) →
+    i < length t →
+    (48 ≤ get_or t i 0) × (get_or t i 0 ≤ 57) × (digit_value (get_or t i 0) ≡ get_or t i 0 - 48)
 digit-at [] a i h = absurd (omega arith)
 digit-at (c ∷ cs) a zero h = digit-byte c a.0
 digit-at (c ∷ cs) a (suc i) h = digit-at cs a.1 i (omega arith)
@@ -25,7 +29,9 @@ pub record IsText (v : ℕ) (t : List ℕ) : Type 0 where
   pub below : v < 2 ^ 32
   pub text : t ≡ decimal v
 
-pub text-at : (v : ℕ) (t : List ℕ) → IsText v t → (i : ℕ) → i < length t → (48 ≤ get_or t i 0) × (get_or t i 0 ≤ 57) × (digit_value (get_or t i 0) ≡ get_or t i 0 - 48)
+pub text-at : (v : ℕ) (t : List ℕ) → IsText v t → (i : ℕ) →
+    i < length t →
+    (48 ≤ get_or t i 0) × (get_or t i 0 ≤ 57) × (digit_value (get_or t i 0) ≡ get_or t i 0 - 48)
 text-at v t e i h = digit-at t (let a = (decimal_is_IsNumeral v (omega (arith, e.below))).0.1 in rw (e.text) a) i h
 
 -- the symbols from place i of the text on
@@ -36,7 +42,8 @@ pub symbols-step : (v : ℕ) (t : List ℕ) → IsText v t → (i : ℕ) → i <
     symbols_from t i ≡ digit_symbols (letters_of (length t - 1 - i)) (get_or t i 0 - 48) ++ symbols_from t (i + 1)
 unfolding symbols_from symbols_of
 symbols-step v t e i h =
-    let n : length (map digit_value (drop (suc i) t)) ≡ length t - 1 - i = omega (arith, length-map (drop (suc i) t) digit_value, length-drop (suc i) t) in
+    let n : length (map digit_value (drop (suc i) t)) ≡ length t - 1 - i =
+    omega (arith, length-map (drop (suc i) t) digit_value, length-drop (suc i) t) in
     rw (add-one, drop-cons t i 0, n, (text-at v t e i h).2) refl
 
 pub symbols-start : (v : ℕ) (t : List ℕ) → IsText v t → symbols_from t 0 ≡ numeral_of v
@@ -48,15 +55,19 @@ unfolding symbols_from symbols_of
 symbols-end t i e = rw (e, drop-length t) refl
 
 -- what stands so far, the symbols of one digit and the rest make the numeral
-pub room : (v : ℕ) → v < 2 ^ 32 → (xs ys zs : List Symbol) → xs ++ (ys ++ zs) ≡ numeral_of v → length xs + length ys ≤ 39
+pub room : (v : ℕ) → v < 2 ^ 32 → (xs ys zs : List Symbol) → xs ++ (ys ++ zs) ≡ numeral_of v →
+    length xs + length ys ≤ 39
 room v f xs ys zs e =
     let n : length (xs ++ (ys ++ zs)) ≤ 39 = rw e (length-numeral v f) in
     omega (arith, length-append xs (ys ++ zs), length-append ys zs)
 
 -- one digit more
-pub one-more : (v : ℕ) (t : List ℕ) → IsText v t → (i : ℕ) → i < length t → (xs : List Symbol) → xs ++ symbols_from t i ≡ numeral_of v →
-    xs ++ (digit_symbols (letters_of (length t - 1 - i)) (get_or t i 0 - 48) ++ symbols_from t (i + 1)) ≡ numeral_of v
+pub one-more : (v : ℕ) (t : List ℕ) → IsText v t → (i : ℕ) → i < length t → (xs : List Symbol) →
+    xs ++ symbols_from t i ≡ numeral_of v →
+    xs ++ (digit_symbols (letters_of (length t - 1 - i)) (get_or t i 0 - 48) ++ symbols_from t (i + 1))
+    ≡ numeral_of v
 one-more v t e i h xs inv = ap (λ ys. xs ++ ys) (sym (symbols-step v t e i h)) ∙ inv
 
-pub all-digits : (t : List ℕ) (i : ℕ) → i ≡ length t → (xs n : List Symbol) → xs ++ symbols_from t i ≡ n → xs ≡ n
+pub all-digits : (t : List ℕ) (i : ℕ) → i ≡ length t → (xs n : List Symbol) →
+    xs ++ symbols_from t i ≡ n → xs ≡ n
 all-digits t i e xs n inv = sym (append-nil xs) ∙ ap (λ ys. xs ++ ys) (sym (symbols-end t i e)) ∙ inv

@@ -1,5 +1,6 @@
 -- The numeral of a number, its printed form, and what a list of symbols is worth.
-use Rattle.std.specs.Prelude.{ℕ, ◌*◌, ◌-◌, ℤ, pos, neg_ℤ, ◌+ℤ◌, Bool, true, false, nat_lt, ◌==◌, if◌then◌else◌}
+use Rattle.std.specs.Prelude.{ℕ, ◌*◌, ◌-◌, ℤ, pos, neg_ℤ, ◌+ℤ◌, Bool, true, false, nat_lt, ◌==◌}
+use Rattle.std.specs.Prelude.{if◌then◌else◌}
 use Rattle.std.specs.Prelude.{List, [], ◌∷◌, ◌++◌, map, length, slice_index_or, decimal, codes}
 use Rattle.std.specs.List.{list_any}
 use Rattle.std.specs.Char.{digit_value}
@@ -50,7 +51,8 @@ patterns p =
     let b = p.five in
     let c = p.ten in
     [] ∷ (a ∷ []) ∷ (a ∷ a ∷ []) ∷ (a ∷ a ∷ a ∷ []) ∷ (a ∷ b ∷ [])
-    ∷ (b ∷ []) ∷ (b ∷ a ∷ []) ∷ (b ∷ a ∷ a ∷ []) ∷ (b ∷ a ∷ a ∷ a ∷ []) ∷ (a ∷ c ∷ []) ∷ []
+    ∷ (b ∷ []) ∷ (b ∷ a ∷ []) ∷ (b ∷ a ∷ a ∷ []) ∷ (b ∷ a ∷ a ∷ a ∷ [])
+    ∷ (a ∷ c ∷ []) ∷ []
 
 unfoldable pub digit_symbols : Letters → ℕ → List Symbol
 digit_symbols p d = slice_index_or (patterns p) d []

@@ -1,7 +1,7 @@
 //! Bytes at the end of a text: all of them, or none where memory is refused.
 
-ghost use Rattle.std.specs.Prelude.{◌≤◌, ◌≡◌, ◌<◌, ◌+◌, ◌++◌, decimal, length};
-ghost use Rattle.std.specs.Prelude.{OnOk, OnErr, vec_len, vec_capacity};
+ghost use Rattle.std.specs.Prelude.{◌≤◌, ◌≡◌, ◌<◌, ◌+◌, ◌++◌, decimal};
+ghost use Rattle.std.specs.Prelude.{length, OnOk, OnErr, vec_len, vec_capacity};
 ghost use Rattle.std.specs.List.{flat_map};
 
 use crate::memory::NoMemory;
@@ -24,7 +24,8 @@ pub fn append_decimal(out: &mut Vec<u8>, number: u64) -> Result<(), NoMemory>
 
 /// Appends the pieces one after another, or nothing.
 pub(crate) fn append_all(out: &mut Vec<u8>, pieces: &[&[u8]]) -> Result<(), NoMemory>
-    ensures ok { OnOk result (out.new.items ≡ out.old.items ++ flat_map (λ p. p.now) pieces.now) }
+    ensures ok { OnOk result
+        (out.new.items ≡ out.old.items ++ flat_map (λ p. p.now) pieces.now) }
     ensures err { OnErr result (out.new.items ≡ out.old.items) }
     ensures full { let text = flat_map (λ p. p.now) pieces.now in
         OnErr result (vec_capacity out.old < vec_len out.old + length text) }

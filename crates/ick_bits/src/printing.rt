@@ -1,7 +1,7 @@
 //! The printed form of a numeral: a line of bars and a line of letters.
 
-ghost use Rattle.std.specs.Prelude.{◌≡◌, ◌≤◌, ◌<◌, ◌++◌, ◌+◌, length, map, take};
-ghost use Rattle.std.specs.Prelude.{OnOk, OnErr, vec_len, vec_capacity};
+ghost use Rattle.std.specs.Prelude.{◌≡◌, ◌≤◌, ◌<◌, ◌++◌, ◌+◌, length, map};
+ghost use Rattle.std.specs.Prelude.{take, OnOk, OnErr, vec_len, vec_capacity};
 ghost use Rattle.ick_bits.specs.Numeral.{numeral_of, printed, bar_line, bar_byte};
 
 use crate::memory::NoMemory;

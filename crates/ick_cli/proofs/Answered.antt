@@ -1,6 +1,6 @@
 -- An answer to a source, and the ending that has it.
-use Rattle.std.proofs.Common.{◌≡◌, ◌<◌, ◌≤◌, ◌==◌, ℕ, Bool, List, [], Option, Some, None, ap₂, inl, refl, sym}
-use Rattle.std.proofs.Common.{subst, arith, take, if◌then◌else◌, eq-eqb, true}
+use Rattle.std.proofs.Common.{◌≡◌, ◌<◌, ◌≤◌, ◌==◌, ℕ, Bool, List, [], Option, Some, None, ap₂}
+use Rattle.std.proofs.Common.{inl, refl, sym, subst, arith, take, if◌then◌else◌, eq-eqb, true}
 use Rattle.std.proofs.lemmas.List.{append-nil, length-take, take_all}
 use Rattle.ick_bits.specs.Faults.{message_of}
 use Rattle.ick_bits.specs.declared.faults.FaultKind.{FaultKind}
@@ -83,12 +83,14 @@ answer_of_front plan most source input long answer (compiled trees given h is) =
     compiled trees answer
     (subst (λ (t : List ℕ). Compiles t trees) (sym (take_all most source (let fits = h.fits in omega arith))) h) is
 
-pub source_read : (plan : Plan) (input source : List ℕ) (answer : Answer) → IsReadAnswer plan input (Some source) answer
+pub source_read : (plan : Plan) (input source : List ℕ) (answer : Answer)
+    → IsReadAnswer plan input (Some source) answer
     → IsSourceAnswer plan source input answer
 source_read plan input source answer (read same given h) = h
 
 -- the source of a job whose file was read
-pub read_source_of : (plan : Plan) (source input : List ℕ) (failed failed' : ℕ) → failed' ≡ failed → (answer : Answer)
+pub read_source_of : (plan : Plan) (source input : List ℕ) (failed failed' : ℕ) → failed' ≡ failed
+    → (answer : Answer)
     → IsReadAnswer plan input (if failed == failed' then Some source else None) answer
     → IsSourceAnswer plan source input answer
 read_source_of plan source input failed failed' same answer h =
@@ -103,8 +105,8 @@ executed_so trees program input runs answer from (executed same given h) =
     subst (λ (p : List StatementTree). IsExecuted p input runs answer) (sym from) h
 
 -- the answer to a task by the file that it names, or where it names none
-pub file_named : (task : Task) (file : Option (List ℕ)) (name : List ℕ) (named : List ℕ → List ℕ) (failed failed' : ℕ)
-    (left : List ℕ) (answer : Answer)
+pub file_named : (task : Task) (file : Option (List ℕ)) (name : List ℕ) (named : List ℕ → List ℕ)
+    (failed failed' : ℕ) (left : List ℕ) (answer : Answer)
     → file ≡ Some name → IsToolAnswer task (source_of file named failed failed' left) (input_of file left) answer
     → IsToolAnswer task (source_of (Some name) named failed failed' []) left answer
 file_named task file name named failed failed' left answer is h =

@@ -1,6 +1,6 @@
 -- Beginnings of texts, and of a listing's.
-use Rattle.std.proofs.Common.{◌≡◌, ◌∙◌, ◌+◌, ◌≤◌, ◌++◌, ℕ, zero, suc, Bool, List, [], ◌∷◌, ap, append_assoc, arith}
-use Rattle.std.proofs.Common.{drop, length, refl, sym, take}
+use Rattle.std.proofs.Common.{◌≡◌, ◌∙◌, ◌+◌, ◌≤◌, ◌++◌, ℕ, zero, suc, Bool, List, []}
+use Rattle.std.proofs.Common.{◌∷◌, ap, append_assoc, arith, drop, length, refl, sym, take}
 use Rattle.std.proofs.Math.Seq.{take-append-add, take-append_seam}
 use Rattle.std.proofs.lemmas.Grind.{flat_map-append}
 use Rattle.std.proofs.lemmas.List.{take-append-drop}
@@ -64,7 +64,8 @@ next_in_front p s l (c ∷ xs) last n =
     (r.0, r.1 ∙ ap (take r.0) (sym (append_assoc (run_line p s l c) (run_lines p s l xs) last)))
 
 -- whole lines and a part of the next one are a beginning
-pub part_begins : (p : Program) (s : State) (l : ℕ) (cs : List (List Bool)) (count k n : ℕ) → k ≤ length (take count cs)
+pub part_begins : (p : Program) (s : State) (l : ℕ) (cs : List (List Bool)) (count k n : ℕ)
+    → k ≤ length (take count cs)
     → IsBeginning (run_lines p s l (take k cs) ++ take n (line_after p s l cs count k)) (shown p s l cs count)
 unfolding rest_text
 part_begins p s l cs count k n h =

@@ -5,7 +5,8 @@ use Rattle.clap.specs.declared.builder.arg.Arg.{Arg}
 use Rattle.clap.specs.declared.builder.command.Command.{Command}
 use Rattle.ick_cli.specs.Built.{Reads}
 
-pub arg_added : (old new : Command) (x : Arg) (a : App) (r : Rule) → Reads old a → rule_of x ≡ r → x.global ≡ false
+pub arg_added : (old new : Command) (x : Arg) (a : App) (r : Rule) → Reads old a → rule_of x ≡ r
+    → x.global ≡ false
     → AddsArg old x new → Reads new (with_rule a r)
 arg_added old new x a r read rule local adds = record {
   app = adds.shape local ∙ ap₂ with_rule read.app rule;

@@ -1,6 +1,6 @@
 -- The answers of runs that were made.
-use Rattle.std.proofs.Common.{◌≡◌, ◌∙◌, ◌≤◌, ◌++◌, ℕ, Bool, true, List, [], Option, ap, arith, length, refl, subst}
-use Rattle.std.proofs.Common.{sym}
+use Rattle.std.proofs.Common.{◌≡◌, ◌∙◌, ◌≤◌, ◌++◌, ℕ, Bool, true, List, [], Option, ap, arith}
+use Rattle.std.proofs.Common.{length, refl, subst, sym}
 use Rattle.std.proofs.Math.Seq.{take-length}
 use Rattle.std.proofs.lemmas.List.{append-nil}
 use Rattle.std.specs.Prelude.{unwrap_or}
@@ -29,7 +29,8 @@ status_of_kind (ends (finished (faulted kind statement subject))) = refl
 status_of_kind (ends at_limit) = refl
 status_of_kind wants = refl
 
-text_of_kind : (stop : Stop) (steps : ℕ) → kind_text (stop_kind stop) (stop_message stop) steps ≡ stop_text stop steps
+text_of_kind : (stop : Stop) (steps : ℕ) →
+    kind_text (stop_kind stop) (stop_message stop) steps ≡ stop_text stop steps
 text_of_kind (ends (finished gave_up)) steps = refl
 text_of_kind (ends (finished (faulted kind statement subject))) steps = refl
 text_of_kind (ends at_limit) steps = refl
@@ -86,7 +87,8 @@ answered_unread p input from count limit WriteFailed before h answer is = absurd
 
 listed_answer : (p : Program) (input : List ℕ) (from : Option (List Bool)) (count limit : ℕ) (answer : Answer)
     → length input ≤ longest_input
-    → IsExecuted p input (Listed from count limit) answer → IsRunsAnswer p (first_state p input) limit count from answer
+    → IsExecuted p input (Listed from count limit) answer →
+    IsRunsAnswer p (first_state p input) limit count from answer
 listed_answer p input from count limit answer fits (input_too_long f n l h) = absurd (omega arith)
 listed_answer p input from count limit answer fits (listed_runs f n l a below h) = h
 

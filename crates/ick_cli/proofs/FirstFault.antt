@@ -1,5 +1,6 @@
 -- The first fault of statements is found, or they have none: each kind of fault can be told at each statement.
-use Rattle.std.proofs.Common.{◌≡◌, ◌<◌, ◌≤◌, ◌/◌, ◌+◌, ◌⊎◌, inl, inr, ℕ, zero, suc, List, [], ◌∷◌, Bool, true, false}
+use Rattle.std.proofs.Common.{◌≡◌, ◌<◌, ◌≤◌, ◌/◌, ◌+◌, ◌⊎◌, inl, inr, ℕ, zero, suc}
+use Rattle.std.proofs.Common.{List, [], ◌∷◌, Bool, true, false}
 use Rattle.std.proofs.Common.{Option, Some, None, ap, refl, subst, arith, length}
 use Rattle.std.specs.Prelude.{IsTrue, option_and_then}
 use Rattle.std.proofs.lemmas.Bool.{cases_eq, cases_lt}
@@ -28,7 +29,8 @@ some_decided (Some w) v = elim (cases_eq w v) [ inl same ↦ inl (ap Some same) 
 
 -- the least number below a bound of which this holds, or none
 first_below : (P : ℕ → Type 0) → ((n : ℕ) → Decided (P n)) → (bound : ℕ)
-    → ((n : ℕ) × (n < bound) × P n × ((m : ℕ) → m < n → P m → ⊥)) ⊎ ((m : ℕ) → m < bound → P m → ⊥)
+    → ((n : ℕ) × (n < bound) × P n × ((m : ℕ) → m < n → P m → ⊥))
+    ⊎ ((m : ℕ) → m < bound → P m → ⊥)
 first_below P each zero = inr (λ m below h. omega arith)
 first_below P each (suc k) = elim (first_below P each k) [
   | inl found ↦ inl (found.0, (let less = found.1 in omega arith), found.2, found.3)
@@ -55,7 +57,8 @@ value_here None = inr (λ v e. cc)
 value_here (Some v) = inl (v, refl)
 
 value_at : (f : StatementTree → Option ℕ) (trees : List StatementTree) (n : ℕ)
-    → ((v : ℕ) × HoldsAt (λ t. f t ≡ Some v) trees n) ⊎ ((v : ℕ) → HoldsAt (λ t. f t ≡ Some v) trees n → ⊥)
+    → ((v : ℕ) × HoldsAt (λ t. f t ≡ Some v) trees n)
+    ⊎ ((v : ℕ) → HoldsAt (λ t. f t ≡ Some v) trees n → ⊥)
 value_at f trees zero = inr (λ v h. h)
 value_at f [] (suc k) = inr (λ v h. h)
 value_at f (x ∷ xs) (suc zero) = value_here (f x)
@@ -85,15 +88,16 @@ same_decided trees n = elim (value_at (λ t. t.label) trees n) [
 lost_decided : (how : LabelUse) (trees : List StatementTree) (n : ℕ) → Decided (IsLostAt how trees n)
 lost_decided how trees n = elim (value_at (λ t. option_and_then (used_label how) t.body) trees n) [
   | inr none ↦ inr (λ s. none s.label s.uses)
-  | inl used ↦ elim (first_below (HoldsAt (HasLabel used.0) trees) (labelled_decided trees used.0) (length trees + 1)) [
-    | inl found ↦ inr (λ s. s.nowhere found.0 (subst (λ l. HoldsAt (HasLabel l) trees found.0)
-        (value_one (λ t. option_and_then (used_label how) t.body) trees n used.0 s.label used.1 s.uses) found.2))
-    | inr none ↦ inl (record {
-      label = used.0;
-      uses = used.1;
-      nowhere = λ m h. none m (let inside = HoldsAt-inside (HasLabel used.0) trees m h in omega arith) h;
-    })
-  ]
+  | inl used ↦
+      elim (first_below (HoldsAt (HasLabel used.0) trees) (labelled_decided trees used.0) (length trees + 1)) [
+        | inl found ↦ inr (λ s. s.nowhere found.0 (subst (λ l. HoldsAt (HasLabel l) trees found.0)
+            (value_one (λ t. option_and_then (used_label how) t.body) trees n used.0 s.label used.1 s.uses) found.2))
+        | inr none ↦ inl (record {
+          label = used.0;
+          uses = used.1;
+          nowhere = λ m h. none m (let inside = HoldsAt-inside (HasLabel used.0) trees m h in omega arith) h;
+        })
+      ]
 ]
 
 impolite_decided : (trees : List StatementTree) (n : ℕ) → Decided (IsImpoliteAt trees n)
@@ -131,7 +135,8 @@ fault_decided Impolite trees n = impolite_decided trees n
 fault_decided Fawning trees n = fawning_decided trees n
 fault_decided _ trees n = inr (λ h. h)
 
-fault_inside : (kind : FaultKind) (trees : List StatementTree) (n : ℕ) → IsFaultAt kind trees n → n ≤ length trees
+fault_inside : (kind : FaultKind) (trees : List StatementTree) (n : ℕ) → IsFaultAt kind trees n →
+    n ≤ length trees
 fault_inside MeshTooLarge trees n h = HoldsAt-inside _ trees n h
 fault_inside NameRange trees n h = HoldsAt-inside _ trees n h
 fault_inside LabelRange trees n h = HoldsAt-inside _ trees n h

@@ -14,7 +14,8 @@ use Rattle.ick_cli.specs.declared.notice.Notice.{Notice}
 use Rattle.ick_cli.specs.declared.plan.Plan.{Plan}
 use Rattle.ick_cli.proofs.Planned.{line_unique, plan_unique, planned_not_unplanned}
 
-pub leaves_by_line : (IsLine : Notice → Type 0) (ending : Ending) (files reads writes : ℕ) → EndsByLine IsLine ending
+pub leaves_by_line : (IsLine : Notice → Type 0) (ending : Ending) (files reads writes : ℕ)
+    → EndsByLine IsLine ending
     → Leaves ending files files reads reads writes writes
 leaves_by_line IsLine (Answered status (message.Notice line)) files reads writes h =
     record { proper = inr h.0; opened = omega arith; read = omega arith; wrote = omega arith }
@@ -46,7 +47,8 @@ by_usage IsLine ending line is h = subst (λ (e : Ending). EndsByLine IsLine e) 
 
 pub answers_by_line : (IsLine : Notice → Type 0) (ending : Ending) (before : List ℕ) (answer : Answer)
     → EndsByLine IsLine ending
-    → ((line : Notice) → IsLine line → answer ≡ refusal 64 (notice_text line)) → Answers answer ending before before
+    → ((line : Notice) → IsLine line → answer ≡ refusal 64 (notice_text line)) →
+    Answers answer ending before before
 answers_by_line IsLine (Answered status (message.Notice line)) before answer h is =
     subst (λ (a : Answer). Answers a (Answered status (message.Notice line)) before before) (sym (is line h.1))
     ((h.0, refl), sym (append-nil before))
@@ -67,7 +69,8 @@ unplanned_answer task source input answer (unplanned other h) line is =
 unplanned_answer task source input answer (planned plan given h found) line is =
     absurd (planned_not_unplanned task plan line h is)
 
-pub answered_unplanned : (task : Task) (source : Option (List ℕ)) (input : List ℕ) (ending : Ending) (before : List ℕ)
+pub answered_unplanned : (task : Task) (source : Option (List ℕ)) (input : List ℕ) (ending : Ending)
+    (before : List ℕ)
     → EndsByLine (IsUnplanned task) ending
     → (answer : Answer) → IsToolAnswer task source input answer → Answers answer ending before before
 answered_unplanned task source input ending before ends answer is =

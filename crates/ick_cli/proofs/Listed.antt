@@ -1,7 +1,7 @@
 -- What a listing that was written comes to.
-use Rattle.std.proofs.Common.{◌⊎◌, inl, inr, ◌≡◌, ◌∙◌, ◌+◌, ◌*◌, ◌^◌, ◌<◌, ◌≤◌, ◌++◌, ℕ, Bool, true, List, Option, Some}
-use Rattle.std.proofs.Common.{None}
-use Rattle.std.proofs.Common.{Ok, Err, ap, arith, refl, subst, sym, take}
+use Rattle.std.proofs.Common.{◌⊎◌, inl, inr, ◌≡◌, ◌∙◌, ◌+◌, ◌*◌, ◌^◌, ◌<◌, ◌≤◌}
+use Rattle.std.proofs.Common.{◌++◌, ℕ, Bool, true, List, Option, Some, None, Ok, Err, ap, arith, refl, subst, sym}
+use Rattle.std.proofs.Common.{take}
 use Rattle.std.proofs.lemmas.Nat.{mul-le}
 use Rattle.ick_code.specs.meaning.State.{State}
 use Rattle.ick_machine.specs.Machine.{Machine, Program}
@@ -42,7 +42,8 @@ listed_at : (p : Program) (s : State) (l count : ℕ) (from : Option (List Bool)
 listed_at p s l count from answer whole (listed f cs place is) = (cs, is, refl)
 listed_at p s l count from answer whole (no_such_run c not_whole) = absurd (not_whole (whole c refl))
 
-pub is_listed : (s : State) (count : ℕ) (e : Explored) (answer : Answer) → Stands s e → IsRunsAnswerAt s count e answer
+pub is_listed : (s : State) (count : ℕ) (e : Explored) (answer : Answer) → Stands s e
+    → IsRunsAnswerAt s count e answer
     → IsListed s count e answer
 is_listed s count e answer stands is =
     let found = listed_at e.program s e.limit count e.from answer
@@ -65,7 +66,8 @@ behind : (w w' x text : List ℕ) → w' ≡ w ++ x → IsBeginning x text → (
 behind w w' x text e (n, h) = (n, e ∙ ap (λ t. w ++ t) h)
 
 -- the count can't be full: as many runs as a number has, each of at most as many steps
-never_full : (work limit count : ℕ) → limit < 2 ^ 32 → count < 2 ^ 32 → work ≤ limit → 2 ^ 64 ≤ work + count * limit → ⊥
+never_full : (work limit count : ℕ) → limit < 2 ^ 32 → count < 2 ^ 32 → work ≤ limit →
+    2 ^ 64 ≤ work + count * limit → ⊥
 never_full work limit count small few fresh full =
     let most = mul-le count limit 4294967295 4294967295 (omega arith) (omega arith) in omega arith
 

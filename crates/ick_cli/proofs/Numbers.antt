@@ -1,6 +1,6 @@
 -- A typed getter reads the number that the text writes.
-use Rattle.std.proofs.Common.{◌≡◌, ◌^◌, ◌&&◌, ℕ, Bool, List, [], ◌∷◌, true, false, refl, ap, ap₂, Option, Some, None}
-use Rattle.std.proofs.Common.{Result, Ok, Err, length, nat_lt, if◌then◌else◌}
+use Rattle.std.proofs.Common.{◌≡◌, ◌^◌, ◌&&◌, ℕ, Bool, List, [], ◌∷◌, true, false, refl, ap}
+use Rattle.std.proofs.Common.{ap₂, Option, Some, None, Result, Ok, Err, length, nat_lt, if◌then◌else◌}
 use Rattle.std.proofs.lemmas.Bool.{ltb-true, lt-ltb}
 use Rattle.std.specs.List.{list_all}
 use Rattle.std.specs.Prelude.{option_and_then}
@@ -35,7 +35,8 @@ chosen : (b : Bool) (v : ℕ) (r : Option ℕ) → (b ≡ true → r ≡ Some v)
 chosen true v r passes fails = passes refl
 chosen false v r passes fails = fails refl
 
-some_read : (k : ℕ) (E : Type 0) (t : List ℕ) (r : Result ℕ E) → ParsesUnsigned k 10 t r → result_ok r ≡ number_of k t
+some_read : (k : ℕ) (E : Type 0) (t : List ℕ) (r : Result ℕ E) → ParsesUnsigned k 10 t r →
+    result_ok r ≡ number_of k t
 some_read k E t (Ok x) h =
     let digits : List ℕ = without_leading_plus t in
     chosen (is_numeral digits && nat_lt (digits_value 10 digits) (2 ^ k)) (digits_value 10 digits) (Some x)
@@ -49,12 +50,14 @@ some_read k E t (Err e) h =
     (λ _. refl)
 
 read_one : (k : ℕ) (E : Type 0) (gives : List ℕ → Result ℕ E → Type 0) (t : List ℕ) (r : Option ℕ)
-    → ((u : List ℕ) (x : Result ℕ E) → gives u x → ParsesUnsigned k 10 u x) → ReadsOne gives t r → r ≡ number_of k t
+    → ((u : List ℕ) (x : Result ℕ E) → gives u x → ParsesUnsigned k 10 u x) → ReadsOne gives t r →
+    r ≡ number_of k t
 read_one k E gives t (Some v) reads h = some_read k E t (Ok v) (reads t (Ok v) h)
 read_one k E gives t None reads h = some_read k E t (Err h.0) (reads t (Err h.0) h.1)
 
 -- what a typed getter answers, by the text that it reads
-pub read_number : (k : ℕ) (E : Type 0) (gives : List ℕ → Result ℕ E → Type 0) (f : Option (List ℕ)) (r : Option ℕ)
+pub read_number : (k : ℕ) (E : Type 0) (gives : List ℕ → Result ℕ E → Type 0) (f : Option (List ℕ))
+    (r : Option ℕ)
     → ((u : List ℕ) (x : Result ℕ E) → gives u x → ParsesUnsigned k 10 u x)
     → (f ≡ None → r ≡ None) → ((t : List ℕ) → f ≡ Some t → ReadsOne gives t r)
     → r ≡ option_and_then (number_of k) f

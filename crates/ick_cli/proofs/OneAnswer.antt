@@ -1,6 +1,6 @@
 -- Each task has exactly one answer.
-use Rattle.std.proofs.Common.{◌≡◌, ◌∙◌, ◌⊎◌, inl, inr, ℕ, Bool, List, [], ◌∷◌, Option, Some, None, ap, ap₂, refl, subst}
-use Rattle.std.proofs.Common.{sym, arith, length}
+use Rattle.std.proofs.Common.{◌≡◌, ◌∙◌, ◌⊎◌, inl, inr, ℕ, Bool, List, [], ◌∷◌, Option, Some}
+use Rattle.std.proofs.Common.{None, ap, ap₂, refl, subst, sym, arith, length}
 use Rattle.std.proofs.lemmas.Bool.{cases_lt}
 use Rattle.ick_bits.specs.Faults.{message_of}
 use Rattle.ick_source.specs.Refusals.{longest}
@@ -23,10 +23,9 @@ use Rattle.ick_cli.specs.Plan.{AreChoices, IsPlanned, IsUnplanned, IsUnread, bad
 use Rattle.ick_cli.specs.Plan.{from_unread, list_planned, long, most_choices, run_planned, runs_planned, seed_planned}
 use Rattle.ick_cli.specs.Plan.{together}
 use Rattle.ick_cli.specs.Tool.{Answer, IsExecuted, IsPlace, IsProgramAnswer, IsReadAnswer, IsRunsAnswer, IsSourceAnswer}
-use Rattle.ick_cli.specs.Tool.{IsToolAnswer}
-use Rattle.ick_cli.specs.Tool.{compiled, counted, drawn, executed, input_too_long, listed, listed_runs, longest_input}
-use Rattle.ick_cli.specs.Tool.{no_such_run, not_read, planned, ran, read, refusal, refused, run_answer, shown}
-use Rattle.ick_cli.specs.Tool.{statements_listed, too_long, unplanned}
+use Rattle.ick_cli.specs.Tool.{IsToolAnswer, compiled, counted, drawn, executed, input_too_long, listed, listed_runs}
+use Rattle.ick_cli.specs.Tool.{longest_input, no_such_run, not_read, planned, ran, read, refusal, refused, run_answer}
+use Rattle.ick_cli.specs.Tool.{shown, statements_listed, too_long, unplanned}
 use Rattle.ick_cli.specs.declared.notice.Notice.{Notice}
 use Rattle.ick_cli.specs.declared.notice.Notice.TheVariants as notice
 use Rattle.ick_cli.specs.declared.plan.Plan.{Plan}
@@ -69,7 +68,8 @@ whole_by : (p : Program) (s : State) (l : ℕ) (c : List Bool) (stop : Stop) (un
     → IsWhole p s l c ⊎ (IsWhole p s l c → ⊥)
 whole_by p s l c wants unused stops left = inr (λ w. subst IsEnd stops w.at_end)
 whole_by p s l c (ends finish) [] stops left = inl (record { at_end = subst IsEnd (sym stops) tt; all_used = left })
-whole_by p s l c (ends finish) (b ∷ rest) stops left = inr (λ w. let both : [] ≡ b ∷ rest = sym w.all_used ∙ left in cc)
+whole_by p s l c (ends finish) (b ∷ rest) stops left =
+    inr (λ w. let both : [] ≡ b ∷ rest = sym w.all_used ∙ left in cc)
 
 whole_decided : (p : Program) (s : State) (l : ℕ) (c : List Bool) → IsWhole p s l c ⊎ (IsWhole p s l c → ⊥)
 whole_decided p s l c = whole_by p s l c (run p s l c).stop (run p s l c).unused refl refl

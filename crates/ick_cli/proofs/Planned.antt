@@ -1,5 +1,6 @@
 -- A task has one plan or one line.
-use Rattle.std.proofs.Common.{◌≡◌, ◌∙◌, ℕ, List, Bool, Option, Some, None, ap, refl, sym, subst, arith, length}
+use Rattle.std.proofs.Common.{◌≡◌, ◌∙◌, ℕ, List, Bool, Option, Some, None, ap, refl, sym, subst, arith}
+use Rattle.std.proofs.Common.{length}
 use Rattle.std.specs.Prelude.{option_map}
 use Rattle.clap.specs.Words.{Text}
 use Rattle.ick_runs.proofs.GroupLaws.{reads_one}
@@ -30,7 +31,8 @@ read_not_unread text most (Some c) line g (long t d reads above) =
     let same = ap (λ (x : List Bool). length x) (reads_one t c d g.0 reads) in
     let fits = g.1 in omega arith
 
-unread_unique : (text : Option Text) (most : ℕ) (a b : Notice) → IsUnread most text a → IsUnread most text b → b ≡ a
+unread_unique : (text : Option Text) (most : ℕ) (a b : Notice) → IsUnread most text a → IsUnread most text b →
+    b ≡ a
 unread_unique text most a b (bad t g) (bad u h) = refl
 unread_unique text most a b (bad t g) (long u d reads above) = absurd (g d reads)
 unread_unique text most a b (long t d reads above) (bad u h) = absurd (h d reads)
@@ -46,7 +48,8 @@ plan_unique (to_run (Some text) (Some seed) limit) a b g h = elim g [ ]
 plan_unique (to_list_runs text count limit) a b (runs_planned t k l c g) (runs_planned u n m d h) =
     ap (λ x. Execute (Listed x k l)) (choices_unique text limit c d g h)
 
-pub planned_not_unplanned : (task : Task) (plan : Plan) (line : Notice) → IsPlanned task plan → IsUnplanned task line
+pub planned_not_unplanned : (task : Task) (plan : Plan) (line : Notice) → IsPlanned task plan
+    → IsUnplanned task line
     → ⊥
 planned_not_unplanned task plan line (run_planned t l c g) (choices_unread u m n h) =
     read_not_unread t most_choices c line g h
@@ -69,7 +72,8 @@ input_of_plan (to_run text seed limit) plan (seed_planned s l) = refl
 input_of_plan (to_list_runs text count limit) plan (runs_planned t k l c g) = refl
 
 -- a text that is given, or isn't
-pub given_some : {T : Type 0} (f : T → Text) (text : Option T) (t : T) → text ≡ Some t → option_map f text ≡ Some (f t)
+pub given_some : {T : Type 0} (f : T → Text) (text : Option T) (t : T) → text ≡ Some t →
+    option_map f text ≡ Some (f t)
 given_some f text t is = ap (option_map f) is
 
 pub given_none : {T : Type 0} (f : T → Text) (text : Option T) → text ≡ None → option_map f text ≡ None
@@ -95,7 +99,8 @@ plan_drawn text seed n limit none some =
     (subst (λ (s : Option ℕ). IsPlanned (to_run None s limit) (Execute (Drawn n limit))) (sym some)
     (seed_planned n limit))
 
-pub no_plan : (text : Option Text) (seed : Option ℕ) (t : Text) (n limit : ℕ) → text ≡ Some t → seed ≡ Some n
+pub no_plan : (text : Option Text) (seed : Option ℕ) (t : Text) (n limit : ℕ) → text ≡ Some t
+    → seed ≡ Some n
     → IsUnplanned (to_run text seed limit) ChoicesAndSeed
 no_plan text seed t n limit given some =
     subst (λ (x : Option Text). IsUnplanned (to_run x seed limit) ChoicesAndSeed) (sym given)

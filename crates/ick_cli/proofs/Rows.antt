@@ -34,7 +34,8 @@ run_file_is_a_job : HasJob (codes "run" ∷ codes "f" ∷ [])
 unfolding clap_on_literals
 run_file_is_a_job = refl
 
-file_behind_dashes : job_of (codes "run" ∷ codes "--" ∷ codes "-b" ∷ []) ≡ record plain { file = Some (codes "-b") }
+file_behind_dashes : job_of (codes "run" ∷ codes "--" ∷ codes "-b" ∷ [])
+    ≡ record plain { file = Some (codes "-b") }
 unfolding clap_on_literals
 file_behind_dashes = refl
 
@@ -91,8 +92,8 @@ runs_alone : job_of (codes "runs" ∷ []) ≡ record { task = to_list_runs None 
 unfolding clap_on_literals
 runs_alone = refl
 
-runs_from : job_of (codes "runs" ∷ codes "--limit" ∷ codes "3" ∷ codes "--from" ∷ codes "10" ∷ codes "--count=1" ∷ [])
-    ≡ record { task = to_list_runs (Some (codes "10")) 1 3; file = None }
+runs_from : job_of (codes "runs" ∷ codes "--limit" ∷ codes "3" ∷ codes "--from" ∷ codes "10"
+    ∷ codes "--count=1" ∷ []) ≡ record { task = to_list_runs (Some (codes "10")) 1 3; file = None }
 unfolding clap_on_literals
 runs_from = refl
 

@@ -1,5 +1,6 @@
 -- From the ending of the work to what the whole call leaves.
-use Rattle.std.proofs.Common.{◌≡◌, ◌<◌, ◌++◌, ◌⊎◌, inl, inr, ℕ, Bool, List, ap, refl, sym, subst, arith}
+use Rattle.std.proofs.Common.{◌≡◌, ◌<◌, ◌++◌, ◌⊎◌, inl, inr, ℕ, Bool, List, ap, refl, sym, subst}
+use Rattle.std.proofs.Common.{arith}
 use Rattle.std.proofs.lemmas.Bool.{cases_order}
 use Rattle.ick_cli.specs.Ending.{Answers, Leaves, ending_status, ending_text, message_text}
 use Rattle.ick_cli.specs.Serve.{Failures, Finishes, FinishesDue, IsDue, IsServed, IsStatus, counts}
@@ -33,13 +34,15 @@ due WriteFailed f f' r r' w w' x =
     write_failed (same_counts _ _ _ _ _ _ (omega (arith, x.opened)) (omega (arith, x.read)) (omega (arith, x.wrote)))
 
 -- an error text and a status that are the answer's
-all_answered : (answer : Answer) (old new : Failures) (out out' text : List ℕ) (status : ℕ) → status ≡ answer.status
+all_answered : (answer : Answer) (old new : Failures) (out out' text : List ℕ) (status : ℕ)
+    → status ≡ answer.status
     → text ≡ answer.errors
     → new.reads ≡ old.reads → new.writes ≡ old.writes → out' ≡ out ++ answer.output
     → IsServed answer old new out out' text status
 all_answered answer old new out out' text status has_status has_text reads writes sends =
     subst (λ (t : List ℕ). IsServed answer old new out out' t status) (sym has_text)
-    (subst (λ (s : ℕ). IsServed answer old new out out' answer.errors s) (sym has_status) (answered reads writes sends))
+    (subst (λ (s : ℕ). IsServed answer old new out out' answer.errors s) (sym has_status)
+    (answered reads writes sends))
 
 -- how an answer is served by an ending that has it
 pub served : (answer : Answer) (ending : Ending) (f f' r r' w w' : ℕ) (out out' : List ℕ)

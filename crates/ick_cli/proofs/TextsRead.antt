@@ -1,5 +1,6 @@
 -- A text is that of a list of choices, or of none: it can be told.
-use Rattle.std.proofs.Common.{◌≡◌, ◌≢◌, ◌∙◌, ◌<◌, ◌≤◌, ◌==◌, ◌⊎◌, ◌++◌, ℕ, zero, suc, Bool, true, false, List, [], ◌∷◌}
+use Rattle.std.proofs.Common.{◌≡◌, ◌≢◌, ◌∙◌, ◌<◌, ◌≤◌, ◌==◌, ◌⊎◌, ◌++◌, ℕ}
+use Rattle.std.proofs.Common.{zero, suc, Bool, true, false, List, [], ◌∷◌}
 use Rattle.std.proofs.Common.{Option, Some, None, inl, inr, ap, arith, drop, get_or, length, map, refl, subst, sym}
 use Rattle.std.specs.List.{list_all}
 use Rattle.std.specs.Char.{digit_value}
@@ -119,7 +120,8 @@ later_is : (gs : List Group) → 0 < length gs → later_text gs ≡ 44 ∷ grou
 later_is [] h = absurd (omega arith)
 later_is (g ∷ gs) h = refl
 
-not_comma : (last : Option Bool) (g : Group) (b : ℕ) (more : List ℕ) → IsLength g.digits → HasNoDigit (b ∷ more)
+not_comma : (last : Option Bool) (g : Group) (b : ℕ) (more : List ℕ) → IsLength g.digits
+    → HasNoDigit (b ∷ more)
     → b ≢ 44 → NotFound last (group_text g ++ b ∷ more)
 not_comma last g b more l stops other [] some are is = omega arith
 not_comma last g b more l stops other (h ∷ []) some are is =
@@ -129,7 +131,8 @@ not_comma last g b more l stops other (h ∷ k ∷ ks) some are is =
     let r = front_one g h (b ∷ more) (later_text (k ∷ ks)) l are.1 stops (later_no_digit (k ∷ ks)) is in
     other (ap (λ t. get_or t 0 0) r.2)
 
-not_after : (last : Option Bool) (g : Group) (b : ℕ) (more : List ℕ) → IsLength g.digits → HasNoDigit (b ∷ more)
+not_after : (last : Option Bool) (g : Group) (b : ℕ) (more : List ℕ) → IsLength g.digits
+    → HasNoDigit (b ∷ more)
     → NotFound (Some g.choice) more → NotFound last (group_text g ++ b ∷ more)
 not_after last g b more l stops none [] some are is = omega arith
 not_after last g b more l stops none (h ∷ []) some are is =
@@ -137,12 +140,14 @@ not_after last g b more l stops none (h ∷ []) some are is =
     let long = ap (λ (t : List ℕ). length t) r.2 in omega arith
 not_after last g b more l stops none (h ∷ k ∷ ks) some are is =
     let r = front_one g h (b ∷ more) (later_text (k ∷ ks)) l are.1 stops (later_no_digit (k ∷ ks)) is in
-    none (k ∷ ks) (omega arith) (subst (λ (c : Bool). AreGroups (Some c) (k ∷ ks)) (sym r.0) are.2) (ap (drop 1) r.2)
+    none (k ∷ ks) (omega arith) (subst (λ (c : Bool). AreGroups (Some c) (k ∷ ks)) (sym r.0) are.2)
+    (ap (drop 1) r.2)
 
 -- what follows a group
 after_group : (last : Option Bool) (g : Group) (tail : List ℕ) → Differs last g.choice → IsLength g.digits
     → HasNoDigit tail
-    → ((more : List ℕ) → tail ≡ 44 ∷ more → Decided (Some g.choice) more) → Decided last (group_text g ++ tail)
+    → ((more : List ℕ) → tail ≡ 44 ∷ more → Decided (Some g.choice) more) →
+    Decided last (group_text g ++ tail)
 after_group last g [] d l stops rest = inl (g ∷ [], omega arith, (d, l, tt), refl)
 after_group last g (b ∷ more) d l stops rest = elim (cases_eq b 44) [
   | inr other ↦ inr (not_comma last g b more l stops other)
@@ -165,7 +170,8 @@ no_group : (last : Option Bool) (text : List ℕ)
 no_group last text f [] some are is = omega arith
 no_group last text f (h ∷ hs) some are is = f h (later_text hs) are.0 are.1 (later_no_digit hs) is
 
-too_short : (text : List ℕ) (h : Group) (tail : List ℕ) → length text < 2 → text ≡ group_text h ++ tail → ⊥
+too_short : (text : List ℕ) (h : Group) (tail : List ℕ) → length text < 2 → text ≡ group_text h ++ tail →
+    ⊥
 too_short text h tail short is = let long = ap (λ (t : List ℕ). length t) is in omega arith
 
 groups_decided : (n : ℕ) (last : Option Bool) (text : List ℕ) → length text ≤ n → Decided last text
@@ -176,7 +182,8 @@ groups_decided zero last (b ∷ m ∷ rest) fits = absurd (omega arith)
 groups_decided (suc n) last (b ∷ m ∷ rest) fits = elim (cases_eq m 42) [
   | inr other ↦ inr (no_group last (b ∷ m ∷ rest) (λ h tail d l stops is. other (ap (λ t. get_or t 1 0) is)))
   | inl star ↦ elim (choice_of_byte b) [
-    | inr none ↦ inr (no_group last (b ∷ m ∷ rest) (λ h tail d l stops is. none h.choice (ap (λ t. get_or t 0 0) is)))
+    | inr none ↦
+        inr (no_group last (b ∷ m ∷ rest) (λ h tail d l stops is. none h.choice (ap (λ t. get_or t 0 0) is)))
     | inl choice ↦ elim (differs_decided last choice.0) [
       | inr same ↦ inr (no_group last (b ∷ m ∷ rest) (λ h tail d l stops is.
           same (subst (λ (c : Bool). Differs last c)
@@ -191,7 +198,8 @@ groups_decided (suc n) last (b ∷ m ∷ rest) fits = elim (cases_eq m 42) [
             | inl good ↦
                 subst (λ (t : List ℕ). Decided last t)
                 (sym (ap (λ x. x ∷ m ∷ rest) choice.1
-                ∙ (ap (λ x. digit_of choice.0 ∷ x ∷ rest) star ∙ ap (λ t. digit_of choice.0 ∷ 42 ∷ t) s.text_is)))
+                ∙ (ap (λ x. digit_of choice.0 ∷ x ∷ rest) star
+                ∙ ap (λ t. digit_of choice.0 ∷ 42 ∷ t) s.text_is)))
                 (after_group last (record { choice = choice.0; digits = s.digits }) s.tail differs good s.stops
                 (λ more e. groups_decided n (Some choice.0) more
                 (let whole = ap (λ (t : List ℕ). length t) s.text_is in
@@ -203,7 +211,8 @@ groups_decided (suc n) last (b ∷ m ∷ rest) fits = elim (cases_eq m 42) [
 ]
 
 -- a list of choices of a text, or none
-pub text_decided : (text : List ℕ) → ((c : List Bool) × IsTextOf text c) ⊎ ((c : List Bool) → IsTextOf text c → ⊥)
+pub text_decided : (text : List ℕ) → ((c : List Bool) × IsTextOf text c)
+    ⊎ ((c : List Bool) → IsTextOf text c → ⊥)
 text_decided text = elim (plain_decided text) [
   | inl plain ↦ inl (plain.0, inl plain.1)
   | inr no_plain ↦ elim (groups_decided (length text) None text (omega arith)) [

@@ -1,6 +1,6 @@
 -- The job that words ask for, by the matches that clap defines.
-use Rattle.std.specs.Prelude.{◌≡◌, ◌^◌, ◌&&◌, ℕ, Bool, true, false, List, [], Option, Some, None, codes, is_some}
-use Rattle.std.specs.Prelude.{if◌then◌else◌, nat_lt, option_and_then, option_map, unwrap_or}
+use Rattle.std.specs.Prelude.{◌≡◌, ◌^◌, ◌&&◌, ℕ, Bool, true, false, List, [], Option, Some, None, codes}
+use Rattle.std.specs.Prelude.{is_some, if◌then◌else◌, nat_lt, option_and_then, option_map, unwrap_or}
 use Rattle.std.specs.Option.{option_map_or}
 use Rattle.std.specs.Str.{bytes_eq}
 use Rattle.std.specs.Str.Parse.{digits_value, without_leading_plus}

@@ -32,8 +32,8 @@ most_choices = 1000000
 pub data IsPlanned : Task → Plan → Type 0 where
   check_planned : IsPlanned to_check Check
   list_planned : IsPlanned to_list ListStatements
-  run_planned : (text : Option Text) (limit : ℕ) (choices : Option (List Bool)) → AreChoices text most_choices choices
-      → IsPlanned (to_run text None limit) (Execute (Given choices limit))
+  run_planned : (text : Option Text) (limit : ℕ) (choices : Option (List Bool))
+      → AreChoices text most_choices choices → IsPlanned (to_run text None limit) (Execute (Given choices limit))
   seed_planned : (seed limit : ℕ) → IsPlanned (to_run None (Some seed) limit) (Execute (Drawn seed limit))
   runs_planned : (text : Option Text) (count limit : ℕ) (from : Option (List Bool)) → AreChoices text limit from
       → IsPlanned (to_list_runs text count limit) (Execute (Listed from count limit))

@@ -22,7 +22,8 @@ IsStatus code = (code ≤ 4) ⊎ (code ≡ 64)
 -- is the line of the device that failed, once, or that of an input that is too long or of want of memory, where none
 -- failed.
 pub data IsDue (old new : Failures) : List ℕ → ℕ → Type 0 where
-  nothing_failed : (text : List ℕ) (status : ℕ) → new ≡ old → (status ≤ 3) ⊎ (status ≡ 64) → IsDue old new text status
+  nothing_failed : (text : List ℕ) (status : ℕ) → new ≡ old → (status ≤ 3) ⊎ (status ≡ 64) →
+      IsDue old new text status
   file_failed : new ≡ record old { files = old.files + 1 } → IsDue old new (notice_text FileNotRead) 4
   read_failed : new ≡ record old { reads = old.reads + 1 } → IsDue old new (notice_text ReadFailed) 4
   write_failed : new ≡ record old { writes = old.writes + 1 } → IsDue old new (notice_text WriteFailed) 4
@@ -36,7 +37,8 @@ pub data IsServed (answer : Answer) (old new : Failures) (before after : List �
       → IsServed answer old new before after answer.errors answer.status
   cut_by_read : (n : ℕ) → new ≡ record old { reads = old.reads + 1 } → after ≡ before ++ take n answer.output
       → IsServed answer old new before after (notice_text ReadFailed) 4
-  cut_by_write : (n : ℕ) → new ≡ record old { writes = old.writes + 1 } → after ≡ before ++ take n answer.output
+  cut_by_write : (n : ℕ) → new ≡ record old { writes = old.writes + 1 }
+      → after ≡ before ++ take n answer.output
       → IsServed answer old new before after (notice_text WriteFailed) 4
   cut_by_memory : (n : ℕ) → new ≡ old → after ≡ before ++ take n answer.output
       → IsServed answer old new before after (notice_text OutOfMemory) 4
@@ -51,6 +53,8 @@ pub record Finishes (told : Bool) (status : ℕ) (text : List ℕ)
   pub beginning : told ≡ true → (n : ℕ) × (errors' ≡ errors ++ take n text)
 
 -- an error text and a status that are due were finished so
-abbrev pub FinishesDue : (List ℕ → ℕ → Type 0) → Bool → ℕ → ℕ → List ℕ → List ℕ → ℕ → Type 0
+abbrev pub FinishesDue : (List ℕ → ℕ → Type 0) → Bool → ℕ → ℕ → List ℕ → List ℕ → ℕ →
+    Type 0
 FinishesDue Due told failed failed' errors errors' code =
-    (text : List ℕ) × (status : ℕ) × Due text status × Finishes told status text failed failed' errors errors' code
+    (text : List ℕ) × (status : ℕ) × Due text status
+    × Finishes told status text failed failed' errors errors' code

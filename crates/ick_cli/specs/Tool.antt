@@ -1,5 +1,6 @@
 -- What the tool answers to a task, by its source and its input.
-use Rattle.std.specs.Prelude.{◌<◌, ◌≤◌, ◌++◌, ℕ, Bool, List, [], Option, Some, None, codes, decimal, length, unwrap_or}
+use Rattle.std.specs.Prelude.{◌<◌, ◌≤◌, ◌++◌, ℕ, Bool, List, [], Option, Some, None, codes, decimal}
+use Rattle.std.specs.Prelude.{length, unwrap_or}
 use Rattle.ick_bits.specs.Faults.{message_of}
 use Rattle.ick_bits.specs.declared.faults.FaultKind.{FaultKind}
 use Rattle.ick_source.specs.Listing.{listing}
@@ -77,7 +78,8 @@ IsPlace program s limit None = Unit {0}
 IsPlace program s limit (Some c) = IsWhole program s limit c
 
 -- the answer of a listing of runs from a place on, or from a list that is none
-pub data IsRunsAnswer (program : Program) (s : State) (limit count : ℕ) : Option (List Bool) → Answer → Type 0 where
+pub data IsRunsAnswer (program : Program) (s : State) (limit count : ℕ) : Option (List Bool) → Answer →
+    Type 0 where
   listed : (from : Option (List Bool)) (cs : List (List Bool)) → IsPlace program s limit from
       → IsListing program s limit from cs
       → IsRunsAnswer program s limit count from (shown (shown_runs program s limit cs count))
@@ -122,6 +124,7 @@ pub data IsReadAnswer (plan : Plan) (input : List ℕ) : Option (List ℕ) → A
 
 -- the answer to a task: its text of choices is refused, or its plan is done
 pub data IsToolAnswer (task : Task) (source : Option (List ℕ)) (input : List ℕ) : Answer → Type 0 where
-  unplanned : (line : Notice) → IsUnplanned task line → IsToolAnswer task source input (refusal 64 (notice_text line))
+  unplanned : (line : Notice) → IsUnplanned task line →
+      IsToolAnswer task source input (refusal 64 (notice_text line))
   planned : (plan : Plan) (answer : Answer) → IsPlanned task plan → IsReadAnswer plan input source answer
       → IsToolAnswer task source input answer

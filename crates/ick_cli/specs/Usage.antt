@@ -1,5 +1,6 @@
 -- What words leave that ask for no job.
-use Rattle.std.specs.Prelude.{◌≡◌, ◌≢◌, ◌+◌, ◌++◌, ◌⊎◌, ℕ, Bool, true, List, [], ◌∷◌, take}
+use Rattle.std.specs.Prelude.{◌≡◌, ◌≢◌, ◌+◌, ◌++◌, ◌⊎◌, ℕ, Bool, true, List, [], ◌∷◌}
+use Rattle.std.specs.Prelude.{take}
 use Rattle.clap.specs.Words.{Kinds}
 use Rattle.clap.specs.declared.error.ErrorKind.{ErrorKind}
 use Rattle.clap.specs.declared.error.ErrorKind.TheVariants as kind
@@ -38,7 +39,8 @@ pub data IsRefused : List ℕ → ℕ → Type 0 where
 pub data IsHelped (told : Bool) (failed failed' : ℕ) (before after : List ℕ) : List ℕ → ℕ → Type 0 where
   helped : (text : List ℕ) → failed' ≡ failed → (told ≡ true → after ≡ before ++ text)
       → IsHelped told failed failed' before after [] 0
-  help_cut : (text : List ℕ) → failed' ≡ failed + 1 → (told ≡ true → (n : ℕ) × (after ≡ before ++ take n text))
+  help_cut : (text : List ℕ) → failed' ≡ failed + 1
+      → (told ≡ true → (n : ℕ) × (after ≡ before ++ take n text))
       → IsHelped told failed failed' before after (notice_text WriteFailed) 4
   help_without_memory : failed' ≡ failed → after ≡ before
       → IsHelped told failed failed' before after (notice_text OutOfMemory) 4

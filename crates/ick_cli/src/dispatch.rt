@@ -1,11 +1,11 @@
 //! From a job to its command: the plan, the file, the source, the program, and what is done with
 //! them.
-ghost use Rattle.std.specs.Prelude.{◌≡◌, ◌+◌, ◌<◌, ◌≤◌, ◌^◌, Some, [], false, length, true};
+ghost use Rattle.std.specs.Prelude.{◌≡◌, ◌+◌, ◌<◌, ◌≤◌, ◌^◌, Some, []};
+ghost use Rattle.std.specs.Prelude.{false, length, true};
 ghost use Rattle.ick_bits.specs.Faults.{message_of};
 ghost use Rattle.ick_source.specs.Programs.{trees_of};
 ghost use Rattle.ick_code.specs.Compiled.{code_program};
-ghost use Rattle.ick_cli.specs.Ending.{Answers, EndsBy, Leaves, LeavesStreams};
-ghost use Rattle.ick_cli.specs.Ending.{input_of, source_of};
+ghost use Rattle.ick_cli.specs.Ending.{Answers, EndsBy, Leaves, LeavesStreams, input_of, source_of};
 ghost use Rattle.ick_cli.specs.Job.{asked, has_file, takes_input};
 ghost use Rattle.ick_cli.specs.Plan.{IsUnplanned, reads_input};
 ghost use Rattle.ick_cli.specs.Tool.{Answer, IsExecuted, IsProgramAnswer, IsReadAnswer};
@@ -41,8 +41,8 @@ pub fn perform<F: Files, R: ByteSource, W: ByteSink>(
     requires writer_sound { W.failed writer.old + 1 < 2 ^ 64 }
     ensures leaves { Leaves result (F.failed files.old) (F.failed files.new)
         (R.failed reader.old) (R.failed reader.new) (W.failed writer.old) (W.failed writer.new) }
-    ensures reader_kept { has_file (asked job.now) ≡ true → takes_input (asked job.now).task ≡ false
-        → reader.new ≡ reader.old }
+    ensures reader_kept { has_file (asked job.now) ≡ true
+        → takes_input (asked job.now).task ≡ false → reader.new ≡ reader.old }
     ensures files_kept { has_file (asked job.now) ≡ false → files.new ≡ files.old }
     ensures unplanned { (line : Notice) → IsUnplanned (asked job.now).task line
         → (files.new ≡ files.old) × (reader.new ≡ reader.old) }
@@ -198,7 +198,8 @@ fn execute<R: ByteSource, W: ByteSink>(
     ensures leaves { LeavesStreams result (R.failed reader.old) (R.failed reader.new)
         (W.failed writer.old) (W.failed writer.new) }
     ensures answer { R.told ≡ true → W.told ≡ true → (answer : Answer)
-        → IsProgramAnswer (trees_of program.now) (R.left reader.old) (Plan.Execute runs.now) answer
+        → IsProgramAnswer (trees_of program.now) (R.left reader.old)
+        (Plan.Execute runs.now) answer
         → Answers answer result (W.written writer.old) (W.written writer.new) }
 {
     match compile(alloc, program) {

@@ -1,5 +1,6 @@
 //! The whole of the program over its devices.
-ghost use Rattle.std.specs.Prelude.{◌≡◌, ◌+◌, ◌<◌, ◌^◌, ◌⊎◌, ◌≢◌, [], false, true};
+ghost use Rattle.std.specs.Prelude.{◌≡◌, ◌+◌, ◌<◌, ◌^◌, ◌⊎◌, ◌≢◌, []};
+ghost use Rattle.std.specs.Prelude.{false, true};
 ghost use Rattle.clap.specs.Walk.{texts};
 ghost use Rattle.clap.specs.Words.{fault_of};
 ghost use Rattle.ick_cli.specs.Words.{ick_app};
@@ -45,8 +46,8 @@ pub fn serve<F: Files, R: ByteSource, W: ByteSink, E: ByteSink>(
 
     // Words that ask for a job, over devices that do what they say: there is an answer that is the
     // tool's, and it is served.
-    ensures job { HasJob (texts words.entry.now) → F.told ≡ true → R.told ≡ true → W.told ≡ true →
-        let job = job_of (texts words.entry.now) in
+    ensures job { HasJob (texts words.entry.now) → F.told ≡ true → R.told ≡ true
+        → W.told ≡ true → let job = job_of (texts words.entry.now) in
         (answer : Answer)
         × IsToolAnswer job.task (source_of job.file (F.named files.old)
         (F.failed files.old) (F.failed files.new) (R.left reader.old))
@@ -59,7 +60,8 @@ pub fn serve<F: Files, R: ByteSource, W: ByteSink, E: ByteSink>(
         (E.written errors.old) (E.written errors.new) result }
     ensures reader_kept { HasJob (texts words.entry.now)
         → has_file (job_of (texts words.entry.now)) ≡ true
-        → takes_input (job_of (texts words.entry.now)).task ≡ false → reader.new ≡ reader.old }
+        → takes_input (job_of (texts words.entry.now)).task ≡ false
+        → reader.new ≡ reader.old }
     ensures files_kept { HasJob (texts words.entry.now)
         → has_file (job_of (texts words.entry.now)) ≡ false → files.new ≡ files.old }
     ensures unplanned { HasJob (texts words.entry.now) → (line : Notice)

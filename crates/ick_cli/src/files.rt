@@ -1,6 +1,6 @@
 //! Files that are opened by name.
-ghost use Rattle.std.specs.Prelude.{◌≡◌, ◌+◌, ◌<◌, ◌^◌, ℕ, List, true, if◌then◌else◌};
-ghost use Rattle.std.specs.Prelude.{IfOk, is_ok};
+ghost use Rattle.std.specs.Prelude.{◌≡◌, ◌+◌, ◌<◌, ◌^◌, ℕ, List, true};
+ghost use Rattle.std.specs.Prelude.{if◌then◌else◌, IfOk, is_ok};
 
 use ick_runs::{ByteSource, DeviceFault};
 

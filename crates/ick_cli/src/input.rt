@@ -1,5 +1,6 @@
 //! The input of a run, which is read whole.
-ghost use Rattle.std.specs.Prelude.{◌≡◌, ◌+◌, ◌<◌, ◌≤◌, ◌^◌, IfErr, IfOk, length, true};
+ghost use Rattle.std.specs.Prelude.{◌≡◌, ◌+◌, ◌<◌, ◌≤◌, ◌^◌, IfErr, IfOk};
+ghost use Rattle.std.specs.Prelude.{length, true};
 ghost use Rattle.ick_cli.specs.Ending.{LeavesStreams};
 ghost use Rattle.ick_cli.specs.Input.{EndsUnread};
 ghost use Rattle.ick_cli.specs.Tool.{longest_input};

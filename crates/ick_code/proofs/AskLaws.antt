@@ -1,5 +1,6 @@
 -- What a state asks for.
-use Rattle.std.proofs.Common.{◌≡◌, ◌∙◌, ℕ, ◌<◌, ◌&&◌, ◌==◌, Bool, true, false, if◌then◌else◌, List, refl, ap, ◌↔◌, arith}
+use Rattle.std.proofs.Common.{◌≡◌, ◌∙◌, ℕ, ◌<◌, ◌&&◌, ◌==◌, Bool, true, false}
+use Rattle.std.proofs.Common.{if◌then◌else◌, List, refl, ap, ◌↔◌, arith}
 use Rattle.std.proofs.lemmas.Bool.Decides.{nat_tests}
 use Rattle.std.specs.Prelude.{nat_lt, Option, Some, None}
 use Rattle.ick_source.specs.StatementTree.{StatementTree}
@@ -12,7 +13,8 @@ use Rattle.ick_code.specs.meaning.Move.{meet, advance}
 same_chance : (a b : ℕ) → choice a ≡ choice b → a ≡ b
 same_chance a b e = cc
 
-between_by : (a b : Bool) (c : ℕ) → nat_lt 0 c ≡ a → nat_lt c 100 ≡ b → (n : ℕ) → (if a && b then choice c else plain) ≡ choice n → (0 < n) × (n < 100)
+between_by : (a b : Bool) (c : ℕ) → nat_lt 0 c ≡ a →
+    nat_lt c 100 ≡ b → (n : ℕ) → (if a && b then choice c else plain) ≡ choice n → (0 < n) × (n < 100)
 between_by true true c h k n e =
     let i : c ≡ n = same_chance c n e in
     let x : 0 < c = grind (arith, nat_tests) in
@@ -21,19 +23,24 @@ between_by true true c h k n e =
 between_by true false c h k n e = cc
 between_by false b c h k n e = cc
 
-uncertain_by : (statement : StatementTree) (abstained : Bool) (n : ℕ) → (if is_uncertain statement abstained then choice statement.chance else plain) ≡ choice n → (0 < n) × (n < 100)
+uncertain_by : (statement : StatementTree) (abstained : Bool) (n : ℕ) → (if is_uncertain statement
+    abstained then choice statement.chance else plain) ≡ choice n → (0 < n) × (n < 100)
 uncertain_by statement true n e = cc
-uncertain_by statement false n e = between_by (nat_lt 0 statement.chance) (nat_lt statement.chance 100) statement.chance refl refl n e
+uncertain_by statement false n e =
+    between_by (nat_lt 0 statement.chance) (nat_lt statement.chance 100) statement.chance refl refl n e
 
-at_statement : (found : Option StatementTree) (s : State) (n : ℕ) → ask_at found s ≡ choice n → (0 < n) × (n < 100)
+at_statement : (found : Option StatementTree) (s : State) (n : ℕ) →
+    ask_at found s ≡ choice n → (0 < n) × (n < 100)
 at_statement None s n e = cc
 at_statement (Some statement) s n e = uncertain_by statement (s.abstained s.place) n e
 
-of_end : (end : Option Ending) (program : List StatementTree) (s : State) (n : ℕ) → ask_of end program s ≡ choice n → (0 < n) × (n < 100)
+of_end : (end : Option Ending) (program : List StatementTree) (s : State) (n : ℕ) →
+    ask_of end program s ≡ choice n → (0 < n) × (n < 100)
 of_end (Some e) program s n h = cc
 of_end None program s n h = at_statement (statement_at program s.place) s n h
 
-pub chance_between : (program : List StatementTree) (s : State) (n : ℕ) → ask program s ≡ choice n → (0 < n) × (n < 100)
+pub chance_between : (program : List StatementTree) (s : State) (n : ℕ) →
+    ask program s ≡ choice n → (0 < n) × (n < 100)
 unfolding ask
 chance_between program s n h = of_end s.end program s n h
 
@@ -64,7 +71,8 @@ ask_same program s t place abstained end =
     ap (λ e. ask_of e program t) end ∙ going_same s.end program s t place abstained
 
 -- where nothing is asked both choices do the same
-either_same : (b c : Bool) (n : ℕ) → (if b then choice n else plain) ≡ plain → (if b then true else c) ≡ (if b then false else c)
+either_same : (b c : Bool) (n : ℕ) → (if b then choice n else plain) ≡ plain → (if b then true else c)
+    ≡ (if b then false else c)
 either_same true c n e = absurd (cc)
 either_same false c n e = refl
 

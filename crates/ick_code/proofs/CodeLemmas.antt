@@ -1,6 +1,7 @@
 -- What is seen of a compiled program.
-use Rattle.std.proofs.Common.{◌≡◌, ℕ, zero, suc, ◌≤◌, ◌<◌, Bool, true, false, not, ◌&&◌, List, [], take, length, Option}
-use Rattle.std.proofs.Common.{Some, None, refl, sym, ap, ◌∙◌, subst, le_trans, arith, if◌then◌else◌, ◌∷◌, ◌-◌, get_or}
+use Rattle.std.proofs.Common.{◌≡◌, ℕ, zero, suc, ◌≤◌, ◌<◌, Bool, true, false, not, ◌&&◌, List, []}
+use Rattle.std.proofs.Common.{take, length, Option, Some, None, refl, sym, ap, ◌∙◌, subst, le_trans, arith}
+use Rattle.std.proofs.Common.{if◌then◌else◌, ◌∷◌, ◌-◌, get_or}
 use Rattle.std.specs.Prelude.{filter, slice_get, slice_range, option_map}
 use Rattle.std.specs.List.{IsDistinct, AllPass, list_all}
 use Rattle.std.proofs.lemmas.List.Sums.{AllPass-from_list_all}
@@ -22,34 +23,47 @@ use Rattle.ick_code.proofs.Slotted.{slots_is}
 use Rattle.ick_code.proofs.Members.{some_member}
 use Rattle.ick_code.proofs.CountLemmas.{prefix-le, peak_reached}
 
-passing_filtered : (p q : Name → Bool) (names : List Name) → list_all p names ≡ true → list_all p (filter q names) ≡ true
+passing_filtered : (p q : Name → Bool) (names : List Name) → list_all p names ≡ true →
+    list_all p (filter q names) ≡ true
 passing_filtered p q [] h = refl
-passing_filtered p q (name ∷ names) h = cases (q name) (both_left (p name) (list_all p names) h) (passing_filtered p q names (both_right (p name) (list_all p names) h))
+passing_filtered p q (name ∷ names) h =
+    cases (q name) (both_left (p name) (list_all p names) h)
+    (passing_filtered p q names (both_right (p name) (list_all p names) h))
   where
-    cases : (b : Bool) → p name ≡ true → list_all p (filter q names) ≡ true → list_all p (if b then name ∷ filter q names else filter q names) ≡ true
+    cases : (b : Bool) → p name ≡ true → list_all p (filter q names) ≡ true →
+        list_all p (if b then name ∷ filter q names else filter q names) ≡ true
     cases true own rest = ap (λ b. b && list_all p (filter q names)) own ∙ rest
     cases false own rest = rest
 
-passing_once : (p : Name → Bool) (names : List Name) → list_all p names ≡ true → list_all p (each_once names) ≡ true
+passing_once : (p : Name → Bool) (names : List Name) → list_all p names ≡ true →
+    list_all p (each_once names) ≡ true
 passing_once p [] h = refl
 passing_once p (name ∷ names) h =
-    let rest = passing_filtered p (λ other. not (same_name name other)) (each_once names) (passing_once p names (both_right (p name) (list_all p names) h)) in
-    ap (λ b. b && list_all p (filter (λ other. not (same_name name other)) (each_once names))) (both_left (p name) (list_all p names) h) ∙ rest
+    let rest =
+    passing_filtered p (λ other. not (same_name name other)) (each_once names)
+    (passing_once p names (both_right (p name) (list_all p names) h)) in
+    ap (λ b. b && list_all p (filter (λ other. not (same_name name other)) (each_once names)))
+    (both_left (p name) (list_all p names) h) ∙ rest
 
 passing_own : (p : Name → Bool) (names : List Name) → list_all p (filter p names) ≡ true
 passing_own p [] = refl
 passing_own p (name ∷ names) = cases (p name) refl (passing_own p names)
   where
-    cases : (b : Bool) → p name ≡ b → list_all p (filter p names) ≡ true → list_all p (if b then name ∷ filter p names else filter p names) ≡ true
+    cases : (b : Bool) → p name ≡ b → list_all p (filter p names) ≡ true →
+        list_all p (if b then name ∷ filter p names else filter p names) ≡ true
     cases true own rest = ap (λ b. b && list_all p (filter p names)) own ∙ rest
     cases false own rest = rest
 
 kept_names : (p : Name → Bool) (names : List Name) → AllPass p (each_once (filter p names))
-kept_names p names = AllPass-from_list_all p (each_once (filter p names)) (passing_once p (filter p names) (passing_own p names))
+kept_names p names =
+    AllPass-from_list_all p (each_once (filter p names)) (passing_once p (filter p names) (passing_own p names))
 
 -- what is kept of a statement
-pub compiled_of : (program : List StatementTree) (code : Code) → IsCode program code.scalars.items code.arrays.items code.operands code.ops.items code.statements.items → (n : ℕ) (statement : StatementTree) →
-    statement_at program n ≡ Some statement → (compiled : CompiledStatement) × (compiled_at code.statements.items n ≡ Some compiled) × IsCompiledStatement program (slots_of program) code.operands code.ops.items compiled statement
+pub compiled_of : (program : List StatementTree) (code : Code) →
+    IsCode program code.scalars.items code.arrays.items code.operands code.ops.items code.statements.items →
+    (n : ℕ) (statement : StatementTree) → statement_at program n ≡ Some statement →
+    (compiled : CompiledStatement) × (compiled_at code.statements.items n ≡ Some compiled)
+    × IsCompiledStatement program (slots_of program) code.operands code.ops.items compiled statement
 compiled_of program code h zero statement at = absurd (cc)
 compiled_of program code h (suc k) statement at =
     let low = slice_get_within program k statement at in
@@ -57,45 +71,61 @@ compiled_of program code h (suc k) statement at =
     (here.0, here.1, h.each k here.0 statement here.1 at)
 
 -- what is so of the operations of what is kept is so of those of each statement
-each_ops : (program : List StatementTree) (code : Code) → IsCode program code.scalars.items code.arrays.items code.operands code.ops.items code.statements.items →
+each_ops : (program : List StatementTree) (code : Code) →
+    IsCode program code.scalars.items code.arrays.items code.operands code.ops.items code.statements.items →
     (n : ℕ) → peak (code_ops code n) 0 ≤ code.operands
 each_ops program code h zero = omega arith
 each_ops program code h (suc k) = cases (slice_get code.statements.items k) refl
   where
-    at : (compiled : CompiledStatement) → slice_get code.statements.items k ≡ Some compiled → (statement : StatementTree) × (slice_get program k ≡ Some statement)
+    at : (compiled : CompiledStatement) →
+        slice_get code.statements.items k ≡ Some compiled →
+        (statement : StatementTree) × (slice_get program k ≡ Some statement)
     at compiled e = some_member program k (omega (arith, h.count, slice_get_within code.statements.items k compiled e))
 
-    cases : (o : Option CompiledStatement) → slice_get code.statements.items k ≡ o → peak (ops_in code.ops.items o) 0 ≤ code.operands
+    cases : (o : Option CompiledStatement) → slice_get code.statements.items k ≡ o →
+        peak (ops_in code.ops.items o) 0 ≤ code.operands
     cases None e = omega arith
     cases (Some compiled) e = let there = at compiled e in (h.each k compiled there.0 e there.1).low
 
-pub is_compiled : (program : List StatementTree) (code : Code) → code_program code ≡ program → IsCode program code.scalars.items code.arrays.items code.operands code.ops.items code.statements.items → IsCompiled program code
+pub is_compiled : (program : List StatementTree) (code : Code) → code_program code ≡ program →
+    IsCode program code.scalars.items code.arrays.items code.operands code.ops.items code.statements.items →
+    IsCompiled program code
 is_compiled program code are h =
-    let slots : code_slots code ≡ slots_of program = slots_is (code_slots code) (slots_of program) h.scalars_are h.arrays_are in
+    let slots : code_slots code ≡ slots_of program =
+    slots_is (code_slots code) (slots_of program) h.scalars_are h.arrays_are in
     record {
       program_is = are;
       means = λ n statement at.
           let compiled = compiled_of program code h n statement at in
           subst (λ sl. Means program sl (code_ops code n) statement code.operands) (sym slots)
-          (subst (λ o. Means program (slots_of program) (ops_in code.ops.items o) statement code.operands) (sym compiled.1) compiled.2.means);
+          (subst (λ o. Means program (slots_of program) (ops_in code.ops.items o) statement code.operands)
+          (sym compiled.1) compiled.2.means);
       least = λ most all.
           h.least most (λ n compiled e.
           let reached = peak_reached (slice_range code.ops.items compiled.from compiled.to) 0 in
-          let here : code_ops code (suc n) ≡ slice_range code.ops.items compiled.from compiled.to = ap (ops_in code.ops.items) e in
+          let here : code_ops code (suc n) ≡ slice_range code.ops.items compiled.from compiled.to =
+          ap (ops_in code.ops.items) e in
           let fits = all (suc n) reached.0 in
           omega (arith, fits, ap (λ o. count_after (take reached.0 o) 0) here, reached.1));
       enough = λ n k. le_trans (prefix-le (code_ops code n) k 0) (each_ops program code h n);
       slots_are = slots;
-      scalars_once = subst (IsDistinct same_name) (sym h.scalars_are) (each_once-distinct (filter is_scalar_name (names_of program)));
-      arrays_once = subst (IsDistinct same_name) (sym h.arrays_are) (each_once-distinct (filter is_array_name (names_of program)));
+      scalars_once =
+          subst (IsDistinct same_name) (sym h.scalars_are)
+          (each_once-distinct (filter is_scalar_name (names_of program)));
+      arrays_once =
+          subst (IsDistinct same_name) (sym h.arrays_are)
+          (each_once-distinct (filter is_array_name (names_of program)));
       scalars_named = subst (AllPass is_scalar_name) (sym h.scalars_are) (kept_names is_scalar_name (names_of program));
       arrays_named = subst (AllPass is_array_name) (sym h.arrays_are) (kept_names is_array_name (names_of program));
     }
 
 -- code by the names of its slots
-pub named_code : (program : List StatementTree) (scalars scalars' arrays arrays' : List Name) (most : ℕ) (ops : List Op) (statements : List CompiledStatement) → scalars' ≡ scalars → arrays' ≡ arrays → IsCode program scalars arrays most ops statements → IsCode program scalars' arrays' most ops statements
+pub named_code : (program : List StatementTree) (scalars scalars' arrays arrays' : List Name) (most : ℕ)
+    (ops : List Op) (statements : List CompiledStatement) → scalars' ≡ scalars → arrays' ≡ arrays →
+    IsCode program scalars arrays most ops statements → IsCode program scalars' arrays' most ops statements
 named_code program scalars scalars' arrays arrays' most ops statements e f h =
-    subst (λ xs. IsCode program xs arrays' most ops statements) (sym e) (subst (λ ys. IsCode program scalars ys most ops statements) (sym f) h)
+    subst (λ xs. IsCode program xs arrays' most ops statements) (sym e)
+    (subst (λ ys. IsCode program scalars ys most ops statements) (sym f) h)
 
 -- what a reader takes
 pub record Taken (code : Code) (n : ℕ) (compiled : CompiledStatement) : Type 0 where
@@ -104,9 +134,13 @@ pub record Taken (code : Code) (n : ℕ) (compiled : CompiledStatement) : Type 0
   pub within : compiled.to ≤ length code.ops.items
   pub shows : Shows (statement_at (code_program code) n) compiled
 
-taken_at : (code : Code) (k : ℕ) (compiled : CompiledStatement) → slice_get code.statements.items k ≡ Some compiled → IsCode (code_program code) code.scalars.items code.arrays.items code.operands code.ops.items code.statements.items → Taken code (suc k) compiled
+taken_at : (code : Code) (k : ℕ) (compiled : CompiledStatement) →
+    slice_get code.statements.items k ≡ Some compiled →
+    IsCode (code_program code) code.scalars.items code.arrays.items code.operands code.ops.items
+    code.statements.items → Taken code (suc k) compiled
 taken_at code k compiled at h =
-    let there = some_member (code_program code) k (omega (arith, h.count, slice_get_within code.statements.items k compiled at)) in
+    let there =
+    some_member (code_program code) k (omega (arith, h.count, slice_get_within code.statements.items k compiled at)) in
     let is = h.each k compiled there.0 at there.1 in
     record {
       at = at;
@@ -120,13 +154,16 @@ taken_at code k compiled at h =
       };
     }
 
-pub is_taken : (code : Code) (n : ℕ) (compiled : CompiledStatement) → 1 ≤ n → n ≤ length (code_program code) → compiled ≡ get_or code.statements.items (n - 1) compiled → Taken code n compiled
+pub is_taken : (code : Code) (n : ℕ) (compiled : CompiledStatement) → 1 ≤ n →
+    n ≤ length (code_program code) → compiled ≡ get_or code.statements.items (n - 1) compiled →
+    Taken code n compiled
 is_taken code zero compiled first last is = absurd (omega arith)
 is_taken code (suc k) compiled first last is =
     let h = code.compiled in
     let low : k < length code.statements.items = omega (arith, h.count) in
     let one : suc k - 1 ≡ k = omega arith in
-    taken_at code k compiled (slice_get-get_or code.statements.items k compiled low ∙ ap (λ x. Some x) (sym (is ∙ ap (λ i. get_or code.statements.items i compiled) one))) h
+    taken_at code k compiled (slice_get-get_or code.statements.items k compiled low
+    ∙ ap (λ x. Some x) (sym (is ∙ ap (λ i. get_or code.statements.items i compiled) one))) h
 
 -- of any code
 pub code_compiled : (code : Code) → IsCompiled (code_program code) code

@@ -68,7 +68,8 @@ unfolding advance subscripts_before_place too_great great mingled with_bits sum_
 subscript_fault_before_the_element = refl
 
 place_before_size : ℕ → List StatementTree
-place_before_size n = plainly (dimension tail (mesh 3 ∷ [])) ∷ plainly (calculate (at tail (mesh n ∷ [])) great) ∷ []
+place_before_size n =
+    plainly (dimension tail (mesh 3 ∷ [])) ∷ plainly (calculate (at tail (mesh n ∷ [])) great) ∷ []
 
 element_fault_before_the_size :
     seen (place_before_size 9) [] 2
@@ -162,7 +163,8 @@ unfolding advance line_answer first_unknown beginnings begins_word word_at digit
 unknown_word_before_too_large = refl
 
 too_large_a_line :
-    seen (plainly (reads (scalar one ∷ [])) ∷ []) (codes "\tFOUR\rTWO NINE FOUR NINE SIX SEVEN TWO NINE SIX\t \nONE") 1
+    seen (plainly (reads (scalar one ∷ [])) ∷ [])
+    (codes "\tFOUR\rTWO NINE FOUR NINE SIX SEVEN TWO NINE SIX\t \nONE") 1
     ≡ record { output = []; input = codes "ONE"; end = Some (faulted SixtyFour 1 []) }
 unfolding advance line_answer first_unknown beginnings begins_word word_at digit_of number_of_words
 too_large_a_line = refl
@@ -221,7 +223,8 @@ calculating_names_dimensions = refl
 
 gerunds : List Gerund
 gerunds =
-    Calculating ∷ Nexting ∷ Forgetting ∷ Resuming ∷ Stashing ∷ Retrieving ∷ Ignoring ∷ Remembering ∷ Abstaining
+    Calculating ∷ Nexting ∷ Forgetting ∷ Resuming ∷ Stashing ∷ Retrieving ∷ Ignoring ∷ Remembering
+    ∷ Abstaining
     ∷ Reinstating ∷ WritingIn ∷ ReadingOut ∷ []
 
 every_gerund : List StatementTree
@@ -267,7 +270,8 @@ return_past_the_end :
 unfolding advance back_to_the_edge
 return_past_the_end = refl
 
-empty_program_is_off_the_edge : seen [] [] 1 ≡ record { output = []; input = []; end = Some (faulted OffTheEdge 0 []) }
+empty_program_is_off_the_edge : seen [] [] 1
+    ≡ record { output = []; input = []; end = Some (faulted OffTheEdge 0 []) }
 unfolding advance
 empty_program_is_off_the_edge = refl
 
@@ -282,7 +286,8 @@ resume_of_80_is_a_rupture :
     ≡ faults Rupture [] (record s { returns = replicate 79 1 })
 resume_of_80_is_a_rupture s = refl
 
-forget_of_80_drops_all : (s : State) → do_forget 80 (record s { returns = replicate 79 1 }) ≡ record s { returns = [] }
+forget_of_80_drops_all : (s : State) →
+    do_forget 80 (record s { returns = replicate 79 1 }) ≡ record s { returns = [] }
 forget_of_80_drops_all s = refl
 
 forget_of_none_keeps_all :

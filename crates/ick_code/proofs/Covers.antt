@@ -22,10 +22,12 @@ abbrev pub Covers : Slots → List Name → Type 0
 Covers slots names = (name : Name) → is_among name names ≡ true → HasSlot slots name
 
 pub covers_left : (slots : Slots) (xs ys : List Name) → Covers slots (xs ++ ys) → Covers slots xs
-covers_left slots xs ys h name in_xs = h name (list_any-append (same_name name) xs ys ∙ or_left (is_among name xs) (is_among name ys) in_xs)
+covers_left slots xs ys h name in_xs =
+    h name (list_any-append (same_name name) xs ys ∙ or_left (is_among name xs) (is_among name ys) in_xs)
 
 pub covers_right : (slots : Slots) (xs ys : List Name) → Covers slots (xs ++ ys) → Covers slots ys
-covers_right slots xs ys h name in_ys = h name (list_any-append (same_name name) xs ys ∙ or_right (is_among name xs) (is_among name ys) in_ys)
+covers_right slots xs ys h name in_ys =
+    h name (list_any-append (same_name name) xs ys ∙ or_right (is_among name xs) (is_among name ys) in_ys)
 
 pub covers_head : (slots : Slots) (x : Name) (xs : List Name) → Covers slots (x ∷ xs) → HasSlot slots x
 covers_head slots x xs h = h x (or_left (same_name x x) (is_among x xs) (same_name-refl x))
@@ -33,13 +35,17 @@ covers_head slots x xs h = h x (or_left (same_name x x) (is_among x xs) (same_na
 pub covers_tail : (slots : Slots) (x : Name) (xs : List Name) → Covers slots (x ∷ xs) → Covers slots xs
 covers_tail slots x xs h name in_xs = h name (or_right (same_name name x) (is_among name xs) in_xs)
 
-pub scalar_slot : (slots : Slots) (name : Name) → not (is_array name.kind) ≡ true → HasSlot slots name → name_at slots (Scalar (slot_in slots.scalars name)) ≡ Some name
+pub scalar_slot : (slots : Slots) (name : Name) → not (is_array name.kind) ≡ true → HasSlot slots name →
+    name_at slots (Scalar (slot_in slots.scalars name)) ≡ Some name
 scalar_slot slots name kinded has =
-    ap (λ b. name_at slots (if b then Array (slot_in slots.arrays name) else Scalar (slot_in slots.scalars name))) (sym (not-true (is_array name.kind) kinded)) ∙ has
+    ap (λ b. name_at slots (if b then Array (slot_in slots.arrays name) else Scalar (slot_in slots.scalars name)))
+    (sym (not-true (is_array name.kind) kinded)) ∙ has
 
-pub array_slot : (slots : Slots) (name : Name) → is_array name.kind ≡ true → HasSlot slots name → name_at slots (Array (slot_in slots.arrays name)) ≡ Some name
+pub array_slot : (slots : Slots) (name : Name) → is_array name.kind ≡ true → HasSlot slots name →
+    name_at slots (Array (slot_in slots.arrays name)) ≡ Some name
 array_slot slots name kinded has =
-    ap (λ b. name_at slots (if b then Array (slot_in slots.arrays name) else Scalar (slot_in slots.scalars name))) (sym kinded) ∙ has
+    ap (λ b. name_at slots (if b then Array (slot_in slots.arrays name) else Scalar (slot_in slots.scalars name)))
+    (sym kinded) ∙ has
 
 pub tail_is_array : (kind : NameKind) → is_tail kind ≡ true → is_array kind ≡ true
 tail_is_array Onespot h = absurd (cc)

@@ -1,6 +1,6 @@
 -- A step neither reads nor changes what was written before it: one lemma for each thing that a statement does.
-use Rattle.std.proofs.Common.{◌≡◌, ℕ, zero, suc, ◌+◌, ◌==◌, Bool, true, false, if◌then◌else◌, List, [], ◌∷◌, ◌++◌, map}
-use Rattle.std.proofs.Common.{length, refl, ap, ◌∙◌, append_assoc}
+use Rattle.std.proofs.Common.{◌≡◌, ℕ, zero, suc, ◌+◌, ◌==◌, Bool, true, false, if◌then◌else◌}
+use Rattle.std.proofs.Common.{List, [], ◌∷◌, ◌++◌, map, length, refl, ap, ◌∙◌, append_assoc}
 use Rattle.std.specs.Prelude.{nat_lt, Option, Some, None, Result, Ok, Err, slice_get}
 use Rattle.std.specs.List.{list_any}
 use Rattle.ick_bits.specs.Values.{number_of}
@@ -41,16 +41,19 @@ abbrev framed : List ℕ → Outcome → Outcome
 framed o (done s) = done (after_output o s)
 framed o (faults kind subject s) = faults kind subject (after_output o s)
 
-if_state : (o : List ℕ) (t : Bool) (x y x' y' : State) → x' ≡ after_output o x → y' ≡ after_output o y → (if t then x' else y') ≡ after_output o (if t then x else y)
+if_state : (o : List ℕ) (t : Bool) (x y x' y' : State) → x' ≡ after_output o x →
+    y' ≡ after_output o y → (if t then x' else y') ≡ after_output o (if t then x else y)
 if_state o true x y x' y' e f = e
 if_state o false x y x' y' e f = f
 
-if_outcome : (o : List ℕ) (t : Bool) (x y x' y' : Outcome) → x' ≡ framed o x → y' ≡ framed o y → (if t then x' else y') ≡ framed o (if t then x else y)
+if_outcome : (o : List ℕ) (t : Bool) (x y x' y' : Outcome) → x' ≡ framed o x →
+    y' ≡ framed o y → (if t then x' else y') ≡ framed o (if t then x else y)
 if_outcome o true x y x' y' e f = e
 if_outcome o false x y x' y' e f = f
 
 -- values
-and_same : {A B : Type 0} (r r' : Result A FaultKind) (go go' : A → Result B FaultKind) → r' ≡ r → ((a : A) → go' a ≡ go a) → and_then r' go' ≡ and_then r go
+and_same : {A B : Type 0} (r r' : Result A FaultKind) (go go' : A → Result B FaultKind) →
+    r' ≡ r → ((a : A) → go' a ≡ go a) → and_then r' go' ≡ and_then r go
 and_same {A} {B} (Ok a) r' go go' e f = ap (λ x. and_then x go') e ∙ f a
 and_same {A} {B} (Err fault) r' go go' e f = ap (λ x. and_then x go') e
 
@@ -58,54 +61,71 @@ mutual
   value_same : (o : List ℕ) (t : Tree) (s : State) → value_of t (after_output o s) ≡ value_of t s
   value_same o (mesh n) s = refl
   value_same o (scalar name) s = refl
-  value_same o (element name subs) s = ap (λ r. and_then r (λ vs. element_value name (s.arrays name) vs)) (values_same o subs s)
+  value_same o (element name subs) s =
+      ap (λ r. and_then r (λ vs. element_value name (s.arrays name) vs)) (values_same o subs s)
   value_same o (applied op t) s = ap (λ r. and_then r (λ v. Ok (unary_value op v))) (value_same o t s)
-  value_same o (joined op a b) s = and_same _ _ _ _ (value_same o a s) (λ v. ap (λ r. and_then r (λ w. binary_value op v w)) (value_same o b s))
+  value_same o (joined op a b) s =
+      and_same _ _ _ _ (value_same o a s) (λ v. ap (λ r. and_then r (λ w. binary_value op v w)) (value_same o b s))
 
   values_same : (o : List ℕ) (ts : Trees) (s : State) → values_of ts (after_output o s) ≡ values_of ts s
   values_same o none s = refl
-  values_same o (more t ts) s = and_same _ _ _ _ (value_same o t s) (λ v. ap (λ r. and_then r (λ vs. Ok (v ∷ vs))) (values_same o ts s))
+  values_same o (more t ts) s =
+      and_same _ _ _ _ (value_same o t s) (λ v. ap (λ r. and_then r (λ vs. Ok (v ∷ vs))) (values_same o ts s))
 
-value_frame : {A : Type 0} (o : List ℕ) (r r' : Result A FaultKind) (s : State) (go go' : A → Outcome) → r' ≡ r → ((a : A) → go' a ≡ framed o (go a)) →
+value_frame : {A : Type 0} (o : List ℕ) (r r' : Result A FaultKind) (s : State) (go go' : A → Outcome) →
+    r' ≡ r → ((a : A) → go' a ≡ framed o (go a)) →
     with_value r' (after_output o s) go' ≡ framed o (with_value r s go)
 value_frame {A} o (Ok a) r' s go go' e f = ap (λ x. with_value x (after_output o s) go') e ∙ f a
 value_frame {A} o (Err kind) r' s go go' e f = ap (λ x. with_value x (after_output o s) go') e
 
-then_frame : (o : List ℕ) (x x' : Outcome) (go go' : State → Outcome) → x' ≡ framed o x → ((s : State) → go' (after_output o s) ≡ framed o (go s)) →
+then_frame : (o : List ℕ) (x x' : Outcome) (go go' : State → Outcome) →
+    x' ≡ framed o x → ((s : State) → go' (after_output o s) ≡ framed o (go s)) →
     then_do x' go' ≡ framed o (then_do x go)
 then_frame o (done s) x' go go' e f = ap (λ y. then_do y go') e ∙ f s
 then_frame o (faults kind subject s) x' go go' e f = ap (λ y. then_do y go') e
 
-turn_frame : {A : Type 0} (o : List ℕ) (f : A → State → Outcome) → ((a : A) (s : State) → f a (after_output o s) ≡ framed o (f a s)) →
-    (xs : List A) (s : State) → in_turn f xs (after_output o s) ≡ framed o (in_turn f xs s)
+turn_frame : {A : Type 0} (o : List ℕ) (f : A → State → Outcome) → ((a : A) (s : State) →
+    f a (after_output o s) ≡ framed o (f a s)) → (xs : List A) (s : State) →
+    in_turn f xs (after_output o s) ≡ framed o (in_turn f xs s)
 turn_frame {A} o f h [] s = refl
-turn_frame {A} o f h (x ∷ xs) s = then_frame o (f x s) (f x (after_output o s)) (in_turn f xs) (in_turn f xs) (h x s) (turn_frame o f h xs)
+turn_frame {A} o f h (x ∷ xs) s =
+    then_frame o (f x s) (f x (after_output o s)) (in_turn f xs) (in_turn f xs) (h x s) (turn_frame o f h xs)
 
 -- stores
-scalar_frame : (o : List ℕ) (name : Name) (n : ℕ) (s : State) → set_scalar name n (after_output o s) ≡ after_output o (set_scalar name n s)
+scalar_frame : (o : List ℕ) (name : Name) (n : ℕ) (s : State) →
+    set_scalar name n (after_output o s) ≡ after_output o (set_scalar name n s)
 scalar_frame o name n s = if_state o (s.ignored name) _ _ _ _ refl refl
 
-array_frame : (o : List ℕ) (name : Name) (array : Array) (s : State) → set_array name array (after_output o s) ≡ after_output o (set_array name array s)
+array_frame : (o : List ℕ) (name : Name) (array : Array) (s : State) →
+    set_array name array (after_output o s) ≡ after_output o (set_array name array s)
 array_frame o name array s = if_state o (s.ignored name) _ _ _ _ refl refl
 
-store_frame : (o : List ℕ) (name : Name) (n : ℕ) (s : State) → store name n (after_output o s) ≡ framed o (store name n s)
+store_frame : (o : List ℕ) (name : Name) (n : ℕ) (s : State) →
+    store name n (after_output o s) ≡ framed o (store name n s)
 store_frame o name n s = if_outcome o (nat_lt n (bound_of name.kind)) _ _ _ _ (ap done (scalar_frame o name n s)) refl
 
-within_frame : (o : List ℕ) (name : Name) (place : Option ℕ) (n : ℕ) (s : State) → store_within name place n (after_output o s) ≡ framed o (store_within name place n s)
+within_frame : (o : List ℕ) (name : Name) (place : Option ℕ) (n : ℕ) (s : State) →
+    store_within name place n (after_output o s) ≡ framed o (store_within name place n s)
 within_frame o name None n s = refl
-within_frame o name (Some place) n s = if_outcome o (nat_lt n (bound_of name.kind)) _ _ _ _ (ap done (array_frame o name _ s)) refl
+within_frame o name (Some place) n s =
+    if_outcome o (nat_lt n (bound_of name.kind)) _ _ _ _ (ap done (array_frame o name _ s)) refl
 
-store_at_frame : (o : List ℕ) (name : Name) (subs : List Value) (n : ℕ) (s : State) → store_at name subs n (after_output o s) ≡ framed o (store_at name subs n s)
+store_at_frame : (o : List ℕ) (name : Name) (subs : List Value) (n : ℕ) (s : State) →
+    store_at name subs n (after_output o s) ≡ framed o (store_at name subs n s)
 store_at_frame o name subs n s = within_frame o name (element_place (s.arrays name) subs) n s
 
-resize_frame : (o : List ℕ) (name : Name) (dimensions : List ℕ) (s : State) → resize name dimensions (after_output o s) ≡ framed o (resize name dimensions s)
+resize_frame : (o : List ℕ) (name : Name) (dimensions : List ℕ) (s : State) →
+    resize name dimensions (after_output o s) ≡ framed o (resize name dimensions s)
 resize_frame o name dimensions s =
     if_outcome o (list_any (λ d. d == 0) dimensions) _ _ _ _ refl
-    (if_outcome o (nat_lt most_elements (product dimensions)) _ _ _ _ refl (ap done (array_frame o name (zeros dimensions) s)))
+    (if_outcome o (nat_lt most_elements (product dimensions)) _ _ _ _ refl
+    (ap done (array_frame o name (zeros dimensions) s)))
 
-store_to_frame : (o : List ℕ) (target : Tree) (n : ℕ) (s : State) → store_to target n (after_output o s) ≡ framed o (store_to target n s)
+store_to_frame : (o : List ℕ) (target : Tree) (n : ℕ) (s : State) →
+    store_to target n (after_output o s) ≡ framed o (store_to target n s)
 store_to_frame o (scalar name) n s = store_frame o name n s
-store_to_frame o (element array subs) n s = value_frame o _ _ s _ _ (values_same o subs s) (λ vs. store_at_frame o array vs n s)
+store_to_frame o (element array subs) n s =
+    value_frame o _ _ s _ _ (values_same o subs s) (λ vs. store_at_frame o array vs n s)
 store_to_frame o (mesh m) n s = refl
 store_to_frame o (applied op t) n s = refl
 store_to_frame o (joined op a b) n s = refl
@@ -114,7 +134,8 @@ store_to_frame o (joined op a b) n s = refl
 call_frame : (o : List ℕ) (to : ℕ) (s : State) → call to (after_output o s) ≡ framed o (call to s)
 call_frame o to s = if_outcome o (nat_lt (length s.returns) most_returns) _ _ _ _ refl refl
 
-resume_at_frame : (o : List ℕ) (to : Option ℕ) (n : ℕ) (s : State) → resume_at to n (after_output o s) ≡ framed o (resume_at to n s)
+resume_at_frame : (o : List ℕ) (to : Option ℕ) (n : ℕ) (s : State) →
+    resume_at to n (after_output o s) ≡ framed o (resume_at to n s)
 resume_at_frame o None n s = refl
 resume_at_frame o (Some to) n s = refl
 
@@ -123,38 +144,52 @@ resume_frame o zero s = refl
 resume_frame o (suc n) s = resume_at_frame o (slice_get s.returns n) (suc n) s
 
 -- stashes
-stash_frame : (o : List ℕ) (name : Name) (s : State) → stash name (after_output o s) ≡ after_output o (stash name s)
+stash_frame : (o : List ℕ) (name : Name) (s : State) →
+    stash name (after_output o s) ≡ after_output o (stash name s)
 stash_frame o name s = if_state o (is_array name.kind) _ _ _ _ refl refl
 
-retrieve_scalar_frame : (o : List ℕ) (name : Name) (ns : List ℕ) (s : State) → retrieve_scalar name ns (after_output o s) ≡ framed o (retrieve_scalar name ns s)
+retrieve_scalar_frame : (o : List ℕ) (name : Name) (ns : List ℕ) (s : State) →
+    retrieve_scalar name ns (after_output o s) ≡ framed o (retrieve_scalar name ns s)
 retrieve_scalar_frame o name [] s = refl
-retrieve_scalar_frame o name (n ∷ rest) s = ap done (scalar_frame o name n (record s { stashed_scalars = with_entry s.stashed_scalars name rest }))
+retrieve_scalar_frame o name (n ∷ rest) s =
+    ap done (scalar_frame o name n (record s { stashed_scalars = with_entry s.stashed_scalars name rest }))
 
-retrieve_array_frame : (o : List ℕ) (name : Name) (arrays : List Array) (s : State) → retrieve_array name arrays (after_output o s) ≡ framed o (retrieve_array name arrays s)
+retrieve_array_frame : (o : List ℕ) (name : Name) (arrays : List Array) (s : State) →
+    retrieve_array name arrays (after_output o s) ≡ framed o (retrieve_array name arrays s)
 retrieve_array_frame o name [] s = refl
-retrieve_array_frame o name (array ∷ rest) s = ap done (array_frame o name array (record s { stashed_arrays = with_entry s.stashed_arrays name rest }))
+retrieve_array_frame o name (array ∷ rest) s =
+    ap done (array_frame o name array (record s { stashed_arrays = with_entry s.stashed_arrays name rest }))
 
-retrieve_frame : (o : List ℕ) (name : Name) (s : State) → retrieve name (after_output o s) ≡ framed o (retrieve name s)
-retrieve_frame o name s = if_outcome o (is_array name.kind) _ _ _ _ (retrieve_array_frame o name (s.stashed_arrays name) s) (retrieve_scalar_frame o name (s.stashed_scalars name) s)
+retrieve_frame : (o : List ℕ) (name : Name) (s : State) →
+    retrieve name (after_output o s) ≡ framed o (retrieve name s)
+retrieve_frame o name s =
+    if_outcome o (is_array name.kind) _ _ _ _ (retrieve_array_frame o name (s.stashed_arrays name) s)
+    (retrieve_scalar_frame o name (s.stashed_scalars name) s)
 
 abstained_frame : (o : List ℕ) (program : List StatementTree) (on : Bool) (n : ℕ) (s : State) →
     set_abstained program on n (after_output o s) ≡ after_output o (set_abstained program on n s)
 abstained_frame o program on n s =
-    if_state o (can_be_set program n) (record s { abstained = λ m. if m == n then on else s.abstained m }) s _ _ refl refl
+    if_state o (can_be_set program n) (record s { abstained = λ m. if m == n then on else s.abstained m }) s _ _ refl
+    refl
 
 -- input and output
-number_frame : (o line : List ℕ) (r : Result ℕ DigitFault) (s : State) (go go' : ℕ → State → Outcome) → ((n : ℕ) (s : State) → go' n (after_output o s) ≡ framed o (go n s)) →
+number_frame : (o line : List ℕ) (r : Result ℕ DigitFault) (s : State) (go go' : ℕ → State → Outcome) →
+    ((n : ℕ) (s : State) → go' n (after_output o s) ≡ framed o (go n s)) →
     with_number line r (after_output o s) go' ≡ framed o (with_number line r s go)
 number_frame o line (Ok n) s go go' f = f n s
 number_frame o line (Err (Word from to)) s go go' f = refl
 number_frame o line (Err TooLarge) s go go' f = refl
 
-input_frame : (o input : List ℕ) (s : State) (go go' : ℕ → State → Outcome) → ((n : ℕ) (s : State) → go' n (after_output o s) ≡ framed o (go n s)) →
+input_frame : (o input : List ℕ) (s : State) (go go' : ℕ → State → Outcome) → ((n : ℕ) (s : State) →
+    go' n (after_output o s) ≡ framed o (go n s)) →
     with_input input (after_output o s) go' ≡ framed o (with_input input s go)
 input_frame o [] s go go' f = refl
-input_frame o (b ∷ bs) s go go' f = number_frame o (first_line (b ∷ bs)) (line_answer (first_line (b ∷ bs))) (record s { input = later_lines (b ∷ bs) }) go go' f
+input_frame o (b ∷ bs) s go go' f =
+    number_frame o (first_line (b ∷ bs)) (line_answer (first_line (b ∷ bs)))
+    (record s { input = later_lines (b ∷ bs) }) go go' f
 
-read_to_frame : (o : List ℕ) (name : Name) (s : State) → read_to name (after_output o s) ≡ framed o (read_to name s)
+read_to_frame : (o : List ℕ) (name : Name) (s : State) →
+    read_to name (after_output o s) ≡ framed o (read_to name s)
 read_to_frame o name s = input_frame o s.input s _ _ (λ n s. store_frame o name n s)
 
 read_within_frame : (o : List ℕ) (array : Name) (place : Option ℕ) (s : State) →
@@ -166,9 +201,11 @@ read_at_frame : (o : List ℕ) (array : Name) (subs : List Value) (s : State) �
     read_at array subs (after_output o s) ≡ framed o (read_at array subs s)
 read_at_frame o array subs s = read_within_frame o array (element_place (s.arrays array) subs) s
 
-write_to_frame : (o : List ℕ) (target : Tree) (s : State) → write_to target (after_output o s) ≡ framed o (write_to target s)
+write_to_frame : (o : List ℕ) (target : Tree) (s : State) →
+    write_to target (after_output o s) ≡ framed o (write_to target s)
 write_to_frame o (scalar name) s = read_to_frame o name s
-write_to_frame o (element array subs) s = value_frame o _ _ s _ _ (values_same o subs s) (λ vs. read_at_frame o array vs s)
+write_to_frame o (element array subs) s =
+    value_frame o _ _ s _ _ (values_same o subs s) (λ vs. read_at_frame o array vs s)
 write_to_frame o (mesh m) s = refl
 write_to_frame o (applied op t) s = refl
 write_to_frame o (joined op a b) s = refl
@@ -214,19 +251,29 @@ item_frame o (whole array) s = print_array_frame o array s
 body_frame : (o : List ℕ) (program : List StatementTree) (text : List ℕ) (body : Option BodyTree) (s : State) →
     do_body program text body (after_output o s) ≡ framed o (do_body program text body s)
 body_frame o program text None s = refl
-body_frame o program text (Some (calculate target e)) s = value_frame o _ _ s _ _ (value_same o e s) (λ v. store_to_frame o target (number_of v) s)
-body_frame o program text (Some (dimension array es)) s = value_frame o _ _ s _ _ (values_same o (trees_from es) s) (λ vs. resize_frame o array (map number_of vs) s)
+body_frame o program text (Some (calculate target e)) s =
+    value_frame o _ _ s _ _ (value_same o e s) (λ v. store_to_frame o target (number_of v) s)
+body_frame o program text (Some (dimension array es)) s =
+    value_frame o _ _ s _ _ (values_same o (trees_from es) s) (λ vs. resize_frame o array (map number_of vs) s)
 body_frame o program text (Some (next label)) s = call_frame o (place_of label program) s
 body_frame o program text (Some (forget' e)) s = value_frame o _ _ s _ _ (value_same o e s) (λ v. refl)
-body_frame o program text (Some (resume' e)) s = value_frame o _ _ s _ _ (value_same o e s) (λ v. resume_frame o (number_of v) s)
-body_frame o program text (Some (stash' names)) s = turn_frame o (λ name s. done (stash name s)) (λ name s. ap done (stash_frame o name s)) names s
+body_frame o program text (Some (resume' e)) s =
+    value_frame o _ _ s _ _ (value_same o e s) (λ v. resume_frame o (number_of v) s)
+body_frame o program text (Some (stash' names)) s =
+    turn_frame o (λ name s. done (stash name s)) (λ name s. ap done (stash_frame o name s)) names s
 body_frame o program text (Some (retrieve' names)) s = turn_frame o _ (λ name s. retrieve_frame o name s) names s
-body_frame o program text (Some (ignore' names)) s = turn_frame o (λ name s. done (ignore true name s)) (λ name s. refl) names s
-body_frame o program text (Some (remember names)) s = turn_frame o (λ name s. done (ignore false name s)) (λ name s. refl) names s
-body_frame o program text (Some (abstain_label label)) s = ap done (abstained_frame o program true (place_of label program) s)
-body_frame o program text (Some (abstain_kinds gerunds)) s = turn_frame o (λ g s. done (set_kind_abstained program true g s)) (λ g s. refl) gerunds s
-body_frame o program text (Some (reinstate_label label)) s = ap done (abstained_frame o program false (place_of label program) s)
-body_frame o program text (Some (reinstate_kinds gerunds)) s = turn_frame o (λ g s. done (set_kind_abstained program false g s)) (λ g s. refl) gerunds s
+body_frame o program text (Some (ignore' names)) s =
+    turn_frame o (λ name s. done (ignore true name s)) (λ name s. refl) names s
+body_frame o program text (Some (remember names)) s =
+    turn_frame o (λ name s. done (ignore false name s)) (λ name s. refl) names s
+body_frame o program text (Some (abstain_label label)) s =
+    ap done (abstained_frame o program true (place_of label program) s)
+body_frame o program text (Some (abstain_kinds gerunds)) s =
+    turn_frame o (λ g s. done (set_kind_abstained program true g s)) (λ g s. refl) gerunds s
+body_frame o program text (Some (reinstate_label label)) s =
+    ap done (abstained_frame o program false (place_of label program) s)
+body_frame o program text (Some (reinstate_kinds gerunds)) s =
+    turn_frame o (λ g s. done (set_kind_abstained program false g s)) (λ g s. refl) gerunds s
 body_frame o program text (Some give_up) s = refl
 body_frame o program text (Some (write_in places)) s = turn_frame o _ (λ t s. read_place_frame o t s) places s
 body_frame o program text (Some (read_out items)) s = turn_frame o _ (λ t s. item_frame o t s) items s
@@ -241,8 +288,8 @@ statement_frame o program statement s =
     ap (ended_by s.place) (body_frame o program statement.text statement.body (record s { place = s.place + 1 }))
     ∙ ended_frame o s.place (do_body program statement.text statement.body (record s { place = s.place + 1 }))
 
-meet_frame : (o : List ℕ) (program : List StatementTree) (found : Option StatementTree) (s : State) (chosen : Bool) →
-    meet program found (after_output o s) chosen ≡ after_output o (meet program found s chosen)
+meet_frame : (o : List ℕ) (program : List StatementTree) (found : Option StatementTree) (s : State)
+    (chosen : Bool) → meet program found (after_output o s) chosen ≡ after_output o (meet program found s chosen)
 meet_frame o program None s chosen = refl
 meet_frame o program (Some statement) s chosen =
     if_state o (is_done statement (s.abstained s.place) chosen) _ _ _ _ (statement_frame o program statement s) refl

@@ -133,7 +133,8 @@ elements : ℕ → ℕ → List StatementTree
 elements row column =
     plainly (dimension tail (mesh 2 ∷ mesh 3 ∷ []))
     ∷ plainly (calculate (at tail (mesh 2 ∷ mesh 3 ∷ [])) (mesh 7))
-    ∷ plainly (prints (at tail (mesh row ∷ mesh column ∷ []) ∷ at tail (binary Mingle (mesh 1) (mesh 0) ∷ mesh 1 ∷ [])
+    ∷ plainly
+    (prints (at tail (mesh row ∷ mesh column ∷ []) ∷ at tail (binary Mingle (mesh 1) (mesh 0) ∷ mesh 1 ∷ [])
     ∷ []))
     ∷ plainly give_up
     ∷ []

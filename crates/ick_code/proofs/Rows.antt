@@ -151,7 +151,8 @@ unknown_word = refl
 
 -- the right side is evaluated before the subscripts of a target: its fault comes first
 right_side_first :
-    do_body [] [] (Some (calculate (at tail (mesh 1 ∷ [])) (binary Mingle (binary Mingle (mesh 65535) (mesh 1)) (mesh 1)))) start
+    do_body [] []
+    (Some (calculate (at tail (mesh 1 ∷ [])) (binary Mingle (binary Mingle (mesh 65535) (mesh 1)) (mesh 1)))) start
     ≡ faults SixtyFour [] start
 unfolding mingled with_bits sum_below
 right_side_first = refl

@@ -15,7 +15,8 @@ same_kind-refl Tail = refl
 same_kind-refl Hybrid = refl
 
 pub same_name-refl : (name : Name) → same_name name name ≡ true
-same_name-refl name = ap (λ b. b && (name.number == name.number)) (same_kind-refl name.kind) ∙ eq-eqb name.number name.number refl
+same_name-refl name =
+    ap (λ b. b && (name.number == name.number)) (same_kind-refl name.kind) ∙ eq-eqb name.number name.number refl
 
 same_kind_is : (a b : NameKind) → same_kind a b ≡ true → a ≡ b
 same_kind_is Onespot Onespot h = refl
@@ -42,7 +43,8 @@ name_is a b k n =
 
 pub same_name_is : (a b : Name) → same_name a b ≡ true → a ≡ b
 same_name_is a b h =
-    name_is a b (same_kind_is a.kind b.kind (both_left (same_kind a.kind b.kind) (a.number == b.number) h)) (eqb-true a.number b.number (both_right (same_kind a.kind b.kind) (a.number == b.number) h))
+    name_is a b (same_kind_is a.kind b.kind (both_left (same_kind a.kind b.kind) (a.number == b.number) h))
+    (eqb-true a.number b.number (both_right (same_kind a.kind b.kind) (a.number == b.number) h))
 
 kind_ranks : (a b : NameKind) → kind_rank a ≡ kind_rank b → a ≡ b
 kind_ranks Onespot Onespot h = refl

@@ -1,6 +1,6 @@
 -- Slots that names get, one after another.
-use Rattle.std.proofs.Common.{◌≡◌, ℕ, ◌+◌, ◌<◌, List, [], ◌∷◌, ◌++◌, length, map, take, get_or, OnOk, Result, refl, sym}
-use Rattle.std.proofs.Common.{ap, ◌∙◌, subst, append_assoc, append-nil}
+use Rattle.std.proofs.Common.{◌≡◌, ℕ, ◌+◌, ◌<◌, List, [], ◌∷◌, ◌++◌, length, map, take}
+use Rattle.std.proofs.Common.{get_or, OnOk, Result, refl, sym, ap, ◌∙◌, subst, append_assoc, append-nil}
 use Rattle.std.specs.List.{flat_map}
 use Rattle.std.proofs.lemmas.List.{take_more}
 use Rattle.ick_source.specs.declared.tree.Expr.{Expr}
@@ -18,41 +18,54 @@ pub names_one : (slots : Slots) (name : Name) → with_names slots (name ∷ [])
 unfolding with_names
 names_one slots name = refl
 
-pub names_append : (slots : Slots) (xs ys : List Name) → with_names slots (xs ++ ys) ≡ with_names (with_names slots xs) ys
+pub names_append : (slots : Slots) (xs ys : List Name) →
+    with_names slots (xs ++ ys) ≡ with_names (with_names slots xs) ys
 unfolding with_names
 names_append slots [] ys = refl
 names_append slots (x ∷ xs) ys = names_append (with_slot slots x) xs ys
 
-pub names_cons : (slots : Slots) (x : Name) (xs : List Name) → with_names slots (x ∷ xs) ≡ with_names (with_names slots (x ∷ [])) xs
+pub names_cons : (slots : Slots) (x : Name) (xs : List Name) →
+    with_names slots (x ∷ xs) ≡ with_names (with_names slots (x ∷ [])) xs
 names_cons slots x xs = names_append slots (x ∷ []) xs
 
 -- what names do one after another
 pub ruleset names_steps = (names_none, names_append, names_cons)
 
 -- a list's names, where one more member came
-pub came_more : {A : Type 0} (names : List A → List Name) (own : A → List Name) → ((xs : List A) (x : A) → names (xs ++ x ∷ []) ≡ names xs ++ own x) →
-    (old so_far new : Slots) (xs : List A) (i : ℕ) (x d : A) → so_far ≡ with_names old (names (take i xs)) → new ≡ with_names so_far (own x) → i < length xs → x ≡ get_or xs i d →
-    new ≡ with_names old (names (take (i + 1) xs))
+pub came_more : {A : Type 0} (names : List A → List Name) (own : A → List Name) → ((xs : List A) (x : A) →
+    names (xs ++ x ∷ []) ≡ names xs ++ own x) → (old so_far new : Slots) (xs : List A) (i : ℕ) (x d : A) →
+    so_far ≡ with_names old (names (take i xs)) → new ≡ with_names so_far (own x) → i < length xs →
+    x ≡ get_or xs i d → new ≡ with_names old (names (take (i + 1) xs))
 came_more names own step old so_far new xs i x d before now within is =
     now
     ∙ ap (λ s. with_names s (own x)) before
     ∙ sym (names_append old (names (take i xs)) (own x))
-    ∙ ap (with_names old) (sym (ap names (take_more xs i d within ∙ ap (λ y. take i xs ++ y ∷ []) (sym is)) ∙ step (take i xs) x))
+    ∙ ap (with_names old)
+    (sym (ap names (take_more xs i d within ∙ ap (λ y. take i xs ++ y ∷ []) (sym is)) ∙ step (take i xs) x))
 
-pub trees-step : (xs : List Expr) (x : Expr) → names_of_trees (trees_in (xs ++ x ∷ [])) ≡ names_of_trees (trees_in xs) ++ names_of_tree (tree_of x)
+pub trees-step : (xs : List Expr) (x : Expr) →
+    names_of_trees (trees_in (xs ++ x ∷ [])) ≡ names_of_trees (trees_in xs) ++ names_of_tree (tree_of x)
 trees-step [] x = append-nil (names_of_tree (tree_of x))
-trees-step (e ∷ xs) x = ap (λ l. names_of_tree (tree_of e) ++ l) (trees-step xs x) ∙ sym (append_assoc (names_of_tree (tree_of e)) (names_of_trees (trees_in xs)) (names_of_tree (tree_of x)))
+trees-step (e ∷ xs) x =
+    ap (λ l. names_of_tree (tree_of e) ++ l) (trees-step xs x)
+    ∙ sym (append_assoc (names_of_tree (tree_of e)) (names_of_trees (trees_in xs)) (names_of_tree (tree_of x)))
 
-pub mapped-step : {A B : Type 0} (names : B → List Name) (part : A → B) (xs : List A) (x : A) → flat_map names (map part (xs ++ x ∷ [])) ≡ flat_map names (map part xs) ++ names (part x)
+pub mapped-step : {A B : Type 0} (names : B → List Name) (part : A → B) (xs : List A) (x : A) →
+    flat_map names (map part (xs ++ x ∷ [])) ≡ flat_map names (map part xs) ++ names (part x)
 mapped-step names part [] x = append-nil (names (part x))
-mapped-step names part (e ∷ xs) x = ap (λ l. names (part e) ++ l) (mapped-step names part xs x) ∙ sym (append_assoc (names (part e)) (flat_map names (map part xs)) (names (part x)))
+mapped-step names part (e ∷ xs) x =
+    ap (λ l. names (part e) ++ l) (mapped-step names part xs x)
+    ∙ sym (append_assoc (names (part e)) (flat_map names (map part xs)) (names (part x)))
 
 -- what came after what came before
-pub on_ok_as : {T E : Type 0} (r : Result T E) (new old other : Slots) → OnOk r (new ≡ old) → old ≡ other → OnOk r (new ≡ other)
+pub on_ok_as : {T E : Type 0} (r : Result T E) (new old other : Slots) → OnOk r (new ≡ old) → old ≡ other →
+    OnOk r (new ≡ other)
 on_ok_as r new old other h e = subst (λ s. OnOk r (new ≡ s)) e h
 
 -- an array's name, then its subscripts' or dimensions'
-pub on_ok_array : {T E : Type 0} (r : Result T E) (old so_far new : Slots) (array : Name) (ts : List Name) (names : List Name) →
-    so_far ≡ with_names old (array ∷ []) → OnOk r (new ≡ with_names so_far ts) → names ≡ array ∷ ts → OnOk r (new ≡ with_names old names)
+pub on_ok_array : {T E : Type 0} (r : Result T E) (old so_far new : Slots) (array : Name) (ts : List Name)
+    (names : List Name) → so_far ≡ with_names old (array ∷ []) → OnOk r (new ≡ with_names so_far ts) →
+    names ≡ array ∷ ts → OnOk r (new ≡ with_names old names)
 on_ok_array r old so_far new array ts names before h are =
-    on_ok_as r new (with_names so_far ts) (with_names old names) h (ap (λ s. with_names s ts) before ∙ sym (names_cons old array ts) ∙ ap (with_names old) (sym are))
+    on_ok_as r new (with_names so_far ts) (with_names old names) h
+    (ap (λ s. with_names s ts) before ∙ sym (names_cons old array ts) ∙ ap (with_names old) (sym are))

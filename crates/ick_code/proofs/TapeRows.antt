@@ -68,7 +68,8 @@ unfolding advance
 no_byte_is_taken_without_dimensions = refl
 
 no_byte_is_taken_at_two_dimensions :
-    seen (plainly (dimension tail (mesh 1 ∷ mesh 1 ∷ [])) ∷ plainly (write_in (whole tail ∷ [])) ∷ []) (codes "AB") 2
+    seen (plainly (dimension tail (mesh 1 ∷ mesh 1 ∷ [])) ∷ plainly (write_in (whole tail ∷ [])) ∷ [])
+    (codes "AB") 2
     ≡ record { output = []; input = codes "AB"; end = Some (faulted Hyperspace 2 []) }
 unfolding advance
 no_byte_is_taken_at_two_dimensions = refl

@@ -1,6 +1,7 @@
 //! Laws of what a state asks and of one step, for those who know neither by their definitions.
 
-ghost use Rattle.std.specs.Prelude.{◌≡◌, ◌<◌, ◌↔◌, ◌++◌, ℕ, Bool, true, false, List, Some, length};
+ghost use Rattle.std.specs.Prelude.{◌≡◌, ◌<◌, ◌↔◌, ◌++◌, ℕ, Bool, true};
+ghost use Rattle.std.specs.Prelude.{false, List, Some, length};
 ghost use Rattle.ick_source.specs.declared.kinds.Kind.TheVariants.{WriteIn, ReadOut};
 ghost use Rattle.ick_source.specs.StatementTree.{StatementTree};
 ghost use Rattle.ick_code.specs.meaning.State.{State, Ending};

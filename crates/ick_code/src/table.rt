@@ -65,7 +65,8 @@ impl Table {
     /// Gives slots to the names of a list.
     #[tactic(auto, using(crate::proofs::TableLemmas::names_none))]
     fn add_all(&mut self, names: &[Name]) -> Result<(), NoMemory>
-        ensures { OnOk result (table_slots self.new ≡ with_names (table_slots self.old) names.now) }
+        ensures { OnOk result
+            (table_slots self.new ≡ with_names (table_slots self.old) names.now) }
     {
         for name in names {
             self.add(*name)?;

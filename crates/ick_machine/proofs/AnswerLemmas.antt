@@ -1,5 +1,6 @@
 -- What a machine asks, by what it remembers.
-use Rattle.std.proofs.Common.{◌≡◌, ℕ, Bool, true, false, Option, Some, None, refl, sym, ap, ◌∙◌, subst, IsSomeAnd}
+use Rattle.std.proofs.Common.{◌≡◌, ℕ, Bool, true, false, Option, Some, None, refl, sym, ap, ◌∙◌, subst}
+use Rattle.std.proofs.Common.{IsSomeAnd}
 use Rattle.std.specs.Prelude.{option_map, if◌then◌else◌, is_some, not}
 use Rattle.std.proofs.lemmas.Bool.{false≢true, not-true, not-false}
 use Rattle.ick_source.specs.StatementTree.{StatementTree}
@@ -48,7 +49,8 @@ module _ (code : Code) (input : Input) (v : View) where
   asks_none going none = ap (λ o. Some (ask_at o (state_of code input v))) (sym none) ∙ asked_as None going
 
   -- at a statement its odds say what is asked
-  pub asks_odds : (odds : ℕ) → v.end ≡ None → IsSomeAnd (statement_at (code_program code) v.place) (OddsOf odds v) →
+  pub asks_odds : (odds : ℕ) → v.end ≡ None →
+      IsSomeAnd (statement_at (code_program code) v.place) (OddsOf odds v) →
       IsAsked (Some (if is_open odds then choice odds else plain))
   asks_odds odds going h =
       let met = there (OddsOf odds v) (statement_at (code_program code) v.place) h in

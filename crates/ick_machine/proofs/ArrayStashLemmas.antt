@@ -1,6 +1,6 @@
 -- Stashes of arrays.
-use Rattle.std.proofs.Common.{◌≡◌, ℕ, Bool, true, false, List, [], ◌∷◌, ◌++◌, get_or, reverse, sym, ap, ap₂, ◌∙◌, subst}
-use Rattle.std.proofs.Common.{length-set}
+use Rattle.std.proofs.Common.{◌≡◌, ℕ, Bool, true, false, List, [], ◌∷◌, ◌++◌, get_or, reverse, sym}
+use Rattle.std.proofs.Common.{ap, ap₂, ◌∙◌, subst, length-set}
 use Rattle.std.specs.Prelude.{Result, Ok, Err, slice_set, if◌then◌else◌}
 use Rattle.std.proofs.lemmas.List.{reverse-append}
 use Rattle.ick_bits.specs.declared.faults.FaultKind.TheVariants.{NothingStashed}

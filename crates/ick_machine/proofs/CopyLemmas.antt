@@ -1,6 +1,6 @@
 -- Copies that fit the code.
-use Rattle.std.proofs.Common.{◌≡◌, ℕ, zero, suc, ◌<◌, List, [], ◌∷◌, ◌++◌, length, map, Bool, true, false}
-use Rattle.std.proofs.Common.{Option, Some, None, sym, ap, ◌∙◌, subst, arith, append-nil}
+use Rattle.std.proofs.Common.{◌≡◌, ℕ, zero, suc, ◌<◌, List, [], ◌∷◌, ◌++◌, length, map, Bool}
+use Rattle.std.proofs.Common.{true, false, Option, Some, None, sym, ap, ◌∙◌, subst, arith, append-nil}
 use Rattle.std.specs.Prelude.{slice_index_or, if◌then◌else◌}
 use Rattle.std.specs.List.{All}
 use Rattle.std.specs.Option.{option_to_list}
@@ -30,10 +30,12 @@ module _ (code : Code) where
   AllFit copies = All (Fits code) (map view_of copies)
 
   pub more : (copies all : List Memory) (copy : Memory) (grown : Bool) →
-      all ≡ (if grown then copies ++ copy ∷ [] else copies) → Fits code (view_of copy) → AllFit copies → AllFit all
+      all ≡ (if grown then copies ++ copy ∷ [] else copies) → Fits code (view_of copy) → AllFit copies →
+      AllFit all
   more copies all copy true is fits given =
       subst (All (Fits code)) (sym (ap (map view_of) is ∙ map-append-one view_of copies copy))
-      (All-append (Fits code) (map view_of copies) (view_of copy ∷ []) given (only_one (Fits code) (view_of copy) fits))
+      (All-append (Fits code) (map view_of copies) (view_of copy ∷ []) given
+      (only_one (Fits code) (view_of copy) fits))
   more copies all copy false is fits given = subst AllFit (sym is) given
 
   pub one_less : (copies all : List Memory) (copy : Memory) → all ≡ copies ++ copy ∷ [] → AllFit all →

@@ -1,5 +1,6 @@
 -- What a feed gives is what the input begins with.
-use Rattle.std.proofs.Common.{◌≡◌, ◌≢◌, ℕ, ◌+◌, ◌==◌, not, Bool, true, false, List, [], ◌∷◌, ◌++◌, length, take}
+use Rattle.std.proofs.Common.{◌≡◌, ◌≢◌, ℕ, ◌+◌, ◌==◌, not, Bool, true, false, List, [], ◌∷◌}
+use Rattle.std.proofs.Common.{◌++◌, length, take}
 use Rattle.std.proofs.Common.{drop, Some, None, Result, Ok, Err, refl, sym, ap, ◌∙◌, arith}
 use Rattle.std.specs.Prelude.{slice_range}
 use Rattle.std.specs.List.{position_or_len}
@@ -67,7 +68,8 @@ module _ (after : Input) (line : List ℕ) (from : ℕ)
       ap (λ w. faults NoDigit w (record s { input = after.left from })) (sym (word begin end))
   by_answer (Err TooLarge) = refl
 
-  line_taken : (left : List ℕ) → left ≢ [] → line ≡ first_line left → after.left from ≡ later_lines left →
+  line_taken : (left : List ℕ) → left ≢ [] → line ≡ first_line left →
+      after.left from ≡ later_lines left →
       with_input left s go ≡ line_outcome (line_with (line_answer line) from) after from s go
   line_taken [] some is rest = absurd (some refl)
   line_taken (b ∷ bs) some is rest =
@@ -78,7 +80,8 @@ module _ (after : Input) (line : List ℕ) (from : ℕ)
 module _ (before after : Input) (from : ℕ) where
   next_line : (line : List ℕ) → ((begin end : ℕ) → after.word begin end ≡ slice_range line begin end) →
       before.left from ≢ [] → line ≡ first_line (before.left from) →
-      after.left from ≡ later_lines (before.left from) → IsNext (line_with (line_answer line) from) from before after
+      after.left from ≡ later_lines (before.left from) →
+      IsNext (line_with (line_answer line) from) from before after
   next_line line word some is rest = λ s go input.
       ap (λ i. with_input i s go) input ∙ line_taken after line from word s go (before.left from) some is rest
 
@@ -93,7 +96,8 @@ Before told ended line left Read = (before : Input) × MayBeLeft told ended line
 
 -- what a feed gave that had not come to its end
 module _ (told ended : Bool) (goes_on : ended ≡ false) (old_line line old new : List ℕ) (from : ℕ) where
-  had : (left : List ℕ) → (told ≡ true → left ≡ old) → MayBeLeft told ended old_line old (input_after old_line left)
+  had : (left : List ℕ) → (told ≡ true → left ≡ old) →
+      MayBeLeft told ended old_line old (input_after old_line left)
   had left is = record {
     word = λ begin end. refl;
     told_left = λ tells place. is tells;
@@ -126,7 +130,8 @@ module _ (told ended : Bool) (goes_on : ended ≡ false) (old_line line old new 
           )
 
   -- a byte
-  pub read_byte : (b : ℕ) → (told ≡ true → old ≡ b ∷ new) → (after : Input) → MayBeLeft told ended line new after →
+  pub read_byte : (b : ℕ) → (told ≡ true → old ≡ b ∷ new) → (after : Input) →
+      MayBeLeft told ended line new after →
       Before told ended old_line old (λ before. IsByte (Some (b, from)) from before after)
   read_byte b gave after may = (
     input_after old_line (b ∷ after.left from),

@@ -21,9 +21,9 @@ pub record ArrayThere (m : Memory) (slot : ℕ) : Type 0 where
   pub stash : slot < length m.array_stashes.items
   pub flag : slot < length m.ignored_arrays.items
 
-pub scalar_there : (code : Code) (m : Memory) (name : SlotName) (slot : ℕ) (known : Name) → Fits code (view_of m) →
-    name ≡ Scalar slot →
-    name_at (code_slots code) name ≡ Some known → ScalarThere m slot
+pub scalar_there : (code : Code) (m : Memory) (name : SlotName) (slot : ℕ) (known : Name) →
+    Fits code (view_of m) → name ≡ Scalar slot → name_at (code_slots code) name ≡ Some known →
+    ScalarThere m slot
 scalar_there code m name slot known fit is at =
     let within = slice_get_within (scalar_names code) slot known (ap (name_at (code_slots code)) (sym is) ∙ at) in
     record {

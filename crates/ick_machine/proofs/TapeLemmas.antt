@@ -1,6 +1,6 @@
 -- Arrays that are printed and read as bytes.
-use Rattle.std.proofs.Common.{◌≡◌, ℕ, zero, suc, ◌+◌, ◌==◌, true, false, List, [], ◌∷◌, ◌++◌, length, drop, Option}
-use Rattle.std.proofs.Common.{Some, None, refl, sym, ap, ap₂, ◌∙◌, arith}
+use Rattle.std.proofs.Common.{◌≡◌, ℕ, zero, suc, ◌+◌, ◌==◌, true, false, List, [], ◌∷◌, ◌++◌}
+use Rattle.std.proofs.Common.{length, drop, Option, Some, None, refl, sym, ap, ap₂, ◌∙◌, arith}
 use Rattle.std.specs.Prelude.{if◌then◌else◌}
 use Rattle.std.proofs.lemmas.Bool.Decides.{nat_tests}
 use Rattle.ick_bits.specs.Tape.{tape_difference}
@@ -20,8 +20,8 @@ pub not_one : (n : ℕ) → (n ≡ 1 → ⊥) → (n == 1) ≡ false
 not_one n h = grind (arith, nat_tests)
 
 -- an array by its dimensions
-pub print_none : (name : Name) (s : State) (a : Array) → s.arrays name ≡ a → (length a.dimensions == 1) ≡ false →
-    faults Hyperspace [] s ≡ print_array name s
+pub print_none : (name : Name) (s : State) (a : Array) →
+    s.arrays name ≡ a → (length a.dimensions == 1) ≡ false → faults Hyperspace [] s ≡ print_array name s
 print_none name s a held none =
     let yes = done (record s {
       output = s.output ++ tape_bytes s.last (s.arrays name).elements;
@@ -30,7 +30,8 @@ print_none name s a held none =
     }) in
     sym (ap (λ b. if b then yes else faults Hyperspace [] s) (ap (λ x. length x.dimensions == 1) held ∙ none))
 
-pub print_done : (name : Name) (s s' : State) (a : Array) → s.arrays name ≡ a → (length a.dimensions == 1) ≡ true →
+pub print_done : (name : Name) (s s' : State) (a : Array) →
+    s.arrays name ≡ a → (length a.dimensions == 1) ≡ true →
     s' ≡ record s { output = s.output ++ tape_bytes s.last a.elements; last = tape_after s.last a.elements } →
     done s' ≡ print_array name s
 print_done name s s' a held one is =
@@ -45,14 +46,15 @@ got name s a =
     set_array name (with_elements a (tape_numbers (length a.elements) s.lastin s.input))
     (take_bytes (length a.elements) s)
 
-pub read_none : (name : Name) (s : State) (a : Array) → s.arrays name ≡ a → (length a.dimensions == 1) ≡ false →
-    faults Hyperspace [] s ≡ read_array name s
+pub read_none : (name : Name) (s : State) (a : Array) →
+    s.arrays name ≡ a → (length a.dimensions == 1) ≡ false → faults Hyperspace [] s ≡ read_array name s
 read_none name s a held none =
     sym (ap (λ b. if b then done (got name s (s.arrays name)) else faults Hyperspace [] s)
     (ap (λ x. length x.dimensions == 1) held ∙ none))
 
-pub read_done : (name : Name) (s s' : State) (a : Array) → s.arrays name ≡ a → (length a.dimensions == 1) ≡ true →
-    s' ≡ got name s a → done s' ≡ read_array name s
+pub read_done : (name : Name) (s s' : State) (a : Array) →
+    s.arrays name ≡ a → (length a.dimensions == 1) ≡ true → s' ≡ got name s a →
+    done s' ≡ read_array name s
 read_done name s s' a held one is =
     ap done (is ∙ ap (got name s) (sym held))
     ∙ sym (ap (λ b. if b then done (got name s (s.arrays name)) else faults Hyperspace [] s)
@@ -60,14 +62,16 @@ read_done name s s' a held one is =
 
 -- one more byte
 next_numbers : (n lastin b : ℕ) (input rest : List ℕ) → drop n input ≡ b ∷ rest →
-    tape_numbers (suc n) lastin input ≡ tape_numbers n lastin input ++ tape_difference (last_read n lastin input) b ∷ []
+    tape_numbers (suc n) lastin input
+    ≡ tape_numbers n lastin input ++ tape_difference (last_read n lastin input) b ∷ []
 next_numbers zero lastin b [] rest is = absurd (cc)
 next_numbers zero lastin b (a ∷ input) rest is = let e : a ≡ b = cc in ap (λ x. tape_difference lastin x ∷ []) e
 next_numbers (suc n) lastin b [] rest is = absurd (cc)
 next_numbers (suc n) lastin b (a ∷ input) rest is =
     ap (λ l. tape_difference lastin a ∷ l) (next_numbers n a b input rest is)
 
-next_last : (n lastin b : ℕ) (input rest : List ℕ) → drop n input ≡ b ∷ rest → last_read (suc n) lastin input ≡ b
+next_last : (n lastin b : ℕ) (input rest : List ℕ) → drop n input ≡ b ∷ rest →
+    last_read (suc n) lastin input ≡ b
 next_last zero lastin b [] rest is = absurd (cc)
 next_last zero lastin b (a ∷ input) rest is = cc
 next_last (suc n) lastin b [] rest is = absurd (cc)
@@ -104,10 +108,10 @@ end_rest zero (a ∷ input) is = absurd (cc)
 end_rest (suc n) [] is = refl
 end_rest (suc n) (a ∷ input) is = end_rest n input is
 
-pub read_next : (count lastin from : ℕ) (numbers numbers' : List ℕ) (last last' to to' : ℕ) (byte : Option (ℕ × ℕ))
-    (before mid after : Input) →
-    HasRead count lastin from numbers last to before mid → IsByte byte to mid after →
-    numbers' ≡ numbers ++ number_read last byte ∷ [] → last' ≡ last_after last byte → to' ≡ place_after to byte →
+pub read_next : (count lastin from : ℕ) (numbers numbers' : List ℕ) (last last' to to' : ℕ) (byte : Option (ℕ
+    × ℕ)) (before mid after : Input) → HasRead count lastin from numbers last to before mid →
+    IsByte byte to mid after → numbers' ≡ numbers ++ number_read last byte ∷ [] →
+    last' ≡ last_after last byte → to' ≡ place_after to byte →
     HasRead (count + 1) lastin from numbers' last' to' before after
 read_next count lastin from numbers numbers' last last' to to' None before mid after read end more_numbers more_last
     more_to =
@@ -115,7 +119,8 @@ read_next count lastin from numbers numbers' last last' to to' None before mid a
     let one : suc count ≡ count + 1 = omega arith in
     let none : drop count input ≡ [] = sym read.rest_is ∙ end.0 in
     record {
-      numbers_are = more_numbers ∙ ap (λ l. l ++ 256 ∷ []) read.numbers_are ∙ sym (end_numbers count lastin input none)
+      numbers_are =
+          more_numbers ∙ ap (λ l. l ++ 256 ∷ []) read.numbers_are ∙ sym (end_numbers count lastin input none)
           ∙ ap (λ n. tape_numbers n lastin input) one;
       last_is = more_last ∙ read.last_is ∙ sym (end_last count lastin input none)
           ∙ ap (λ n. last_read n lastin input) one;
@@ -128,7 +133,8 @@ read_next count lastin from numbers numbers' last last' to to'
     let some : drop count input ≡ b ∷ after.left next = sym read.rest_is ∙ here in
     record {
       numbers_are = more_numbers ∙ ap₂ (λ l p. l ++ tape_difference p b ∷ []) read.numbers_are read.last_is
-          ∙ sym (next_numbers count lastin b input (after.left next) some) ∙ ap (λ n. tape_numbers n lastin input) one;
+          ∙ sym (next_numbers count lastin b input (after.left next) some)
+          ∙ ap (λ n. tape_numbers n lastin input) one;
       last_is = more_last ∙ sym (next_last count lastin b input (after.left next) some)
           ∙ ap (λ n. last_read n lastin input) one;
       rest_is = ap (after.left) more_to ∙ sym (next_rest count b input (after.left next) some)

@@ -1,6 +1,6 @@
 -- A line of a text.
-use Rattle.std.proofs.Common.{◌≡◌, ℕ, ◌+◌, ◌-◌, ◌==◌, ◌<◌, ◌≤◌, List, [], ◌∷◌, length, take, drop, refl, sym, ap, ◌∙◌}
-use Rattle.std.proofs.Common.{arith, length-drop}
+use Rattle.std.proofs.Common.{◌≡◌, ℕ, ◌+◌, ◌-◌, ◌==◌, ◌<◌, ◌≤◌, List, [], ◌∷◌}
+use Rattle.std.proofs.Common.{length, take, drop, refl, sym, ap, ◌∙◌, arith, length-drop}
 use Rattle.std.specs.Prelude.{Err, slice_range}
 use Rattle.std.specs.List.{position_or_len}
 use Rattle.std.proofs.lemmas.List.{drop-take, take-take, drop-drop, length-take}
@@ -37,7 +37,8 @@ module _ (text rest : List ℕ) (from n : ℕ) (is : rest ≡ drop from text) (s
       let next : from + (n + 1) ≡ from + n + 1 = omega arith in
       ap (λ i. with_input i s go) (at ∙ sym is) ∙ some_line rest s go there
       ∙ ap (λ k. after (drop (k + 1) rest) k) (sym count)
-      ∙ ap (λ left. after left n) (ap (drop (n + 1)) is ∙ drop-drop (n + 1) from text ∙ ap (λ k. drop k text) next)
+      ∙ ap (λ left. after left n)
+      (ap (drop (n + 1)) is ∙ drop-drop (n + 1) from text ∙ ap (λ k. drop k text) next)
 
   word_of : (begin end : ℕ) → begin < end → end ≤ length (take n rest) →
       slice_range (take n rest) begin end ≡ slice_range text (from + begin) (from + end)

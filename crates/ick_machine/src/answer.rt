@@ -6,8 +6,7 @@ ghost use Rattle.ick_code.specs.meaning.State.{statement_at};
 ghost use Rattle.ick_code.specs.meaning.Move.{ask, plain, choice};
 ghost use Rattle.ick_code.specs.Compiled.{code_program};
 ghost use Rattle.ick_memory.specs.View.{Input, view_of, state_of, input_of, text_of as text_in};
-ghost use Rattle.ick_memory.specs.View.{Fits};
-ghost use Rattle.ick_memory.specs.View.{end_of as ending_of};
+ghost use Rattle.ick_memory.specs.View.{Fits, end_of as ending_of};
 ghost use Rattle.ick_memory.specs.Met.{is_open};
 ghost use Rattle.ick_machine.specs.Asked.{asked_of, finish_of, finished};
 ghost use Rattle.ick_machine.specs.Steps.{IsPlain};
@@ -105,10 +104,10 @@ fn is_chance(odds: u8) -> bool
 /// 4.3).
 pub fn is_plain(code: &Code, memory: &Memory) -> bool
     requires { Fits code.now (view_of memory.now) }
-    ensures plain { (input : Input) → result ≡ true → IsPlain (code_program code.now) (state_of
-        code.now input (view_of memory.now)) }
-    ensures asked { (input : Input) → result ≡ false → ¬ IsPlain (code_program code.now) (state_of
-        code.now input (view_of memory.now)) }
+    ensures plain { (input : Input) → result ≡ true
+        → IsPlain (code_program code.now) (state_of code.now input (view_of memory.now)) }
+    ensures asked { (input : Input) → result ≡ false
+        → ¬ IsPlain (code_program code.now) (state_of code.now input (view_of memory.now)) }
 {
     if memory.end.is_some() {
         return false;

@@ -1,7 +1,7 @@
 //! Machines with marks.
 
-ghost use Rattle.std.specs.Prelude.{◌≡◌, ◌+◌, ◌-◌, ◌<◌, ◌≤◌, ◌^◌, ℕ, [], ◌∷◌, ◌++◌, length, take};
-ghost use Rattle.std.specs.Prelude.{Some, IfOk, OnOk, OnErr};
+ghost use Rattle.std.specs.Prelude.{◌≡◌, ◌+◌, ◌-◌, ◌<◌, ◌≤◌, ◌^◌, ℕ};
+ghost use Rattle.std.specs.Prelude.{[], ◌∷◌, ◌++◌, length, take, Some, IfOk, OnOk, OnErr};
 ghost use Rattle.ick_code.specs.meaning.Move.{ask, advance};
 ghost use Rattle.ick_machine.specs.Machine.{Machine};
 ghost use Rattle.ick_machine.specs.Asked.{asked_of, IsGoing};
@@ -68,8 +68,8 @@ pub trait Backtrack: Drop {
         } };
 }
 
-/// A machine with marks that tells what it asks, and goes on while it asks nothing. `'c` is the life of the code whose texts the
-/// messages of its faults have.
+/// A machine with marks that tells what it asks, and goes on while it asks nothing. `'c` is the
+/// life of the code whose texts the messages of its faults have.
 pub trait Asks<'c>: Backtrack {
     /// What is asked before the next step (Revised Manual, 4.3): whether a statement is done that
     /// isn't abstained from and has a chance strictly between 0 and 100; or nothing, since there is

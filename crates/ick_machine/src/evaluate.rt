@@ -1,6 +1,7 @@
 //! Operations of expressions: they take operands and give one, and change nothing else.
 
-ghost use Rattle.std.specs.Prelude.{◌≡◌, ◌<◌, ◌≤◌, ℕ, List, Ok, length, vec_len, vec_capacity};
+ghost use Rattle.std.specs.Prelude.{◌≡◌, ◌<◌, ◌≤◌, ℕ, List, Ok, length, vec_len};
+ghost use Rattle.std.specs.Prelude.{vec_capacity};
 ghost use Rattle.ick_code.specs.declared.code.Code.{Code as Coded};
 ghost use Rattle.ick_code.specs.declared.op.Op.TheVariants.{Constant as DoConstant, Load as DoLoad};
 ghost use Rattle.ick_code.specs.declared.op.Op.TheVariants.{Fetch as DoFetch, And as DoAnd};
@@ -106,9 +107,9 @@ pub fn xor_operand(operands: &mut Vec<Value>)
 /// (Revised Manual, 3.4.1).
 pub fn mingle_operands(operands: &mut Vec<Value>) -> Result<(), Halt>
     requires two { 1 < length operands.old.items }
-    ensures flow { (code : Coded) (input : Input) (text : List ℕ) (view : View) → Comes result code
-        input text operands.new.items view (effect_at code input text DoMingle operands.old.items
-        view) }
+    ensures flow { (code : Coded) (input : Input) (text : List ℕ) (view : View)
+        → Comes result code input text operands.new.items view
+        (effect_at code input text DoMingle operands.old.items view) }
     ensures capacity { vec_capacity operands.old ≤ vec_capacity operands.new }
 {
     let right = pop(operands);

@@ -1,7 +1,7 @@
 //! Where the input of a run comes from that is read while it runs.
 
-ghost use Rattle.std.specs.Prelude.{◌≡◌, ◌≢◌, ◌+◌, ◌<◌, ◌^◌, ◌∷◌, ℕ, List, Bool, [], true, false};
-ghost use Rattle.std.specs.Prelude.{Ok, Some, None, IfErr};
+ghost use Rattle.std.specs.Prelude.{◌≡◌, ◌≢◌, ◌+◌, ◌<◌, ◌^◌, ◌∷◌};
+ghost use Rattle.std.specs.Prelude.{ℕ, List, Bool, [], true, false, Ok, Some, None, IfErr};
 ghost use Rattle.ick_code.specs.meaning.InputOutput.{first_line, later_lines};
 ghost use Rattle.ick_machine.specs.Feeds.{feed_failures};
 ghost use Rattle.ick_machine.specs.declared.feed.FeedFault.TheVariants.{NoMemory as OutOfMemory};

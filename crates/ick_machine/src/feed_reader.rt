@@ -1,7 +1,7 @@
 //! A feed as the input of a step.
 
-ghost use Rattle.std.specs.Prelude.{◌≡◌, ◌+◌, ◌-◌, ◌<◌, ◌^◌, ◌∷◌, ℕ, List, [], true, false};
-ghost use Rattle.std.specs.Prelude.{Some, None, IsOk, OnOk};
+ghost use Rattle.std.specs.Prelude.{◌≡◌, ◌+◌, ◌-◌, ◌<◌, ◌^◌, ◌∷◌, ℕ};
+ghost use Rattle.std.specs.Prelude.{List, [], true, false, Some, None, IsOk, OnOk};
 ghost use Rattle.ick_bits.specs.Digits.{line_answer};
 ghost use Rattle.ick_machine.specs.Feeds.{MayBeLeft, feed_failures, reads_failed, some_left};
 ghost use Rattle.ick_machine.specs.Feeds.{line_with};

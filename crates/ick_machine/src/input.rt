@@ -1,7 +1,7 @@
 //! Lines of input that variables get.
 
-ghost use Rattle.std.specs.Prelude.{◌≡◌, ◌<◌, ℕ, length, Some, true, slice_get, IfOk, IfErr};
-ghost use Rattle.std.specs.Prelude.{Err as Stopped};
+ghost use Rattle.std.specs.Prelude.{◌≡◌, ◌<◌, ℕ, length, Some, true, slice_get, IfOk};
+ghost use Rattle.std.specs.Prelude.{IfErr, Err as Stopped};
 ghost use Rattle.ick_source.specs.declared.tree.Name.{Name as Named};
 ghost use Rattle.ick_code.specs.declared.code.Code.{Code as Coded};
 ghost use Rattle.ick_code.specs.meaning.State.{State};
@@ -32,9 +32,11 @@ fn take_line<N: Notes, R: Reader>(
     ensures taken { IfOk result (λ number. Leads R.Has reader.old reader.new (λ before after.
         (code : Coded) (go : ℕ → State → Outcome) → go number (state_of code after (view_of
         memory.new)) ≡ line_read (state_of code before (view_of memory.old)) go)) }
-    ensures stopped { IfErr result (λ halt. Took R.Has reader.old reader.new (Stopped halt) (λ
-        before after. (code : Coded) (go : ℕ → State → Outcome) → Does (Stopped halt) code after
-        (view_of memory.new) (line_read (state_of code before (view_of memory.old)) go))) }
+    ensures stopped { IfErr result (λ halt.
+        Took R.Has reader.old reader.new (Stopped halt)
+        (λ before after. (code : Coded) (go : ℕ → State → Outcome)
+        → Does (Stopped halt) code after (view_of memory.new)
+        (line_read (state_of code before (view_of memory.old)) go))) }
     ensures others { view_of memory.new ≡ with_taken memory.new.taken (view_of memory.old) }
     ensures held { R.held reader.new ≡ R.held reader.old }
     ensures follows { Follows N.Undoes notes.old memory.old notes.new memory.new }
@@ -69,9 +71,10 @@ pub fn read_to<N: Notes, R: Reader>(
     requires fits { Fits code.now (view_of memory.old) }
     requires slot { slot < length (scalar_names code.now) }
     requires faultless { is_faultless memory.old.end ≡ true }
-    ensures does { (name : Named) → slice_get (scalar_names code.now) slot ≡ Some name → Took R.Has
-        reader.old reader.new result (λ before after. Does result code.now after (view_of
-        memory.new) (read_into name (state_of code.now before (view_of memory.old)))) }
+    ensures does { (name : Named) → slice_get (scalar_names code.now) slot ≡ Some name
+        → Took R.Has reader.old reader.new result
+        (λ before after. Does result code.now after (view_of memory.new)
+        (read_into name (state_of code.now before (view_of memory.old)))) }
     ensures held { R.held reader.new ≡ R.held reader.old }
     ensures follows { Follows N.Undoes notes.old memory.old notes.new memory.new }
     ensures shape { shape_of (view_of memory.new) ≡ shape_of (view_of memory.old) }
@@ -93,9 +96,10 @@ pub fn read_at<N: Notes, R: Reader>(
     requires fits { Fits code.now (view_of memory.old) }
     requires slot { slot < length (array_names code.now) }
     requires faultless { is_faultless memory.old.end ≡ true }
-    ensures does { (name : Named) → slice_get (array_names code.now) slot ≡ Some name → Took R.Has
-        reader.old reader.new result (λ before after. Does result code.now after (view_of
-        memory.new) (read_in name subs.now (state_of code.now before (view_of memory.old)))) }
+    ensures does { (name : Named) → slice_get (array_names code.now) slot ≡ Some name
+        → Took R.Has reader.old reader.new result
+        (λ before after. Does result code.now after (view_of memory.new)
+        (read_in name subs.now (state_of code.now before (view_of memory.old)))) }
     ensures held { R.held reader.new ≡ R.held reader.old }
     ensures follows { Follows N.Undoes notes.old memory.old notes.new memory.new }
     ensures shape { shape_of (view_of memory.new) ≡ shape_of (view_of memory.old) }

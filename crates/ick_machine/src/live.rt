@@ -33,7 +33,8 @@ pub struct Live<'c, 'a> {
 }
 
 impl<'c, 'a> Live<'c, 'a> {
-    ghost use Rattle.std.specs.Prelude.{◌≡◌, ◌+◌, ◌<◌, ◌≤◌, ◌^◌, ◌++◌, [], true, false, length};
+    ghost use Rattle.std.specs.Prelude.{◌≡◌, ◌+◌, ◌<◌, ◌≤◌, ◌^◌, ◌++◌};
+    ghost use Rattle.std.specs.Prelude.{[], true, false, length};
     ghost use Rattle.std.specs.Prelude.{IfOk, OnOk, OnErr, vec_len, vec_capacity};
     ghost use Rattle.ick_code.specs.Compiled.{code_program};
     ghost use Rattle.ick_code.specs.meaning.Move.{ask, advance, first_state};
@@ -87,8 +88,9 @@ impl<'c, 'a> Live<'c, 'a> {
         requires sound { (seen self.old).failed ≡ false }
         requires going { IsGoing (ask (seen self.old).program (seen self.old).state) }
         requires room { F.failed feed.old + 1 < 2 ^ 64 }
-        ensures advances { F.told ≡ true → OnOk result (fed (F.left feed.new) (seen self.new).state
-            ≡ advance (seen self.old).program (fed (F.left feed.old) (seen self.old).state) done) }
+        ensures advances { F.told ≡ true → OnOk result
+            (fed (F.left feed.new) (seen self.new).state ≡ advance
+            (seen self.old).program (fed (F.left feed.old) (seen self.old).state) done) }
         ensures program { (seen self.new).program ≡ (seen self.old).program }
         ensures ok { OnOk result ((seen self.new).failed ≡ false) }
         ensures err { OnErr result ((seen self.new).failed ≡ true) }
@@ -111,18 +113,18 @@ impl<'c, 'a> Live<'c, 'a> {
     }
 
     /// Makes steps, as many as the limit allows, while the run goes on by itself: nothing is asked,
-    /// and no output is held, so that it can leave before more input is taken. Answers their number.
-    /// Each takes off the feed what a single step takes.
+    /// and no output is held, so that it can leave before more input is taken. Answers their
+    /// number. Each takes off the feed what a single step takes.
     ///
-    /// The machine must not have failed, and the feed's count of failures must be below its greatest
-    /// value. After an error it has failed, and holds no output. `Read` raises the feed's count of
-    /// failures by one, and every other answer leaves it.
+    /// The machine must not have failed, and the feed's count of failures must be below its
+    /// greatest value. After an error it has failed, and holds no output. `Read` raises the feed's
+    /// count of failures by one, and every other answer leaves it.
     #[tactic(auto, unfolding(crate::specs::Live::seen))]
     pub fn run<F: Feed>(&mut self, limit: u32, feed: &mut F) -> Result<u32, FeedFault>
         requires sound { (seen self.old).failed ≡ false }
         requires room { F.failed feed.old + 1 < 2 ^ 64 }
-        ensures runs { let old = seen self.old in F.told ≡ true → IfOk result (λ k. RunsOn IsQuiet
-            old.program (fed (F.left feed.old) old.state) k
+        ensures runs { let old = seen self.old in F.told ≡ true
+            → IfOk result (λ k. RunsOn IsQuiet old.program (fed (F.left feed.old) old.state) k
             (fed (F.left feed.new) (seen self.new).state)) }
         ensures within { IfOk result (λ k. k ≤ limit) }
         ensures moves { let old = seen self.old in IfOk result (λ k. IsQuiet
@@ -160,7 +162,8 @@ impl<'c, 'a> Live<'c, 'a> {
     /// The output becomes empty, and all else stays. It takes no memory.
     #[tactic(auto, unfolding(crate::specs::Live::seen))]
     pub fn clear_output(&mut self)
-        ensures { seen self.new ≡ record (seen self.old) { state = cleared (seen self.old).state } }
+        ensures { seen self.new
+            ≡ record (seen self.old) { state = cleared (seen self.old).state } }
     {
         self.memory.output.clear();
     }
@@ -172,7 +175,8 @@ impl<'c, 'a> Live<'c, 'a> {
     /// grow; `out` is then unchanged.
     #[tactic(auto, unfolding(crate::specs::Live::seen))]
     pub fn append_fault(&self, out: &mut Vec<u8>) -> Result<(), NoMemory>
-        ensures ok { OnOk result (out.new.items ≡ out.old.items ++ fault_message (seen self.now)) }
+        ensures ok { OnOk result
+            (out.new.items ≡ out.old.items ++ fault_message (seen self.now)) }
         ensures err { OnErr result (out.new.items ≡ out.old.items) }
         ensures full { OnErr result (vec_capacity out.old <
             vec_len out.old + length (fault_message (seen self.now))) }

@@ -41,7 +41,8 @@ pub enum LiveAsk {
 impl LiveAsk {
     /// What an answer asks, without the subject of a fault.
     pub(crate) fn of(ask: Ask<'_>) -> LiveAsk
-        ensures { (asked : Asking) → asked_of ask.entry ≡ Some asked → result ≡ live_asked asked }
+        ensures { (asked : Asking) → asked_of ask.entry ≡ Some asked
+            → result ≡ live_asked asked }
     {
         match ask {
             Ask::Plain => LiveAsk::Plain,

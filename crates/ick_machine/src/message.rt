@@ -1,7 +1,7 @@
 //! The message that a run ends with.
 
-ghost use Rattle.std.specs.Prelude.{◌≡◌, ◌+◌, ◌<◌, ◌≤◌, ◌++◌, Some, length, OnOk, OnErr};
-ghost use Rattle.std.specs.Prelude.{vec_len, vec_capacity};
+ghost use Rattle.std.specs.Prelude.{◌≡◌, ◌+◌, ◌<◌, ◌≤◌, ◌++◌, Some, length};
+ghost use Rattle.std.specs.Prelude.{OnOk, OnErr, vec_len, vec_capacity};
 ghost use Rattle.ick_code.specs.meaning.Move.{Asking};
 ghost use Rattle.ick_machine.specs.Asked.{asked_of};
 ghost use Rattle.ick_machine.specs.Message.{asked_message};

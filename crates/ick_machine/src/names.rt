@@ -1,8 +1,7 @@
 //! STASH, RETRIEVE, IGNORE and REMEMBER.
 
 ghost use Rattle.std.specs.Prelude.{◌≡◌, ◌<◌, length, Some, OnOk, slice_get};
-ghost use Rattle.std.specs.Prelude.{if◌then◌else◌};
-ghost use Rattle.std.specs.Prelude.{Ok as Done, Err as Stopped};
+ghost use Rattle.std.specs.Prelude.{if◌then◌else◌, Ok as Done, Err as Stopped};
 ghost use Rattle.ick_bits.specs.declared.faults.FaultKind.TheVariants.{NothingStashed};
 ghost use Rattle.ick_source.specs.declared.tree.Name.{Name as Named};
 ghost use Rattle.ick_code.specs.meaning.Stash.{stash as stashed, retrieve as retrieved};
@@ -32,9 +31,10 @@ pub fn stash<N: Notes>(
 ) -> Result<(), NoMemory>
     requires named { (known : Named) × (name_at (code_slots code.now) name ≡ Some known) }
     requires fits { Fits code.now (view_of memory.old) }
-    ensures does { OnOk result ((input : Input) (known : Named) → name_at (code_slots code.now) name
-        ≡ Some known → state_of code.now input (view_of memory.new) ≡ stashed known (state_of
-        code.now input (view_of memory.old))) }
+    ensures does { OnOk result ((input : Input) (known : Named)
+        → name_at (code_slots code.now) name ≡ Some known
+        → state_of code.now input (view_of memory.new)
+        ≡ stashed known (state_of code.now input (view_of memory.old))) }
     ensures follows { Follows N.Undoes notes.old memory.old notes.new memory.new }
     ensures shape { shape_of (view_of memory.new) ≡ shape_of (view_of memory.old) }
     ensures end { memory.new.end ≡ memory.old.end }
@@ -56,9 +56,10 @@ fn retrieve_scalar<N: Notes>(
 ) -> Result<(), Halt>
     requires fits { Fits code.now (view_of memory.old) }
     requires slot { slot < length (scalar_names code.now) }
-    ensures does { (input : Input) (name : Named) → slice_get (scalar_names code.now) slot ≡ Some
-        name → Does result code.now input (view_of memory.new) (retrieved name (state_of code.now
-        input (view_of memory.old))) }
+    ensures does { (input : Input) (name : Named)
+        → slice_get (scalar_names code.now) slot ≡ Some name
+        → Does result code.now input (view_of memory.new)
+        (retrieved name (state_of code.now input (view_of memory.old))) }
     ensures follows { Follows N.Undoes notes.old memory.old notes.new memory.new }
     ensures shape { shape_of (view_of memory.new) ≡ shape_of (view_of memory.old) }
     ensures end { memory.new.end ≡ memory.old.end }
@@ -122,9 +123,10 @@ pub fn retrieve<N: Notes>(
 ) -> Result<(), Halt>
     requires named { (known : Named) × (name_at (code_slots code.now) name ≡ Some known) }
     requires fits { Fits code.now (view_of memory.old) }
-    ensures does { (input : Input) (known : Named) → name_at (code_slots code.now) name ≡ Some known
-        → Does result code.now input (view_of memory.new) (retrieved known (state_of code.now input
-        (view_of memory.old))) }
+    ensures does { (input : Input) (known : Named)
+        → name_at (code_slots code.now) name ≡ Some known
+        → Does result code.now input (view_of memory.new)
+        (retrieved known (state_of code.now input (view_of memory.old))) }
     ensures follows { Follows N.Undoes notes.old memory.old notes.new memory.new }
     ensures shape { shape_of (view_of memory.new) ≡ shape_of (view_of memory.old) }
     ensures end { memory.new.end ≡ memory.old.end }
@@ -145,9 +147,10 @@ pub fn ignore<N: Notes>(
 ) -> Result<(), NoMemory>
     requires named { (known : Named) × (name_at (code_slots code.now) name ≡ Some known) }
     requires fits { Fits code.now (view_of memory.old) }
-    ensures does { OnOk result ((input : Input) (known : Named) → name_at (code_slots code.now) name
-        ≡ Some known → state_of code.now input (view_of memory.new) ≡ ignoring on known (state_of
-        code.now input (view_of memory.old))) }
+    ensures does { OnOk result ((input : Input) (known : Named)
+        → name_at (code_slots code.now) name ≡ Some known
+        → state_of code.now input (view_of memory.new)
+        ≡ ignoring on known (state_of code.now input (view_of memory.old))) }
     ensures follows { Follows N.Undoes notes.old memory.old notes.new memory.new }
     ensures shape { shape_of (view_of memory.new) ≡ shape_of (view_of memory.old) }
     ensures end { memory.new.end ≡ memory.old.end }

@@ -1,6 +1,7 @@
 //! Operations that take operands and change what a run remembers.
 
-ghost use Rattle.std.specs.Prelude.{◌≡◌, ◌<◌, ◌≤◌, ℕ, List, length, true, vec_capacity};
+ghost use Rattle.std.specs.Prelude.{◌≡◌, ◌<◌, ◌≤◌, ℕ, List, length, true};
+ghost use Rattle.std.specs.Prelude.{vec_capacity};
 ghost use Rattle.ick_code.specs.declared.code.Code.{Code as Coded};
 ghost use Rattle.ick_code.specs.declared.op.Op.TheVariants.{Store as DoStore, StoreAt as DoStoreAt};
 ghost use Rattle.ick_code.specs.declared.op.Op.TheVariants.{Resize as DoResize, Forget as DoForget};
@@ -168,9 +169,10 @@ pub fn read_at_operands<N: Notes, R: Reader>(
     requires sound { Sound code.now (DoReadAt slot count) operands.old (view_of memory.old) }
     requires fits { Fits code.now (view_of memory.old) }
     requires faultless { is_faultless memory.old.end ≡ true }
-    ensures flow { (text : List ℕ) → Took R.Has reader.old reader.new result (λ before after. Comes
-        result code.now after text operands.new.items (view_of memory.new) (effect_at code.now
-        before text (DoReadAt slot count) operands.old.items (view_of memory.old))) }
+    ensures flow { (text : List ℕ) → Took R.Has reader.old reader.new result
+        (λ before after. Comes result code.now after text operands.new.items (view_of memory.new)
+        (effect_at code.now before text (DoReadAt slot count) operands.old.items
+        (view_of memory.old))) }
     ensures held { R.held reader.new ≡ R.held reader.old }
     ensures follows { Follows N.Undoes notes.old memory.old notes.new memory.new }
     ensures shape { shape_of (view_of memory.new) ≡ shape_of (view_of memory.old) }

@@ -1,7 +1,7 @@
 //! New dimensions of arrays.
 
-ghost use Rattle.std.specs.Prelude.{◌≡◌, ◌==◌, ◌<◌, ◌≤◌, length, map, nat_lt, Some, None, false};
-ghost use Rattle.std.specs.Prelude.{if◌then◌else◌, IfOk, slice_get};
+ghost use Rattle.std.specs.Prelude.{◌≡◌, ◌==◌, ◌<◌, ◌≤◌, length, map, nat_lt};
+ghost use Rattle.std.specs.Prelude.{Some, None, false, if◌then◌else◌, IfOk, slice_get};
 ghost use Rattle.std.specs.List.{list_any};
 ghost use Rattle.ick_bits.specs.Values.{number_of};
 ghost use Rattle.ick_source.specs.declared.tree.Name.{Name as Named};

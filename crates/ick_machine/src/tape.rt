@@ -1,15 +1,14 @@
 //! Arrays as bytes.
 
-ghost use Rattle.std.specs.Prelude.{◌≡◌, ◌<◌, ◌≤◌, [], ◌∷◌, ◌++◌, length, Some, true};
-ghost use Rattle.std.specs.Prelude.{slice_get, IfOk, OnOk};
+ghost use Rattle.std.specs.Prelude.{◌≡◌, ◌<◌, ◌≤◌, [], ◌∷◌, ◌++◌, length};
+ghost use Rattle.std.specs.Prelude.{Some, true, slice_get, IfOk, OnOk};
 ghost use Rattle.ick_source.specs.declared.tree.Name.{Name as Named};
 ghost use Rattle.ick_code.specs.meaning.Tape.{print_array as printed, read_array as read_in};
 ghost use Rattle.ick_code.specs.meaning.Tape.{with_elements};
 ghost use Rattle.ick_memory.specs.View.{Input, view_of, state_of, shape_of, array_names, Fits};
 ghost use Rattle.ick_memory.specs.View.{array_of, is_faultless};
 ghost use Rattle.ick_memory.specs.Undo.{Follows};
-ghost use Rattle.ick_machine.specs.Reads.{Leads, HasRead, number_read, last_after};
-ghost use Rattle.ick_machine.specs.Reads.{place_after};
+ghost use Rattle.ick_machine.specs.Reads.{Leads, HasRead, number_read, last_after, place_after};
 ghost use Rattle.ick_machine.specs.Run.{Does, Took};
 
 use crate::halt::Halt;
@@ -129,9 +128,10 @@ pub fn read_array<N: Notes, R: Reader>(
     requires fits { Fits code.now (view_of memory.old) }
     requires slot { slot < length (array_names code.now) }
     requires faultless { is_faultless memory.old.end ≡ true }
-    ensures does { (name : Named) → slice_get (array_names code.now) slot ≡ Some name → Took R.Has
-        reader.old reader.new result (λ before after. Does result code.now after (view_of
-        memory.new) (read_in name (state_of code.now before (view_of memory.old)))) }
+    ensures does { (name : Named) → slice_get (array_names code.now) slot ≡ Some name
+        → Took R.Has reader.old reader.new result
+        (λ before after. Does result code.now after (view_of memory.new)
+        (read_in name (state_of code.now before (view_of memory.old)))) }
     ensures held { R.held reader.new ≡ R.held reader.old }
     ensures follows { Follows N.Undoes notes.old memory.old notes.new memory.new }
     ensures shape { shape_of (view_of memory.new) ≡ shape_of (view_of memory.old) }

@@ -1,18 +1,22 @@
 -- The changes that a trail holds.
-use Rattle.std.proofs.Common.{◌≡◌, ℕ, suc, ◌+◌, true, List, [], ◌∷◌, ◌++◌, length, reverse, refl, sym, ap, ap₂, ◌∙◌}
+use Rattle.std.proofs.Common.{◌≡◌, ℕ, suc, ◌+◌, true, List, [], ◌∷◌, ◌++◌, length, reverse, refl}
+use Rattle.std.proofs.Common.{sym, ap, ap₂, ◌∙◌}
 use Rattle.std.specs.Global.{Vec}
 use Rattle.std.proofs.lemmas.List.{reverse-append, length-reverse}
 use Rattle.ick_memory.specs.View.{View, Room}
 use Rattle.ick_memory.specs.declared.memory.Array.{Array as ArrayKept}
 use Rattle.ick_memory.specs.declared.change.ArrayChange.{ArrayChange}
 use Rattle.ick_memory.specs.declared.change.Entry.{Entry}
-use Rattle.ick_memory.specs.declared.change.Entry.TheVariants.{Place, End, Pushed, Popped, Scalar, Element, ScalarSaved, ArraySaved, ScalarTaken, ScalarIgnored, ArrayIgnored, Status, Printed, Read, Last, LastIn, Array, Statuses}
+use Rattle.ick_memory.specs.declared.change.Entry.TheVariants.{Place, End, Pushed, Popped, Scalar, Element, ScalarSaved}
+use Rattle.ick_memory.specs.declared.change.Entry.TheVariants.{ArraySaved, ScalarTaken, ScalarIgnored, ArrayIgnored}
+use Rattle.ick_memory.specs.declared.change.Entry.TheVariants.{Status, Printed, Read, Last, LastIn, Array, Statuses}
 use Rattle.ick_memory.specs.declared.change.Change.{Change}
 use Rattle.ick_memory.specs.declared.change.Change.TheVariants.{Plain, Array as ArrayOf, Statuses as StatusesOf}
 use Rattle.ick_memory.specs.Undo.{changes_of, can_undo_entry}
 
 -- an entry that can be undone alone moved nothing
-pub changes-plain : (entry : Entry) (room : Room) (v : View) (entries : List Entry) (arrays : List ArrayKept) (statuses : List (Vec ℕ)) → can_undo_entry entry room v ≡ true →
+pub changes-plain : (entry : Entry) (room : Room) (v : View) (entries : List Entry) (arrays : List ArrayKept)
+    (statuses : List (Vec ℕ)) → can_undo_entry entry room v ≡ true →
     changes_of (entry ∷ entries) arrays statuses ≡ Plain entry ∷ changes_of entries arrays statuses
 changes-plain (Place place) room v entries arrays statuses can = refl
 changes-plain (End gave_up) room v entries arrays statuses can = refl
@@ -34,7 +38,8 @@ changes-plain (Array change slot) room v entries arrays statuses can = absurd (c
 changes-plain Statuses room v entries arrays statuses can = absurd (cc)
 
 -- there are as many changes as entries
-pub length-changes : (entries : List Entry) (arrays : List ArrayKept) (statuses : List (Vec ℕ)) → length (changes_of entries arrays statuses) ≡ length entries
+pub length-changes : (entries : List Entry) (arrays : List ArrayKept) (statuses : List (Vec ℕ)) →
+    length (changes_of entries arrays statuses) ≡ length entries
 length-changes [] arrays statuses = refl
 length-changes ((Place place) ∷ entries) arrays statuses = ap suc (length-changes entries arrays statuses)
 length-changes ((End gave_up) ∷ entries) arrays statuses = ap suc (length-changes entries arrays statuses)
@@ -53,30 +58,45 @@ length-changes ((Read taken) ∷ entries) arrays statuses = ap suc (length-chang
 length-changes ((Last last) ∷ entries) arrays statuses = ap suc (length-changes entries arrays statuses)
 length-changes ((LastIn lastin) ∷ entries) arrays statuses = ap suc (length-changes entries arrays statuses)
 length-changes (Array change slot ∷ entries) [] statuses = ap suc (length-changes entries [] statuses)
-length-changes (Array change slot ∷ entries) (array ∷ arrays) statuses = ap suc (length-changes entries arrays statuses)
+length-changes (Array change slot ∷ entries) (array ∷ arrays) statuses =
+    ap suc (length-changes entries arrays statuses)
 length-changes (Statuses ∷ entries) arrays [] = ap suc (length-changes entries arrays [])
 length-changes (Statuses ∷ entries) arrays (old ∷ statuses) = ap suc (length-changes entries arrays statuses)
 
 -- the newest entry and what it moved are the newest change
-pub newest_change : (all rest : List Entry) (entry : Entry) (arrays arrays' : List ArrayKept) (statuses statuses' : List (Vec ℕ)) (change : Change) → all ≡ rest ++ entry ∷ [] → changes_of (entry ∷ reverse rest) arrays statuses ≡ change ∷ changes_of (reverse rest) arrays' statuses' →
-    reverse (changes_of (reverse all) arrays statuses) ≡ reverse (changes_of (reverse rest) arrays' statuses') ++ change ∷ []
+pub newest_change : (all rest : List Entry) (entry : Entry) (arrays arrays' : List ArrayKept)
+    (statuses statuses' : List (Vec ℕ)) (change : Change) → all ≡ rest ++ entry ∷ [] →
+    changes_of (entry ∷ reverse rest) arrays statuses ≡ change ∷ changes_of (reverse rest) arrays' statuses' →
+    reverse (changes_of (reverse all) arrays statuses)
+    ≡ reverse (changes_of (reverse rest) arrays' statuses') ++ change ∷ []
 newest_change all rest entry arrays arrays' statuses statuses' change is there =
     ap (λ l. reverse (changes_of (reverse l) arrays statuses)) is
     ∙ ap (λ l. reverse (changes_of l arrays statuses)) (reverse-append rest (entry ∷ []))
     ∙ ap reverse there
     ∙ reverse-append (change ∷ []) (changes_of (reverse rest) arrays' statuses')
 
-pub newest_array : (all rest : List Entry) (arrays arrays' : List ArrayKept) (statuses : List (Vec ℕ)) (change : ArrayChange) (slot : ℕ) (array : ArrayKept) → all ≡ rest ++ Array change slot ∷ [] → arrays' ≡ arrays ++ array ∷ [] →
-    reverse (changes_of (reverse all) (reverse arrays') statuses) ≡ reverse (changes_of (reverse rest) (reverse arrays) statuses) ++ ArrayOf change slot array ∷ []
+pub newest_array : (all rest : List Entry) (arrays arrays' : List ArrayKept) (statuses : List (Vec ℕ))
+    (change : ArrayChange) (slot : ℕ) (array : ArrayKept) → all ≡ rest ++ Array change slot ∷ [] →
+    arrays' ≡ arrays ++ array ∷ [] →
+    reverse (changes_of (reverse all) (reverse arrays') statuses)
+    ≡ reverse (changes_of (reverse rest) (reverse arrays) statuses) ++ ArrayOf change slot array ∷ []
 newest_array all rest arrays arrays' statuses change slot array is pushed =
-    newest_change all rest (Array change slot) (reverse arrays') (reverse arrays) statuses statuses (ArrayOf change slot array) is
-    (ap (λ l. changes_of (Array change slot ∷ reverse rest) l statuses) (ap reverse pushed ∙ reverse-append arrays (array ∷ [])))
+    newest_change all rest (Array change slot) (reverse arrays') (reverse arrays) statuses statuses
+    (ArrayOf change slot array) is
+    (ap (λ l. changes_of (Array change slot ∷ reverse rest) l statuses)
+    (ap reverse pushed ∙ reverse-append arrays (array ∷ [])))
 
-pub newest_statuses : (all rest : List Entry) (arrays : List ArrayKept) (statuses statuses' : List (Vec ℕ)) (old : Vec ℕ) → all ≡ rest ++ Statuses ∷ [] → statuses' ≡ statuses ++ old ∷ [] →
-    reverse (changes_of (reverse all) arrays (reverse statuses')) ≡ reverse (changes_of (reverse rest) arrays (reverse statuses)) ++ StatusesOf old ∷ []
+pub newest_statuses : (all rest : List Entry) (arrays : List ArrayKept) (statuses statuses' : List (Vec ℕ))
+    (old : Vec ℕ) → all ≡ rest ++ Statuses ∷ [] → statuses' ≡ statuses ++ old ∷ [] →
+    reverse (changes_of (reverse all) arrays (reverse statuses'))
+    ≡ reverse (changes_of (reverse rest) arrays (reverse statuses)) ++ StatusesOf old ∷ []
 newest_statuses all rest arrays statuses statuses' old is pushed =
     newest_change all rest Statuses arrays arrays (reverse statuses') (reverse statuses) (StatusesOf old) is
-    (ap (λ l. changes_of (Statuses ∷ reverse rest) arrays l) (ap reverse pushed ∙ reverse-append statuses (old ∷ [])))
+    (ap (λ l. changes_of (Statuses ∷ reverse rest) arrays l)
+    (ap reverse pushed ∙ reverse-append statuses (old ∷ [])))
 
-pub length-history : (entries : List Entry) (arrays : List ArrayKept) (statuses : List (Vec ℕ)) → length (reverse (changes_of (reverse entries) arrays statuses)) ≡ length entries
-length-history entries arrays statuses = length-reverse (changes_of (reverse entries) arrays statuses) ∙ length-changes (reverse entries) arrays statuses ∙ length-reverse entries
+pub length-history : (entries : List Entry) (arrays : List ArrayKept) (statuses : List (Vec ℕ)) →
+    length (reverse (changes_of (reverse entries) arrays statuses)) ≡ length entries
+length-history entries arrays statuses =
+    length-reverse (changes_of (reverse entries) arrays statuses) ∙ length-changes (reverse entries) arrays statuses
+    ∙ length-reverse entries

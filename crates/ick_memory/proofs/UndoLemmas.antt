@@ -1,21 +1,27 @@
 -- Undoing one change, and then the others.
 use Rattle.ick_memory.specs.declared.memory.Ended.{Ended}
 use Rattle.ick_memory.specs.declared.memory.Ended.TheVariants.{GaveUp, Faulted, Unknown, Word}
-use Rattle.std.proofs.Common.{refl, Option, Some, None, is_some, ◌≡◌, ℕ, ◌<◌, ◌≤◌, true, List, [], ◌∷◌, ◌++◌, length, take, drop, reverse, sym, ap, ◌∙◌, subst, arith, length-append}
+use Rattle.std.proofs.Common.{refl, Option, Some, None, is_some, ◌≡◌, ℕ, ◌<◌, ◌≤◌, true, List, []}
+use Rattle.std.proofs.Common.{◌∷◌, ◌++◌, length, take, drop, reverse, sym, ap, ◌∙◌, subst, arith}
+use Rattle.std.proofs.Common.{length-append}
 use Rattle.std.specs.Prelude.{nat_lt, if◌then◌else◌}
 use Rattle.std.proofs.lemmas.List.{reverse-append, drop-append-le, take-append-le}
 use Rattle.ick_memory.specs.View.{View, Room, AtLeast, is_faultless}
 use Rattle.ick_memory.specs.declared.change.ArrayChange.{ArrayChange}
 use Rattle.ick_memory.specs.declared.change.ArrayChange.TheVariants.{Replaced, Taken, Restored}
 use Rattle.ick_memory.specs.declared.change.Entry.{Entry}
-use Rattle.ick_memory.specs.declared.change.Entry.TheVariants.{Place, End, Pushed, Popped, Scalar, Element, ScalarSaved, ArraySaved, ScalarTaken, ScalarIgnored, ArrayIgnored, Status, Printed, Read, Last, LastIn, Array, Statuses}
+use Rattle.ick_memory.specs.declared.change.Entry.TheVariants.{Place, End, Pushed, Popped, Scalar, Element, ScalarSaved}
+use Rattle.ick_memory.specs.declared.change.Entry.TheVariants.{ArraySaved, ScalarTaken, ScalarIgnored, ArrayIgnored}
+use Rattle.ick_memory.specs.declared.change.Entry.TheVariants.{Status, Printed, Read, Last, LastIn, Array, Statuses}
 use Rattle.ick_memory.specs.declared.change.Change.{Change}
 use Rattle.ick_memory.specs.declared.change.Change.TheVariants.{Plain, Array as ArrayOf, Statuses as StatusesOf}
-use Rattle.ick_memory.specs.Undo.{undone, rewound, can_undo, can_undo_entry, can_undo_array, can_rewind, Rewinds, has_room}
+use Rattle.ick_memory.specs.Undo.{undone, rewound, can_undo, can_undo_entry, can_undo_array, can_rewind, Rewinds}
+use Rattle.ick_memory.specs.Undo.{has_room}
 use Rattle.ick_memory.proofs.ListLemmas.{both_true, and_true, has_room-more}
 
 -- more room does no harm
-can_undo_entry-more : (entry : Entry) (less more : Room) (v : View) → AtLeast less more → can_undo_entry entry less v ≡ true → can_undo_entry entry more v ≡ true
+can_undo_entry-more : (entry : Entry) (less more : Room) (v : View) → AtLeast less more →
+    can_undo_entry entry less v ≡ true → can_undo_entry entry more v ≡ true
 can_undo_entry-more (Place place) less more v grown h = h
 can_undo_entry-more (End gave_up) less more v grown h = h
 can_undo_entry-more Pushed less more v grown h = h
@@ -24,7 +30,8 @@ can_undo_entry-more (Scalar slot old) less more v grown h = h
 can_undo_entry-more (Element slot at old) less more v grown h = h
 can_undo_entry-more (ScalarSaved slot) less more v grown h = h
 can_undo_entry-more (ArraySaved slot) less more v grown h = h
-can_undo_entry-more (ScalarTaken slot value) less more v grown h = has_room-more v.scalar_stashes less.scalars more.scalars slot grown.scalars h
+can_undo_entry-more (ScalarTaken slot value) less more v grown h =
+    has_room-more v.scalar_stashes less.scalars more.scalars slot grown.scalars h
 can_undo_entry-more (ScalarIgnored slot old) less more v grown h = h
 can_undo_entry-more (ArrayIgnored slot old) less more v grown h = h
 can_undo_entry-more (Status at old) less more v grown h = h
@@ -35,51 +42,79 @@ can_undo_entry-more (LastIn lastin) less more v grown h = h
 can_undo_entry-more (Array change slot) less more v grown h = h
 can_undo_entry-more Statuses less more v grown h = h
 
-can_undo_array-more : (change : ArrayChange) (slot : ℕ) (less more : Room) (v : View) → AtLeast less more → can_undo_array change slot less v ≡ true → can_undo_array change slot more v ≡ true
+can_undo_array-more : (change : ArrayChange) (slot : ℕ) (less more : Room) (v : View) → AtLeast less more →
+    can_undo_array change slot less v ≡ true → can_undo_array change slot more v ≡ true
 can_undo_array-more Replaced slot less more v grown h = h
-can_undo_array-more Taken slot less more v grown h = has_room-more v.array_stashes less.arrays more.arrays slot grown.arrays h
+can_undo_array-more Taken slot less more v grown h =
+    has_room-more v.array_stashes less.arrays more.arrays slot grown.arrays h
 can_undo_array-more Restored slot less more v grown h =
     let parts = both_true (nat_lt slot (length v.arrays)) (has_room v.array_stashes less.arrays slot) h in
     and_true _ _ parts.0 (has_room-more v.array_stashes less.arrays more.arrays slot grown.arrays parts.1)
 
-pub can_undo-more : (change : Change) (less more : Room) (v : View) → AtLeast less more → can_undo change less v ≡ true → can_undo change more v ≡ true
+pub can_undo-more : (change : Change) (less more : Room) (v : View) → AtLeast less more →
+    can_undo change less v ≡ true → can_undo change more v ≡ true
 can_undo-more (Plain entry) less more v grown h = can_undo_entry-more entry less more v grown h
 can_undo-more (ArrayOf change slot array) less more v grown h = can_undo_array-more change slot less more v grown h
 can_undo-more (StatusesOf old) less more v grown h = h
 
-pub can_rewind-more : (changes : List Change) (less more : Room) (v : View) → AtLeast less more → can_rewind changes less v ≡ true → can_rewind changes more v ≡ true
+pub can_rewind-more : (changes : List Change) (less more : Room) (v : View) → AtLeast less more →
+    can_rewind changes less v ≡ true → can_rewind changes more v ≡ true
 can_rewind-more [] less more v grown h = h
 can_rewind-more (change ∷ changes) less more v grown h =
     let parts = both_true (can_undo change less v) (can_rewind changes less (undone change v)) h in
-    and_true _ _ (can_undo-more change less more v grown parts.0) (can_rewind-more changes less more (undone change v) grown parts.1)
+    and_true _ _ (can_undo-more change less more v grown parts.0)
+    (can_rewind-more changes less more (undone change v) grown parts.1)
 
-pub rewinds-more : (changes : List Change) (k : ℕ) (less more : Room) (now before : View) → AtLeast less more → Rewinds changes k less now before → Rewinds changes k more now before
+pub rewinds-more : (changes : List Change) (k : ℕ) (less more : Room) (now before : View) → AtLeast less more →
+    Rewinds changes k less now before → Rewinds changes k more now before
 rewinds-more changes k less more now before grown h =
-    record { within = h.within; leads = h.leads; can = can_rewind-more (reverse (drop k changes)) less more now grown h.can }
+    record {
+      within = h.within;
+      leads = h.leads;
+      can = can_rewind-more (reverse (drop k changes)) less more now grown h.can;
+    }
 
 -- one more change, which undoes the newest change
-pub noted : (changes changes' : List Change) (change : Change) (k : ℕ) (less more : Room) (now after before : View) → changes' ≡ changes ++ change ∷ [] → Rewinds changes k less now before → AtLeast less more → undone change after ≡ now → can_undo change more after ≡ true → Rewinds changes' k more after before
+pub noted : (changes changes' : List Change) (change : Change) (k : ℕ) (less more : Room)
+    (now after before : View) → changes' ≡ changes ++ change ∷ [] → Rewinds changes k less now before →
+    AtLeast less more → undone change after ≡ now → can_undo change more after ≡ true →
+    Rewinds changes' k more after before
 noted changes changes' change k less more now after before is h grown back can =
-    let same : reverse (drop k changes') ≡ change ∷ reverse (drop k changes) = ap (λ l. reverse (drop k l)) is ∙ ap reverse (drop-append-le k changes (change ∷ []) h.within) ∙ reverse-append (drop k changes) (change ∷ []) in
+    let same : reverse (drop k changes') ≡ change ∷ reverse (drop k changes) =
+    ap (λ l. reverse (drop k l)) is ∙ ap reverse (drop-append-le k changes (change ∷ []) h.within)
+    ∙ reverse-append (drop k changes) (change ∷ []) in
     record {
       within = subst (λ l. k ≤ length l) (sym is) (omega (arith, h.within, length-append changes (change ∷ [])));
       leads = ap (λ l. rewound l after) same ∙ ap (rewound (reverse (drop k changes))) back ∙ h.leads;
-      can = subst (λ l. can_rewind l more after ≡ true) (sym same) (and_true _ _ can (subst (λ v. can_rewind (reverse (drop k changes)) more v ≡ true) (sym back) (can_rewind-more (reverse (drop k changes)) less more now grown h.can)));
+      can =
+          subst (λ l. can_rewind l more after ≡ true) (sym same)
+          (and_true _ _ can (subst (λ v. can_rewind (reverse (drop k changes)) more v ≡ true) (sym back)
+          (can_rewind-more (reverse (drop k changes)) less more now grown h.can)));
     }
 
 -- the newest change is undone first
-pub pop_rewinds : (changes : List Change) (change : Change) (k : ℕ) (room : Room) (now before : View) → k < length (changes ++ change ∷ []) → Rewinds (changes ++ change ∷ []) k room now before → (can_undo change room now ≡ true) × Rewinds changes k room (undone change now) before
+pub pop_rewinds : (changes : List Change) (change : Change) (k : ℕ) (room : Room) (now before : View) →
+    k < length (changes ++ change ∷ []) → Rewinds (changes ++ change ∷ []) k room now before →
+    (can_undo change room now ≡ true) × Rewinds changes k room (undone change now) before
 pop_rewinds changes change k room now before below h =
     let within : k ≤ length changes = omega (arith, length-append changes (change ∷ [])) in
-    let same : reverse (drop k (changes ++ change ∷ [])) ≡ change ∷ reverse (drop k changes) = ap reverse (drop-append-le k changes (change ∷ []) within) ∙ reverse-append (drop k changes) (change ∷ []) in
-    let can = both_true (can_undo change room now) (can_rewind (reverse (drop k changes)) room (undone change now)) (subst (λ l. can_rewind l room now ≡ true) same h.can) in
+    let same : reverse (drop k (changes ++ change ∷ [])) ≡ change ∷ reverse (drop k changes) =
+    ap reverse (drop-append-le k changes (change ∷ []) within) ∙ reverse-append (drop k changes) (change ∷ []) in
+    let can =
+    both_true (can_undo change room now) (can_rewind (reverse (drop k changes)) room (undone change now))
+    (subst (λ l. can_rewind l room now ≡ true) same h.can) in
     (can.0, record { within = within; leads = ap (λ l. rewound l now) (sym same) ∙ h.leads; can = can.1 })
 
-pub take_popped : (changes : List Change) (change : Change) (k : ℕ) → k < length (changes ++ change ∷ []) → take k (changes ++ change ∷ []) ≡ take k changes
-take_popped changes change k below = take-append-le k changes (change ∷ []) (omega (arith, length-append changes (change ∷ [])))
+pub take_popped : (changes : List Change) (change : Change) (k : ℕ) → k < length (changes ++ change ∷ []) →
+    take k (changes ++ change ∷ []) ≡ take k changes
+take_popped changes change k below =
+    take-append-le k changes (change ∷ []) (omega (arith, length-append changes (change ∷ [])))
 
 -- one change less, and what it notes undone
-pub undone_one : (all rest : List Change) (change : Change) (k n : ℕ) (less more : Room) (now after before : View) → all ≡ rest ++ change ∷ [] → k < n → n ≡ length all → Rewinds all k less now before → AtLeast less more → after ≡ undone change now → Rewinds rest k more after before × (take k rest ≡ take k all)
+pub undone_one : (all rest : List Change) (change : Change) (k n : ℕ) (less more : Room) (now after before : View) →
+    all ≡ rest ++ change ∷ [] → k < n → n ≡ length all → Rewinds all k less now before →
+    AtLeast less more → after ≡ undone change now →
+    Rewinds rest k more after before × (take k rest ≡ take k all)
 undone_one all rest change k n less more now after before is below count h grown back =
     let above : k < length (rest ++ change ∷ []) = subst (λ m. k < m) (count ∙ ap length is) below in
     let popped = pop_rewinds rest change k less now before above (subst (λ l. Rewinds l k less now before) is h) in (
@@ -87,12 +122,16 @@ undone_one all rest change k n less more now after before is below count h grown
       sym (take_popped rest change k above) ∙ ap (take k) (sym is),
     )
 
-pub rewinds-grown : (changes changes' : List Change) (k : ℕ) (less more : Room) (now after before : View) → Rewinds changes k less now before → AtLeast less more → after ≡ now → changes' ≡ changes → Rewinds changes' k more after before
+pub rewinds-grown : (changes changes' : List Change) (k : ℕ) (less more : Room) (now after before : View) →
+    Rewinds changes k less now before → AtLeast less more → after ≡ now → changes' ≡ changes →
+    Rewinds changes' k more after before
 rewinds-grown changes changes' k less more now after before h grown same is =
-    rewinds-more changes' k less more after before grown (subst (λ v. Rewinds changes' k less v before) (sym same) (subst (λ l. Rewinds l k less now before) (sym is) h))
+    rewinds-more changes' k less more after before grown
+    (subst (λ v. Rewinds changes' k less v before) (sym same) (subst (λ l. Rewinds l k less now before) (sym is) h))
 
 -- the end before an end that may be set
-pub end_undone : (end : Option Ended) → is_faultless end ≡ true → (if is_some end then Some GaveUp else None) ≡ end
+pub end_undone : (end : Option Ended) →
+    is_faultless end ≡ true → (if is_some end then Some GaveUp else None) ≡ end
 end_undone None h = refl
 end_undone (Some GaveUp) h = refl
 end_undone (Some (Faulted kind n)) h = absurd (cc)

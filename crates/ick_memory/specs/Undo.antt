@@ -1,11 +1,10 @@
 -- Changes that can be undone, one after another.
-use Rattle.std.specs.Prelude.{ℕ, ◌-◌, ◌==◌, ◌≡◌, ◌≤◌, nat_lt, nat_le, Bool, true, false, ◌&&◌, List, [], ◌∷◌, ◌++◌}
-use Rattle.std.specs.Prelude.{length, take, drop, reverse, Option, None, Some, Result, Ok, Err, slice_set}
-use Rattle.std.specs.Prelude.{if◌then◌else◌}
+use Rattle.std.specs.Prelude.{ℕ, ◌-◌, ◌==◌, ◌≡◌, ◌≤◌, nat_lt, nat_le, Bool, true, false, ◌&&◌}
+use Rattle.std.specs.Prelude.{List, [], ◌∷◌, ◌++◌, length, take, drop, reverse, Option, None, Some, Result}
+use Rattle.std.specs.Prelude.{Ok, Err, slice_set, if◌then◌else◌}
 use Rattle.std.proofs.Common.{get_or}
 use Rattle.std.specs.Global.{Vec}
-use Rattle.ick_code.specs.meaning.State.{no_array}
-use Rattle.ick_code.specs.meaning.State.{Array as ArrayValue}
+use Rattle.ick_code.specs.meaning.State.{no_array, Array as ArrayValue}
 use Rattle.ick_memory.specs.Status.{chance_of, same_chances}
 use Rattle.ick_memory.specs.View.{View, Room, AtLeast, array_of, view_of, stash_room}
 use Rattle.ick_memory.specs.With.{with_place, with_returns, with_scalar, with_array, with_number, with_statuses}
@@ -165,7 +164,8 @@ abbrev pub Keeps : {N : Type 0} → (N → ℕ → Memory → View → Type 0) �
 Keeps Undoes old new = (k : ℕ) (now : Memory) (before : View) → Undoes old k now before → Undoes new k now before
 
 -- whatever could be undone from the old memory can be undone from the new one
-abbrev pub Follows : {N : Type 0} → (N → ℕ → Memory → View → Type 0) → N → Memory → N → Memory → Type 0
+abbrev pub Follows : {N : Type 0} → (N → ℕ → Memory → View → Type 0) → N → Memory → N → Memory →
+    Type 0
 Follows Undoes old_notes old notes new =
     (k : ℕ) (before : View) → Undoes old_notes k old before → Undoes notes k new before
 

@@ -1,7 +1,8 @@
 //! Single values that change, each noted first or just after. Each call answers `NoMemory` only
 //! where a growth was refused; the memory is then as before, and what could be undone still can.
 
-ghost use Rattle.std.specs.Prelude.{◌≡◌, ◌+◌, ◌-◌, ◌<◌, ◌≤◌, [], ◌∷◌, ◌++◌, length, take, Some};
+ghost use Rattle.std.specs.Prelude.{◌≡◌, ◌+◌, ◌-◌, ◌<◌, ◌≤◌, [], ◌∷◌};
+ghost use Rattle.std.specs.Prelude.{◌++◌, length, take, Some};
 ghost use Rattle.std.specs.Prelude.{None, OnOk, OnErr, vec_len, slice_set, map, true, get_or};
 ghost use Rattle.ick_bits.specs.Numeral.{numeral_of, printed};
 ghost use Rattle.ick_code.specs.meaning.State.{no_array};
@@ -28,7 +29,8 @@ pub fn put_scalar<N: Notes>(
     number: u32,
 ) -> Result<(), NoMemory>
     requires slot { slot < length memory.old.scalars.items }
-    ensures view { OnOk result (view_of memory.new ≡ with_scalar slot number (view_of memory.old)) }
+    ensures view { OnOk result
+        (view_of memory.new ≡ with_scalar slot number (view_of memory.old)) }
     ensures err { OnErr result (view_of memory.new ≡ view_of memory.old) }
     ensures follows { Follows N.Undoes notes.old memory.old notes.new memory.new }
     ensures shape { shape_of (view_of memory.new) ≡ shape_of (view_of memory.old) }

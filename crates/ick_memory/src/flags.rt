@@ -1,6 +1,7 @@
 //! Statements that are abstained from.
 
-ghost use Rattle.std.specs.Prelude.{◌≡◌, ◌≤◌, true, ℕ, length, OnOk, OnErr, if◌then◌else◌};
+ghost use Rattle.std.specs.Prelude.{◌≡◌, ◌≤◌, true, ℕ, length, OnOk, OnErr};
+ghost use Rattle.std.specs.Prelude.{if◌then◌else◌};
 ghost use Rattle.ick_code.specs.meaning.Abstain.{is_of_kind, can_be_set, set_abstained};
 ghost use Rattle.ick_code.specs.meaning.Abstain.{set_kind_abstained};
 ghost use Rattle.ick_code.specs.Compiled.{code_program};
@@ -83,8 +84,9 @@ pub fn abstain_kind<N: Notes>(
 fn flag_kind(code: &Code, statuses: &mut Vec<u8>, kind: Kind, on: bool)
     requires count { length statuses.old.items ≡ length (code_program code.now) }
     ensures chances { same_chances statuses.old.items statuses.new.items ≡ true }
-    ensures flags { (n : ℕ) → flag_at statuses.new.items n ≡ (if is_of_kind (code_program code.now)
-        kind n then on else flag_at statuses.old.items n) }
+    ensures flags { (n : ℕ) → flag_at statuses.new.items n
+        ≡ (if is_of_kind (code_program code.now) kind n then on
+        else flag_at statuses.old.items n) }
 {
     for at in 0..statuses.len() {
         let is = is_of(code, at as u32 + 1, kind);

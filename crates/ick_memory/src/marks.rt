@@ -1,6 +1,7 @@
 //! States to go back to. A mark is the number of changes that the trail had when it was made.
 
-ghost use Rattle.std.specs.Prelude.{◌≡◌, ◌<◌, [], ◌∷◌, ◌++◌, length, OnOk, OnErr, true};
+ghost use Rattle.std.specs.Prelude.{◌≡◌, ◌<◌, [], ◌∷◌, ◌++◌, length, OnOk};
+ghost use Rattle.std.specs.Prelude.{OnErr, true};
 ghost use Rattle.ick_memory.specs.History.{history};
 ghost use Rattle.ick_memory.specs.View.{view_of, shape_of};
 ghost use Rattle.ick_memory.specs.Undo.{all_but_last};

@@ -1,6 +1,7 @@
 //! Arrays printed as bytes (Revised Manual, 5.2).
 
-ghost use Rattle.std.specs.Prelude.{◌≡◌, ◌<◌, ◌++◌, length, get_or, IfOk, OnOk, OnErr};
+ghost use Rattle.std.specs.Prelude.{◌≡◌, ◌<◌, ◌++◌, length, get_or, IfOk, OnOk};
+ghost use Rattle.std.specs.Prelude.{OnErr};
 ghost use Rattle.ick_code.specs.meaning.State.{no_array};
 ghost use Rattle.ick_code.specs.meaning.Tape.{tape_bytes, tape_after};
 ghost use Rattle.ick_memory.specs.View.{view_of, shape_of};

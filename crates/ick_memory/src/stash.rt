@@ -1,8 +1,8 @@
 //! Values put on stashes and taken off them, each noted (Revised Manual, 4.4.5, 4.4.6). Each call
 //! answers `NoMemory` only where a growth was refused; the memory is then as before.
 
-ghost use Rattle.std.specs.Prelude.{◌≡◌, ◌<◌, [], length, OnOk, OnErr, IfOk, slice_set, map};
-ghost use Rattle.std.specs.Prelude.{get_or};
+ghost use Rattle.std.specs.Prelude.{◌≡◌, ◌<◌, [], length, OnOk, OnErr, IfOk, slice_set};
+ghost use Rattle.std.specs.Prelude.{map, get_or};
 ghost use Rattle.ick_code.specs.meaning.State.{no_array, Array as ArrayValue};
 ghost use Rattle.ick_memory.specs.View.{View, view_of, shape_of, array_of, lists_of};
 ghost use Rattle.ick_memory.specs.With.{with_array, with_scalar_stashes, with_array_stashes};

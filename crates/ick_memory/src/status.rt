@@ -1,6 +1,7 @@
 //! A statement's status: its chance and whether it is abstained from, in one byte.
 
-ghost use Rattle.std.specs.Prelude.{◌≡◌, ◌≤◌, length, nat_lt, IsSomeAnd, if◌then◌else◌};
+ghost use Rattle.std.specs.Prelude.{◌≡◌, ◌≤◌, length, nat_lt, IsSomeAnd};
+ghost use Rattle.std.specs.Prelude.{if◌then◌else◌};
 ghost use Rattle.ick_code.specs.meaning.State.{statement_at};
 ghost use Rattle.ick_code.specs.Compiled.{code_program};
 ghost use Rattle.ick_memory.specs.Status.{chance_of, percent_of, is_abstained, with_flag, flag_at};

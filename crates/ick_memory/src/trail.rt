@@ -1,7 +1,7 @@
 //! A list of changes that can be undone.
 
-ghost use Rattle.std.specs.Prelude.{◌≡◌, ◌-◌, ◌++◌, [], ◌∷◌, length, vec_len, vec_capacity, IfSome};
-ghost use Rattle.std.specs.Prelude.{IfNone};
+ghost use Rattle.std.specs.Prelude.{◌≡◌, ◌-◌, ◌++◌, [], ◌∷◌, length, vec_len};
+ghost use Rattle.std.specs.Prelude.{vec_capacity, IfSome, IfNone};
 ghost use Rattle.ick_memory.specs.View.{view_of, stash_room};
 ghost use Rattle.ick_memory.specs.Undo.{Rewinds};
 ghost use Rattle.ick_memory.specs.History.{history};

@@ -1,6 +1,7 @@
 //! Changes undone. It takes no memory.
 
-ghost use Rattle.std.specs.Prelude.{◌≡◌, Some, None, true, if◌then◌else◌, take, drop, reverse};
+ghost use Rattle.std.specs.Prelude.{◌≡◌, Some, None, true, if◌then◌else◌, take, drop};
+ghost use Rattle.std.specs.Prelude.{reverse};
 ghost use Rattle.ick_memory.specs.View.{View, view_of, stash_room, AtLeast};
 ghost use Rattle.ick_memory.specs.Undo.{can_undo, can_undo_array, can_undo_entry, undone};
 ghost use Rattle.ick_memory.specs.Undo.{undone_array, undone_entry, rewound, Rewinds};

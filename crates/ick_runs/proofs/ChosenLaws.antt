@@ -1,6 +1,6 @@
 -- What is picked is the next of the choices that are given.
-use Rattle.std.proofs.Common.{◌≡◌, ℕ, suc, ◌<◌, ◌≤◌, inl, inr, Bool, false, List, [], ◌∷◌, ◌++◌, length, take, get_or}
-use Rattle.std.proofs.Common.{◌+◌, ap, sym, ◌∙◌, subst, arith}
+use Rattle.std.proofs.Common.{◌≡◌, ℕ, suc, ◌<◌, ◌≤◌, inl, inr, Bool, false, List, [], ◌∷◌}
+use Rattle.std.proofs.Common.{◌++◌, length, take, get_or, ◌+◌, ap, sym, ◌∙◌, subst, arith}
 use Rattle.std.specs.Prelude.{Option, Some, None, slice_get}
 use Rattle.std.proofs.lemmas.Option.{slice_get_cases, get_or_from_slice_get}
 use Rattle.std.proofs.Math.Nat.{eq-or-lt_of_le}
@@ -40,9 +40,9 @@ listed_next choices k b e = elim (slice_get_cases choices k).1 [
 ]
 
 -- a list that is drawn has more choices where the run wants one
-drawn_goes_on : (p : Program) (s : State) (l : ℕ) (word : ℕ → ℕ) (c : List Bool) (t : State) (k n chance : ℕ) →
-    IsDrawn p s l word c → Leads p s l (take k c) t n → ask p t ≡ choice chance → n < l → k ≤ length c →
-    (k < length c) × (get_or c k false ≡ means_done (word k) chance)
+drawn_goes_on : (p : Program) (s : State) (l : ℕ) (word : ℕ → ℕ) (c : List Bool) (t : State)
+    (k n chance : ℕ) → IsDrawn p s l word c → Leads p s l (take k c) t n → ask p t ≡ choice chance →
+    n < l → k ≤ length c → (k < length c) × (get_or c k false ≡ means_done (word k) chance)
 drawn_goes_on p s l word c t k n chance h w a lt within =
     let stops = Leads-wants p s l (take k c) t n chance w a lt in
     elim (eq-or-lt_of_le within) [
@@ -54,7 +54,8 @@ drawn_goes_on p s l word c t k n chance h w a lt within =
     ]
 
 next_of : (p : Program) (s : State) (l : ℕ) (chosen : Chosen) (c : List Bool) (t : State) (k n chance : ℕ)
-    (b : Bool) → IsChosen p s l chosen c → Leads p s l (take k c) t n → ask p t ≡ choice chance → n < l → k ≤ length c →
+    (b : Bool) → IsChosen p s l chosen c → Leads p s l (take k c) t n → ask p t ≡ choice chance → n < l →
+    k ≤ length c →
     Some b ≡ answer_of chosen k chance → (k < length c) × (get_or c k false ≡ b)
 next_of p s l (listed choices) c t k n chance b h w a lt within e =
     listed_next c k b (ap (λ x. slice_get x k) h ∙ sym e)
@@ -64,12 +65,15 @@ next_of p s l (seeded seed) c t k n chance b h w a lt within e =
 
 -- so that one more choice is one of c too
 pub taken_on : (p : Program) (s : State) (l : ℕ) (chosen : Chosen) (c taken taken' : List Bool) (t : State)
-    (n chance : ℕ) (b : Bool) → IsChosen p s l chosen c → Leads p s l taken t n → ask p t ≡ choice chance → n < l →
-    AreTaken c taken → Some b ≡ answer_of chosen (length taken) chance → taken' ≡ taken ++ b ∷ [] → AreTaken c taken'
+    (n chance : ℕ) (b : Bool) → IsChosen p s l chosen c → Leads p s l taken t n → ask p t ≡ choice chance →
+    n < l →
+    AreTaken c taken → Some b ≡ answer_of chosen (length taken) chance → taken' ≡ taken ++ b ∷ [] →
+    AreTaken c taken'
 taken_on p s l chosen c taken taken' t n chance b h w a lt f e x =
     let r = next_of p s l chosen c t (length taken) n chance b h
     (subst (λ y. Leads p s l y t n) f.same w) a lt f.within e in
-    let size : length taken' ≡ suc (length taken) = ap length x ∙ (length-append taken (b ∷ []) ∙ omega arith) in
+    let size : length taken' ≡ suc (length taken) =
+    ap length x ∙ (length-append taken (b ∷ []) ∙ omega arith) in
     record {
       within = let lt' = r.0 in omega arith;
       same = x ∙ (ap (λ y. y ++ b ∷ []) f.same
@@ -99,5 +103,6 @@ picked chosen picker k asked chance answer e h f =
     subst (λ x. answer ≡ answer_of chosen x chance) (sym e) (f (subst (λ x. Picks chosen x picker) e h))
 
 -- and then one more was taken
-pub one_more : (c c' : List Bool) (b : Bool) (k : ℕ) → c' ≡ c ++ b ∷ [] → length c ≡ k → k + 1 ≡ length c'
+pub one_more : (c c' : List Bool) (b : Bool) (k : ℕ) → c' ≡ c ++ b ∷ [] → length c ≡ k →
+    k + 1 ≡ length c'
 one_more c c' b k e size = sym (ap length e ∙ (length-append c (b ∷ []) ∙ ap (λ n. n + 1) size))

@@ -1,6 +1,6 @@
 -- The run that an explorer comes to is the least one after its place.
-use Rattle.std.proofs.Common.{◌≡◌, ℕ, Bool, true, List, [], ◌∷◌, ◌++◌, length, refl, ap, sym, ◌∙◌, subst, arith}
-use Rattle.std.proofs.Common.{append_assoc}
+use Rattle.std.proofs.Common.{◌≡◌, ℕ, Bool, true, List, [], ◌∷◌, ◌++◌, length, refl, ap, sym}
+use Rattle.std.proofs.Common.{◌∙◌, subst, arith, append_assoc}
 use Rattle.std.proofs.lemmas.List.{append-nil}
 use Rattle.std.specs.Prelude.{Some, None}
 use Rattle.ick_code.specs.meaning.State.{State}
@@ -21,7 +21,8 @@ none_of [] n e z = refl
 none_of (x ∷ xs) n e z = absurd (omega arith)
 
 -- at the start of all runs from its state a machine without marks stands in the run of no choices
-pub walks_start : (l : ℕ) (m : Machine) (c : List Bool) (points : List ℕ) → c ≡ [] → IsMarked l m c points → Walks m.state l m c points 0
+pub walks_start : (l : ℕ) (m : Machine) (c : List Bool) (points : List ℕ) → c ≡ [] → IsMarked l m c points →
+    Walks m.state l m c points 0
 walks_start l m c points e h = record {
   leads = subst (λ x. Leads m.program m.state l x m.state 0) (sym e) (Leads-start m.program m.state l);
   keeps = subst (λ x. Keeps m.program m.state l x m.marks points) (sym e) (record {
@@ -34,15 +35,18 @@ walks_start l m c points e h = record {
 pub record Arrives (p : Program) (s : State) (l : ℕ) (c : List Bool) (t : State) (n : ℕ) (f : Finish) : Type 0 where
   pub is : run p s l c ≡ record { last = t; stop = ends f; steps = n; unused = [] }
 
-pub arrives : (s : State) (l : ℕ) (p : Program) (m : Machine) (c : List Bool) (points : List ℕ) (n : ℕ) (f : Finish) → m.program ≡ p →
-    Walks s l m c points n → EndsHere l m n f → Arrives p s l c m.state n f
+pub arrives : (s : State) (l : ℕ) (p : Program) (m : Machine) (c : List Bool) (points : List ℕ) (n : ℕ)
+    (f : Finish) → m.program ≡ p → Walks s l m c points n → EndsHere l m n f → Arrives p s l c m.state n f
 arrives s l p m c points n f e w here = record {
-  is = ap (λ q. run q s l c) (sym e) ∙ (ap (run m.program s l) (sym (append-nil c)) ∙ Leads-ends s l m c [] n f w.leads here);
+  is =
+      ap (λ q. run q s l c) (sym e)
+      ∙ (ap (run m.program s l) (sym (append-nil c)) ∙ Leads-ends s l m c [] n f w.leads here);
 }
 
 -- so c is whole, and the explorer stands after it
-pub arrived : (s : State) (l : ℕ) (p : Program) (m : Machine) (c : List Bool) (points : List ℕ) (n : ℕ) (f : Finish) → m.program ≡ p →
-    Walks s l m c points n → Arrives p s l c m.state n f → StandsAfter p s l c m.marks points
+pub arrived : (s : State) (l : ℕ) (p : Program) (m : Machine) (c : List Bool) (points : List ℕ) (n : ℕ)
+    (f : Finish) → m.program ≡ p → Walks s l m c points n → Arrives p s l c m.state n f →
+    StandsAfter p s l c m.marks points
 arrived s l p m c points n f e w a = record {
   whole = record {
     at_end = subst (λ r. IsEnd r.stop) (sym a.is) tt;
@@ -61,16 +65,17 @@ pub record Shows (r : Run) (m : Machine) (c : List Bool) (n : ℕ) (f : Finish) 
 shown_run : (p : Program) (s : State) (l : ℕ) (r : Run) (m : Machine) (c : List Bool) (n : ℕ) (f : Finish) →
     Shows r m c n f → Arrives p s l c m.state n f → IsRunOf p s l r
 shown_run p s l r m c n f h a =
-    let i : run p s l r.choices.items ≡ record { last = m.state; stop = ends f; steps = n; unused = [] } = ap (run p s l) h.choices ∙ a.is in
+    let i : run p s l r.choices.items ≡ record { last = m.state; stop = ends f; steps = n; unused = [] } =
+    ap (run p s l) h.choices ∙ a.is in
     record {
       output = h.output ∙ sym (ap (λ x. x.last.output) i);
       stop = ap (λ x. x.stop) i ∙ ap ends (sym h.end);
       steps = h.steps ∙ sym (ap (λ x. x.steps) i);
     }
 
-pub finds_first : (l : ℕ) (m m' : Machine) (c c' : List Bool) (points points' : List ℕ) (n : ℕ) (f : Finish) (r : Run) →
-    c ≡ [] → IsMarked l m c points → GoesDown l m c points 0 m' c' points' n → EndsHere l m' n f → Shows r m' c' n f →
-    Finds m.state l None m r m' points'
+pub finds_first : (l : ℕ) (m m' : Machine) (c c' : List Bool) (points points' : List ℕ) (n : ℕ) (f : Finish)
+    (r : Run) → c ≡ [] → IsMarked l m c points → GoesDown l m c points 0 m' c' points' n →
+    EndsHere l m' n f → Shows r m' c' n f → Finds m.state l None m r m' points'
 finds_first l m m' c c' points points' n f r hc h down here shows =
     let p = m.program in
     let s = m.state in
@@ -86,8 +91,9 @@ finds_first l m m' c c' points points' n f r hc h down here shows =
       work = let x = down.moves.work in let y = shows.steps in omega arith;
     }
 
-pub finds_next : (l : ℕ) (m m₁ m' : Machine) (c c₁ c' : List Bool) (points points₁ points' : List ℕ) (k n : ℕ) (f : Finish) (r : Run) →
-    TurnsBack l m c points m₁ c₁ points₁ k → GoesDown l m₁ c₁ points₁ k m' c' points' n → EndsHere l m' n f → Shows r m' c' n f →
+pub finds_next : (l : ℕ) (m m₁ m' : Machine) (c c₁ c' : List Bool) (points points₁ points' : List ℕ)
+    (k n : ℕ) (f : Finish) (r : Run) → TurnsBack l m c points m₁ c₁ points₁ k →
+    GoesDown l m₁ c₁ points₁ k m' c' points' n → EndsHere l m' n f → Shows r m' c' n f →
     (s : State) → StandsAfter m.program s l c m.marks points → Finds s l (Some c) m r m' points'
 finds_next l m m₁ m' c c₁ c' points points₁ points' k n f r back down here shows s h =
     let p = m.program in
@@ -99,10 +105,12 @@ finds_next l m m₁ m' c c₁ c' points points₁ points' k n f r back down here
     let a = arrives s l p m' c' points' n f q w here in
     let stands = arrived s l p m' c' points' n f q w a in
     let z = down.zeros.0 in
-    let d : c' ≡ pre ++ true ∷ z = down.zeros.2 ∙ (ap (λ x. x ++ z) back.turned.2 ∙ append_assoc pre (true ∷ []) z) in
+    let d : c' ≡ pre ++ true ∷ z =
+    down.zeros.2 ∙ (ap (λ x. x ++ z) back.turned.2 ∙ append_assoc pre (true ∷ []) z) in
     let shared : (run p s l (common c r.choices.items)).steps ≡ (run p s l pre).steps =
     ap (λ x. (run p s l x).steps)
-    (ap (common c) (shows.choices ∙ d) ∙ (ap (λ x. common x (pre ++ true ∷ z)) turn.2 ∙ common-turned pre turn.0 z)) in
+    (ap (common c) (shows.choices ∙ d)
+    ∙ (ap (λ x. common x (pre ++ true ∷ z)) turn.2 ∙ common-turned pre turn.0 z)) in
     record {
       least = subst (IsLeastAfter p s l (Some c)) (sym d ∙ sym shows.choices)
           (least-turned p s l c pre z turn down.zeros.1 (subst (IsWhole p s l) d stands.whole));

@@ -1,6 +1,6 @@
 -- How a machine is led along the run of given choices.
-use Rattle.std.proofs.Common.{◌≡◌, ◌≢◌, ℕ, zero, suc, ◌+◌, ◌<◌, ◌≤◌, Bool, true, false, List, [], ◌∷◌, length, take}
-use Rattle.std.proofs.Common.{drop, nat_eq, refl, ap, sym, ◌∙◌, subst, arith}
+use Rattle.std.proofs.Common.{◌≡◌, ◌≢◌, ℕ, zero, suc, ◌+◌, ◌<◌, ◌≤◌, Bool, true, false}
+use Rattle.std.proofs.Common.{List, [], ◌∷◌, length, take, drop, nat_eq, refl, ap, sym, ◌∙◌, subst, arith}
 use Rattle.std.proofs.lemmas.Bool.Decides.{nat_tests}
 use Rattle.std.proofs.lemmas.List.{take-append-drop}
 use Rattle.ick_code.specs.meaning.Move.{ask}
@@ -14,7 +14,8 @@ use Rattle.ick_runs.proofs.Marks.{choice_of}
 use Rattle.ick_runs.proofs.Finding.{walks_start, arrives, arrived}
 
 -- the machine was led along the first `used` of the choices, n steps from the start
-pub record Led (l : ℕ) (old : Machine) (c : List Bool) (used : ℕ) (m : Machine) (points : List ℕ) (n : ℕ) : Type 0 where
+pub record Led (l : ℕ) (old : Machine) (c : List Bool) (used : ℕ) (m : Machine) (points : List ℕ)
+    (n : ℕ) : Type 0 where
   pub used_within : used ≤ length c
   pub within : n ≤ l
   pub program : m.program ≡ old.program
@@ -22,7 +23,8 @@ pub record Led (l : ℕ) (old : Machine) (c : List Bool) (used : ℕ) (m : Machi
   pub walks : Walks old.state l m (take used c) points n
 
 pub led : (l : ℕ) (old m : Machine) (c₀ c₁ c : List Bool) (points₀ points : List ℕ) (used n : ℕ) →
-    c₀ ≡ [] → IsMarked l old c₀ points₀ → Moves l old c₀ points₀ 0 m c₁ points n → c₁ ≡ take used c → used ≤ length c → Led l old c used m points n
+    c₀ ≡ [] → IsMarked l old c₀ points₀ → Moves l old c₀ points₀ 0 m c₁ points n →
+    c₁ ≡ take used c → used ≤ length c → Led l old c used m points n
 led l old m c₀ c₁ c points₀ points used n e h moves t u = record {
   used_within = u;
   within = moves.within;
@@ -48,14 +50,17 @@ tested_same a b t = grind (arith, nat_tests)
 tested_other : (a b : ℕ) → nat_eq a b ≡ false → a ≢ b
 tested_other a b t = grind (arith, nat_tests)
 
-pub ended_path : (path c : List Bool) (used : ℕ) → path ≡ take used c → nat_eq used (length c) ≡ true → path ≡ c
+pub ended_path : (path c : List Bool) (used : ℕ) → path ≡ take used c → nat_eq used (length c) ≡ true →
+    path ≡ c
 ended_path path c used e t = e ∙ take_whole c used (tested_same used (length c) t)
 
 -- at the end of a run with all choices used
-pub ended_whole : (l : ℕ) (old m : Machine) (c : List Bool) (used : ℕ) (points : List ℕ) (n : ℕ) (f : Finish) →
-    Led l old c used m points n → EndsHere l m n f → nat_eq used (length c) ≡ true → Follows l old c m points
+pub ended_whole : (l : ℕ) (old m : Machine) (c : List Bool) (used : ℕ) (points : List ℕ) (n : ℕ)
+    (f : Finish) → Led l old c used m points n → EndsHere l m n f → nat_eq used (length c) ≡ true →
+    Follows l old c m points
 ended_whole l old m c used points n f h here t =
-    let w : Walks old.state l m c points n = subst (λ x. Walks old.state l m x points n) (take_whole c used (tested_same used (length c) t)) h.walks in
+    let w : Walks old.state l m c points n =
+    subst (λ x. Walks old.state l m x points n) (take_whole c used (tested_same used (length c) t)) h.walks in
     let a = arrives old.state l old.program m c points n f h.program w here in
     let work = h.work in
     let within = h.within in
@@ -67,8 +72,9 @@ ended_whole l old m c used points n f h here t =
     }
 
 -- .. with choices left over
-pub ended_not_whole : (l : ℕ) (old m : Machine) (c : List Bool) (used : ℕ) (points : List ℕ) (n : ℕ) (f : Finish) →
-    Led l old c used m points n → EndsHere l m n f → nat_eq used (length c) ≡ false → ¬ IsWhole old.program old.state l c
+pub ended_not_whole : (l : ℕ) (old m : Machine) (c : List Bool) (used : ℕ) (points : List ℕ) (n : ℕ)
+    (f : Finish) → Led l old c used m points n → EndsHere l m n f → nat_eq used (length c) ≡ false →
+    ¬ IsWhole old.program old.state l c
 ended_not_whole l old m c used points n f h here t = λ whole.
     let d = tested_other used (length c) t in
     let within = h.used_within in
@@ -81,7 +87,8 @@ ended_not_whole l old m c used points n f h here t = λ whole.
 
 -- where a choice is asked and none is left
 pub still_wants : (l : ℕ) (old m : Machine) (c : List Bool) (used : ℕ) (points : List ℕ) (n : ℕ) →
-    Led l old c used m points n → IsChoosing m → n < l → used ≡ length c → ¬ IsWhole old.program old.state l c
+    Led l old c used m points n → IsChoosing m → n < l → used ≡ length c →
+    ¬ IsWhole old.program old.state l c
 still_wants l old m c used points n h a lt all = λ whole.
     let k = choice_of (ask m.program m.state) a in
     let w = Leads-wants m.program old.state l (take used c) m.state n k.0 h.walks.leads k.1 lt in

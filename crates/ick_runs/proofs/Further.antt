@@ -1,6 +1,7 @@
 -- Where a run has a zero, a further run comes after it.
 use Prim.Native.Nat.{zero, suc}
-use Rattle.std.proofs.Common.{◌≡◌, ℕ, ◌+◌, ◌-◌, ◌<◌, ◌≤◌, ◌⊎◌, inl, inr, Bool, true, false, List, [], ◌∷◌, ◌++◌, refl}
+use Rattle.std.proofs.Common.{◌≡◌, ℕ, ◌+◌, ◌-◌, ◌<◌, ◌≤◌, ◌⊎◌, inl, inr, Bool, true}
+use Rattle.std.proofs.Common.{false, List, [], ◌∷◌, ◌++◌, refl}
 use Rattle.std.proofs.Common.{ap, sym, ◌∙◌, subst, arith, append_assoc}
 use Rattle.std.specs.Prelude.{Some}
 use Rattle.ick_machine.specs.Machine.{Program}
@@ -17,7 +18,8 @@ use Rattle.ick_runs.proofs.Orders.{turned_below}
 abbrev HasFirst : Program → State → ℕ → Type 0
 HasFirst p s l = (z : List Bool) × AllZeros z × IsWhole p s l z
 
-first_by : (p : Program) (s : State) (l : ℕ) (a : Asking) → ask p s ≡ a → ((b : Bool) → HasFirst p (advance p s b) l) → HasFirst p s (suc l)
+first_by : (p : Program) (s : State) (l : ℕ) (a : Asking) →
+    ask p s ≡ a → ((b : Bool) → HasFirst p (advance p s b) l) → HasFirst p s (suc l)
 first_by p s l (ended e) h ih = (
   [],
   tt,
@@ -27,7 +29,8 @@ first_by p s l (ended e) h ih = (
   },
 )
 first_by p s l plain h ih = let i = ih false in (i.0, i.1, whole-back (run-plain p s l i.0 h) i.2)
-first_by p s l (choice k) h ih = let i = ih false in (false ∷ i.0, i.1, whole-back (run-choice p s l k false i.0 h) i.2)
+first_by p s l (choice k) h ih = let i = ih false in
+    (false ∷ i.0, i.1, whole-back (run-choice p s l k false i.0 h) i.2)
 
 -- there is always a run that takes zeros alone
 pub has_first : (p : Program) (s : State) (l : ℕ) → (z : List Bool) × AllZeros z × IsWhole p s l z
@@ -36,8 +39,14 @@ has_first p s (suc l) = first_by p s l (ask p s) refl (λ b. has_first p (advanc
 
 last_zero : (c : List Bool) → (AllOnes c ⊎ ((pre : List Bool) × TurnsAt c pre))
 last_zero [] = inl tt
-last_zero (true ∷ c) = elim (last_zero c) [ inl a ↦ inl a | inr t ↦ inr (true ∷ t.0, (t.1.0, t.1.1, ap (λ x. true ∷ x) t.1.2)) ]
-last_zero (false ∷ c) = elim (last_zero c) [ inl a ↦ inr ([], (c, a, refl)) | inr t ↦ inr (false ∷ t.0, (t.1.0, t.1.1, ap (λ x. false ∷ x) t.1.2)) ]
+last_zero (true ∷ c) =
+    elim (last_zero c) [ inl a ↦ inl a | inr t ↦ inr (true ∷ t.0, (t.1.0, t.1.1, ap (λ x. true ∷ x) t.1.2)) ]
+last_zero (false ∷ c) =
+    elim (last_zero c) [
+      | inl a ↦ inr ([], (c, a, refl))
+      | inr t ↦
+          inr (false ∷ t.0, (t.1.0, t.1.1, ap (λ x. false ∷ x) t.1.2))
+    ]
 
 ones_no_zeros : (c : List Bool) → AllOnes c → zeros_in c ≡ 0
 ones_no_zeros [] a = refl
@@ -45,9 +54,11 @@ ones_no_zeros (true ∷ c) a = ones_no_zeros c a
 ones_no_zeros (false ∷ c) a = absurd a
 
 pub zero_turns : (c : List Bool) → 0 < zeros_in c → (pre : List Bool) × TurnsAt c pre
-zero_turns c h = elim (last_zero c) [ inl a ↦ absurd (let e : zeros_in c ≡ 0 = ones_no_zeros c a in omega arith) | inr t ↦ t ]
+zero_turns c h =
+    elim (last_zero c) [ inl a ↦ absurd (let e : zeros_in c ≡ 0 = ones_no_zeros c a in omega arith) | inr t ↦ t ]
 
-whole_leads : (p : Program) (s : State) (l : ℕ) (c : List Bool) (t : State) (n : ℕ) → Leads p s l c t n → (z : List Bool) → IsWhole p t (l - n) z → IsWhole p s l (c ++ z)
+whole_leads : (p : Program) (s : State) (l : ℕ) (c : List Bool) (t : State) (n : ℕ) →
+    Leads p s l c t n → (z : List Bool) → IsWhole p t (l - n) z → IsWhole p s l (c ++ z)
 whole_leads p s l c t n h z w =
     let le : n ≤ l = h.within in
     let e : n + (l - n) ≡ l = omega arith in
@@ -57,17 +68,21 @@ whole_leads p s l c t n h z w =
     }
 
 -- a whole list with a zero has a whole list above it
-pub has_next : (p : Program) (s : State) (l : ℕ) (c : List Bool) → IsWhole p s l c → 0 < zeros_in c → (d : List Bool) × IsWhole p s l d × IsAfter (Some c) d
+pub has_next : (p : Program) (s : State) (l : ℕ) (c : List Bool) → IsWhole p s l c →
+    0 < zeros_in c → (d : List Bool) × IsWhole p s l d × IsAfter (Some c) d
 has_next p s l c w h =
     let turn = zero_turns c h in
     let pre = turn.0 in
     let t = turn.1 in
-    let stop = wants-stops p s l pre (use-wants p s l pre false t.0 (ap (λ x. (run p s l x).unused) (sym t.2) ∙ w.all_used)) in
+    let stop =
+    wants-stops p s l pre (use-wants p s l pre false t.0 (ap (λ x. (run p s l x).unused) (sym t.2) ∙ w.all_used)) in
     let r = run p s l pre in
     let on = Leads-choice p s l pre r.last r.steps stop.asks.0 true stop.leads stop.asks.1 stop.below in
     let z = has_first p (advance p r.last true) (l - (r.steps + 1)) in
     let d : List Bool = (pre ++ true ∷ []) ++ z.0 in (
       d,
       whole_leads p s l (pre ++ true ∷ []) (advance p r.last true) (r.steps + 1) on z.0 z.2,
-      subst (λ x. IsAfter (Some x) d) (sym t.2) (subst (λ x. IsAfter (Some (pre ++ false ∷ t.0)) x) (sym (append_assoc pre (true ∷ []) z.0)) (turned_below pre t.0 z.0)),
+      subst (λ x. IsAfter (Some x) d) (sym t.2)
+          (subst (λ x. IsAfter (Some (pre ++ false ∷ t.0)) x) (sym (append_assoc pre (true ∷ []) z.0))
+          (turned_below pre t.0 z.0)),
     )

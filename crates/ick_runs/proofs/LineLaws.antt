@@ -1,6 +1,6 @@
 -- A line that is read byte by byte is the first line of what was there, and no byte more was taken.
-use Rattle.std.proofs.Common.{◌≡◌, ◌≢◌, ℕ, ◌==◌, Bool, true, false, not, List, [], ◌∷◌, ◌++◌, length, take, drop}
-use Rattle.std.proofs.Common.{ap, sym, ◌∙◌, arith, ◌+◌, refl}
+use Rattle.std.proofs.Common.{◌≡◌, ◌≢◌, ℕ, ◌==◌, Bool, true, false, not, List, [], ◌∷◌}
+use Rattle.std.proofs.Common.{◌++◌, length, take, drop, ap, sym, ◌∙◌, arith, ◌+◌, refl}
 use Rattle.std.specs.List.{position_or_len}
 use Rattle.std.proofs.Math.Seq.{take-append_seam, drop-append-add, take-length, get_or-append_seam}
 use Rattle.std.proofs.lemmas.List.{append-nil, length-append, drop_all, get_or_append_left}
@@ -36,8 +36,8 @@ pub record IsLine (old bytes new : List ℕ) : Type 0 where
   pub line : bytes ≡ first_line old
   pub rest : new ≡ later_lines old
 
-pub line_with_end : (old bytes now new : List ℕ) (b : ℕ) → old ≡ bytes ++ now → now ≡ b ∷ new → b ≡ 10 →
-    HasNoEnd bytes → IsLine old bytes new
+pub line_with_end : (old bytes now new : List ℕ) (b : ℕ) → old ≡ bytes ++ now → now ≡ b ∷ new →
+    b ≡ 10 → HasNoEnd bytes → IsLine old bytes new
 line_with_end old bytes now new b e f ten h =
     let whole : old ≡ bytes ++ 10 ∷ new = e ∙ ap (λ x. bytes ++ x) (f ∙ ap (λ x. x ∷ new) ten) in
     let at = place_of_end bytes new h in
@@ -49,8 +49,8 @@ line_with_end old bytes now new b e f ten h =
           ∙ (ap (λ k. drop (k + 1) (bytes ++ 10 ∷ new)) at ∙ drop-append-add bytes (10 ∷ new) 1));
     }
 
-pub line_at_end : (old bytes now new : List ℕ) → old ≡ bytes ++ now → now ≡ [] → new ≡ [] → HasNoEnd bytes →
-    bytes ≢ [] → IsLine old bytes new
+pub line_at_end : (old bytes now new : List ℕ) → old ≡ bytes ++ now → now ≡ [] → new ≡ [] →
+    HasNoEnd bytes → bytes ≢ [] → IsLine old bytes new
 line_at_end old bytes now new e none left h some =
     let whole : old ≡ bytes = e ∙ (ap (λ x. bytes ++ x) none ∙ append-nil bytes) in
     let at = no_place bytes h in
@@ -68,5 +68,6 @@ not_true true e = cc
 pub ok_same : (a b : Bool) → (let x : Result Bool FeedFault = Ok a in x) ≡ Ok b → a ≡ b
 ok_same a b e = cc
 
-pub some_bytes : (bytes : List ℕ) (empty : Bool) → empty ≡ (length bytes == 0) → empty ≡ false → bytes ≢ []
+pub some_bytes : (bytes : List ℕ) (empty : Bool) → empty ≡ (length bytes == 0) → empty ≡ false →
+    bytes ≢ []
 some_bytes bytes empty e f z = let x : true ≡ false = sym (e ∙ ap (λ i. length i == 0) z) ∙ f in cc

@@ -1,6 +1,6 @@
 -- Laws of listings: each place has exactly one, and it goes on by the least list.
-use Rattle.std.proofs.Common.{◌≡◌, ℕ, suc, zero, ◌⊎◌, inl, inr, Bool, true, false, List, [], ◌∷◌, refl, ap, sym, ◌∙◌}
-use Rattle.std.proofs.Common.{subst, arith}
+use Rattle.std.proofs.Common.{◌≡◌, ℕ, suc, zero, ◌⊎◌, inl, inr, Bool, true, false, List, [], ◌∷◌}
+use Rattle.std.proofs.Common.{refl, ap, sym, ◌∙◌, subst, arith}
 use Rattle.std.specs.Prelude.{Option, Some, None}
 use Rattle.std.specs.List.{Contains}
 use Rattle.ick_machine.specs.Machine.{Program}
@@ -52,7 +52,8 @@ after-below (Some c) d e h k = below-below c d e h k
 
 -- two increasing lists with the same members are the same
 increasing_unique : (xs ys : List (List Bool)) → IsIncreasing xs → IsIncreasing ys →
-    ((c : List Bool) → Contains xs c → Contains ys c) → ((c : List Bool) → Contains ys c → Contains xs c) → xs ≡ ys
+    ((c : List Bool) → Contains xs c → Contains ys c) → ((c : List Bool) → Contains ys c → Contains xs c) →
+    xs ≡ ys
 increasing_unique [] [] u v f g = refl
 increasing_unique [] (y ∷ ys) u v f g = absurd (contains-nil y (g y (contains-head y ys)))
 increasing_unique (x ∷ xs) [] u v f g = absurd (contains-nil x (f x (contains-head x xs)))
@@ -83,7 +84,8 @@ listing_unique p s l from xs ys u v = increasing_unique xs ys u.increasing v.inc
     (λ c h. u.complete c (v.sound c h).0 (v.sound c h).1)
 
 -- with nothing after the place the listing is empty
-pub listing-last : (p : Program) (s : State) (l : ℕ) (from : Option (List Bool)) → IsLast p s l from → IsListing p s l from []
+pub listing-last : (p : Program) (s : State) (l : ℕ) (from : Option (List Bool)) → IsLast p s l from →
+    IsListing p s l from []
 listing-last p s l from h = record {
   increasing = tt;
   sound = λ c k. absurd (contains-nil c k);
@@ -91,8 +93,8 @@ listing-last p s l from h = record {
 }
 
 -- the least list stands first, and the listing after it is the rest
-pub listing-least : (p : Program) (s : State) (l : ℕ) (from : Option (List Bool)) (d : List Bool) (rest : List (List Bool)) →
-    IsLeastAfter p s l from d → IsListing p s l (Some d) rest → IsListing p s l from (d ∷ rest)
+pub listing-least : (p : Program) (s : State) (l : ℕ) (from : Option (List Bool)) (d : List Bool) (rest : List (List
+    Bool)) → IsLeastAfter p s l from d → IsListing p s l (Some d) rest → IsListing p s l from (d ∷ rest)
 listing-least p s l from d rest h u = record {
   increasing = (λ e k. (u.sound e k).1, u.increasing);
   sound = λ c k. elim (contains-cases d c rest k) [

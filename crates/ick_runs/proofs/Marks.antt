@@ -1,6 +1,6 @@
 -- The marks of an explorer: one for each zero, and each asks a choice.
-use Rattle.std.proofs.Common.{◌≡◌, ℕ, ◌+◌, ◌<◌, nat_lt, Bool, true, false, ◌&&◌, List, [], ◌∷◌, ◌++◌, length, refl, ap}
-use Rattle.std.proofs.Common.{sym, ◌∙◌, arith, length-append}
+use Rattle.std.proofs.Common.{◌≡◌, ℕ, ◌+◌, ◌<◌, nat_lt, Bool, true, false, ◌&&◌, List, []}
+use Rattle.std.proofs.Common.{◌∷◌, ◌++◌, length, refl, ap, sym, ◌∙◌, arith, length-append}
 use Rattle.std.proofs.lemmas.Bool.Decides.{nat_tests}
 use Rattle.std.proofs.lemmas.List.Folds.{list_all-append}
 use Rattle.std.specs.List.{list_all}
@@ -32,31 +32,37 @@ zeros-turns c pre (ones, a, e) =
     let g = zeros-ones ones a in omega arith
 
 -- a test of all, with one more element
-all_more : {A : Type 0} (p : A → Bool) (xs : List A) (x : A) → list_all p xs ≡ true → p x ≡ true → list_all p (xs ++ x ∷ []) ≡ true
-all_more {A} p xs x h k = list_all-append p xs (x ∷ []) ∙ (ap (λ b. b && (p x && true)) h ∙ ap (λ b. b && true) k)
+all_more : {A : Type 0} (p : A → Bool) (xs : List A) (x : A) → list_all p xs ≡ true → p x ≡ true →
+    list_all p (xs ++ x ∷ []) ≡ true
+all_more {A} p xs x h k =
+    list_all-append p xs (x ∷ []) ∙ (ap (λ b. b && (p x && true)) h ∙ ap (λ b. b && true) k)
 
 and_both : (a b : Bool) → (a && b) ≡ true → (a ≡ true) × (b ≡ true)
 and_both true true h = (refl, refl)
 and_both true false h = cc
 and_both false b h = cc
 
-all_last : {A : Type 0} (p : A → Bool) (xs : List A) (x : A) → list_all p (xs ++ x ∷ []) ≡ true → (list_all p xs ≡ true) × (p x ≡ true)
+all_last : {A : Type 0} (p : A → Bool) (xs : List A) (x : A) →
+    list_all p (xs ++ x ∷ []) ≡ true → (list_all p xs ≡ true) × (p x ≡ true)
 all_last {A} p xs x h =
     let r = and_both (list_all p xs) (p x && true) (sym (list_all-append p xs (x ∷ [])) ∙ h) in
     (r.0, (and_both (p x) true r.1).0)
 
 -- by a step neither marks nor zeros change
-pub marked_step : (l : ℕ) (m m' : Machine) (c : List Bool) (points : List ℕ) → m'.program ≡ m.program → m'.marks ≡ m.marks →
-    IsMarked l m c points → IsMarked l m' c points
+pub marked_step : (l : ℕ) (m m' : Machine) (c : List Bool) (points : List ℕ) → m'.program ≡ m.program →
+    m'.marks ≡ m.marks → IsMarked l m c points → IsMarked l m' c points
 marked_step l m m' c points p e h = record {
   marked = ap length e ∙ h.marked;
   counted = h.counted;
-  choosing = ap (λ q. list_all (λ s. is_choice (ask q s)) m'.marks) p ∙ (ap (list_all (λ s. is_choice (ask m.program s))) e ∙ h.choosing);
+  choosing =
+      ap (λ q. list_all (λ s. is_choice (ask q s)) m'.marks) p
+      ∙ (ap (list_all (λ s. is_choice (ask m.program s))) e ∙ h.choosing);
   below = h.below;
 }
 
 -- .. nor by a one
-pub marked_one : (l : ℕ) (m : Machine) (c : List Bool) (points : List ℕ) → IsMarked l m c points → IsMarked l m (c ++ true ∷ []) points
+pub marked_one : (l : ℕ) (m : Machine) (c : List Bool) (points : List ℕ) → IsMarked l m c points →
+    IsMarked l m (c ++ true ∷ []) points
 marked_one l m c points h =
     let z = zeros-append c (true ∷ []) in record {
       marked = let e = h.marked in omega arith;
@@ -66,7 +72,8 @@ marked_one l m c points h =
     }
 
 -- a zero is marked
-pub marked_zero : (l : ℕ) (m : Machine) (c : List Bool) (points : List ℕ) (n : ℕ) → IsChoosing m → n < l → IsMarked l m c points →
+pub marked_zero : (l : ℕ) (m : Machine) (c : List Bool) (points : List ℕ) (n : ℕ) → IsChoosing m → n < l →
+    IsMarked l m c points →
     IsMarked l (record m { marks = m.marks ++ m.state ∷ [] }) (c ++ false ∷ []) (points ++ n ∷ [])
 marked_zero l m c points n a lt h =
     let z = zeros-append c (false ∷ []) in
@@ -84,7 +91,8 @@ pub record Unmarked (l : ℕ) (m : Machine) (pre : List Bool) (points : List ℕ
   pub rest : IsMarked l m pre points
 
 pub unmarked : (l : ℕ) (m m₁ : Machine) (c pre : List Bool) (points points' : List ℕ) (n : ℕ) →
-    m ≡ record m₁ { state = m.state; marks = m₁.marks ++ m₁.state ∷ [] } → points ≡ points' ++ n ∷ [] → TurnsAt c pre →
+    m ≡ record m₁ { state = m.state; marks = m₁.marks ++ m₁.state ∷ [] } →
+    points ≡ points' ++ n ∷ [] → TurnsAt c pre →
     IsMarked l m c points → Unmarked l m₁ pre points' n
 unmarked l m m₁ c pre points points' n b e turn h =
     let z = zeros-turns c pre turn in
@@ -96,7 +104,8 @@ unmarked l m m₁ c pre points points' n b e turn h =
       choosing = states.1;
       below = grind (arith, nat_tests);
       rest = record {
-        marked = let x = h.marked in let y = ap length marks in omega (arith, length-append m₁.marks (m₁.state ∷ []));
+        marked = let x = h.marked in let y = ap length marks in
+            omega (arith, length-append m₁.marks (m₁.state ∷ []));
         counted = let x = h.counted in let y = ap length e in omega (arith, length-append points' (n ∷ []));
         choosing = states.0;
         below = steps.0;

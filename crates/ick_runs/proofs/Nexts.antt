@@ -1,5 +1,6 @@
 -- What an explorer's calls answer, for each state that it stands at.
-use Rattle.std.proofs.Common.{◌≡◌, ◌<◌, ◌≤◌, ℕ, Bool, true, false, List, [], ◌∷◌, length, sym, subst, arith}
+use Rattle.std.proofs.Common.{◌≡◌, ◌<◌, ◌≤◌, ℕ, Bool, true, false, List, [], ◌∷◌, length, sym}
+use Rattle.std.proofs.Common.{subst, arith}
 use Rattle.std.specs.Prelude.{Option, Some, None, IfSome}
 use Rattle.ick_code.specs.meaning.State.{State}
 use Rattle.ick_runs.specs.Runs.{IsWhole}
@@ -16,7 +17,8 @@ ones_of (true ∷ c) e = ones_of c e
 ones_of (false ∷ c) e = absurd (omega arith)
 
 -- after a list without zeros there is nothing
-pub last_at : (e : Explored) (c : List Bool) (s : State) → e.from ≡ Some c → zeros_in c ≡ 0 → IsLast e.program s e.limit e.from
+pub last_at : (e : Explored) (c : List Bool) (s : State) → e.from ≡ Some c → zeros_in c ≡ 0 →
+    IsLast e.program s e.limit e.from
 last_at e c s f z = subst (IsLast e.program s e.limit) (sym f) (last-ones e.program s e.limit c (ones_of c z))
 
 -- where a mark is kept there is a next run
@@ -29,7 +31,8 @@ more_given e c s f lt h =
     (n.0, n.1, subst (λ x. IsAfter x n.0) (sym f) n.2)
 
 -- before all runs there is a first one
-pub more_first : (e : Explored) (s : State) → e.from ≡ None → (d : List Bool) × IsWhole e.program s e.limit d × IsAfter e.from d
+pub more_first : (e : Explored) (s : State) →
+    e.from ≡ None → (d : List Bool) × IsWhole e.program s e.limit d × IsAfter e.from d
 more_first e s f = let z = has_first e.program s e.limit in (z.0, z.2, subst (λ x. IsAfter x z.0) (sym f) tt)
 
 zeros-few : (c : List Bool) → zeros_in c ≤ length c
@@ -41,11 +44,13 @@ zeros-few (false ∷ c) = let n = zeros-few c in omega arith
 pub few_points : (e : Explored) (s : State) → Stands s e → zeros_of e.from ≤ e.limit
 few_points e s h = by e.from h.at_place
   where
-    by : (from : Option (List Bool)) → StandsFrom e.program s e.limit from e.present e.marks e.points → zeros_of from ≤ e.limit
+    by : (from : Option (List Bool)) → StandsFrom e.program s e.limit from e.present e.marks e.points →
+        zeros_of from ≤ e.limit
     by None k = omega arith
     by (Some c) k = let n = whole-short e.program s e.limit c k.whole in let m = zeros-few c in omega arith
 
 -- .. and no more points than choices
-pub few_of_choices : (from : Option (List Bool)) (n : ℕ) → n ≡ zeros_of from → IfSome from (λ c. n ≤ length c)
+pub few_of_choices : (from : Option (List Bool)) (n : ℕ) → n ≡ zeros_of from →
+    IfSome from (λ c. n ≤ length c)
 few_of_choices None n e = tt
 few_of_choices (Some c) n e = let h = zeros-few c in omega arith

@@ -1,6 +1,6 @@
 -- Laws of the order, and of the zeros of a list of choices.
-use Rattle.std.proofs.Common.{◌≡◌, ℕ, ◌⊎◌, inl, inr, Bool, true, false, List, [], ◌∷◌, ◌++◌, map, refl, ap, sym, ◌∙◌}
-use Rattle.std.proofs.Common.{subst}
+use Rattle.std.proofs.Common.{◌≡◌, ℕ, ◌⊎◌, inl, inr, Bool, true, false, List, [], ◌∷◌, ◌++◌}
+use Rattle.std.proofs.Common.{map, refl, ap, sym, ◌∙◌, subst}
 use Rattle.std.proofs.lemmas.List.{append-nil, map-append}
 use Rattle.std.specs.Prelude.{Some, None}
 use Rattle.ick_machine.specs.Machine.{Program}
@@ -54,13 +54,17 @@ map-map : (f g : List Bool → List Bool) (xs : List (List Bool)) → map f (map
 map-map f g [] = refl
 map-map f g (x ∷ xs) = ap (λ r. f (g x) ∷ r) (map-map f g xs)
 
-before_zeros-under : (b : Bool) (c d : List Bool) → before_zeros (c ++ d) ≡ before_zeros c ++ map (λ r. c ++ r) (before_zeros d) →
-    map (λ r. b ∷ r) (before_zeros (c ++ d)) ≡ map (λ r. b ∷ r) (before_zeros c) ++ map (λ r. (b ∷ c) ++ r) (before_zeros d)
+before_zeros-under : (b : Bool) (c d : List Bool) →
+    before_zeros (c ++ d) ≡ before_zeros c ++ map (λ r. c ++ r) (before_zeros d) →
+    map (λ r. b ∷ r) (before_zeros (c ++ d))
+    ≡ map (λ r. b ∷ r) (before_zeros c) ++ map (λ r. (b ∷ c) ++ r) (before_zeros d)
 before_zeros-under b c d e =
     ap (map (λ r. b ∷ r)) e ∙ (map-append (λ r. b ∷ r) (before_zeros c) (map (λ r. c ++ r) (before_zeros d))
-    ∙ ap (λ xs. map (λ r. b ∷ r) (before_zeros c) ++ xs) (map-map (λ r. b ∷ r) (λ r. c ++ r) (before_zeros d)))
+    ∙ ap (λ xs. map (λ r. b ∷ r) (before_zeros c) ++ xs)
+    (map-map (λ r. b ∷ r) (λ r. c ++ r) (before_zeros d)))
 
-pub before_zeros-append : (c d : List Bool) → before_zeros (c ++ d) ≡ before_zeros c ++ map (λ r. c ++ r) (before_zeros d)
+pub before_zeros-append : (c d : List Bool) →
+    before_zeros (c ++ d) ≡ before_zeros c ++ map (λ r. c ++ r) (before_zeros d)
 before_zeros-append [] d = sym (map-id (before_zeros d))
 before_zeros-append (false ∷ c) d = ap (λ r. [] ∷ r) (before_zeros-under false c d (before_zeros-append c d))
 before_zeros-append (true ∷ c) d = before_zeros-under true c d (before_zeros-append c d)
@@ -79,14 +83,18 @@ before_zeros-one c = before_zeros-append c (true ∷ []) ∙ append-nil (before_
 pub before_zeros-turns : (c pre : List Bool) → TurnsAt c pre → before_zeros c ≡ before_zeros pre ++ pre ∷ []
 before_zeros-turns c pre (ones, a, e) =
     ap before_zeros e ∙ (before_zeros-append pre (false ∷ ones)
-    ∙ ap (λ xs. before_zeros pre ++ xs) (ap (λ xs. (pre ++ []) ∷ map (λ r. pre ++ r) (map (λ r. false ∷ r) xs)) (before_zeros-ones ones a) ∙ ap (λ x. x ∷ []) (append-nil pre)))
+    ∙ ap (λ xs. before_zeros pre ++ xs)
+    (ap (λ xs. (pre ++ []) ∷ map (λ r. pre ++ r) (map (λ r. false ∷ r) xs)) (before_zeros-ones ones a)
+    ∙ ap (λ x. x ∷ []) (append-nil pre)))
 
-orders_least : (p : Program) (s : State) (l : ℕ) (d e : List Bool) → IsWhole p s l d → IsWhole p s l e → (IsBelow e d → ⊥) → (e ≡ d) ⊎ IsBelow d e
-orders_least p s l d e u v f = elim (compared p s l e d v u) [ inl x ↦ inl x | inr y ↦ elim y [ inl x ↦ absurd (f x) | inr x ↦ inr x ] ]
+orders_least : (p : Program) (s : State) (l : ℕ) (d e : List Bool) → IsWhole p s l d →
+    IsWhole p s l e → (IsBelow e d → ⊥) → (e ≡ d) ⊎ IsBelow d e
+orders_least p s l d e u v f =
+    elim (compared p s l e d v u) [ inl x ↦ inl x | inr y ↦ elim y [ inl x ↦ absurd (f x) | inr x ↦ inr x ] ]
 
 -- the least list after one whose last zero stands after pre
-pub least-turned : (p : Program) (s : State) (l : ℕ) (c pre zeros : List Bool) → TurnsAt c pre → AllZeros zeros →
-    IsWhole p s l (pre ++ true ∷ zeros) → IsLeastAfter p s l (Some c) (pre ++ true ∷ zeros)
+pub least-turned : (p : Program) (s : State) (l : ℕ) (c pre zeros : List Bool) → TurnsAt c pre →
+    AllZeros zeros → IsWhole p s l (pre ++ true ∷ zeros) → IsLeastAfter p s l (Some c) (pre ++ true ∷ zeros)
 least-turned p s l c pre zeros (ones, a, f) z w = record {
   whole = w;
   after = subst (λ x. IsBelow x (pre ++ true ∷ zeros)) (sym f) (turned_below pre ones zeros);
@@ -94,7 +102,8 @@ least-turned p s l c pre zeros (ones, a, f) z w = record {
 }
 
 -- the least list of all
-pub least-first : (p : Program) (s : State) (l : ℕ) (zeros : List Bool) → AllZeros zeros → IsWhole p s l zeros → IsLeastAfter p s l None zeros
+pub least-first : (p : Program) (s : State) (l : ℕ) (zeros : List Bool) → AllZeros zeros → IsWhole p s l zeros →
+    IsLeastAfter p s l None zeros
 least-first p s l zeros z w = record {
   whole = w;
   after = tt;

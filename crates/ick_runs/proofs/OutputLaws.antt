@@ -1,6 +1,6 @@
 -- The output of a run only grows.
-use Rattle.std.proofs.Common.{◌≡◌, ℕ, zero, suc, ◌+◌, ◌-◌, ◌≤◌, Bool, false, List, [], ◌∷◌, ◌++◌, refl, ap, sym, ◌∙◌}
-use Rattle.std.proofs.Common.{arith, append_assoc}
+use Rattle.std.proofs.Common.{◌≡◌, ℕ, zero, suc, ◌+◌, ◌-◌, ◌≤◌, Bool, false, List, [], ◌∷◌}
+use Rattle.std.proofs.Common.{◌++◌, refl, ap, sym, ◌∙◌, arith, append_assoc}
 use Rattle.std.proofs.lemmas.List.{append-nil}
 use Rattle.ick_code.specs.meaning.State.{State}
 use Rattle.ick_code.specs.meaning.Move.{Asking, plain, choice, ended, ask, advance}
@@ -43,8 +43,8 @@ run_grows p s zero c = nothing_grown s.output _ (limit_output p s c)
 run_grows p s (suc l) c = grows_by p s l c (ask p s) refl (λ b d. run_grows p (advance p s b) l d)
 
 -- and so does that of a run which leads somewhere
-pub leads_grows : (p : Program) (s : State) (l : ℕ) (c more : List Bool) (t : State) (n : ℕ) → Leads p s l c t n →
-    (rest : List ℕ) × ((run p s l (c ++ more)).last.output ≡ t.output ++ rest)
+pub leads_grows : (p : Program) (s : State) (l : ℕ) (c more : List Bool) (t : State) (n : ℕ) →
+    Leads p s l c t n → (rest : List ℕ) × ((run p s l (c ++ more)).last.output ≡ t.output ++ rest)
 leads_grows p s l c more t n h =
     let w : n ≤ l = h.within in
     let f : n + (l - n) ≡ l = omega arith in

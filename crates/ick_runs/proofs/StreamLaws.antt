@@ -1,5 +1,6 @@
 -- How a streamed run goes.
-use Rattle.std.proofs.Common.{◌≡◌, ℕ, zero, suc, ◌+◌, ◌-◌, ◌<◌, ◌≤◌, le_refl, Bool, true, false, List, [], ◌∷◌, ◌++◌, length}
+use Rattle.std.proofs.Common.{◌≡◌, ℕ, zero, suc, ◌+◌, ◌-◌, ◌<◌, ◌≤◌, le_refl, Bool, true}
+use Rattle.std.proofs.Common.{false, List, [], ◌∷◌, ◌++◌, length}
 use Rattle.std.proofs.Common.{take, drop, refl, ap, sym, ◌∙◌, subst, arith, append_assoc}
 use Rattle.std.specs.Prelude.{Result, Ok, Err, IfOk, Some, if◌then◌else◌}
 use Rattle.std.proofs.lemmas.Bool.{false≢true}
@@ -47,8 +48,9 @@ pub none_taken : (c : List Bool) → AreTaken c []
 none_taken c = record { within = omega arith; same = refl }
 
 -- the beginning of a longer text
-part_of : (before sent out rest whole after : List ℕ) (k : ℕ) → k ≤ length out → whole ≡ (sent ++ out) ++ rest →
-    after ≡ (before ++ sent) ++ take k out → after ≡ before ++ take (length sent + k) whole
+part_of : (before sent out rest whole after : List ℕ) (k : ℕ) → k ≤ length out →
+    whole ≡ (sent ++ out) ++ rest → after ≡ (before ++ sent) ++ take k out →
+    after ≡ before ++ take (length sent + k) whole
 part_of before sent out rest whole after k le e f =
     f ∙ (append_assoc before sent (take k out) ∙ ap (λ x. before ++ x)
     (ap (λ x. sent ++ x) (sym (take-append-le k out rest le))
@@ -80,12 +82,14 @@ same_plain plain r h i j = refl
 same_plain (choice k) r h i j = absurd (i k (sym h))
 same_plain (ended e) r h i j = absurd (j (end_kind_of e) (sym h))
 
-still_going : (a : Asking) (r : LiveAsk) → live_asked a ≡ r → ((kind : EndKind) → r ≡ Ended kind → ⊥) → IsGoing a
+still_going : (a : Asking) (r : LiveAsk) → live_asked a ≡ r → ((kind : EndKind) → r ≡ Ended kind → ⊥) →
+    IsGoing a
 still_going plain r h j = tt
 still_going (choice k) r h j = tt
 still_going (ended e) r h j = absurd (j (end_kind_of e) (sym h))
 
-asked_by : (m : LiveMachine) (r : LiveAsk) → r ≡ live_ask m → m.failed ≡ false → live_asked (ask m.program m.state) ≡ r
+asked_by : (m : LiveMachine) (r : LiveAsk) → r ≡ live_ask m → m.failed ≡ false →
+    live_asked (ask m.program m.state) ≡ r
 asked_by m r e f = sym (e ∙ ap (λ b. if b then Failed else live_asked (ask m.program m.state)) f)
 
 pub asks_chance : (m : LiveMachine) (r : LiveAsk) (chance : ℕ) → m.failed ≡ false → r ≡ live_ask m →
@@ -94,13 +98,14 @@ asks_chance m r chance sound e f = same_choice _ chance (asked_by m r e sound �
 
 -- where nothing is asked and no output is held, a run goes on by itself
 pub goes_by_itself : (m : LiveMachine) (r : LiveAsk) → m.failed ≡ false → r ≡ live_ask m →
-    ((k : ℕ) → r ≡ Choice k → ⊥) → ((kind : EndKind) → r ≡ Ended kind → ⊥) → m.state.output ≡ [] →
+    ((k : ℕ) → r ≡ Choice k → ⊥) → ((kind : EndKind) → r ≡ Ended kind → ⊥) →
+    m.state.output ≡ [] →
     IsQuiet m.program m.state
 goes_by_itself m r sound e i j empty = (same_plain (ask m.program m.state) r (asked_by m r e sound) i j, empty)
 
 -- as many steps were made, and of their output k bytes left
-pub stride_refused : (told : Bool) (p : Program) (s now : State) (l steps : ℕ) (u : State) (written written' : List ℕ)
-    (error : RunsError) → steps ≤ l → RunsOn IsQuiet p s steps u →
+pub stride_refused : (told : Bool) (p : Program) (s now : State) (l steps : ℕ) (u : State)
+    (written written' : List ℕ) (error : RunsError) → steps ≤ l → RunsOn IsQuiet p s steps u →
     (told ≡ true → (k : ℕ) × (k ≤ length u.output) × (written' ≡ written ++ take k u.output)) →
     Strides told p s l now written written' (Err error)
 stride_refused told p s now l steps u written written' error within runs wrote = record {
@@ -191,9 +196,11 @@ module _ (told : Bool) (p : Program) (s : State) (l : ℕ) where
 
   -- the answer at an end
   streamed_end : (c taken : List Bool) (now : State) (before after left : List ℕ) (n : ℕ) (f : Finish) (m : Machine)
-      (r : Streamed) (along : IsAlong told p s l taken now before after n) → AreTaken c taken → now.output ≡ [] →
+      (r : Streamed) (along : IsAlong told p s l taken now before after n) → AreTaken c taken →
+      now.output ≡ [] →
       now.input ≡ left → m.program ≡ p → m.state ≡ after_output along.sent now → EndsHere l m n f →
-      r.end ≡ finish_kind f → r.message.items ≡ finish_message f → r.choices.items ≡ taken → r.steps ≡ n →
+      r.end ≡ finish_kind f → r.message.items ≡ finish_message f → r.choices.items ≡ taken →
+      r.steps ≡ n →
       HasStreamed told (run p s l c) c before after left r
   streamed_end c taken now before after left n f m r along first empty input same state here is message choices steps =
       let sent = along.sent in
@@ -222,10 +229,10 @@ module _ (told : Bool) (p : Program) (s : State) (l : ℕ) where
       }
 
   -- and where a choice is wanted
-  streamed_wants : (c taken : List Bool) (now : State) (before after left : List ℕ) (n chance : ℕ) (r : Streamed) →
-      IsAlong told p s l taken now before after n → taken ≡ c → now.output ≡ [] → now.input ≡ left →
-      ask p now ≡ choice chance → n < l → r.end ≡ Wants → r.message.items ≡ [] → r.choices.items ≡ taken →
-      r.steps ≡ n → HasStreamed told (run p s l c) c before after left r
+  streamed_wants : (c taken : List Bool) (now : State) (before after left : List ℕ) (n chance : ℕ)
+      (r : Streamed) → IsAlong told p s l taken now before after n → taken ≡ c → now.output ≡ [] →
+      now.input ≡ left → ask p now ≡ choice chance → n < l → r.end ≡ Wants → r.message.items ≡ [] →
+      r.choices.items ≡ taken → r.steps ≡ n → HasStreamed told (run p s l c) c before after left r
   streamed_wants c taken now before after left n chance r along all empty input a lt is message choices steps =
       let sent = along.sent in
       let whole : run p s l c ≡ record { last = after_output sent now; stop = wants; steps = n; unused = [] } =
@@ -292,8 +299,9 @@ module _ (told : Bool) (p : Program) (s : State) (l : ℕ) where
       asks_choice : ask p (fed left m.state) ≡ choice chance
       asks_choice = asks_fed ∙ asks_chance m r chance h.sound e g
 
-      pub here_wants : (c : List Bool) → taken ≡ c → (a : Streamed) → a.end ≡ Wants → a.message.items ≡ [] →
-          a.choices.items ≡ taken → a.steps ≡ n → HasStreamed told (run p s l c) c before mid left a
+      pub here_wants : (c : List Bool) → taken ≡ c → (a : Streamed) → a.end ≡ Wants →
+          a.message.items ≡ [] → a.choices.items ≡ taken → a.steps ≡ n →
+          HasStreamed told (run p s l c) c before mid left a
       here_wants c all a is message choices steps =
           streamed_wants c taken (fed left m.state) before mid left n chance a h.along all h.empty refl asks_choice lt
           is message choices steps

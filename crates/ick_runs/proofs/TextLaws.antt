@@ -1,6 +1,6 @@
 -- Laws of texts of choices.
-use Rattle.std.proofs.Common.{◌≡◌, ◌≢◌, ◌==◌, ◌||◌, ◌&&◌, get_or, ℕ, suc, Bool, true, false, List, [], ◌∷◌, ◌<◌, map}
-use Rattle.std.proofs.Common.{length, refl, ap, sym, ◌∙◌, arith}
+use Rattle.std.proofs.Common.{◌≡◌, ◌≢◌, ◌==◌, ◌||◌, ◌&&◌, get_or, ℕ, suc, Bool, true, false}
+use Rattle.std.proofs.Common.{List, [], ◌∷◌, ◌<◌, map, length, refl, ap, sym, ◌∙◌, arith}
 use Rattle.std.specs.Prelude.{Result, Ok, Err, IfOk, OnErr}
 use Rattle.std.specs.List.{list_all}
 use Rattle.std.proofs.lemmas.Bool.Decides.{nat_tests}
@@ -41,7 +41,8 @@ digit_case b t true e f h = let x : b ≡ 49 = grind (arith, nat_tests) in sym x
 digit_case b true false e f h = let x : b ≡ 48 = grind (arith, nat_tests) in sym x
 digit_case b false false e f h = cc
 
-pub digits_back : (text : List ℕ) → list_all is_digit text ≡ true → map digit_of (map (λ b. b == 49) text) ≡ text
+pub digits_back : (text : List ℕ) → list_all is_digit text ≡ true →
+    map digit_of (map (λ b. b == 49) text) ≡ text
 digits_back [] h = refl
 digits_back (b ∷ text) h =
     let both = and_parts (is_digit b) (list_all is_digit text) h in
@@ -49,7 +50,8 @@ digits_back (b ∷ text) h =
     ∙ ap (λ x. b ∷ x) (digits_back text both.1)
 
 -- what the digits of a text read as
-pub reads_digits : (text : List ℕ) (c : List Bool) → 0 < length text → list_all is_digit text ≡ true → c ≡ map (λ b. b == 49) text → IsPlain text c
+pub reads_digits : (text : List ℕ) (c : List Bool) → 0 < length text → list_all is_digit text ≡ true →
+    c ≡ map (λ b. b == 49) text → IsPlain text c
 reads_digits [] c n h e = absurd (omega arith)
 reads_digits (b ∷ text) c n h e = sym (ap plain_text e ∙ digits_back (b ∷ text) h)
 
@@ -59,13 +61,15 @@ digits_all (true ∷ c) = digits_all c
 digits_all (false ∷ c) = digits_all c
 
 -- a text that isn't `-` and isn't digits reads as nothing
-pub reads_nothing : (text : List ℕ) (c : List Bool) → text ≢ 45 ∷ [] → list_all is_digit text ≢ true → ¬ IsPlain text c
+pub reads_nothing : (text : List ℕ) (c : List Bool) → text ≢ 45 ∷ [] → list_all is_digit text ≢ true →
+    ¬ IsPlain text c
 reads_nothing text [] n h e = n e
 reads_nothing text (b ∷ c) n h e = h (ap (list_all is_digit) e ∙ digits_all (b ∷ c))
 
 pub empty_reads : (text : List ℕ) (c : List Bool) → text ≡ [] → ¬ IsPlain text c
 empty_reads text [] n e = let x : 0 ≡ 1 = ap length (sym n ∙ e) in omega (arith, x)
-empty_reads text (b ∷ c) n e = let x : 0 ≡ suc (length (map digit_of c)) = ap length (sym n ∙ e) in omega (arith, x)
+empty_reads text (b ∷ c) n e = let x : 0 ≡ suc (length (map digit_of c)) = ap length (sym n ∙ e) in
+    omega (arith, x)
 
 pub if_ok : {T E : Type 0} (r : Result T E) {P Q : T → Type 0} → ((x : T) → P x → Q x) → IfOk r P → IfOk r Q
 if_ok (Ok x) f p = f x p
@@ -76,8 +80,10 @@ length_read [] = refl
 length_read (b ∷ text) = omega (arith, length_read text)
 
 -- the same error in results of two types
-pub error_again : {T U E : Type 0} (r : Result T E) (x y : E) → r ≡ Err x → r ≡ Err y → (let a : Result U E = Err x in a) ≡ Err y
-error_again {T} {U} {E} r x y e f = let g : (let a : Result T E = Err x in a) ≡ Err y = sym e ∙ f in let h : x ≡ y = cc in ap Err h
+pub error_again : {T U E : Type 0} (r : Result T E) (x y : E) → r ≡ Err x →
+    r ≡ Err y → (let a : Result U E = Err x in a) ≡ Err y
+error_again {T} {U} {E} r x y e f = let g : (let a : Result T E = Err x in a) ≡ Err y = sym e ∙ f in
+    let h : x ≡ y = cc in ap Err h
 
 pub on_error : {T E : Type 0} (r : Result T E) {P : Type 0} → P → OnErr r P
 on_error (Ok x) p = tt

@@ -1,6 +1,7 @@
 -- The text of a listing grows line by line.
-use Rattle.std.proofs.Common.{◌≡◌, ℕ, suc, zero, ◌+◌, ◌*◌, ◌<◌, ◌≤◌, ◌^◌, Bool, true, false, List, [], ◌∷◌, ◌++◌}
-use Rattle.std.proofs.Common.{length, take, drop, nat_lt, refl, ap, sym, ◌∙◌, subst, arith, append_assoc, if◌then◌else◌}
+use Rattle.std.proofs.Common.{◌≡◌, ℕ, suc, zero, ◌+◌, ◌*◌, ◌<◌, ◌≤◌, ◌^◌, Bool, true}
+use Rattle.std.proofs.Common.{false, List, [], ◌∷◌, ◌++◌, length, take, drop, nat_lt, refl, ap, sym}
+use Rattle.std.proofs.Common.{◌∙◌, subst, arith, append_assoc, if◌then◌else◌}
 use Rattle.std.specs.Prelude.{Option, Some, IfSome, Result, Ok, Err, OnOk, IfOk, IfErr}
 use Rattle.std.specs.List.{Contains}
 use Rattle.std.proofs.lemmas.Bool.Decides.{nat_tests}
@@ -30,12 +31,14 @@ contains-some [] x h = absurd (contains-nil x h)
 contains-some (y ∷ xs) x h = omega arith
 
 -- each run raises the count by the limit at most
-pub one_more_limit : (old mid new i l l' : ℕ) → mid ≤ old + i * l → new ≤ mid + l' → l' ≡ l → new ≤ old + (i + 1) * l
+pub one_more_limit : (old mid new i l l' : ℕ) → mid ≤ old + i * l → new ≤ mid + l' → l' ≡ l →
+    new ≤ old + (i + 1) * l
 one_more_limit old mid new i l l' h k e = omega arith
 
 -- a run that was found
 pub some_of : (found : Option Run) (r : Run) (old new : Explored) → found ≡ Some r →
-    IfSome found (λ r. (s : State) → Stands s old → Gives s old r new) → (s : State) → Stands s old → Gives s old r new
+    IfSome found (λ r. (s : State) → Stands s old → Gives s old r new) → (s : State) → Stands s old →
+    Gives s old r new
 some_of found r old new e h = subst (λ x. IfSome x (λ r. (s : State) → Stands s old → Gives s old r new)) e h
 
 -- a listing that isn't at its end begins with the least list, and goes on with the listing after it
@@ -44,8 +47,8 @@ pub record Begins (p : Program) (s : State) (l : ℕ) (d : List Bool) (xs : List
   pub rest : IsListing p s l (Some d) (drop 1 xs)
   pub some : 0 < length xs
 
-pub listing_begins : (p : Program) (s : State) (l : ℕ) (from : Option (List Bool)) (d : List Bool) (xs : List (List Bool)) →
-    IsLeastAfter p s l from d → IsListing p s l from xs → Begins p s l d xs
+pub listing_begins : (p : Program) (s : State) (l : ℕ) (from : Option (List Bool)) (d : List Bool) (xs : List (List
+    Bool)) → IsLeastAfter p s l from d → IsListing p s l from xs → Begins p s l d xs
 listing_begins p s l from d xs least k =
     let r = listing_exists p s l (Some d) in
     let e : d ∷ r.0 ≡ xs = listing_unique p s l from (d ∷ r.0) xs (listing-least p s l from d r.0 least r.1) k in
@@ -78,13 +81,16 @@ line_is p s l r h =
     ap (λ o. compiled_at r.choices.items o (run p s l r.choices.items).last.output) h.stop
     ∙ ap (line_of r.choices.items (finish_of r.end)) (sym h.output)
 
-pub one_line : (p : Program) (s : State) (l : ℕ) (r : Run) (xs : List (List Bool)) (line : List ℕ) → IsRunOf p s l r →
-    take 1 xs ≡ r.choices.items ∷ [] → line ≡ line_of r.choices.items (finish_of r.end) r.output.items → line ≡ run_lines p s l (take 1 xs)
+pub one_line : (p : Program) (s : State) (l : ℕ) (r : Run) (xs : List (List Bool)) (line : List ℕ) →
+    IsRunOf p s l r → take 1 xs ≡ r.choices.items ∷ [] →
+    line ≡ line_of r.choices.items (finish_of r.end) r.output.items → line ≡ run_lines p s l (take 1 xs)
 one_line p s l r xs line h e f =
-    f ∙ (sym (line_is p s l r h) ∙ (sym (append-nil (run_line p s l r.choices.items)) ∙ ap (run_lines p s l) (sym e)))
+    f ∙ (sym (line_is p s l r h)
+    ∙ (sym (append-nil (run_line p s l r.choices.items)) ∙ ap (run_lines p s l) (sym e)))
 
 pub rest_after : (s : State) (old new : Explored) (d : List Bool) (xs : List (List Bool)) →
-    new.program ≡ old.program → new.limit ≡ old.limit → new.from ≡ Some d → IsListing old.program s old.limit (Some d) xs →
+    new.program ≡ old.program → new.limit ≡ old.limit → new.from ≡ Some d →
+    IsListing old.program s old.limit (Some d) xs →
     IsListing new.program s new.limit new.from xs
 rest_after s old new d xs p l f k =
     subst (λ q. IsListing q s new.limit new.from xs) (sym p)
@@ -92,16 +98,20 @@ rest_after s old new d xs p l f k =
     (subst (λ q. IsListing old.program s old.limit q xs) (sym f) k))
 
 -- counts, one stretch of runs after another
-place-append : (from : Option (List Bool)) (a b : List (List Bool)) → place_after from (a ++ b) ≡ place_after (place_after from a) b
+place-append : (from : Option (List Bool)) (a b : List (List Bool)) →
+    place_after from (a ++ b) ≡ place_after (place_after from a) b
 place-append from [] b = refl
 place-append from (c ∷ a) b = place-append (Some c) a b
 
-counts-append : (p : Program) (s : State) (l : ℕ) (from : Option (List Bool)) (w m w' : ℕ) (a b : List (List Bool)) →
-    Counts p s l from w a m → Counts p s l (place_after from a) m b w' → Counts p s l from w (a ++ b) w'
+counts-append : (p : Program) (s : State) (l : ℕ) (from : Option (List Bool)) (w m w' : ℕ) (a b : List (List
+    Bool)) → Counts p s l from w a m → Counts p s l (place_after from a) m b w' →
+    Counts p s l from w (a ++ b) w'
 counts-append p s l from w m w' [] b h k = subst (λ x. Counts p s l from x b w') h k
-counts-append p s l from w m w' (c ∷ a) b h k = (h.0, (h.1.0, h.1.1, counts-append p s l (Some c) h.1.0 m w' a b h.1.2 k))
+counts-append p s l from w m w' (c ∷ a) b h k =
+    (h.0, (h.1.0, h.1.1, counts-append p s l (Some c) h.1.0 m w' a b h.1.2 k))
 
-pub gave-append : (s : State) (old mid new : Explored) (a b : List (List Bool)) → Gave s old a mid → Gave s mid b new → Gave s old (a ++ b) new
+pub gave-append : (s : State) (old mid new : Explored) (a b : List (List Bool)) → Gave s old a mid →
+    Gave s mid b new → Gave s old (a ++ b) new
 gave-append s old mid new a b g h = record {
   place = h.place ∙ (ap (λ x. place_after x b) g.place ∙ sym (place-append old.from a b));
   stands = h.stands;
@@ -113,11 +123,12 @@ gave-append s old mid new a b g h = record {
       (subst (λ q. Counts mid.program s mid.limit q mid.work b new.work) g.place h.counts)));
 }
 
-lines-append : (p : Program) (s : State) (l : ℕ) (a b : List (List Bool)) → run_lines p s l (a ++ b) ≡ run_lines p s l a ++ run_lines p s l b
+lines-append : (p : Program) (s : State) (l : ℕ) (a b : List (List Bool)) →
+    run_lines p s l (a ++ b) ≡ run_lines p s l a ++ run_lines p s l b
 lines-append p s l a b = flat_map-append (run_line p s l) a b
 
-lines-in : (s : State) (old mid : Explored) (b : List (List Bool)) → mid.program ≡ old.program → mid.limit ≡ old.limit →
-    run_lines mid.program s mid.limit b ≡ run_lines old.program s old.limit b
+lines-in : (s : State) (old mid : Explored) (b : List (List Bool)) → mid.program ≡ old.program →
+    mid.limit ≡ old.limit → run_lines mid.program s mid.limit b ≡ run_lines old.program s old.limit b
 lines-in s old mid b p l = ap (λ q. run_lines q s mid.limit b) p ∙ ap (λ q. run_lines old.program s q b) l
 
 drop-nil : (j : ℕ) → drop {A = List Bool} j [] ≡ []
@@ -135,16 +146,21 @@ drop-some zero xs h k = k
 drop-some (suc i) [] h k = absurd (omega arith)
 drop-some (suc i) (x ∷ xs) h k = let r = drop-some i xs (omega arith) k in omega arith
 
-pub along-on : (told : Bool) (s : State) (cs : List (List Bool)) (i : ℕ) (old mid new : Explored) (w w₁ w' : List ℕ) →
-    Along told s cs i old mid w w₁ → WritesOne told s (drop i cs) mid new w₁ w' → Along told s cs (i + 1) old new w w'
+pub along-on : (told : Bool) (s : State) (cs : List (List Bool)) (i : ℕ) (old mid new : Explored)
+    (w w₁ w' : List ℕ) → Along told s cs i old mid w w₁ → WritesOne told s (drop i cs) mid new w₁ w' →
+    Along told s cs (i + 1) old new w w'
 along-on told s cs i old mid new w w₁ w' h k = record {
   within = drop-some i cs h.within k.some;
-  gave = subst (λ x. Gave s old x new) (sym (take-add i 1 cs)) (gave-append s old mid new (take i cs) (take 1 (drop i cs)) h.gave k.gave);
+  gave =
+      subst (λ x. Gave s old x new) (sym (take-add i 1 cs))
+      (gave-append s old mid new (take i cs) (take 1 (drop i cs)) h.gave k.gave);
   rest = subst (IsListing new.program s new.limit new.from) (drop-drop i 1 (i + 1) cs refl) k.rest;
   text = λ t. k.text t
       ∙ (ap (λ x. x ++ run_lines mid.program s mid.limit (take 1 (drop i cs))) (h.text t)
-      ∙ (append_assoc w (run_lines old.program s old.limit (take i cs)) (run_lines mid.program s mid.limit (take 1 (drop i cs)))
-      ∙ ap (λ x. w ++ x) (ap (λ x. run_lines old.program s old.limit (take i cs) ++ x) (lines-in s old mid (take 1 (drop i cs)) h.gave.program h.gave.limit)
+      ∙ (append_assoc w (run_lines old.program s old.limit (take i cs))
+      (run_lines mid.program s mid.limit (take 1 (drop i cs)))
+      ∙ ap (λ x. w ++ x) (ap (λ x. run_lines old.program s old.limit (take i cs) ++ x)
+      (lines-in s old mid (take 1 (drop i cs)) h.gave.program h.gave.limit)
       ∙ (sym (lines-append old.program s old.limit (take i cs) (take 1 (drop i cs)))
       ∙ ap (run_lines old.program s old.limit) (sym (take-add i 1 cs))))));
 }
@@ -152,11 +168,13 @@ along-on told s cs i old mid new w w₁ w' h k = record {
 -- what writing one line answers
 pub writes_none : (told : Bool) (s : State) (xs : List (List Bool)) (e : Explored) (w : List ℕ) →
     IsLast e.program s e.limit e.from → IsListing e.program s e.limit e.from xs → WritesNone told xs e e w w
-writes_none told s xs e w h k = record { none = listing_none e.program s e.limit e.from xs h k; same = refl; text = λ t. refl }
+writes_none told s xs e w h k =
+    record { none = listing_none e.program s e.limit e.from xs h k; same = refl; text = λ t. refl }
 
-pub writes_one : (told : Bool) (s : State) (xs : List (List Bool)) (old new : Explored) (w w' : List ℕ) (r : Run) (line : List ℕ) →
-    Gives s old r new → new.program ≡ old.program → new.limit ≡ old.limit → old.work + old.limit < 2 ^ 64 →
-    IsListing old.program s old.limit old.from xs → line ≡ line_of r.choices.items (finish_of r.end) r.output.items →
+pub writes_one : (told : Bool) (s : State) (xs : List (List Bool)) (old new : Explored) (w w' : List ℕ) (r : Run)
+    (line : List ℕ) → Gives s old r new → new.program ≡ old.program → new.limit ≡ old.limit →
+    old.work + old.limit < 2 ^ 64 → IsListing old.program s old.limit old.from xs →
+    line ≡ line_of r.choices.items (finish_of r.end) r.output.items →
     (told ≡ true → w' ≡ w ++ line) → WritesOne told s xs old new w w'
 writes_one told s xs old new w w' r line g p l room k e f =
     let b = listing_begins old.program s old.limit old.from r.choices.items xs g.least k in record {
@@ -166,9 +184,10 @@ writes_one told s xs old new w w' r line g p l room k e f =
       text = λ t. f t ∙ ap (λ x. w ++ x) (one_line old.program s old.limit r xs line g.is_run b.first e);
     }
 
-pub writes_part : (told : Bool) (s : State) (xs : List (List Bool)) (old new : Explored) (w w' : List ℕ) (r : Run) (line : List ℕ) →
-    Gives s old r new → new.program ≡ old.program → new.limit ≡ old.limit → old.work + old.limit < 2 ^ 64 →
-    IsListing old.program s old.limit old.from xs → line ≡ line_of r.choices.items (finish_of r.end) r.output.items →
+pub writes_part : (told : Bool) (s : State) (xs : List (List Bool)) (old new : Explored) (w w' : List ℕ) (r : Run)
+    (line : List ℕ) → Gives s old r new → new.program ≡ old.program → new.limit ≡ old.limit →
+    old.work + old.limit < 2 ^ 64 → IsListing old.program s old.limit old.from xs →
+    line ≡ line_of r.choices.items (finish_of r.end) r.output.items →
     (n : ℕ) → (told ≡ true → w' ≡ w ++ take n line) → WritesPart told s xs old new w w' n
 writes_part told s xs old new w w' r line g p l room k e n f =
     let b = listing_begins old.program s old.limit old.from r.choices.items xs g.least k in record {
@@ -178,13 +197,15 @@ writes_part told s xs old new w w' r line g p l room k e n f =
     }
 
 -- how much of a text was written, where that is told
-pub told_part : (told : Bool) (w w' text : List ℕ) → (told ≡ true → (n : ℕ) × (n ≤ length text) × (w' ≡ w ++ take n text)) →
+pub told_part : (told : Bool) (w w' text : List ℕ) → (told ≡ true →
+    (n : ℕ) × (n ≤ length text) × (w' ≡ w ++ take n text)) →
     (n : ℕ) × (told ≡ true → w' ≡ w ++ take n text)
 told_part true w w' text f = let r = f refl in (r.0, λ t. r.2)
 told_part false w w' text f = (0, λ t. cc)
 
 -- the lines of the runs are written, and the last line is due
-pub record AtEnd (told : Bool) (s : State) (cs : List (List Bool)) (count : ℕ) (old now : Explored) (w w' : List ℕ) (listed : Listed2) : Type 0 where
+pub record AtEnd (told : Bool) (s : State) (cs : List (List Bool)) (count : ℕ) (old now : Explored) (w w' : List ℕ)
+    (listed : Listed2) : Type 0 where
   pub gave : Gave s old (take count cs) now
   pub says : listed ≡ listed_of cs count
   pub text : told ≡ true → w' ≡ w ++ run_lines old.program s old.limit (take count cs)
@@ -202,13 +223,16 @@ take_all_of (suc n) [] h = refl
 take_all_of (suc n) (x ∷ cs) h = ap (λ r. x ∷ r) (take_all_of n cs (omega arith))
 
 listed_done_of : (cs : List (List Bool)) (count : ℕ) → length cs ≤ count → Done ≡ listed_of cs count
-listed_done_of cs count h = let e : nat_lt count (length cs) ≡ false = grind (arith, nat_tests) in ap (λ b. if b then More else Done) (sym e)
+listed_done_of cs count h = let e : nat_lt count (length cs) ≡ false = grind (arith, nat_tests) in
+    ap (λ b. if b then More else Done) (sym e)
 
 listed_more_of : (cs : List (List Bool)) (count : ℕ) → count < length cs → More ≡ listed_of cs count
-listed_more_of cs count h = let e : nat_lt count (length cs) ≡ true = grind (arith, nat_tests) in ap (λ b. if b then More else Done) (sym e)
+listed_more_of cs count h = let e : nat_lt count (length cs) ≡ true = grind (arith, nat_tests) in
+    ap (λ b. if b then More else Done) (sym e)
 
-along_end : (told : Bool) (s : State) (cs : List (List Bool)) (i count : ℕ) (old now : Explored) (w w' : List ℕ) (listed : Listed2) →
-    Along told s cs i old now w w' → take i cs ≡ take count cs → listed ≡ listed_of cs count → AtEnd told s cs count old now w w' listed
+along_end : (told : Bool) (s : State) (cs : List (List Bool)) (i count : ℕ) (old now : Explored) (w w' : List ℕ)
+    (listed : Listed2) → Along told s cs i old now w w' → take i cs ≡ take count cs →
+    listed ≡ listed_of cs count → AtEnd told s cs count old now w w' listed
 along_end told s cs i count old now w w' listed h e f = record {
   gave = subst (λ x. Gave s old x now) e h.gave;
   says = f;
@@ -216,12 +240,14 @@ along_end told s cs i count old now w w' listed h e f = record {
 }
 
 -- fewer than `count` lines, and nothing further
-pub end_short : (told : Bool) (s : State) (cs : List (List Bool)) (i count : ℕ) (old mid new : Explored) (w w₁ w' : List ℕ) → i ≤ count →
-    Along told s cs i old mid w w₁ → WritesNone told (drop i cs) mid new w₁ w' → AtEnd told s cs count old new w w' Done
+pub end_short : (told : Bool) (s : State) (cs : List (List Bool)) (i count : ℕ) (old mid new : Explored)
+    (w w₁ w' : List ℕ) → i ≤ count → Along told s cs i old mid w w₁ →
+    WritesNone told (drop i cs) mid new w₁ w' → AtEnd told s cs count old new w w' Done
 end_short told s cs i count old mid new w w₁ w' le h k =
     let size = drop_none i cs h.within k.none in
     let a : AtEnd told s cs count old mid w w₁ Done = along_end told s cs i count old mid w w₁ Done h
-    (take_all_of i cs (omega arith) ∙ sym (take_all_of count cs (omega arith))) (listed_done_of cs count (omega arith)) in
+    (take_all_of i cs (omega arith) ∙ sym (take_all_of count cs (omega arith)))
+    (listed_done_of cs count (omega arith)) in
     record {
       gave = subst (λ x. Gave s old (take count cs) x) (sym k.same) a.gave;
       says = a.says;
@@ -229,15 +255,18 @@ end_short told s cs i count old mid new w w₁ w' le h k =
     }
 
 -- `count` lines, and more
-pub end_more : (told : Bool) (s : State) (cs : List (List Bool)) (i count : ℕ) (old now : Explored) (w w' : List ℕ) → i ≡ count →
-    Along told s cs i old now w w' → (d : List Bool) × IsWhole now.program s now.limit d × IsAfter now.from d → AtEnd told s cs count old now w w' More
+pub end_more : (told : Bool) (s : State) (cs : List (List Bool)) (i count : ℕ) (old now : Explored)
+    (w w' : List ℕ) → i ≡ count → Along told s cs i old now w w' →
+    (d : List Bool) × IsWhole now.program s now.limit d × IsAfter now.from d →
+    AtEnd told s cs count old now w w' More
 end_more told s cs i count old now w w' e h m =
     let some = drop-some i cs h.within (listing_some now.program s now.limit now.from (drop i cs) m h.rest) in
     along_end told s cs i count old now w w' More h (ap (λ n. take n cs) e) (listed_more_of cs count (omega arith))
 
 -- `count` lines, and no more
-pub end_done : (told : Bool) (s : State) (cs : List (List Bool)) (i count : ℕ) (old now : Explored) (w w' : List ℕ) → i ≡ count →
-    Along told s cs i old now w w' → IsLast now.program s now.limit now.from → AtEnd told s cs count old now w w' Done
+pub end_done : (told : Bool) (s : State) (cs : List (List Bool)) (i count : ℕ) (old now : Explored)
+    (w w' : List ℕ) → i ≡ count → Along told s cs i old now w w' →
+    IsLast now.program s now.limit now.from → AtEnd told s cs count old now w w' Done
 end_done told s cs i count old now w w' e h m =
     let size = drop_none i cs h.within (listing_none now.program s now.limit now.from (drop i cs) m h.rest) in
     along_end told s cs i count old now w w' Done h (ap (λ n. take n cs) e) (listed_done_of cs count (omega arith))
@@ -263,21 +292,26 @@ size_take (suc i) zero cs h k = absurd (omega arith)
 size_take (suc i) (suc n) [] h k = absurd (omega arith)
 size_take (suc i) (suc n) (x ∷ cs) h k = let r = size_take i n cs (omega arith) (omega arith) in omega arith
 
-end_part : (told : Bool) (s : State) (cs : List (List Bool)) (count : ℕ) (old now : Explored) (w w' w'' : List ℕ) (listed : Listed2) (n : ℕ) →
-    AtEnd told s cs count old now w w' listed → (told ≡ true → w'' ≡ w' ++ take n (last_line listed)) →
+end_part : (told : Bool) (s : State) (cs : List (List Bool)) (count : ℕ) (old now : Explored) (w w' w'' : List ℕ)
+    (listed : Listed2) (n : ℕ) → AtEnd told s cs count old now w w' listed →
+    (told ≡ true → w'' ≡ w' ++ take n (last_line listed)) →
     WroteInPart told s cs count old now w w'' (length (take count cs)) n
 end_part told s cs count old now w w' w'' listed n a f = record {
   within = omega arith;
-  gave = subst (λ x. Gave s old x now) (sym (take_all_of (length (take count cs) + 1) (take count cs) (omega arith))) a.gave;
+  gave =
+      subst (λ x. Gave s old x now) (sym (take_all_of (length (take count cs) + 1) (take count cs) (omega arith)))
+      a.gave;
   text = λ t. f t ∙ (ap (λ x. x ++ take n (last_line listed)) (a.text t)
       ∙ (append_assoc w (run_lines old.program s old.limit (take count cs)) (take n (last_line listed))
       ∙ (ap (λ x. w ++ (run_lines old.program s old.limit x ++ take n (last_line listed))) (sym (take_size count cs))
       ∙ ap (λ x. w ++ (run_lines old.program s old.limit (take (length (take count cs)) cs) ++ take n x))
-      (ap last_line a.says ∙ ap (λ x. line_next old.program s old.limit x (last_line (listed_of cs count))) (sym (drop_size (take count cs)))))));
+      (ap last_line a.says ∙ ap (λ x. line_next old.program s old.limit x (last_line (listed_of cs count)))
+      (sym (drop_size (take count cs)))))));
 }
 
-end_whole : (told : Bool) (s : State) (cs : List (List Bool)) (count : ℕ) (old now : Explored) (w w' w'' : List ℕ) (listed : Listed2) →
-    AtEnd told s cs count old now w w' listed → (told ≡ true → w'' ≡ w' ++ last_line listed) → Wrote told s cs count old now w w'' listed
+end_whole : (told : Bool) (s : State) (cs : List (List Bool)) (count : ℕ) (old now : Explored) (w w' w'' : List ℕ)
+    (listed : Listed2) → AtEnd told s cs count old now w w' listed →
+    (told ≡ true → w'' ≡ w' ++ last_line listed) → Wrote told s cs count old now w w'' listed
 end_whole told s cs count old now w w' w'' listed a f = record {
   gave = a.gave;
   says = a.says;
@@ -287,18 +321,21 @@ end_whole told s cs count old now w w' w'' listed a f = record {
 }
 
 -- the answer of the last line is that of the whole
-pub last_writes : (told : Bool) (s : State) (cs : List (List Bool)) (count : ℕ) (old now : Explored) (w w' w'' : List ℕ) (listed : Listed2) (r : Result Listed2 RunsError) →
+pub last_writes : (told : Bool) (s : State) (cs : List (List Bool)) (count : ℕ) (old now : Explored)
+    (w w' w'' : List ℕ) (listed : Listed2) (r : Result Listed2 RunsError) →
     AtEnd told s cs count old now w w' listed → IfOk r (λ x. x ≡ listed) → IfErr r (λ e. e ≡ Write) →
-    (n : ℕ) × (told ≡ true → w'' ≡ w' ++ take n (last_line listed)) → (told ≡ true → OnOk r (w'' ≡ w' ++ last_line listed)) →
+    (n : ℕ) × (told ≡ true → w'' ≡ w' ++ take n (last_line listed)) →
+    (told ≡ true → OnOk r (w'' ≡ w' ++ last_line listed)) →
     Writes told s cs count old now w w'' r
 last_writes told s cs count old now w w' w'' listed (Ok x) a e f part all =
-    subst (λ y. Wrote told s cs count old now w w'' y) (sym e) (end_whole told s cs count old now w w' w'' listed a all)
+    subst (λ y. Wrote told s cs count old now w w'' y) (sym e)
+    (end_whole told s cs count old now w w' w'' listed a all)
 last_writes told s cs count old now w w' w'' listed (Err x) a e f part all =
     subst (λ y. Writes told s cs count old now w w'' (Err y)) (sym f)
     (length (take count cs), part.0, end_part told s cs count old now w w' w'' listed part.0 a part.1)
 
-line_at_place : (p : Program) (s : State) (l i n : ℕ) (cs : List (List Bool)) (last : List ℕ) → i < n → 0 < length (drop i cs) →
-    run_lines p s l (take 1 (drop i cs)) ≡ line_next p s l (drop i (take n cs)) last
+line_at_place : (p : Program) (s : State) (l i n : ℕ) (cs : List (List Bool)) (last : List ℕ) → i < n →
+    0 < length (drop i cs) → run_lines p s l (take 1 (drop i cs)) ≡ line_next p s l (drop i (take n cs)) last
 line_at_place p s l i zero cs last h k = absurd (omega arith)
 line_at_place p s l zero (suc n) [] last h k = absurd (omega arith)
 line_at_place p s l zero (suc n) (x ∷ cs) last h k = append-nil (run_line p s l x)
@@ -306,8 +343,9 @@ line_at_place p s l (suc i) (suc n) [] last h k = absurd (omega arith)
 line_at_place p s l (suc i) (suc n) (x ∷ cs) last h k = line_at_place p s l i n cs last (omega arith) k
 
 -- a refusal at one line is that of the whole
-pub next_refused : (told : Bool) (s : State) (cs : List (List Bool)) (i count : ℕ) (old mid new : Explored) (w w₁ w' : List ℕ) (e : RunsError) → i < count →
-    Along told s cs i old mid w w₁ → WritesNext told s (drop i cs) mid new w₁ w' (Err e) → Writes told s cs count old new w w' (Err e)
+pub next_refused : (told : Bool) (s : State) (cs : List (List Bool)) (i count : ℕ) (old mid new : Explored)
+    (w w₁ w' : List ℕ) (e : RunsError) → i < count → Along told s cs i old mid w w₁ →
+    WritesNext told s (drop i cs) mid new w₁ w' (Err e) → Writes told s cs count old new w w' (Err e)
 next_refused told s cs i count old mid new w w₁ w' NoMemory lt h k = (
   i,
   record {
@@ -335,8 +373,10 @@ next_refused told s cs i count old mid new w w₁ w' Write lt h (n, k) = (
     within = size_take i count cs (omega arith) h.within;
     gave = subst (λ x. Gave s old x new) (sym (take-add i 1 cs) ∙ sym (take-take (i + 1) count cs (omega arith)))
         (gave-append s old mid new (take i cs) (take 1 (drop i cs)) h.gave k.gave);
-    text = λ t. k.text t ∙ (ap (λ x. x ++ take n (run_lines mid.program s mid.limit (take 1 (drop i cs)))) (h.text t)
-        ∙ (append_assoc w (run_lines old.program s old.limit (take i cs)) (take n (run_lines mid.program s mid.limit (take 1 (drop i cs))))
+    text =
+        λ t. k.text t ∙ (ap (λ x. x ++ take n (run_lines mid.program s mid.limit (take 1 (drop i cs)))) (h.text t)
+        ∙ (append_assoc w (run_lines old.program s old.limit (take i cs))
+        (take n (run_lines mid.program s mid.limit (take 1 (drop i cs))))
         ∙ ap (λ x. w ++ (run_lines old.program s old.limit (take i cs) ++ take n x))
         (lines-in s old mid (take 1 (drop i cs)) h.gave.program h.gave.limit
         ∙ line_at_place old.program s old.limit i count cs (last_line (listed_of cs count)) lt k.some)));
@@ -347,17 +387,17 @@ next_refused told s cs i count old mid new w w₁ w' NoSuchRun lt h k = absurd k
 next_refused told s cs i count old mid new w w₁ w' BadCursor lt h k = absurd k
 next_refused told s cs i count old mid new w w₁ w' Read lt h k = absurd k
 
-pub told_beginning : (told : Bool) (w w' text : List ℕ) → (told ≡ true → (n : ℕ) × (w' ≡ w ++ take n text)) →
-    (n : ℕ) × (told ≡ true → w' ≡ w ++ take n text)
+pub told_beginning : (told : Bool) (w w' text : List ℕ) → (told ≡ true →
+    (n : ℕ) × (w' ≡ w ++ take n text)) → (n : ℕ) × (told ≡ true → w' ≡ w ++ take n text)
 told_beginning true w w' text f = let r = f refl in (r.0, λ t. r.1)
 told_beginning false w w' text f = (0, λ t. cc)
 
-pub is_one : (told : Bool) (s : State) (xs : List (List Bool)) (old new : Explored) (w w' : List ℕ) (some : Bool) → some ≡ true →
-    WritesNext told s xs old new w w' (Ok some) → WritesOne told s xs old new w w'
+pub is_one : (told : Bool) (s : State) (xs : List (List Bool)) (old new : Explored) (w w' : List ℕ) (some : Bool) →
+    some ≡ true → WritesNext told s xs old new w w' (Ok some) → WritesOne told s xs old new w w'
 is_one told s xs old new w w' true n h = h
 is_one told s xs old new w w' false n h = cc
 
-pub is_none : (told : Bool) (s : State) (xs : List (List Bool)) (old new : Explored) (w w' : List ℕ) (some : Bool) → some ≡ false →
-    WritesNext told s xs old new w w' (Ok some) → WritesNone told xs old new w w'
+pub is_none : (told : Bool) (s : State) (xs : List (List Bool)) (old new : Explored) (w w' : List ℕ) (some : Bool) →
+    some ≡ false → WritesNext told s xs old new w w' (Ok some) → WritesNone told xs old new w w'
 is_none told s xs old new w w' false n h = h
 is_none told s xs old new w w' true n h = cc

@@ -1,7 +1,7 @@
 -- The texts of lists of choices.
-use Rattle.std.specs.Prelude.{◌≡◌, ◌⊎◌, ◌==◌, ◌||◌, ◌<◌, ℕ, ◌+◌, nat_lt, if◌then◌else◌, not, Bool, true, false, List}
-use Rattle.std.specs.Prelude.{[], ◌∷◌, ◌++◌, map, length, get_or, decimal, codes, Option, Some, None}
-use Rattle.std.specs.Prelude.{replicate}
+use Rattle.std.specs.Prelude.{◌≡◌, ◌⊎◌, ◌==◌, ◌||◌, ◌<◌, ℕ, ◌+◌, nat_lt}
+use Rattle.std.specs.Prelude.{if◌then◌else◌, not, Bool, true, false, List, [], ◌∷◌, ◌++◌, map, length}
+use Rattle.std.specs.Prelude.{get_or, decimal, codes, Option, Some, None, replicate}
 use Rattle.std.specs.Str.Parse.{IsNumeral, digits_value}
 
 -- the digit of a choice

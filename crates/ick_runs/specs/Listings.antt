@@ -1,5 +1,6 @@
 -- Lists of choices, their order, and what a listing is.
-use Rattle.std.specs.Prelude.{◌≡◌, ◌⊎◌, ℕ, ◌+◌, Bool, true, false, List, [], ◌∷◌, map, Option, Some, None}
+use Rattle.std.specs.Prelude.{◌≡◌, ◌⊎◌, ℕ, ◌+◌, Bool, true, false, List, [], ◌∷◌, map, Option}
+use Rattle.std.specs.Prelude.{Some, None}
 use Rattle.std.specs.List.{Contains}
 use Rattle.ick_code.specs.meaning.State.{State}
 use Rattle.ick_machine.specs.Machine.{Program}
@@ -32,7 +33,8 @@ pub record IsListing (p : Program) (s : State) (limit : ℕ) (from : Option (Lis
   pub complete : (c : List Bool) → IsWhole p s limit c → IsAfter from c → Contains cs c
 
 -- d is the least whole list after a place
-pub record IsLeastAfter (p : Program) (s : State) (limit : ℕ) (from : Option (List Bool)) (d : List Bool) : Type 0 where
+pub record IsLeastAfter (p : Program) (s : State) (limit : ℕ) (from : Option (List Bool))
+    (d : List Bool) : Type 0 where
   pub whole : IsWhole p s limit d
   pub after : IsAfter from d
   pub least : (e : List Bool) → IsWhole p s limit e → IsAfter from e → (e ≡ d) ⊎ IsBelow d e

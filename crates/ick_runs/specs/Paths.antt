@@ -11,7 +11,8 @@ later n r = record r { steps = n + r.steps }
 -- the run from s uses up c in n steps, and goes on from t
 pub record Leads (p : Program) (s : State) (limit : ℕ) (c : List Bool) (t : State) (n : ℕ) : Type 0 where
   pub within : n ≤ limit
-  pub goes_on : (m : ℕ) (more : List Bool) → n + m ≡ limit → run p s limit (c ++ more) ≡ later n (run p t m more)
+  pub goes_on : (m : ℕ) (more : List Bool) → n + m ≡ limit →
+      run p s limit (c ++ more) ≡ later n (run p t m more)
 
 -- from old the machine has come n steps along the run with the choices c
 pub record RunsTo (limit : ℕ) (old : Machine) (c : List Bool) (new : Machine) (n : ℕ) : Type 0 where

@@ -1,5 +1,6 @@
 -- Where an explorer stands, and what its calls answer.
-use Rattle.std.specs.Prelude.{◌≡◌, ℕ, ◌+◌, ◌^◌, ◌≤◌, Bool, true, false, List, [], map, Option, Some, None}
+use Rattle.std.specs.Prelude.{◌≡◌, ℕ, ◌+◌, ◌^◌, ◌≤◌, Bool, true, false, List, [], map, Option}
+use Rattle.std.specs.Prelude.{Some, None}
 use Rattle.ick_code.specs.meaning.State.{State}
 use Rattle.ick_machine.specs.Machine.{Program, Machine}
 use Rattle.ick_machine.specs.Asked.{finish_of}
@@ -62,7 +63,8 @@ pub record StandsFirst (s present : State) (marks : List State) (points : List �
   pub no_marks : marks ≡ []
   pub no_points : points ≡ []
 
-abbrev pub StandsFrom : Program → State → ℕ → Option (List Bool) → State → List State → List ℕ → Type 0
+abbrev pub StandsFrom : Program → State → ℕ → Option (List Bool) → State → List State → List ℕ →
+    Type 0
 StandsFrom p s limit None present marks points = StandsFirst s present marks points
 StandsFrom p s limit (Some c) present marks points = StandsAfter p s limit c marks points
 

@@ -1,6 +1,6 @@
 -- How a streamed run goes: words of private contracts.
-use Rattle.std.specs.Prelude.{◌≡◌, ◌==◌, ℕ, ◌<◌, ◌≤◌, Bool, true, false, List, ◌++◌, length, take, get_or, Result}
-use Rattle.std.specs.Prelude.{Ok, Err, IfOk}
+use Rattle.std.specs.Prelude.{◌≡◌, ◌==◌, ℕ, ◌<◌, ◌≤◌, Bool, true, false, List, ◌++◌, length}
+use Rattle.std.specs.Prelude.{take, get_or, Result, Ok, Err, IfOk}
 use Rattle.ick_code.specs.meaning.State.{State}
 use Rattle.ick_code.specs.Laws.{after_output}
 use Rattle.ick_machine.specs.Machine.{Program}
@@ -23,7 +23,8 @@ error_of ReadFailed = Read
 
 -- a step, or many, came to the state u, and then its output left
 abbrev pub Turns : {T : Type 0} → Bool → State → State → List ℕ → List ℕ → Result T RunsError → Type 0
-Turns told u now written written' (Ok done) = (now ≡ cleared u) × (told ≡ true → written' ≡ written ++ u.output)
+Turns told u now written written' (Ok done) =
+    (now ≡ cleared u) × (told ≡ true → written' ≡ written ++ u.output)
 Turns told u now written written' (Err error) =
     (n : ℕ) × (n ≤ length u.output) × (told ≡ true → written' ≡ written ++ take n u.output)
 

@@ -40,7 +40,8 @@ pub record HasStreamed (told : Bool) (x : Execution) (c : List Bool) (written wr
   pub output : told ≡ true → written' ≡ written ++ x.last.output
 
 -- and after each refusal what was written is a beginning of its output
-abbrev pub Streams : Bool → Execution → List Bool → List ℕ → List ℕ → List ℕ → Result Streamed RunsError → Type 0
+abbrev pub Streams : Bool → Execution → List Bool → List ℕ → List ℕ → List ℕ →
+    Result Streamed RunsError → Type 0
 Streams told x c written written' left (Ok answer) = HasStreamed told x c written written' left answer
 Streams told x c written written' left (Err error) =
     (n : ℕ) × (told ≡ true → written' ≡ written ++ take n x.last.output)

@@ -1,6 +1,6 @@
 -- What writing a listing answers, and where it leaves the explorer.
-use Rattle.std.specs.Prelude.{◌≡◌, ℕ, ◌+◌, ◌^◌, ◌<◌, ◌≤◌, Bool, true, List, [], ◌∷◌, ◌++◌, length, take, Option, Some}
-use Rattle.std.specs.Prelude.{Result, Ok, Err}
+use Rattle.std.specs.Prelude.{◌≡◌, ℕ, ◌+◌, ◌^◌, ◌<◌, ◌≤◌, Bool, true, List, [], ◌∷◌}
+use Rattle.std.specs.Prelude.{◌++◌, length, take, Option, Some, Result, Ok, Err}
 use Rattle.ick_machine.specs.Machine.{Program}
 use Rattle.ick_code.specs.meaning.State.{State}
 use Rattle.ick_runs.specs.declared.errors.RunsError.{RunsError}

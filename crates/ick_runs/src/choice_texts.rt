@@ -1,6 +1,7 @@
 //! The texts of lists of choices, as they are printed.
 
-ghost use Rattle.std.specs.Prelude.{◌≡◌, ◌+◌, ◌<◌, ◌≤◌, ◌++◌, OnOk, OnErr, false, length, take};
+ghost use Rattle.std.specs.Prelude.{◌≡◌, ◌+◌, ◌<◌, ◌≤◌, ◌++◌, OnOk, OnErr};
+ghost use Rattle.std.specs.Prelude.{false, length, take};
 ghost use Rattle.std.specs.Prelude.{drop, get_or, replicate, vec_len, vec_capacity, map};
 ghost use Rattle.ick_runs.specs.ChoiceTexts.{choices_text, digit_of, group_of, group_text};
 ghost use Rattle.ick_runs.specs.ChoiceTexts.{grouped_text};

@@ -1,6 +1,7 @@
 //! A place in a listing: the choices of one of its runs.
 
-ghost use Rattle.std.specs.Prelude.{◌≡◌, ◌+◌, ◌++◌, ◌<◌, ◌≤◌, ◌⊎◌, List, Bool, length, Err, IfOk};
+ghost use Rattle.std.specs.Prelude.{◌≡◌, ◌+◌, ◌++◌, ◌<◌, ◌≤◌, ◌⊎◌};
+ghost use Rattle.std.specs.Prelude.{List, Bool, length, Err, IfOk};
 ghost use Rattle.std.specs.Prelude.{IfErr, OnOk, OnErr, vec_len, vec_capacity};
 ghost use Rattle.ick_runs.specs.ChoiceTexts.{choices_text, IsTextOf};
 
@@ -38,7 +39,8 @@ impl Cursor {
     /// than the limit, which is found without taking memory, however long a number is; else
     /// `NoMemory` where memory is refused.
     pub fn from_text(alloc: Global, text: &[u8], limit: u32) -> Result<Cursor, RunsError>
-        ensures ok { IfOk result (λ cursor. IsTextOf text.now cursor × (length cursor ≤ limit)) }
+        ensures ok { IfOk result
+            (λ cursor. IsTextOf text.now cursor × (length cursor ≤ limit)) }
         ensures bad_cursor { result ≡ Err RunsError.BadCursor →
             (c : List Bool) → ¬ IsTextOf text.now c }
         ensures no_such_run { result ≡ Err RunsError.NoSuchRun →

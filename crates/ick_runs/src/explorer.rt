@@ -1,8 +1,8 @@
 //! Lists the runs of a program, each once, in the order of their choices.
 
-ghost use Rattle.std.specs.Prelude.{◌≡◌, ◌↔◌, ◌+◌, ◌<◌, ◌≤◌, ◌^◌, ◌⊎◌, [], true, false, Bool, List};
-ghost use Rattle.std.specs.Prelude.{length, Some, None, Ok, Err, IfOk, IfErr, IfSome, IfNone};
-ghost use Rattle.std.specs.Prelude.{IsSome};
+ghost use Rattle.std.specs.Prelude.{◌≡◌, ◌↔◌, ◌+◌, ◌<◌, ◌≤◌, ◌^◌};
+ghost use Rattle.std.specs.Prelude.{◌⊎◌, [], true, false, Bool, List, length, Some, None, Ok};
+ghost use Rattle.std.specs.Prelude.{Err, IfOk, IfErr, IfSome, IfNone, IsSome};
 ghost use Rattle.std.proofs.Props.{props};
 ghost use Rattle.ick_runs.specs.Marked.{HasMarks, IsPlaced};
 
@@ -86,7 +86,8 @@ impl<M: Backtrack> Explorer<M> {
     where
         M: Asks<'c>,
         requires { (M.seen machine).marks ≡ [] }
-        ensures work_full { result ≡ Err RunsError.WorkFull ↔ IsMachineFull (M.seen machine) limit }
+        ensures work_full { result ≡ Err RunsError.WorkFull
+            ↔ IsMachineFull (M.seen machine) limit }
         ensures errors { IfErr result (λ e. (e ≡ RunsError.NoMemory)
             ⊎ ((e ≡ RunsError.NoSuchRun) ⊎ (e ≡ RunsError.WorkFull))) }
         ensures no_such_run { result ≡ Err RunsError.NoSuchRun →
@@ -184,7 +185,8 @@ impl<M: Backtrack> Explorer<M> {
         ensures some { IfOk result (λ found. IfSome found (λ r.
             (s : State) → Stands s (explored self.old) →
             Gives s (explored self.old) r (explored self.new))) }
-        ensures none { IfOk result (λ found. IfNone found ((explored self.new ≡ explored self.old)
+        ensures none { IfOk result (λ found.
+            IfNone found ((explored self.new ≡ explored self.old)
             × ((s : State) → Stands s (explored self.old) → IsAtLast s (explored self.old)))) }
         ensures none_left { IfOk result (λ found.
             IfNone found (zeros_of (explored self.new).from ≡ 0)) }

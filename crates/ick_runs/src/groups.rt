@@ -1,8 +1,8 @@
 //! Reads texts of groups.
 
-ghost use Rattle.std.specs.Prelude.{◌≡◌, ◌⊎◌, ◌<◌, ◌≤◌, ◌+◌, ◌++◌, ◌^◌, ℕ, replicate, List, Bool};
-ghost use Rattle.std.specs.Prelude.{true, false, [], None, Some, Err, IfOk, IfErr, IfSome, OnOk};
-ghost use Rattle.std.specs.Prelude.{length, take, drop};
+ghost use Rattle.std.specs.Prelude.{◌≡◌, ◌⊎◌, ◌<◌, ◌≤◌, ◌+◌, ◌++◌};
+ghost use Rattle.std.specs.Prelude.{◌^◌, ℕ, replicate, List, Bool, true, false, [], None};
+ghost use Rattle.std.specs.Prelude.{Some, Err, IfOk, IfErr, IfSome, OnOk, length, take, drop};
 ghost use Rattle.std.specs.Str.Parse.{AllDigits, digits_value};
 ghost use Rattle.ick_runs.specs.ChoiceTexts.{Group, Differs, IsLength, IsGrouped, digit_of};
 ghost use Rattle.ick_runs.specs.ChoiceTexts.{group_text};

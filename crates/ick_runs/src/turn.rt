@@ -1,6 +1,7 @@
 //! Steps of a run whose input and output are streams.
 
-ghost use Rattle.std.specs.Prelude.{◌≡◌, ◌+◌, ◌<◌, ◌≤◌, ◌^◌, ◌⊎◌, ◌++◌, ℕ, [], true, false};
+ghost use Rattle.std.specs.Prelude.{◌≡◌, ◌+◌, ◌<◌, ◌≤◌, ◌^◌, ◌⊎◌};
+ghost use Rattle.std.specs.Prelude.{◌++◌, ℕ, [], true, false};
 ghost use Rattle.std.specs.Prelude.{IfOk, IfErr, OnOk, length, take};
 ghost use Rattle.ick_code.specs.meaning.Move.{ask, advance};
 ghost use Rattle.ick_machine.specs.Asked.{IsGoing};
@@ -46,8 +47,8 @@ fn run_from<R: ByteSource>(
 ) -> Result<u32, RunsError>
     requires sound { (seen machine.old).failed ≡ false }
     requires reads { R.failed reader.old + 1 < 2 ^ 64 }
-    ensures runs { let old = seen machine.old in R.told ≡ true → IfOk result (λ k. RunsOn IsQuiet
-        old.program (fed (R.left reader.old) old.state) k
+    ensures runs { let old = seen machine.old in R.told ≡ true
+        → IfOk result (λ k. RunsOn IsQuiet old.program (fed (R.left reader.old) old.state) k
         (fed (R.left reader.new) (seen machine.new).state)) }
     ensures within { IfOk result (λ k. k ≤ limit) }
     ensures moves { let old = seen machine.old in IfOk result (λ k. IsQuiet

@@ -1,6 +1,7 @@
 //! How a machine is led from one run to the next.
 
-ghost use Rattle.std.specs.Prelude.{◌≡◌, false, true, ℕ, ◌+◌, ◌-◌, ◌<◌, ◌≤◌, ◌^◌, [], ◌∷◌, ◌++◌};
+ghost use Rattle.std.specs.Prelude.{◌≡◌, false, true, ℕ, ◌+◌, ◌-◌, ◌<◌};
+ghost use Rattle.std.specs.Prelude.{◌≤◌, ◌^◌, [], ◌∷◌, ◌++◌};
 ghost use Rattle.std.specs.Prelude.{length, None, Some, IfOk, OnOk, OnErr};
 ghost use Rattle.ick_code.specs.meaning.State.{State};
 ghost use Rattle.ick_code.specs.meaning.Move.{ask};
@@ -32,7 +33,8 @@ fn choose<M: Backtrack>(
     requires below { steps < limit }
     requires room { (M.seen machine.old).work < 2 ^ 64 - 1 }
     ensures program { (M.seen machine.new).program ≡ (M.seen machine.old).program }
-    ensures choice { OnOk result (path.new.choices.items ≡ path.old.choices.items ++ done ∷ []) }
+    ensures choice { OnOk result
+        (path.new.choices.items ≡ path.old.choices.items ++ done ∷ []) }
     ensures moves { OnOk result (Moves limit
         (M.seen machine.old) path.old.choices.items path.old.points.items steps
         (M.seen machine.new) path.new.choices.items path.new.points.items (steps + 1)) }
@@ -123,7 +125,8 @@ pub(crate) fn follow<'c, M: Asks<'c>>(
         (M.seen machine.old) path.old.choices.items path.old.points.items }
     requires none { path.old.choices.items ≡ [] }
     requires room { (M.seen machine.old).work + limit < 2 ^ 64 }
-    ensures path { IfOk result (λ whole. whole ≡ true → path.new.choices.items ≡ choices.now) }
+    ensures path { IfOk result
+        (λ whole. whole ≡ true → path.new.choices.items ≡ choices.now) }
     ensures marked { IfOk result (λ _. IsMarked limit
         (M.seen machine.new) path.new.choices.items path.new.points.items) }
     ensures whole { IfOk result (λ whole. whole ≡ true → Follows limit

@@ -1,6 +1,7 @@
 //! A listing as text on a writer.
 
-ghost use Rattle.std.specs.Prelude.{◌≡◌, ◌↔◌, ◌+◌, ◌*◌, ◌<◌, ◌≤◌, ◌^◌, ◌⊎◌, ℕ, List, Bool, true};
+ghost use Rattle.std.specs.Prelude.{◌≡◌, ◌↔◌, ◌+◌, ◌*◌, ◌<◌, ◌≤◌};
+ghost use Rattle.std.specs.Prelude.{◌^◌, ◌⊎◌, ℕ, List, Bool, true};
 ghost use Rattle.std.specs.Prelude.{false, ◌++◌, take, Err, IfOk, IfErr, OnOk};
 ghost use Rattle.ick_code.specs.meaning.State.{State};
 ghost use Rattle.ick_runs.specs.Standing.{Stands, IsListingAt, HasFailed, IsFull};
@@ -103,7 +104,8 @@ pub fn write_runs<'c, M: Asks<'c>, W: ByteSink>(
     ensures refused { result ≡ Err RunsError.Failed →
         (explored explorer.new ≡ explored explorer.old) × (writer.new ≡ writer.old) }
     ensures errors { IfErr result (λ e. (e ≡ RunsError.NoMemory)
-        ⊎ ((e ≡ RunsError.WorkFull) ⊎ ((e ≡ RunsError.Write) ⊎ (e ≡ RunsError.Failed)))) }
+        ⊎ ((e ≡ RunsError.WorkFull)
+        ⊎ ((e ≡ RunsError.Write) ⊎ (e ≡ RunsError.Failed)))) }
     ensures count { W.failed writer.new ≡ W.failed writer.old + write_failures result }
     ensures no_memory { result ≡ Err RunsError.NoMemory → HasFailed (explored explorer.new) }
     ensures enough { result ≡ Err RunsError.WorkFull →

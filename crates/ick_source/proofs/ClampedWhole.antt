@@ -5,7 +5,8 @@ use Rattle.std.proofs.lemmas.Bool.Decides.{nat_tests}
 use Rattle.ick_source.specs.declared.tree.Name.{Name}
 use Rattle.ick_source.specs.declared.faults.Faults.{Faults}
 use Rattle.ick_source.specs.Tree.{Tree, mesh, scalar, element, unary, binary, Trees, none, more}
-use Rattle.ick_source.specs.Clamped.{greatest, clamped, clamped_name, clamped_tree, clamped_trees, no_faults, both_faults, name_faults, faults_of, faults_in}
+use Rattle.ick_source.specs.Clamped.{greatest, clamped, clamped_name, clamped_tree, clamped_trees, no_faults}
+use Rattle.ick_source.specs.Clamped.{both_faults, name_faults, faults_of, faults_in}
 
 pub low_clamped : (n : ℕ) → nat_lt greatest n ≡ false → clamped n ≡ n
 low_clamped n e = grind (arith, nat_tests)

@@ -1,5 +1,6 @@
 -- Each text has exactly one cut.
-use Rattle.std.proofs.Common.{List, [], arith, inl, inr, length, refl, suc, zero, ℕ, ◌+◌, ◌<◌, ◌∷◌, ◌≡◌}
+use Rattle.std.proofs.Common.{List, [], arith, inl, inr, length, refl, suc, zero, ℕ, ◌+◌, ◌<◌, ◌∷◌}
+use Rattle.std.proofs.Common.{◌≡◌}
 use Rattle.std.proofs.lemmas.Bool.{cases_order}
 use Rattle.ick_source.specs.Boundaries.{IsBoundary, IsNextBoundary, at_end, at_start}
 use Rattle.ick_source.specs.Bytes.{IsGap}
@@ -7,9 +8,11 @@ use Rattle.ick_source.specs.Cut.{IsCut, IsFront, AreStatements, done, statement_
 use Rattle.ick_source.specs.StatementTree.{StatementTree}
 use Rattle.ick_source.proofs.BoundaryLemmas.{next_boundary_exists, next_boundary_unique, opening_solid, start_inside}
 use Rattle.ick_source.proofs.ByteLemmas.{gap_exists, gap_unique, not_white, past}
-use Rattle.ick_source.proofs.StatementLemmas.{statement_boundary, statement_exists, statement_longer, statement_unique, statement_start, trimmed_exists, trimmed_unique}
+use Rattle.ick_source.proofs.StatementLemmas.{statement_boundary, statement_exists, statement_longer, statement_unique}
+use Rattle.ick_source.proofs.StatementLemmas.{statement_start, trimmed_exists, trimmed_unique}
 
-statements_unique : {s : List ℕ} {i j : ℕ} {ps qs : List StatementTree} → AreStatements s i ps → AreStatements s j qs → i ≡ j → ps ≡ qs
+statements_unique : {s : List ℕ} {i j : ℕ} {ps qs : List StatementTree} → AreStatements s i ps →
+    AreStatements s j qs → i ≡ j → ps ≡ qs
 statements_unique (done g) (done h) e = refl
 statements_unique (done g) (statement_then h r) e = absurd (let k = statement_start h in omega arith)
 statements_unique (statement_then h r) (done g) e = absurd (let k = statement_start h in omega arith)
@@ -23,14 +26,16 @@ cut_unique g h =
     let begin = gap_unique g.gap h.gap refl in
     let start = next_boundary_unique g.first h.first refl in
     front_unique g.front h.front begin start (statements_unique g.statements h.statements start) where
-      front_unique : {s : List ℕ} {a e b f : ℕ} {ps qs xs ys : List StatementTree} → IsFront s a e ps xs → IsFront s b f qs ys → a ≡ b → e ≡ f → ps ≡ qs → xs ≡ ys
+      front_unique : {s : List ℕ} {a e b f : ℕ} {ps qs xs ys : List StatementTree} → IsFront s a e ps xs →
+          IsFront s b f qs ys → a ≡ b → e ≡ f → ps ≡ qs → xs ≡ ys
       front_unique (nothing x) (nothing y) p q r = r
       front_unique (nothing x) (something y t) p q r = absurd (omega arith)
       front_unique (something y t) (nothing x) p q r = absurd (omega arith)
       front_unique (something x t) (something y u) p q r = let text = trimmed_unique t u p q in cc
 
 -- at most n bytes are left
-statements_exist : (s : List ℕ) (n i : ℕ) → length s < i + n → IsBoundary s i → (ps : List StatementTree) × AreStatements s i ps
+statements_exist : (s : List ℕ) (n i : ℕ) → length s < i + n →
+    IsBoundary s i → (ps : List StatementTree) × AreStatements s i ps
 statements_exist s zero i l (at_start x) = absurd (let k = start_inside x in omega arith)
 statements_exist s n i l (at_end e) = ([], done e)
 statements_exist s (suc n) i l (at_start x) =
@@ -51,7 +56,30 @@ cut_exists s =
     let b = next_boundary_exists s (length s) 0 (omega arith) in
     let rest = statements_exist s (suc (length s)) b.0 (omega arith) b.1.boundary in
     elim (cases_order g.0 b.0) [
-      | inr (inl lt) ↦ (let text = trimmed_exists s g.0 b.0 g.1.stops lt in (plain text.0 ∷ rest.0, record { begin = g.0; start = b.0; rest = rest.0; gap = g.1; first = b.1; front = something lt text.1; statements = rest.1 }))
+      | inr (inl lt) ↦
+          (let text = trimmed_exists s g.0 b.0 g.1.stops lt in (
+            plain text.0 ∷ rest.0,
+            record {
+              begin = g.0;
+              start = b.0;
+              rest = rest.0;
+              gap = g.1;
+              first = b.1;
+              front = something lt text.1;
+              statements = rest.1;
+            },
+          ))
       | inr (inr gt) ↦ absurd (front_order g.1 b.1 gt)
-      | inl e ↦ (rest.0, record { begin = g.0; start = b.0; rest = rest.0; gap = g.1; first = b.1; front = nothing e; statements = rest.1 })
+      | inl e ↦ (
+        rest.0,
+        record {
+          begin = g.0;
+          start = b.0;
+          rest = rest.0;
+          gap = g.1;
+          first = b.1;
+          front = nothing e;
+          statements = rest.1;
+        },
+      )
     ]

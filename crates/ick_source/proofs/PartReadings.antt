@@ -1,5 +1,6 @@
 -- From what is found of a part to what is found of another that it makes.
-use Rattle.std.proofs.Common.{◌≡◌, ◌≢◌, ◌⊎◌, inl, inr, ℕ, List, Option, Some, None, Result, Ok, Err, IfOk, refl, sym, ap, subst, ◌∙◌}
+use Rattle.std.proofs.Common.{◌≡◌, ◌≢◌, ◌⊎◌, inl, inr, ℕ, List, Option, Some, None, Result, Ok, Err}
+use Rattle.std.proofs.Common.{IfOk, refl, sym, ap, subst, ◌∙◌}
 use Rattle.std.specs.Prelude.{codes}
 use Rattle.ick_source.specs.declared.tree.NameKind.{NameKind}
 use Rattle.ick_source.specs.declared.tree.NameKind.TheVariants.{Tail}
@@ -15,52 +16,77 @@ use Rattle.ick_source.specs.Tree.{Tree, Trees, mesh, scalar, element}
 use Rattle.ick_source.specs.Clamped.{clamped, clamped_tree, clamped_name, clamped_trees, name_faults, faults_of}
 use Rattle.ick_source.specs.Expression.{IsElement, indexed}
 use Rattle.ick_source.specs.BodyTree.{ItemTree, single, whole}
-use Rattle.ick_source.specs.BodyGrammar.{IsName, a_spot, an_array, IsTarget, to_spot, to_element, IsTail, IsPlace, to_target, to_array, IsItem, of_place, of_mesh, IsWholeElement}
+use Rattle.ick_source.specs.BodyGrammar.{IsName, a_spot, an_array, IsTarget, to_spot, to_element, IsTail, IsPlace}
+use Rattle.ick_source.specs.BodyGrammar.{to_target, to_array, IsItem, of_place, of_mesh, IsWholeElement}
 use Rattle.ick_source.specs.Nonterminal.{Nonterminal, elements, names, targets, tails, places, items, numbers, labels}
 use Rattle.ick_source.specs.ExpressionAnswers.{Stands}
 use Rattle.ick_source.specs.Answers.{IsParsed, IsAbsent, Answers}
 use Rattle.ick_source.proofs.ClampedLemmas.{clamped-capped, name_faults-capped}
 use Rattle.ick_source.proofs.ExpressionUnique.{number_unique}
 use Rattle.ick_source.proofs.WordUnique.{word_unique}
-use Rattle.ick_source.proofs.PartUnique.{spot_is_no_array, name_unique, element_leads, target_is_no_tail, place_is_no_mesh}
+use Rattle.ick_source.proofs.PartUnique.{spot_is_no_array, name_unique, element_leads, target_is_no_tail}
+use Rattle.ick_source.proofs.PartUnique.{place_is_no_mesh}
 
 -- what stands at the one position for N stands at the other, made into another value, for M, and nothing else does
-pub record Makes (N M : Nonterminal) (value : N.Value → M.Value) (seen : N.Clamped → M.Clamped) (from from' : List ℕ) : Type 0 where
+pub record Makes (N M : Nonterminal) (value : N.Value → M.Value) (seen : N.Clamped → M.Clamped)
+    (from from' : List ℕ) : Type 0 where
   pub there : (to : List ℕ) (x : N.Value) → N.stands from to x → M.stands from' to (value x)
   pub back : (to : List ℕ) (y : M.Value) → M.stands from' to y → (x : N.Value) × N.stands from to x
   pub clamped : (x : N.Value) → seen (N.clamped x) ≡ M.clamped (value x)
   pub faults : (x : N.Value) → N.faults x ≡ M.faults (value x)
 
-pub found_as : {N M : Nonterminal} {value : N.Value → M.Value} {seen : N.Clamped → M.Clamped} {from from' to : List ℕ} {k : N.Clamped} {f : Faults} → Makes N M value seen from from' → IsParsed N from to k f → IsParsed M from' to (seen k) f
-found_as {value = value} {seen = seen} m w = record { value = value w.value; stands = m.there _ _ w.stands; is_clamped = ap seen w.is_clamped ∙ m.clamped w.value; are_faults = w.are_faults ∙ m.faults w.value }
+pub found_as : {N M : Nonterminal} {value : N.Value → M.Value} {seen : N.Clamped →
+    M.Clamped} {from from' to : List ℕ} {k : N.Clamped} {f : Faults} → Makes N M value seen from from' →
+    IsParsed N from to k f → IsParsed M from' to (seen k) f
+found_as {value = value} {seen = seen} m w =
+    record {
+      value = value w.value;
+      stands = m.there _ _ w.stands;
+      is_clamped = ap seen w.is_clamped ∙ m.clamped w.value;
+      are_faults = w.are_faults ∙ m.faults w.value;
+    }
 
-pub absent_as : {N M : Nonterminal} {value : N.Value → M.Value} {seen : N.Clamped → M.Clamped} {from from' : List ℕ} → Makes N M value seen from from' → IsAbsent N from → IsAbsent M from'
+pub absent_as : {N M : Nonterminal} {value : N.Value → M.Value} {seen : N.Clamped →
+    M.Clamped} {from from' : List ℕ} → Makes N M value seen from from' → IsAbsent N from → IsAbsent M from'
 absent_as m w = record { nothing = λ to y p. let b = m.back to y p in w.nothing to b.0 b.1 }
 
-pub name_found : (from past to : List ℕ) (k : NameKind) (v n : ℕ) (f : Faults) → (next_lead from ≡ Spot k) ⊎ (next_lead from ≡ Array k) → past ≡ past_lead from → CappedNumber past to v →
+pub name_found : (from past to : List ℕ) (k : NameKind) (v n : ℕ) (f : Faults) → (next_lead from ≡ Spot k)
+    ⊎ (next_lead from ≡ Array k) → past ≡ past_lead from → CappedNumber past to v →
     n ≡ clamped v → f ≡ name_faults v → IsParsed names from to (record { kind = k; number = n }) f
 name_found from past to k v n f leads p number clamped_is f_is =
     let x = number.number in
     let is = subst (λ l. IsNumber l to x) p number.is in
     let name : Name = record { kind = k; number = x } in
-    let stands : IsName from to name = elim leads [ inl e ↦ a_spot (record { begins = e; number = is }) | inr e ↦ an_array (record { begins = e; number = is }) ] in
+    let stands : IsName from to name =
+    elim leads [
+      | inl e ↦ a_spot (record { begins = e; number = is })
+      | inr e ↦
+          an_array (record { begins = e; number = is })
+    ] in
     record {
       value = name;
       stands = stands;
-      is_clamped = ap (λ z. record { kind = k; number = z }) (clamped_is ∙ ap clamped number.capped ∙ clamped-capped x);
+      is_clamped =
+          ap (λ z. record { kind = k; number = z }) (clamped_is ∙ ap clamped number.capped ∙ clamped-capped x);
       are_faults = f_is ∙ ap name_faults number.capped ∙ name_faults-capped x;
     }
 
 -- an element that was read is seen as one
-element_seen : {from to : List ℕ} {t : Tree} {h : ℕ} → IsElement None from to t h → (x : Name) × (ts : Trees) × (clamped_tree t ≡ element x ts)
+element_seen : {from to : List ℕ} {t : Tree} {h : ℕ} →
+    IsElement None from to t h → (x : Name) × (ts : Trees) × (clamped_tree t ≡ element x ts)
 unfolding clamped_tree
-element_seen (indexed {kind = kind} {n = n} {ts = ts} e w s r) = (clamped_name (record { kind = kind; number = n }), clamped_trees ts, refl)
+element_seen (indexed {kind = kind} {n = n} {ts = ts} e w s r) =
+    (clamped_name (record { kind = kind; number = n }), clamped_trees ts, refl)
 
-pub element_is_seen : (from to : List ℕ) (limit h : ℕ) (seen : Tree) (f : Faults) → Stands (IsElement None from) limit to seen h f → ((x : Name) (ts : Trees) → seen ≡ element x ts → ⊥) → IsAbsent elements from
-element_is_seen from to limit h seen f w other = let s = element_seen w.stands in absurd (other s.0 s.1 (w.is_clamped ∙ s.2))
+pub element_is_seen : (from to : List ℕ) (limit h : ℕ) (seen : Tree) (f : Faults) →
+    Stands (IsElement None from) limit to seen h f → ((x : Name) (ts : Trees) → seen ≡ element x ts → ⊥) →
+    IsAbsent elements from
+element_is_seen from to limit h seen f w other = let s = element_seen w.stands in
+    absurd (other s.0 s.1 (w.is_clamped ∙ s.2))
 
 -- where an array leads, a target is an element
-pub targets_by_elements : (from : List ℕ) (k : NameKind) → next_lead from ≡ Array k → Makes elements targets (λ t. t) (λ t. t) from from
+pub targets_by_elements : (from : List ℕ) (k : NameKind) → next_lead from ≡ Array k →
+    Makes elements targets (λ t. t) (λ t. t) from from
 targets_by_elements from k e = record {
   there = λ to t p. to_element p;
   back = λ to t p. element_of e p;
@@ -68,12 +94,14 @@ targets_by_elements from k e = record {
   faults = λ t. refl;
 }
   where
-    element_of : {to : List ℕ} {t : Tree} → next_lead from ≡ Array k → IsTarget from to t → (x : Tree) × IsWholeElement from to x
+    element_of : {to : List ℕ} {t : Tree} → next_lead from ≡ Array k →
+        IsTarget from to t → (x : Tree) × IsWholeElement from to x
     element_of f (to_spot p) = absurd (spot_is_no_array p f)
     element_of {t = t} f (to_element p) = (t, p)
 
 -- where no array leads, a target is a variable
-pub targets_by_names : (from : List ℕ) → ((k : NameKind) → next_lead from ≢ Array k) → Makes names targets scalar scalar from from
+pub targets_by_names : (from : List ℕ) → ((k : NameKind) → next_lead from ≢ Array k) →
+    Makes names targets scalar scalar from from
 unfolding clamped_tree faults_of
 targets_by_names from other = record {
   there = λ to x p. variable_there p;
@@ -99,7 +127,8 @@ pub unnamed : {from : List ℕ} → IsAbsent names from → IsAbsent tails from
 unnamed none_there = record { nothing = λ to x p. none_there.nothing to x (an_array p.array) }
 
 -- a name with SUB after it is no whole array
-pub subscripted : {from mid later : List ℕ} {x : Name} → IsName from mid x → IsWord (codes "SUB") mid later → IsAbsent tails from
+pub subscripted : {from mid later : List ℕ} {x : Name} → IsName from mid x → IsWord (codes "SUB") mid later →
+    IsAbsent tails from
 subscripted {later = later} w sub = record {
   nothing = λ to x p.
       let s = name_unique _ _ _ _ _ w (an_array p.array) in
@@ -107,12 +136,14 @@ subscripted {later = later} w sub = record {
 }
 
 -- a tail's name with no SUB after it is a whole array
-pub tail_named : {from to : List ℕ} {x : Name} → next_lead from ≡ Array Tail → IsName from to x → ((later : List ℕ) → IsWord (codes "SUB") to later → ⊥) → IsTail from to x
+pub tail_named : {from to : List ℕ} {x : Name} → next_lead from ≡ Array Tail →
+    IsName from to x → ((later : List ℕ) → IsWord (codes "SUB") to later → ⊥) → IsTail from to x
 tail_named e (a_spot p) no_sub = absurd (spot_is_no_array p e)
 tail_named e (an_array p) no_sub = record { array = p; tail = let b = p.begins in cc; no_sub = no_sub }
 
 -- where a whole array stands, a position is that array
-pub places_by_tails : {from mid : List ℕ} {x : Name} → IsTail from mid x → Makes tails places whole whole from from
+pub places_by_tails : {from mid : List ℕ} {x : Name} → IsTail from mid x →
+    Makes tails places whole whole from from
 places_by_tails {from} q = record {
   there = λ to x p. to_array p;
   back = λ to y p. tail_back p;
@@ -151,7 +182,8 @@ items_by_places from other = record {
     place_back (of_mesh e n) = absurd (other e)
 
 -- where a mesh leads, an item is its number
-pub items_by_numbers : (from past : List ℕ) → next_lead from ≡ Hash → past ≡ past_lead from → Makes numbers items (λ n. single (mesh n)) (λ x. x) past from
+pub items_by_numbers : (from past : List ℕ) → next_lead from ≡ Hash → past ≡ past_lead from →
+    Makes numbers items (λ n. single (mesh n)) (λ x. x) past from
 unfolding clamped_tree faults_of
 items_by_numbers from past e f = record {
   there = λ to n p. of_mesh e (subst (λ l. IsNumber l to n) f p);
@@ -164,19 +196,26 @@ items_by_numbers from past e f = record {
     number_back (of_place p) = absurd (place_is_no_mesh p e)
     number_back {to = to} (of_mesh {n = n} g p) = (n, subst (λ l. IsNumber l to n) (sym f) p)
 
-pub answers_as : {N M : Nonterminal} {value : N.Value → M.Value} {change : N.Clamped → M.Clamped} {from from' : List ℕ} {T : Type 0} → Makes N M value change from from' → (seen : T → N.Clamped) (seen' : T → M.Clamped) →
-    ((v : T) → seen' v ≡ change (seen v)) → (text : List ℕ) (o : Option (Parsed T Position)) → Answers N seen text from o → Answers M seen' text from' o
+pub answers_as : {N M : Nonterminal} {value : N.Value → M.Value} {change : N.Clamped →
+    M.Clamped} {from from' : List ℕ} {T : Type 0} → Makes N M value change from from' →
+    (seen : T → N.Clamped) (seen' : T → M.Clamped) → ((v : T) → seen' v ≡ change (seen v)) →
+    (text : List ℕ) (o : Option (Parsed T Position)) → Answers N seen text from o → Answers M seen' text from' o
 answers_as m seen seen' same text None a = absent_as m a
 answers_as {M = M} {from' = from'} m seen seen' same text (Some r) a =
     subst (λ k. IsParsed M from' (left_at text r.to) k r.faults) (sym (same r.value)) (found_as m a)
 
-pub if_ok_as : {N M : Nonterminal} {value : N.Value → M.Value} {change : N.Clamped → M.Clamped} {from from' : List ℕ} {T : Type 0} → Makes N M value change from from' → (seen : T → N.Clamped) (seen' : T → M.Clamped) →
-    ((v : T) → seen' v ≡ change (seen v)) → (text : List ℕ) (r : Result (Option (Parsed T Position)) AllocError) → IfOk r (Answers N seen text from) → IfOk r (Answers M seen' text from')
+pub if_ok_as : {N M : Nonterminal} {value : N.Value → M.Value} {change : N.Clamped →
+    M.Clamped} {from from' : List ℕ} {T : Type 0} → Makes N M value change from from' →
+    (seen : T → N.Clamped) (seen' : T → M.Clamped) → ((v : T) → seen' v ≡ change (seen v)) →
+    (text : List ℕ) (r : Result (Option (Parsed T Position)) AllocError) → IfOk r (Answers N seen text from) →
+    IfOk r (Answers M seen' text from')
 if_ok_as m seen seen' same text (Ok o) a = answers_as m seen seen' same text o a
 if_ok_as m seen seen' same text (Err e) a = a
 
 -- a number in a parenthesis that is not closed
-pub label_stays_open : {from inner last : List ℕ} {v : ℕ} → IsWord (codes "(") from inner → CappedNumber inner last v → ((to : List ℕ) → IsWord (codes ")") last to → ⊥) → IsAbsent labels from
+pub label_stays_open : {from inner last : List ℕ} {v : ℕ} →
+    IsWord (codes "(") from inner → CappedNumber inner last v → ((to : List ℕ) → IsWord (codes ")") last to →
+    ⊥) → IsAbsent labels from
 label_stays_open {inner = inner} {last = last} opens number none_there = record {
   nothing = λ to n p.
       let a = word_unique (codes "(") refl opens p.opens in

@@ -1,5 +1,6 @@
 -- From what the parts of an element answer to what the whole answers.
-use Rattle.std.proofs.Common.{◌≡◌, ◌≢◌, ℕ, suc, ◌+◌, ◌-◌, ◌<◌, ◌≤◌, max, true, false, List, Option, Some, None, Result, Ok, Err, IfOk, refl, sym, ap, subst, ◌∙◌, arith}
+use Rattle.std.proofs.Common.{◌≡◌, ◌≢◌, ℕ, suc, ◌+◌, ◌-◌, ◌<◌, ◌≤◌, max, true, false}
+use Rattle.std.proofs.Common.{List, Option, Some, None, Result, Ok, Err, IfOk, refl, sym, ap, subst, ◌∙◌, arith}
 use Rattle.std.specs.declared.alloc.AllocError.{AllocError}
 use Rattle.std.specs.Global.{Vec}
 use Rattle.std.specs.Prelude.{codes}
@@ -12,63 +13,86 @@ use Rattle.ick_source.specs.declared.tree.Expr.{Expr}
 use Rattle.ick_source.specs.Position.{next_lead, past_lead}
 use Rattle.ick_source.specs.Token.{IsNumber, IsWord, CappedNumber}
 use Rattle.ick_source.specs.Tree.{Tree, element, Trees, none, more, join, trees_in}
-use Rattle.ick_source.specs.Clamped.{clamped, clamped_tree, clamped_trees, faults_of, faults_in, both_faults, name_faults}
-use Rattle.ick_source.specs.Expression.{begins_sub, IsSimple, IsElement, indexed, IsSubs, nested, simple_first, IsRest, nothing, last, further}
-use Rattle.ick_source.specs.ExpressionAnswers.{Readings, AnswersTrees, AnswersFrom, AllStand, HasNoTrees, Stands, HasNoTree, GoesAfter, after}
-use Rattle.ick_source.proofs.ClampedLemmas.{both_assoc, both-no, clamped_trees-join, faults_in-join, name_faults-capped, clamped-capped}
+use Rattle.ick_source.specs.Clamped.{clamped, clamped_tree, clamped_trees, faults_of, faults_in, both_faults}
+use Rattle.ick_source.specs.Clamped.{name_faults}
+use Rattle.ick_source.specs.Expression.{begins_sub, IsSimple, IsElement, indexed, IsSubs, nested, simple_first, IsRest}
+use Rattle.ick_source.specs.Expression.{nothing, last, further}
+use Rattle.ick_source.specs.ExpressionAnswers.{Readings, AnswersTrees, AnswersFrom, AllStand, HasNoTrees, Stands}
+use Rattle.ick_source.specs.ExpressionAnswers.{HasNoTree, GoesAfter, after}
+use Rattle.ick_source.proofs.ClampedLemmas.{both_assoc, both-no, clamped_trees-join, faults_in-join, name_faults-capped}
+use Rattle.ick_source.proofs.ClampedLemmas.{clamped-capped}
 use Rattle.ick_source.proofs.TreeLemmas.{join_assoc, join-none}
 use Rattle.ick_source.proofs.WordUnique.{word_unique}
 use Rattle.ick_source.proofs.ExpressionUnique.{number_unique, simple_unique}
 use Rattle.ick_source.proofs.ExpressionReadings.{simple_is_no_array, element_is_array}
 
-pub element_stands : (m : Option Delimiter) (from past mid sub to : List ℕ) (limit h v n : ℕ) (k : NameKind) (subs : Trees) (seen : Tree) (f fs all : Faults) →
-    next_lead from ≡ Array k → past ≡ past_lead from → CappedNumber past mid v → IsWord (codes "SUB") mid sub → limit ≢ 0 →
-    AllStand (IsSubs m sub) (limit - 1) to subs h fs → seen ≡ element (record { kind = k; number = n }) subs → n ≡ clamped v → f ≡ name_faults v → all ≡ both_faults f fs →
+pub element_stands : (m : Option Delimiter) (from past mid sub to : List ℕ) (limit h v n : ℕ) (k : NameKind)
+    (subs : Trees) (seen : Tree) (f fs all : Faults) → next_lead from ≡ Array k → past ≡ past_lead from →
+    CappedNumber past mid v → IsWord (codes "SUB") mid sub → limit ≢ 0 →
+    AllStand (IsSubs m sub) (limit - 1) to subs h fs → seen ≡ element (record { kind = k; number = n }) subs →
+    n ≡ clamped v → f ≡ name_faults v → all ≡ both_faults f fs →
     Stands (IsElement m from) limit to seen (h + 1) all
 unfolding clamped_tree faults_of
-element_stands m from past mid sub to limit h v n k subs seen f fs all e p number word some w shown clamped_is f_is all_is =
+element_stands m from past mid sub to limit h v n k subs seen f fs all e p number word some w shown clamped_is f_is
+    all_is =
     let x = number.number in
     let value : n ≡ clamped x = clamped_is ∙ ap clamped number.capped ∙ clamped-capped x in
     let next_number = subst (λ l. IsNumber l mid x) p number.is in
     let high : suc h ≡ h + 1 = omega arith in
     record {
       tree = element (record { kind = k; number = x }) w.trees;
-      stands = subst (λ z. IsElement m from to (element (record { kind = k; number = x }) w.trees) z) high (indexed e next_number word w.stand);
+      stands =
+          subst (λ z. IsElement m from to (element (record { kind = k; number = x }) w.trees) z) high
+          (indexed e next_number word w.stand);
       low = omega (arith, w.low);
       is_clamped = shown ∙ rw (value, w.are_clamped) refl;
-      are_faults = all_is ∙ rw (f_is, number.capped, w.are_faults) (ap (λ z. both_faults z (faults_in w.trees)) (name_faults-capped x));
+      are_faults =
+          all_is ∙ rw (f_is, number.capped, w.are_faults)
+          (ap (λ z. both_faults z (faults_in w.trees)) (name_faults-capped x));
     }
 
 -- an element after its array and number
-element_sub : {m : Option Delimiter} {from past mid to : List ℕ} {v h : ℕ} {t : Tree} → past ≡ past_lead from → CappedNumber past mid v → IsElement m from to t h → (later : List ℕ) × IsWord (codes "SUB") mid later
+element_sub : {m : Option Delimiter} {from past mid to : List ℕ} {v h : ℕ} {t : Tree} →
+    past ≡ past_lead from → CappedNumber past mid v → IsElement m from to t h →
+    (later : List ℕ) × IsWord (codes "SUB") mid later
 element_sub {from = from} {mid = mid} p number (indexed {mid = mid'} {sub = sub} e n w s) =
     let same = number_unique (subst (λ l. IsNumber l mid number.number) p number.is) n in
     (sub, subst (λ l. IsWord (codes "SUB") l sub) (sym same.0) w)
 
-pub element_no_sub : (m : Option Delimiter) (from past mid : List ℕ) (limit v : ℕ) → past ≡ past_lead from → CappedNumber past mid v → ((later : List ℕ) → IsWord (codes "SUB") mid later → ⊥) → HasNoTree (IsElement m from) limit
-element_no_sub m from past mid limit v p number no_sub = record { no_tree = λ to t h e low. let s = element_sub p number e in no_sub s.0 s.1 }
+pub element_no_sub : (m : Option Delimiter) (from past mid : List ℕ) (limit v : ℕ) → past ≡ past_lead from →
+    CappedNumber past mid v → ((later : List ℕ) → IsWord (codes "SUB") mid later → ⊥) →
+    HasNoTree (IsElement m from) limit
+element_no_sub m from past mid limit v p number no_sub =
+    record { no_tree = λ to t h e low. let s = element_sub p number e in no_sub s.0 s.1 }
 
-element_subs : {m : Option Delimiter} {from past mid sub to : List ℕ} {v h : ℕ} {t : Tree} → past ≡ past_lead from → CappedNumber past mid v → IsWord (codes "SUB") mid sub → IsElement m from to t h →
+element_subs : {m : Option Delimiter} {from past mid sub to : List ℕ} {v h : ℕ} {t : Tree} →
+    past ≡ past_lead from → CappedNumber past mid v → IsWord (codes "SUB") mid sub → IsElement m from to t h →
     (ts : Trees) × (j : ℕ) × (IsSubs m sub to ts j) × (h ≡ suc j)
 element_subs {m} {from = from} {mid = mid} {to = to} p number word (indexed {sub = sub'} {ts = ts} {h = j} e n w s) =
     let same = number_unique (subst (λ l. IsNumber l mid number.number) p number.is) n in
     let same_sub = word_unique (codes "SUB") refl word (subst (λ l. IsWord (codes "SUB") l sub') (sym same.0) w) in
     (ts, j, subst (λ l. IsSubs m l to ts j) (sym same_sub) s, refl)
 
-pub element_no_subs : (m : Option Delimiter) (from past mid sub : List ℕ) (limit v : ℕ) → past ≡ past_lead from → CappedNumber past mid v → IsWord (codes "SUB") mid sub → HasNoTrees (IsSubs m sub) (limit - 1) →
-    HasNoTree (IsElement m from) limit
+pub element_no_subs : (m : Option Delimiter) (from past mid sub : List ℕ) (limit v : ℕ) →
+    past ≡ past_lead from → CappedNumber past mid v → IsWord (codes "SUB") mid sub →
+    HasNoTrees (IsSubs m sub) (limit - 1) → HasNoTree (IsElement m from) limit
 element_no_subs m from past mid sub limit v p number word none_there =
-    record { no_tree = λ to t h e low. let s = element_subs p number word e in none_there.no_trees to s.0 s.1 s.2 (omega (arith, s.3)) }
+    record {
+      no_tree = λ to t h e low. let s =
+          element_subs p number word e in none_there.no_trees to s.0 s.1 s.2 (omega (arith, s.3));
+    }
 
 element_high : {m : Option Delimiter} {from to : List ℕ} {t : Tree} {h : ℕ} → IsElement m from to t h → 0 < h
 element_high (indexed e n w s) = omega arith
 
-pub element_no_height : (m : Option Delimiter) (from : List ℕ) (limit : ℕ) → limit ≡ 0 → HasNoTree (IsElement m from) limit
+pub element_no_height : (m : Option Delimiter) (from : List ℕ) (limit : ℕ) → limit ≡ 0 →
+    HasNoTree (IsElement m from) limit
 element_no_height m from limit e = record { no_tree = λ to t h x low. omega (arith, element_high x) }
 
 -- an element that is all the subscripts
-pub only_element : (m : Option Delimiter) (from to : List ℕ) (limit h h' : ℕ) (e : Tree) (seen : Trees) (f f' : Faults) → Stands (IsElement m from) limit to e h f →
-    seen ≡ more e none → h' ≡ h → f' ≡ f → AllStand (IsSubs m from) limit to seen h' f'
+pub only_element : (m : Option Delimiter) (from to : List ℕ) (limit h h' : ℕ) (e : Tree) (seen : Trees)
+    (f f' : Faults) → Stands (IsElement m from) limit to e h f → seen ≡ more e none → h' ≡ h →
+    f' ≡ f → AllStand (IsSubs m from) limit to seen h' f'
 unfolding clamped_tree faults_of
 only_element m from to limit h h' e seen f f' w shown high faults =
     record {
@@ -79,10 +103,12 @@ only_element m from to limit h h' e seen f f' w shown high faults =
       are_faults = faults ∙ w.are_faults ∙ sym (both-no (faults_of w.tree));
     }
 
-begun_there : {m : Option Delimiter} {from mid to : List ℕ} {t : Tree} {all : Trees} {j h : ℕ} → IsSimple from mid t j → GoesAfter (IsRest m mid) (more t none) j to all h → IsSubs m from to all h
+begun_there : {m : Option Delimiter} {from mid to : List ℕ} {t : Tree} {all : Trees} {j h : ℕ} →
+    IsSimple from mid t j → GoesAfter (IsRest m mid) (more t none) j to all h → IsSubs m from to all h
 begun_there p (after r) = simple_first p r
 
-begun_back : {m : Option Delimiter} {from mid to : List ℕ} {t : Tree} {all : Trees} {j h : ℕ} → IsSimple from mid t j → ((k : NameKind) → next_lead from ≢ Array k) → IsSubs m from to all h →
+begun_back : {m : Option Delimiter} {from mid to : List ℕ} {t : Tree} {all : Trees} {j h : ℕ} →
+    IsSimple from mid t j → ((k : NameKind) → next_lead from ≢ Array k) → IsSubs m from to all h →
     GoesAfter (IsRest m mid) (more t none) j to all h
 begun_back p other (nested q) = let a = element_is_array q in absurd (other a.0 a.1)
 begun_back {m} {mid = mid} {to = to} {t = t} {j = j} p other (simple_first {t = t'} {ts = ts} {j = j'} {k = k} q r) =
@@ -91,36 +117,51 @@ begun_back {m} {mid = mid} {to = to} {t = t} {j = j} p other (simple_first {t = 
     subst (λ x. GoesAfter (IsRest m mid) (more t none) j to (more x ts) (max j' k)) s.tree
     (subst (λ x. GoesAfter (IsRest m mid) (more t none) j to (more t ts) (max x k)) s.height (after r'))
 
-begun_as : (m : Option Delimiter) (from mid : List ℕ) (limit j : ℕ) (t : Tree) (text : List ℕ) (o : Option (Measured (Vec Expr))) → IsSimple from mid t j → ((k : NameKind) → next_lead from ≢ Array k) →
+begun_as : (m : Option Delimiter) (from mid : List ℕ) (limit j : ℕ) (t : Tree) (text : List ℕ)
+    (o : Option (Measured (Vec Expr))) → IsSimple from mid t j → ((k : NameKind) → next_lead from ≢ Array k) →
     AnswersTrees (GoesAfter (IsRest m mid) (more t none) j) limit text o → AnswersTrees (IsSubs m from) limit text o
-begun_as m from mid limit j t text None p other a = record { no_trees = λ to ts h x low. a.no_trees to ts h (begun_back p other x) low }
+begun_as m from mid limit j t text None p other a =
+    record { no_trees = λ to ts h x low. a.no_trees to ts h (begun_back p other x) low }
 begun_as m from mid limit j t text (Some s) p other a =
-    record { trees = a.trees; stand = begun_there p a.stand; low = a.low; are_clamped = a.are_clamped; are_faults = a.are_faults }
+    record {
+      trees = a.trees;
+      stand = begun_there p a.stand;
+      low = a.low;
+      are_clamped = a.are_clamped;
+      are_faults = a.are_faults;
+    }
 
 -- subscripts that begin with a simple
-pub begun : (m : Option Delimiter) (from mid : List ℕ) (limit j : ℕ) (e : Tree) (f : Faults) (text : List ℕ) (s : Measured (Vec Expr)) (r : Result (Option (Measured (Vec Expr))) AllocError) →
+pub begun : (m : Option Delimiter) (from mid : List ℕ) (limit j : ℕ) (e : Tree) (f : Faults) (text : List ℕ)
+    (s : Measured (Vec Expr)) (r : Result (Option (Measured (Vec Expr))) AllocError) →
     Stands (IsSimple from) limit mid e j f → ((k : NameKind) → next_lead from ≢ Array k) →
     trees_in s.value.items ≡ more e none → s.height ≡ j → s.faults ≡ f →
     IfOk r (AnswersFrom (IsRest m mid) limit text s) → IfOk r (AnswersTrees (IsSubs m from) limit text)
 unfolding clamped_tree faults_of
 begun m from mid limit j e f text s (Err x) w other shown high faults a = a
 begun m from mid limit j e f text s (Ok o) w other shown high faults a =
-    let answer = a (more w.tree none) (shown ∙ rw (w.is_clamped) refl) (faults ∙ w.are_faults ∙ sym (both-no (faults_of w.tree))) (rw high w.low) in
+    let answer =
+    a (more w.tree none) (shown ∙ rw (w.is_clamped) refl)
+    (faults ∙ w.are_faults ∙ sym (both-no (faults_of w.tree))) (rw high w.low) in
     let same = subst (λ x. AnswersTrees (GoesAfter (IsRest m mid) (more w.tree none) x) limit text o) high answer in
     begun_as m from mid limit j w.tree text o w.stands other same
 
 -- subscripts that were read from start to here, after those before: what goes on from here goes on from start
-pub record GoesOn (m : Option Delimiter) (limit : ℕ) (start here : List ℕ) (before seen : Trees) (below height : ℕ) (f f' : Faults) : Type 0 where
+pub record GoesOn (m : Option Delimiter) (limit : ℕ) (start here : List ℕ) (before seen : Trees)
+    (below height : ℕ) (f f' : Faults) : Type 0 where
   pub done : Trees
   pub top : ℕ
   pub shown : seen ≡ join before (clamped_trees done)
   pub high : height ≡ max below top
   pub faults : f' ≡ both_faults f (faults_in done)
   pub low : top ≤ limit
-  pub on : (to : List ℕ) (ts : Trees) (k : ℕ) → IsRest m here to ts k → IsRest m start to (join done ts) (max top k)
-  pub back : (to : List ℕ) (ts : Trees) (k : ℕ) → IsRest m start to ts k → k ≤ limit → (ts' : Trees) × (k' : ℕ) × (IsRest m here to ts' k') × (k' ≤ limit)
+  pub on : (to : List ℕ) (ts : Trees) (k : ℕ) → IsRest m here to ts k →
+      IsRest m start to (join done ts) (max top k)
+  pub back : (to : List ℕ) (ts : Trees) (k : ℕ) → IsRest m start to ts k →
+      k ≤ limit → (ts' : Trees) × (k' : ℕ) × (IsRest m here to ts' k') × (k' ≤ limit)
 
-pub goes_on-start : (m : Option Delimiter) (limit : ℕ) (start : List ℕ) (before : Trees) (below : ℕ) (f : Faults) → GoesOn m limit start start before before below below f f
+pub goes_on-start : (m : Option Delimiter) (limit : ℕ) (start : List ℕ) (before : Trees) (below : ℕ)
+    (f : Faults) → GoesOn m limit start start before before below below f f
 unfolding clamped_tree faults_of
 goes_on-start m limit start before below f =
     record {
@@ -134,42 +175,57 @@ goes_on-start m limit start before below f =
       back = λ to ts k r low. (ts, k, r, low);
     }
 
-further_back : {m : Option Delimiter} {here mid to : List ℕ} {t : Tree} {ts : Trees} {j k : ℕ} (limit : ℕ) → begins_sub m (next_lead here) ≡ true → ((a : NameKind) → next_lead here ≢ Array a) → IsSimple here mid t j →
-    IsRest m here to ts k → k ≤ limit → (ts' : Trees) × (k' : ℕ) × (IsRest m mid to ts' k') × (k' ≤ limit)
+further_back : {m : Option Delimiter} {here mid to : List ℕ} {t : Tree} {ts : Trees} {j k : ℕ} (limit : ℕ) →
+    begins_sub m (next_lead here) ≡ true → ((a : NameKind) → next_lead here ≢ Array a) →
+    IsSimple here mid t j → IsRest m here to ts k → k ≤ limit →
+    (ts' : Trees) × (k' : ℕ) × (IsRest m mid to ts' k') × (k' ≤ limit)
 further_back limit b other p (nothing e) low = absurd (cc)
 further_back limit b other p (last q) low = let a = element_is_array q in absurd (other a.0 a.1)
 further_back {m} {to = to} limit b other p (further {ts = ts} {k = k} e q r) low =
     let s = simple_unique p q in
     (ts, k, subst (λ x. IsRest m x to ts k) (sym s.to) r, omega arith)
 
-pub goes_on-further : (m : Option Delimiter) (limit : ℕ) (start here mid : List ℕ) (before seen seen' : Trees) (below height height' j : ℕ) (f g g' fe : Faults) (e : Tree) →
-    GoesOn m limit start here before seen below height f g → begins_sub m (next_lead here) ≡ true → ((a : NameKind) → next_lead here ≢ Array a) → Stands (IsSimple here) limit mid e j fe →
-    seen' ≡ join seen (more e none) → height' ≡ max height j → g' ≡ both_faults g fe → GoesOn m limit start mid before seen' below height' f g'
+pub goes_on-further : (m : Option Delimiter) (limit : ℕ) (start here mid : List ℕ) (before seen seen' : Trees)
+    (below height height' j : ℕ) (f g g' fe : Faults) (e : Tree) →
+    GoesOn m limit start here before seen below height f g → begins_sub m (next_lead here) ≡ true →
+    ((a : NameKind) → next_lead here ≢ Array a) → Stands (IsSimple here) limit mid e j fe →
+    seen' ≡ join seen (more e none) → height' ≡ max height j → g' ≡ both_faults g fe →
+    GoesOn m limit start mid before seen' below height' f g'
 unfolding clamped_tree faults_of
-goes_on-further m limit start here mid before seen seen' below height height' j f g g' fe e w b other s shown high faults =
+goes_on-further m limit start here mid before seen seen' below height height' j f g g' fe e w b other s shown high
+    faults =
     let t = s.tree in
     record {
       done = join w.done (more t none);
       top = max w.top j;
-      shown = shown ∙ rw (w.shown, s.is_clamped) (join_assoc before (clamped_trees w.done) (more (clamped_tree t) none) ∙ ap (join before) (sym (clamped_trees-join w.done (more t none))));
+      shown =
+          shown ∙ rw (w.shown, s.is_clamped)
+          (join_assoc before (clamped_trees w.done) (more (clamped_tree t) none)
+          ∙ ap (join before) (sym (clamped_trees-join w.done (more t none))));
       high = omega (arith, w.high);
       faults = faults ∙ rw (w.faults, s.are_faults) (both_assoc f (faults_in w.done) (faults_of t)
-          ∙ ap (both_faults f) (ap (both_faults (faults_in w.done)) (sym (both-no (faults_of t))) ∙ sym (faults_in-join w.done (more t none))));
+          ∙ ap (both_faults f) (ap (both_faults (faults_in w.done)) (sym (both-no (faults_of t)))
+          ∙ sym (faults_in-join w.done (more t none))));
       low = omega (arith, w.low, s.low);
       on = λ to ts k r.
           let e1 : max w.top (max j k) ≡ max (max w.top j) k = omega arith in
           subst (λ z. IsRest m start to z (max (max w.top j) k)) (sym (join_assoc w.done (more t none) ts))
-          (subst (λ z. IsRest m start to (join w.done (more t ts)) z) e1 (w.on to (more t ts) (max j k) (further b s.stands r)));
+          (subst (λ z. IsRest m start to (join w.done (more t ts)) z) e1
+          (w.on to (more t ts) (max j k) (further b s.stands r)));
       back = λ to ts k r low. let x = w.back to ts k r low in further_back limit b other s.stands x.2 x.3;
     }
 
 -- nothing more comes
-pub goes_on-ends : (m : Option Delimiter) (limit : ℕ) (start here : List ℕ) (before seen : Trees) (below height : ℕ) (f g : Faults) → GoesOn m limit start here before seen below height f g →
-    begins_sub m (next_lead here) ≡ false → (others : Trees) → before ≡ clamped_trees others → f ≡ faults_in others → below ≤ limit →
+pub goes_on-ends : (m : Option Delimiter) (limit : ℕ) (start here : List ℕ) (before seen : Trees)
+    (below height : ℕ) (f g : Faults) → GoesOn m limit start here before seen below height f g →
+    begins_sub m (next_lead here) ≡ false → (others : Trees) → before ≡ clamped_trees others →
+    f ≡ faults_in others → below ≤ limit →
     AllStand (GoesAfter (IsRest m start) others below) limit here seen height g
 goes_on-ends m limit start here before seen below height f g w b others e1 e2 low =
     let top : max w.top 0 ≡ w.top = omega arith in
-    let r = subst (λ z. IsRest m start here z w.top) (join-none w.done) (subst (λ z. IsRest m start here (join w.done none) z) top (w.on here none 0 (nothing b))) in
+    let r =
+    subst (λ z. IsRest m start here z w.top) (join-none w.done)
+    (subst (λ z. IsRest m start here (join w.done none) z) top (w.on here none 0 (nothing b))) in
     record {
       trees = join others w.done;
       stand = subst (λ z. GoesAfter (IsRest m start) others below here (join others w.done) z) (sym w.high) (after r);
@@ -179,12 +235,15 @@ goes_on-ends m limit start here before seen below height f g w b others e1 e2 lo
     }
 
 -- an element comes last
-pub goes_on-last : (m : Option Delimiter) (limit : ℕ) (start here to : List ℕ) (before seen seen' : Trees) (below height height' j : ℕ) (f g g' fe : Faults) (e : Tree) → GoesOn m limit start here before seen below height f g →
-    Stands (IsElement m here) limit to e j fe → seen' ≡ join seen (more e none) → height' ≡ max height j → g' ≡ both_faults g fe →
+pub goes_on-last : (m : Option Delimiter) (limit : ℕ) (start here to : List ℕ) (before seen seen' : Trees)
+    (below height height' j : ℕ) (f g g' fe : Faults) (e : Tree) →
+    GoesOn m limit start here before seen below height f g → Stands (IsElement m here) limit to e j fe →
+    seen' ≡ join seen (more e none) → height' ≡ max height j → g' ≡ both_faults g fe →
     (others : Trees) → before ≡ clamped_trees others → f ≡ faults_in others → below ≤ limit →
     AllStand (GoesAfter (IsRest m start) others below) limit to seen' height' g'
 unfolding clamped_tree faults_of
-goes_on-last m limit start here to before seen seen' below height height' j f g g' fe e w s shown high faults others e1 e2 low =
+goes_on-last m limit start here to before seen seen' below height height' j f g g' fe e w s shown high faults others e1
+    e2 low =
     let t = s.tree in
     let done = join w.done (more t none) in
     let r = w.on to (more t none) j (last s.stands) in
@@ -193,29 +252,40 @@ goes_on-last m limit start here to before seen seen' below height height' j f g 
       trees = join others done;
       stand = subst (λ z. GoesAfter (IsRest m start) others below to (join others done) z) top (after r);
       low = omega (arith, w.high, w.low, s.low);
-      are_clamped = shown ∙ rw (w.shown, s.is_clamped, e1) (join_assoc (clamped_trees others) (clamped_trees w.done) (more (clamped_tree t) none)
-          ∙ ap (join (clamped_trees others)) (sym (clamped_trees-join w.done (more t none))) ∙ sym (clamped_trees-join others done));
-      are_faults = faults ∙ rw (w.faults, s.are_faults, e2) (both_assoc (faults_in others) (faults_in w.done) (faults_of t)
-          ∙ ap (both_faults (faults_in others)) (ap (both_faults (faults_in w.done)) (sym (both-no (faults_of t))) ∙ sym (faults_in-join w.done (more t none)))
+      are_clamped =
+          shown ∙ rw (w.shown, s.is_clamped, e1)
+          (join_assoc (clamped_trees others) (clamped_trees w.done) (more (clamped_tree t) none)
+          ∙ ap (join (clamped_trees others)) (sym (clamped_trees-join w.done (more t none)))
+          ∙ sym (clamped_trees-join others done));
+      are_faults =
+          faults ∙ rw (w.faults, s.are_faults, e2) (both_assoc (faults_in others) (faults_in w.done) (faults_of t)
+          ∙ ap (both_faults (faults_in others))
+          (ap (both_faults (faults_in w.done)) (sym (both-no (faults_of t)))
+          ∙ sym (faults_in-join w.done (more t none)))
           ∙ sym (faults_in-join others done));
     }
 
-after_low : {R : Readings} {others : Trees} {below h limit : ℕ} {to : List ℕ} {all : Trees} → GoesAfter R others below to all h → h ≤ limit → (ts : Trees) × (k : ℕ) × (R to ts k) × (k ≤ limit)
+after_low : {R : Readings} {others : Trees} {below h limit : ℕ} {to : List ℕ} {all : Trees} →
+    GoesAfter R others below to all h → h ≤ limit → (ts : Trees) × (k : ℕ) × (R to ts k) × (k ≤ limit)
 after_low (after {ts = ts} {h = k} r) low = (ts, k, r, omega arith)
 
-no_element : {m : Option Delimiter} {here to : List ℕ} {ts : Trees} {k : ℕ} (limit : ℕ) (a : NameKind) → next_lead here ≡ Array a → HasNoTree (IsElement m here) limit → IsRest m here to ts k → k ≤ limit → ⊥
+no_element : {m : Option Delimiter} {here to : List ℕ} {ts : Trees} {k : ℕ} (limit : ℕ) (a : NameKind) →
+    next_lead here ≡ Array a → HasNoTree (IsElement m here) limit → IsRest m here to ts k → k ≤ limit → ⊥
 no_element {m} limit a e w (nothing b) low = let c = ap (begins_sub m) e in absurd (cc)
 no_element limit a e w (last q) low = w.no_tree _ _ _ q low
 no_element limit a e w (further b q r) low = simple_is_no_array q e
 
-no_simple : {m : Option Delimiter} {here to : List ℕ} {ts : Trees} {k : ℕ} (limit : ℕ) → begins_sub m (next_lead here) ≡ true → ((a : NameKind) → next_lead here ≢ Array a) → HasNoTree (IsSimple here) limit →
-    IsRest m here to ts k → k ≤ limit → ⊥
+no_simple : {m : Option Delimiter} {here to : List ℕ} {ts : Trees} {k : ℕ} (limit : ℕ) →
+    begins_sub m (next_lead here) ≡ true → ((a : NameKind) → next_lead here ≢ Array a) →
+    HasNoTree (IsSimple here) limit → IsRest m here to ts k → k ≤ limit → ⊥
 no_simple limit b other w (nothing e) low = absurd (cc)
 no_simple limit b other w (last q) low = let a = element_is_array q in absurd (other a.0 a.1)
 no_simple limit b other w (further e q r) low = w.no_tree _ _ _ q (omega arith)
 
-pub goes_on-no_element : (m : Option Delimiter) (limit : ℕ) (start here : List ℕ) (before seen : Trees) (below height : ℕ) (f g : Faults) (a : NameKind) → GoesOn m limit start here before seen below height f g →
-    next_lead here ≡ Array a → HasNoTree (IsElement m here) limit → (others : Trees) → HasNoTrees (GoesAfter (IsRest m start) others below) limit
+pub goes_on-no_element : (m : Option Delimiter) (limit : ℕ) (start here : List ℕ) (before seen : Trees)
+    (below height : ℕ) (f g : Faults) (a : NameKind) → GoesOn m limit start here before seen below height f g →
+    next_lead here ≡ Array a → HasNoTree (IsElement m here) limit → (others : Trees) →
+    HasNoTrees (GoesAfter (IsRest m start) others below) limit
 goes_on-no_element m limit start here before seen below height f g a w e no_tree others =
     record {
       no_trees = λ to ts h x low.
@@ -224,8 +294,10 @@ goes_on-no_element m limit start here before seen below height f g a w e no_tree
           no_element limit a e no_tree z.2 z.3;
     }
 
-pub goes_on-no_simple : (m : Option Delimiter) (limit : ℕ) (start here : List ℕ) (before seen : Trees) (below height : ℕ) (f g : Faults) → GoesOn m limit start here before seen below height f g →
-    begins_sub m (next_lead here) ≡ true → ((a : NameKind) → next_lead here ≢ Array a) → HasNoTree (IsSimple here) limit → (others : Trees) → HasNoTrees (GoesAfter (IsRest m start) others below) limit
+pub goes_on-no_simple : (m : Option Delimiter) (limit : ℕ) (start here : List ℕ) (before seen : Trees)
+    (below height : ℕ) (f g : Faults) → GoesOn m limit start here before seen below height f g →
+    begins_sub m (next_lead here) ≡ true → ((a : NameKind) → next_lead here ≢ Array a) →
+    HasNoTree (IsSimple here) limit → (others : Trees) → HasNoTrees (GoesAfter (IsRest m start) others below) limit
 goes_on-no_simple m limit start here before seen below height f g w b other no_tree others =
     record {
       no_trees = λ to ts h x low.

@@ -1,5 +1,6 @@
 -- Deciding facts about characters, numbers and words.
-use Rattle.std.proofs.Common.{◌≡◌, ◌≢◌, ℕ, suc, zero, ◌<◌, ◌⊎◌, inl, inr, Bool, true, false, List, [], ◌∷◌, ◌++◌, length, get_or, refl, ap, arith}
+use Rattle.std.proofs.Common.{◌≡◌, ◌≢◌, ℕ, suc, zero, ◌<◌, ◌⊎◌, inl, inr, Bool, true, false}
+use Rattle.std.proofs.Common.{List, [], ◌∷◌, ◌++◌, length, get_or, refl, ap, arith}
 use Rattle.std.proofs.lemmas.Bool.{cases_order}
 use Rattle.ick_source.specs.declared.tree.NameKind.{NameKind}
 use Rattle.ick_source.specs.declared.tree.NameKind.TheVariants.{Onespot, Twospot, Tail, Hybrid}
@@ -35,7 +36,12 @@ pub record HasNumber (from : List ℕ) : Type 0 where
   pub stands : IsNumber from to value
 
 number_by : (from : List ℕ) (b : Bool) → begins_number (past_white from) ≡ b → Decided (HasNumber from)
-number_by from true e = inl (record { to = past_digits (past_white from); value = value_after 0 (digits_of (past_white from)); stands = number_there from e })
+number_by from true e =
+    inl (record {
+      to = past_digits (past_white from);
+      value = value_after 0 (digits_of (past_white from));
+      stands = number_there from e;
+    })
 number_by from false e = inr (λ n. let f = number-begins n.stands in cc)
 
 pub number_decided : (from : List ℕ) → Decided (HasNumber from)
@@ -49,12 +55,18 @@ spelled_decided : (word l : List ℕ) → Decided ((to : List ℕ) × (l ≡ wor
 spelled_decided [] l = inl (l, refl)
 spelled_decided (x ∷ word) [] = inr (λ p. let e = p.1 in cc)
 spelled_decided (x ∷ word) (y ∷ l) = elim (cases_order y x) [
-  | inl same ↦ decided_as (λ p. let e = p.1 in (p.0, λ i. same i ∷ e i)) (λ p. let e = p.1 in (p.0, cc)) (spelled_decided word l)
-  | inr apart ↦ inr (λ p. let e = p.1 in let same : y ≡ x = cc in elim apart [ inl l ↦ omega arith | inr l ↦ omega arith ])
+  | inl same ↦
+      decided_as (λ p. let e = p.1 in (p.0, λ i. same i ∷ e i)) (λ p. let e = p.1 in (p.0, cc))
+      (spelled_decided word l)
+  | inr apart ↦
+      inr
+      (λ p. let e = p.1 in let same : y ≡ x = cc in elim apart [ inl l ↦ omega arith | inr l ↦ omega arith ])
 ]
 
 pub word_decided : (word from : List ℕ) → Decided (HasWord word from)
-word_decided word from = decided_as (λ p. record { to = p.0; stands = record { spelled = p.1 } }) (λ w. (w.to, w.stands.spelled)) (spelled_decided word (past_white from))
+word_decided word from =
+    decided_as (λ p. record { to = p.0; stands = record { spelled = p.1 } }) (λ w. (w.to, w.stands.spelled))
+    (spelled_decided word (past_white from))
 
 -- the first of these whose word stands, or none of them
 pub record OneOf (A : Type 0) (word : A → List ℕ) (from : List ℕ) : Type 0 where
@@ -62,7 +74,8 @@ pub record OneOf (A : Type 0) (word : A → List ℕ) (from : List ℕ) : Type 0
   pub to : List ℕ
   pub stands : IsWord (word member) from to
 
-pub one_of_decided : {A : Type 0} (word : A → List ℕ) (from : List ℕ) (d : A) (all : List A) → OneOf A word from ⊎ ((k : ℕ) → k < length all → HasWord (word (get_or all k d)) from → ⊥)
+pub one_of_decided : {A : Type 0} (word : A → List ℕ) (from : List ℕ) (d : A) (all : List A) →
+    OneOf A word from ⊎ ((k : ℕ) → k < length all → HasWord (word (get_or all k d)) from → ⊥)
 one_of_decided word from d [] = inr (λ k low w. omega arith)
 one_of_decided word from d (x ∷ all) = elim (word_decided (word x) from) [
   | inl w ↦ inl (record { member = x; to = w.to; stands = w.stands })
@@ -72,7 +85,8 @@ one_of_decided word from d (x ∷ all) = elim (word_decided (word x) from) [
   ]
 ]
   where
-    none_of : {A : Type 0} (word : A → List ℕ) (from : List ℕ) (d x : A) (all : List A) → (HasWord (word x) from → ⊥) → ((k : ℕ) → k < length all → HasWord (word (get_or all k d)) from → ⊥) →
+    none_of : {A : Type 0} (word : A → List ℕ) (from : List ℕ) (d x : A) (all : List A) → (HasWord (word x)
+        from → ⊥) → ((k : ℕ) → k < length all → HasWord (word (get_or all k d)) from → ⊥) →
         (k : ℕ) → k < length (x ∷ all) → HasWord (word (get_or (x ∷ all) k d)) from → ⊥
     none_of word from d x all none rest zero low w = none w
     none_of word from d x all none rest (suc k) low w = rest k (omega arith) w

@@ -1,7 +1,7 @@
 -- Trees of expressions and of lists of them. The crates above cite these too.
 use Rattle.std.proofs.Common.{◌≡◌, List, [], ◌∷◌, ◌++◌, refl, ap, ◌∙◌}
-use Rattle.ick_source.specs.declared.tree.Expr.{Expr, Element', Row_of-Expr, end_of-Expr, more_of-Expr, items-the_row-Expr, items_hidden-the_row-Expr-0}
-use Rattle.ick_source.specs.declared.tree.Expr.{Element as Element_of}
+use Rattle.ick_source.specs.declared.tree.Expr.{Expr, Element', Row_of-Expr, end_of-Expr, more_of-Expr}
+use Rattle.ick_source.specs.declared.tree.Expr.{items-the_row-Expr, items_hidden-the_row-Expr-0, Element as Element_of}
 use Rattle.ick_source.specs.declared.tree.Element.{Element}
 use Rattle.ick_source.specs.Tree.{element, Trees, none, more, join, tree_of, trees_of, trees_in}
 
@@ -27,4 +27,5 @@ row_of (Element' x shape row) = (_, row)
 row_of _ = (_, end_of-Expr)
 
 pub tree_of-element : (x : Element) → tree_of (Element_of x) ≡ element x.array (trees_in x.subs.items)
-tree_of-element x = let row = row_of (Element_of x) in ap (element x.array) (trees_of-row row.1 ∙ ap trees_in (items_hidden-the_row-Expr-0 x.subs))
+tree_of-element x = let row = row_of (Element_of x) in
+    ap (element x.array) (trees_of-row row.1 ∙ ap trees_in (items_hidden-the_row-Expr-0 x.subs))

@@ -1,11 +1,15 @@
 -- From one position a word ends at one position, and different words do not stand.
-use Rattle.std.proofs.Common.{◌≡◌, ℕ, Bool, true, false, nat_eq, ◌<◌, lit<, get_or, List, [], ◌∷◌, ◌++◌, Option, Some, None, refl, sym, ap, subst, ◌∙◌, arith}
+use Rattle.std.proofs.Common.{◌≡◌, ℕ, Bool, true, false, nat_eq, ◌<◌, lit<, get_or, List, [], ◌∷◌}
+use Rattle.std.proofs.Common.{◌++◌, Option, Some, None, refl, sym, ap, subst, ◌∙◌, arith}
 use Rattle.std.specs.Prelude.{if◌then◌else◌, ◌&&◌, codes, is_some, MatchOption}
 use Rattle.std.proofs.lemmas.Bool.Decides.{nat_tests}
 use Rattle.ick_source.specs.declared.body.Gerund.{Gerund}
-use Rattle.ick_source.specs.declared.body.Gerund.TheVariants.{Calculating, Nexting, Forgetting, Resuming, Stashing, Retrieving, Ignoring, Remembering, Abstaining, Reinstating, WritingIn, ReadingOut}
+use Rattle.ick_source.specs.declared.body.Gerund.TheVariants.{Calculating, Nexting, Forgetting, Resuming, Stashing}
+use Rattle.ick_source.specs.declared.body.Gerund.TheVariants.{Retrieving, Ignoring, Remembering, Abstaining}
+use Rattle.ick_source.specs.declared.body.Gerund.TheVariants.{Reinstating, WritingIn, ReadingOut}
 use Rattle.ick_source.specs.declared.verb.Verb.{Verb}
-use Rattle.ick_source.specs.declared.verb.Verb.TheVariants.{Forget, Resume, Stash, Retrieve, Ignore, Remember, Abstain, Reinstate, Give, Write, Read}
+use Rattle.ick_source.specs.declared.verb.Verb.TheVariants.{Forget, Resume, Stash, Retrieve, Ignore, Remember, Abstain}
+use Rattle.ick_source.specs.declared.verb.Verb.TheVariants.{Reinstate, Give, Write, Read}
 use Rattle.ick_source.specs.declared.lead.Lead.TheVariants.{Other}
 use Rattle.ick_source.specs.Lead.{lead_of}
 use Rattle.ick_source.specs.declared.position.Position.{Position}
@@ -19,8 +23,10 @@ same_end [] a b e = e
 same_end (x ∷ w) a b e = same_end w a b (cc)
 
 -- from positions that are one
-pub word_unique : (w : List ℕ) {from from' to to' : List ℕ} → from ≡ from' → IsWord w from to → IsWord w from' to' → to ≡ to'
-word_unique w {to' = to'} e p q = let q' = subst (λ x. IsWord w x to') (sym e) q in same_end w _ _ (sym p.spelled ∙ q'.spelled)
+pub word_unique : (w : List ℕ) {from from' to to' : List ℕ} → from ≡ from' → IsWord w from to →
+    IsWord w from' to' → to ≡ to'
+word_unique w {to' = to'} e p q = let q' = subst (λ x. IsWord w x to') (sym e) q in
+    same_end w _ _ (sym p.spelled ∙ q'.spelled)
 
 -- whether the words differ in a letter that both have
 unfoldable pub differ : List ℕ → List ℕ → Bool
@@ -28,16 +34,19 @@ differ [] w = false
 differ (a ∷ v) [] = false
 differ (a ∷ v) (b ∷ w) = if nat_eq a b then differ v w else true
 
-differ_at : (a b : ℕ) (v w : List ℕ) → (if nat_eq a b then differ v w else true) ≡ true → a ≡ b → differ v w ≡ true
+differ_at : (a b : ℕ) (v w : List ℕ) → (if nat_eq a b then differ v w else true) ≡ true → a ≡ b →
+    differ v w ≡ true
 differ_at a b v w e same = let t : nat_eq a b ≡ true = grind (arith, nat_tests) in rw t at e
 
 differ_lists : (v w a b : List ℕ) → differ v w ≡ true → v ++ a ≡ w ++ b → ⊥
 unfolding differ
 differ_lists [] w a b d e = absurd (cc)
 differ_lists (x ∷ v) [] a b d e = absurd (cc)
-differ_lists (x ∷ v) (y ∷ w) a b d e = let same : x ≡ y = cc in differ_lists v w a b (differ_at x y v w d same) (cc)
+differ_lists (x ∷ v) (y ∷ w) a b d e = let same : x ≡ y = cc in
+    differ_lists v w a b (differ_at x y v w d same) (cc)
 
-pub words_differ : (v w : List ℕ) {from to to' : List ℕ} → differ v w ≡ true → IsWord v from to → IsWord w from to' → ⊥
+pub words_differ : (v w : List ℕ) {from to to' : List ℕ} → differ v w ≡ true → IsWord v from to →
+    IsWord w from to' → ⊥
 words_differ v w d p q = differ_lists v w _ _ d (sym p.spelled ∙ q.spelled)
 
 begins_with : List ℕ → List ℕ → Bool
@@ -51,7 +60,9 @@ first_of word [] l = None
 first_of word (x ∷ xs) l = if begins_with (word x) l then Some x else first_of word xs l
 
 abbrev pub all_gerunds : List Gerund
-all_gerunds = Calculating ∷ Nexting ∷ Forgetting ∷ Resuming ∷ Stashing ∷ Retrieving ∷ Ignoring ∷ Remembering ∷ Abstaining ∷ Reinstating ∷ WritingIn ∷ ReadingOut ∷ []
+all_gerunds =
+    Calculating ∷ Nexting ∷ Forgetting ∷ Resuming ∷ Stashing ∷ Retrieving ∷ Ignoring ∷ Remembering
+    ∷ Abstaining ∷ Reinstating ∷ WritingIn ∷ ReadingOut ∷ []
 
 gerund_is_first : (g : Gerund) (l : List ℕ) → first_of gerund_word all_gerunds (gerund_word g ++ l) ≡ Some g
 unfolding begins_with first_of
@@ -68,14 +79,17 @@ gerund_is_first Reinstating l = refl
 gerund_is_first WritingIn l = refl
 gerund_is_first ReadingOut l = refl
 
-pub gerund_word_unique : (g g' : Gerund) {from to to' : List ℕ} → IsWord (gerund_word g) from to → IsWord (gerund_word g') from to' → g ≡ g'
+pub gerund_word_unique : (g g' : Gerund) {from to to' : List ℕ} → IsWord (gerund_word g) from to →
+    IsWord (gerund_word g') from to' → g ≡ g'
 gerund_word_unique g g' {to = to} {to' = to'} p q =
     let e = ap (first_of gerund_word all_gerunds) (sym p.spelled ∙ q.spelled) in
     let f : Some g ≡ Some g' = sym (gerund_is_first g to) ∙ e ∙ gerund_is_first g' to' in
     cc
 
 abbrev pub all_verbs : List Verb
-all_verbs = Forget ∷ Resume ∷ Stash ∷ Retrieve ∷ Ignore ∷ Remember ∷ Abstain ∷ Reinstate ∷ Give ∷ Write ∷ Read ∷ []
+all_verbs =
+    Forget ∷ Resume ∷ Stash ∷ Retrieve ∷ Ignore ∷ Remember ∷ Abstain ∷ Reinstate ∷ Give ∷ Write
+    ∷ Read ∷ []
 
 verb_is_first : (v : Verb) (l : List ℕ) → first_of verb_word all_verbs (verb_word v ++ l) ≡ Some v
 unfolding begins_with first_of
@@ -91,7 +105,8 @@ verb_is_first Give l = refl
 verb_is_first Write l = refl
 verb_is_first Read l = refl
 
-pub verb_unique : (v v' : Verb) {from to to' : List ℕ} → IsWord (verb_word v) from to → IsWord (verb_word v') from to' → v ≡ v'
+pub verb_unique : (v v' : Verb) {from to to' : List ℕ} → IsWord (verb_word v) from to →
+    IsWord (verb_word v') from to' → v ≡ v'
 verb_unique v v' {to = to} {to' = to'} p q =
     let e = ap (first_of verb_word all_verbs) (sym p.spelled ∙ q.spelled) in
     let f : Some v ≡ Some v' = sym (verb_is_first v to) ∙ e ∙ verb_is_first v' to' in
@@ -133,7 +148,8 @@ bracket_or_gerund Reinstating = refl
 bracket_or_gerund WritingIn = refl
 bracket_or_gerund ReadingOut = refl
 
-pub no_gerund_in_brackets : (g : Gerund) {from to to' : List ℕ} → IsWord (codes "(") from to → IsWord (gerund_word g) from to' → ⊥
+pub no_gerund_in_brackets : (g : Gerund) {from to to' : List ℕ} →
+    IsWord (codes "(") from to → IsWord (gerund_word g) from to' → ⊥
 no_gerund_in_brackets g p q = words_differ (codes "(") (gerund_word g) (bracket_or_gerund g) p q
 
 bracket_or_verb : (v : Verb) → differ (codes "(") (verb_word v) ≡ true
@@ -150,11 +166,13 @@ bracket_or_verb Give = refl
 bracket_or_verb Write = refl
 bracket_or_verb Read = refl
 
-pub no_verb_in_brackets : (v : Verb) {from to to' : List ℕ} → IsWord (codes "(") from to → IsWord (verb_word v) from to' → ⊥
+pub no_verb_in_brackets : (v : Verb) {from to to' : List ℕ} →
+    IsWord (codes "(") from to → IsWord (verb_word v) from to' → ⊥
 no_verb_in_brackets v p q = words_differ (codes "(") (verb_word v) (bracket_or_verb v) p q
 
 -- what holds at each position of the list holds of each member
-pub each_gerund : (P : Gerund → Type 0) → ((k : ℕ) → k < 12 → P (get_or all_gerunds k Calculating)) → (g : Gerund) → P g
+pub each_gerund : (P : Gerund → Type 0) → ((k : ℕ) → k < 12 →
+    P (get_or all_gerunds k Calculating)) → (g : Gerund) → P g
 each_gerund P at Calculating = at 0 (lit< tt)
 each_gerund P at Nexting = at 1 (lit< tt)
 each_gerund P at Forgetting = at 2 (lit< tt)
@@ -168,7 +186,8 @@ each_gerund P at Reinstating = at 9 (lit< tt)
 each_gerund P at WritingIn = at 10 (lit< tt)
 each_gerund P at ReadingOut = at 11 (lit< tt)
 
-pub each_verb : (P : Verb → Type 0) → ((k : ℕ) → k < 11 → P (get_or all_verbs k Forget)) → (v : Verb) → P v
+pub each_verb : (P : Verb → Type 0) → ((k : ℕ) → k < 11 → P (get_or all_verbs k Forget)) → (v : Verb) →
+    P v
 each_verb P at Forget = at 0 (lit< tt)
 each_verb P at Resume = at 1 (lit< tt)
 each_verb P at Stash = at 2 (lit< tt)
@@ -182,10 +201,14 @@ each_verb P at Write = at 9 (lit< tt)
 each_verb P at Read = at 10 (lit< tt)
 
 -- whether a word was found tells whether it stands
-pub word_stands : (word from text : List ℕ) (o : Option Position) → MatchOption o ((to : List ℕ) → IsWord word from to → ⊥) (λ to. IsWord word from (left_at text to)) → true ≡ is_some o → (to : List ℕ) × IsWord word from to
+pub word_stands : (word from text : List ℕ) (o : Option Position) →
+    MatchOption o ((to : List ℕ) → IsWord word from to → ⊥) (λ to. IsWord word from (left_at text to)) →
+    true ≡ is_some o → (to : List ℕ) × IsWord word from to
 word_stands word from text None w e = absurd (cc)
 word_stands word from text (Some to) w e = (left_at text to, w)
 
-pub no_word_stands : (word from text : List ℕ) (o : Option Position) → MatchOption o ((to : List ℕ) → IsWord word from to → ⊥) (λ to. IsWord word from (left_at text to)) → false ≡ is_some o → (to : List ℕ) → IsWord word from to → ⊥
+pub no_word_stands : (word from text : List ℕ) (o : Option Position) →
+    MatchOption o ((to : List ℕ) → IsWord word from to → ⊥) (λ to. IsWord word from (left_at text to)) →
+    false ≡ is_some o → (to : List ℕ) → IsWord word from to → ⊥
 no_word_stands word from text None w e = w
 no_word_stands word from text (Some to) w e = absurd (cc)

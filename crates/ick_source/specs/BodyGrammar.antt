@@ -19,16 +19,15 @@ use Rattle.ick_source.specs.Expression.{IsExpr, IsElement}
 use Rattle.ick_source.specs.Gerund.{gerund_word, second_word}
 use Rattle.ick_source.specs.Verb.{verb_word}
 use Rattle.ick_source.specs.BodyTree.{ItemTree, single, whole, BodyTree, calculate, dimension, next, forget, resume}
-use Rattle.ick_source.specs.BodyTree.{stash}
-use Rattle.ick_source.specs.BodyTree.{retrieve, ignore, remember, abstain_label, abstain_kinds, reinstate_label}
-use Rattle.ick_source.specs.BodyTree.{reinstate_kinds}
-use Rattle.ick_source.specs.BodyTree.{give_up, write_in, read_out}
+use Rattle.ick_source.specs.BodyTree.{stash, retrieve, ignore, remember, abstain_label, abstain_kinds, reinstate_label}
+use Rattle.ick_source.specs.BodyTree.{reinstate_kinds, give_up, write_in, read_out}
 
 abbrev pub Part : Type 0 → Type 1
 Part A = List ℕ → List ℕ → A → Type 0
 
 -- one or more parts, with the word between them; a further part is there exactly where the word stands
-pub data IsSeparated (A : Type 0) (part : Part A) (separator : List ℕ) : List ℕ → List ℕ → List A → Type 0 where
+pub data IsSeparated (A : Type 0) (part : Part A) (separator : List ℕ) : List ℕ → List ℕ → List A →
+    Type 0 where
   only : {from to : List ℕ} {x : A} →
       part from to x →
       ((after : List ℕ) → IsWord separator to after → ⊥) →

@@ -1,5 +1,6 @@
 -- Where statements may start and end: positions of the whole text.
-use Rattle.std.specs.Prelude.{◌≡◌, ℕ, ◌+◌, ◌<◌, ◌≤◌, Bool, true, false, List, length, Option, Some, None, codes}
+use Rattle.std.specs.Prelude.{◌≡◌, ℕ, ◌+◌, ◌<◌, ◌≤◌, Bool, true, false, List, length, Option}
+use Rattle.std.specs.Prelude.{Some, None, codes}
 use Rattle.ick_source.specs.Bytes.{byte, IsGap, IsNumberIn, IsWordIn}
 
 -- PLEASE, white bytes and DO; or else PLEASE; or else DO; the first two are polite
@@ -24,9 +25,10 @@ pub record IsLabelIn (text : List ℕ) (from to number : ℕ) : Type 0 where
 
 -- an identifier; or a label, white bytes and an identifier
 pub data IsOpening (text : List ℕ) : ℕ → ℕ → Option ℕ → Bool → Type 0 where
-  unlabelled : {from to : ℕ} {polite : Bool} → IsIdentifier text from to polite → IsOpening text from to None polite
-  labelled : {from last next to number : ℕ} {polite : Bool} → IsLabelIn text from last number → IsGap text last next →
-      IsIdentifier text next to polite → IsOpening text from to (Some number) polite
+  unlabelled : {from to : ℕ} {polite : Bool} → IsIdentifier text from to polite →
+      IsOpening text from to None polite
+  labelled : {from last next to number : ℕ} {polite : Bool} → IsLabelIn text from last number →
+      IsGap text last next → IsIdentifier text next to polite → IsOpening text from to (Some number) polite
 
 -- a position where an opening stands
 pub record IsStart (text : List ℕ) (at : ℕ) : Type 0 where

@@ -2,7 +2,8 @@
 -- another. Statements begin and end at bytes, so the cut counts these. The grammar of bodies has numbers, words and
 -- labels of its own, between characters (Token, BodyGrammar), since a body may go on between the two characters of a
 -- `!`: where both have a fact, the one between bytes ends in `In`.
-use Rattle.std.specs.Prelude.{◌≡◌, ℕ, ◌+◌, ◌<◌, ◌≤◌, List, [], ◌∷◌, slice_index, slice_range, IsTrue}
+use Rattle.std.specs.Prelude.{◌≡◌, ℕ, ◌+◌, ◌<◌, ◌≤◌, List, [], ◌∷◌, slice_index}
+use Rattle.std.specs.Prelude.{slice_range, IsTrue}
 use Rattle.ick_bits.specs.White.{is_white_byte}
 use Rattle.ick_source.specs.Token.{is_digit, value_of_digits}
 

@@ -17,7 +17,8 @@ abbrev pub Reading : Type 1
 Reading = List ℕ → Tree → ℕ → Type 0
 
 -- a tree stands there, no higher than the limit: clamped, with its height and its numbers out of range
-pub record Stands (R : Reading) (limit : ℕ) (to : List ℕ) (seen : Tree) (height : ℕ) (faults : Faults) : Type 0 where
+pub record Stands (R : Reading) (limit : ℕ) (to : List ℕ) (seen : Tree) (height : ℕ)
+    (faults : Faults) : Type 0 where
   pub tree : Tree
   pub stands : R to tree height
   pub low : height ≤ limit
@@ -71,10 +72,12 @@ AnswersTrees R limit text (Some s) = AllStand R limit (left_at text s.to) (trees
 
 -- these after others
 pub data GoesAfter (R : Readings) (others : Trees) (below : ℕ) : List ℕ → Trees → ℕ → Type 0 where
-  after : {to : List ℕ} {ts : Trees} {h : ℕ} → R to ts h → GoesAfter R others below to (join others ts) (max below h)
+  after : {to : List ℕ} {ts : Trees} {h : ℕ} → R to ts h →
+      GoesAfter R others below to (join others ts) (max below h)
 
 -- whatever the subscripts before are, what is answered goes on from them
-abbrev pub AnswersFrom : Readings → ℕ → List ℕ → Measured (Vec Expr) → Option (Measured (Vec Expr)) → Type 0
+abbrev pub AnswersFrom : Readings → ℕ → List ℕ → Measured (Vec Expr) → Option (Measured (Vec Expr)) →
+    Type 0
 AnswersFrom R limit text before answer =
     (others : Trees) →
     trees_in before.value.items ≡ clamped_trees others →

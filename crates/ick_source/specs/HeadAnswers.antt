@@ -12,7 +12,8 @@ IsCapped value number = value ≡ min number cap
 
 -- R to a says that a stands at a position and ends at `to`; Some answers an end and, seen through Q, a value; None
 -- says that nothing stands there
-abbrev pub Scans : {X A : Type 0} → (ℕ → A → Type 0) → (X → A → Type 0) → Option (Scanned X ℕ) → Type 0
+abbrev pub Scans : {X A : Type 0} → (ℕ → A → Type 0) → (X → A → Type 0) → Option (Scanned X ℕ) →
+    Type 0
 Scans {X} {A} R Q None = (to : ℕ) (a : A) → R to a → ⊥
 Scans {X} {A} R Q (Some r) = (a : A) × R r.to a × Q r.value a
 

@@ -13,7 +13,8 @@ use Rattle.ick_source.specs.Refusals.{HoldsAt, HasLabel}
 pub record HasLabels (trees : List StatementTree) (count : ℕ) (labels : BTreeSet ℕ) : Type 0 where
   pub only : (label : ℕ) → IsTrue (contains nat_cmp labels label) →
       (m : ℕ) × (m ≤ count) × HoldsAt (HasLabel label) trees m
-  pub all : (label m : ℕ) → m ≤ count → HoldsAt (HasLabel label) trees m → IsTrue (contains nat_cmp labels label)
+  pub all : (label m : ℕ) → m ≤ count → HoldsAt (HasLabel label) trees m →
+      IsTrue (contains nat_cmp labels label)
 
 -- the fault of a use of a label that no statement has
 abbrev pub fault_of_use : LabelUse → FaultKind

@@ -1,5 +1,6 @@
 -- What may stand between the opening and the body of a statement: NOT or N'T, and a percentage.
-use Rattle.std.specs.Prelude.{◌≡◌, ℕ, ◌+◌, ◌≤◌, ◌⊎◌, Bool, true, false, List, Option, Some, None, codes}
+use Rattle.std.specs.Prelude.{◌≡◌, ℕ, ◌+◌, ◌≤◌, ◌⊎◌, Bool, true, false, List, Option, Some}
+use Rattle.std.specs.Prelude.{None, codes}
 use Rattle.ick_source.specs.Bytes.{byte, IsGap, IsNumberIn, IsWordIn}
 
 abbrev pub IsNegation : List ℕ → ℕ → Type 0
@@ -8,7 +9,8 @@ IsNegation text at = IsWordIn text at (codes "NOT") ⊎ IsWordIn text at (codes 
 -- white bytes and a negation, where they stand; else nothing
 pub data IsNegated (text : List ℕ) : ℕ → ℕ → Bool → Type 0 where
   negated : {from next : ℕ} → IsGap text from next → IsNegation text next → IsNegated text from (next + 3) true
-  affirmed : {from next : ℕ} → IsGap text from next → (IsNegation text next → ⊥) → IsNegated text from from false
+  affirmed : {from next : ℕ} → IsGap text from next → (IsNegation text next → ⊥) →
+      IsNegated text from from false
 
 -- % and a number of at most 100
 pub record IsPercentage (text : List ℕ) (from to number : ℕ) : Type 0 where

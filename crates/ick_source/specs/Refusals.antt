@@ -1,6 +1,6 @@
 -- Which texts compile, to which statements, and which are refused.
-use Rattle.std.specs.Prelude.{◌≡◌, ℕ, zero, suc, ◌/◌, ◌<◌, ◌≤◌, List, length, slice_get, Option, Some, None}
-use Rattle.std.specs.Prelude.{option_and_then, IsSomeAnd, IsTrue}
+use Rattle.std.specs.Prelude.{◌≡◌, ℕ, zero, suc, ◌/◌, ◌<◌, ◌≤◌, List, length, slice_get, Option}
+use Rattle.std.specs.Prelude.{Some, None, option_and_then, IsSomeAnd, IsTrue}
 use Rattle.ick_bits.specs.declared.faults.FaultKind.{FaultKind}
 use Rattle.ick_bits.specs.declared.faults.FaultKind.TheVariants.{MeshTooLarge, NameRange, LabelRange, SameLabel}
 use Rattle.ick_bits.specs.declared.faults.FaultKind.TheVariants.{NoNextLabel, NoAbstainLabel, Impolite, Fawning}

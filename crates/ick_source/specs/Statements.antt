@@ -1,5 +1,6 @@
 -- One statement of a text: its head, its body and its bytes.
-use Rattle.std.specs.Prelude.{◌≡◌, ℕ, ◌+◌, ◌<◌, ◌≤◌, List, Option, Some, None, slice_range, unwrap_or}
+use Rattle.std.specs.Prelude.{◌≡◌, ℕ, ◌+◌, ◌<◌, ◌≤◌, List, Option, Some, None, slice_range}
+use Rattle.std.specs.Prelude.{unwrap_or}
 use Rattle.ick_source.specs.Bytes.{byte, IsWhite, IsGap}
 use Rattle.ick_source.specs.Boundaries.{IsOpening, IsBoundary, IsNextBoundary}
 use Rattle.ick_source.specs.Qualifiers.{AreQualifiers}

@@ -40,7 +40,8 @@ fn byte_position(text: &[u8], position: Position) -> Option<usize>
     ensures { MatchOption result
         ((j : ℕ) → j ≤ length text.now →
         characters (drop j text.now) ≡ left_at text.now position → ⊥)
-        (λ j. (j ≤ length text.now) × (characters (drop j text.now) ≡ left_at text.now position)) }
+        (λ j. (j ≤ length text.now)
+        × (characters (drop j text.now) ≡ left_at text.now position)) }
 {
     let at = position.at.min(text.len());
     if !position.between {

@@ -1,7 +1,8 @@
 //! Bytes, gaps, words and numbers between bytes of a text. The grammar reads words and numbers
 //! between characters instead (`token`): where both have a reader, the one here ends in `_in`.
 
-ghost use Rattle.std.specs.Prelude.{◌≡◌, ◌+◌, ◌-◌, ◌*◌, ◌<◌, ◌≤◌, ◌≢◌, ◌↔◌};
+ghost use Rattle.std.specs.Prelude.{◌≡◌, ◌+◌, ◌-◌, ◌*◌, ◌<◌, ◌≤◌};
+ghost use Rattle.std.specs.Prelude.{◌≢◌, ◌↔◌};
 ghost use Rattle.std.specs.Prelude.{length, min, slice_index, true, IsTrue, IfSome};
 ghost use Rattle.ick_source.specs.Bytes.{byte, IsGap, IsNumberIn, IsWordIn};
 ghost use Rattle.ick_source.specs.Token.{cap, is_digit};

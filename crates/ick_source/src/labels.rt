@@ -1,6 +1,7 @@
 //! The labels of statements: each of one statement only, and each one that is used there.
 
-ghost use Rattle.std.specs.Prelude.{◌≡◌, ◌+◌, length, Option, option_and_then, IfOk, IfErr, OnOk};
+ghost use Rattle.std.specs.Prelude.{◌≡◌, ◌+◌, length, Option, option_and_then, IfOk};
+ghost use Rattle.std.specs.Prelude.{IfErr, OnOk};
 ghost use Rattle.ick_source.specs.BodyTree.{body_tree_of};
 ghost use Rattle.ick_source.specs.StatementTree.{statement_trees, AreNumbered};
 ghost use Rattle.ick_source.specs.Refusals.{IsSoundBelow, rank, used_label};

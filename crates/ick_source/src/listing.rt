@@ -1,7 +1,7 @@
 //! The lines of a program's statements.
 
-ghost use Rattle.std.specs.Prelude.{◌≡◌, ◌+◌, ◌<◌, ◌≤◌, ◌++◌, length, take, codes, if◌then◌else◌};
-ghost use Rattle.std.specs.Prelude.{OnOk, OnErr, vec_len, vec_capacity};
+ghost use Rattle.std.specs.Prelude.{◌≡◌, ◌+◌, ◌<◌, ◌≤◌, ◌++◌, length, take};
+ghost use Rattle.std.specs.Prelude.{codes, if◌then◌else◌, OnOk, OnErr, vec_len, vec_capacity};
 ghost use Rattle.ick_source.specs.StatementTree.{statement_tree_of, statement_trees, AreNumbered};
 ghost use Rattle.ick_source.specs.Programs.{trees_of};
 ghost use Rattle.ick_source.specs.Listing.{label_text, line_of, listing};

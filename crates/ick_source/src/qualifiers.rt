@@ -1,6 +1,7 @@
 //! What stands between the opening and the body of a statement.
 
-ghost use Rattle.std.specs.Prelude.{◌≡◌, ◌+◌, ◌≤◌, ◌↔◌, length, IfSome, IsTrue};
+ghost use Rattle.std.specs.Prelude.{◌≡◌, ◌+◌, ◌≤◌, ◌↔◌, length, IfSome};
+ghost use Rattle.std.specs.Prelude.{IsTrue};
 ghost use Rattle.ick_source.specs.Qualifiers.{IsNegation, IsNegated, IsPercentage, IsChance};
 ghost use Rattle.ick_source.specs.HeadAnswers.{Scans, ReadsQualifiers};
 

@@ -1,7 +1,7 @@
 //! The first statements whose numbers are out of range.
 
-ghost use Rattle.std.specs.Prelude.{◌≡◌, ◌+◌, ◌++◌, ◌∷◌, [], List, Bool, length, OnOk, IfErr};
-ghost use Rattle.std.specs.Prelude.{IfNone, IsTrue, false};
+ghost use Rattle.std.specs.Prelude.{◌≡◌, ◌+◌, ◌++◌, ◌∷◌, [], List, Bool};
+ghost use Rattle.std.specs.Prelude.{length, OnOk, IfErr, IfNone, IsTrue, false};
 ghost use Rattle.ick_source.specs.StatementTree.{StatementTree};
 ghost use Rattle.ick_source.specs.Refusals.{HoldsAt};
 ghost use Rattle.ick_source.specs.Ranges.{IsFirst};
@@ -38,8 +38,8 @@ impl OutOfRange {
     /// With one more statement, which has this number.
     pub fn noting(self, number: u32, faults: Faults) -> OutOfRange
         ensures first { (trees : List StatementTree) (t : StatementTree) →
-            number ≡ length trees + 1 → AreFirst self trees → faults ≡ faults_of_statement t →
-            AreFirst result (trees ++ t ∷ []) }
+            number ≡ length trees + 1 → AreFirst self trees →
+            faults ≡ faults_of_statement t → AreFirst result (trees ++ t ∷ []) }
         ensures empty { IsEmpty result → IsEmpty self × (faults ≡ no_faults) }
     {
         OutOfRange {
@@ -71,8 +71,8 @@ impl OutOfRange {
 /// The number of the first statement that has a fault: the earlier one, or else this one where it
 /// has the fault.
 fn first_of(earlier: Option<u32>, number: u32, has: bool) -> Option<u32>
-    ensures first { (p : StatementTree → Bool) (trees : List StatementTree) (t : StatementTree) →
-        number ≡ length trees + 1 → has ≡ p t →
+    ensures first { (p : StatementTree → Bool) (trees : List StatementTree) (t : StatementTree)
+        → number ≡ length trees + 1 → has ≡ p t →
         IsFirst (HoldsAt (λ x. IsTrue (p x)) trees) earlier →
         IsFirst (HoldsAt (λ x. IsTrue (p x)) (trees ++ t ∷ [])) result }
     ensures none { IfNone result ((earlier ≡ None) × (has ≡ false)) }

@@ -1,6 +1,7 @@
 //! A source text as a program.
 
-ghost use Rattle.std.specs.Prelude.{◌≡◌, ℕ, ◌+◌, ◌-◌, ◌*◌, ◌^◌, ◌<◌, ◌≤◌, List, [], ◌∷◌, ◌++◌, ◌↔◌};
+ghost use Rattle.std.specs.Prelude.{◌≡◌, ℕ, ◌+◌, ◌-◌, ◌*◌, ◌^◌, ◌<◌};
+ghost use Rattle.std.specs.Prelude.{◌≤◌, List, [], ◌∷◌, ◌++◌, ◌↔◌};
 ghost use Rattle.std.specs.Prelude.{length, IfOk, IfErr, OnOk, IsErrOf};
 ghost use Rattle.ick_bits.specs.declared.faults.FaultKind.{FaultKind};
 ghost use Rattle.ick_source.specs.StatementTree.{StatementTree};

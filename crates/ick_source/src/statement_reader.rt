@@ -1,6 +1,7 @@
 //! One statement of a text.
 
-ghost use Rattle.std.specs.Prelude.{◌≡◌, ℕ, ◌<◌, ◌≤◌, length, Option, Some, IfOk, MatchOption};
+ghost use Rattle.std.specs.Prelude.{◌≡◌, ℕ, ◌<◌, ◌≤◌, length, Option, Some, IfOk};
+ghost use Rattle.std.specs.Prelude.{MatchOption};
 ghost use Rattle.ick_source.specs.Bytes.{byte, IsWhite};
 ghost use Rattle.ick_source.specs.Boundaries.{IsStart};
 ghost use Rattle.ick_source.specs.StatementTree.{StatementTree};

@@ -1,5 +1,6 @@
 //! `ick run`: a program is run, while its input comes and its output goes.
-ghost use Rattle.std.specs.Prelude.{◌≡◌, ◌+◌, ◌<◌, ◌^◌, Bool, List, [], true, unwrap_or};
+ghost use Rattle.std.specs.Prelude.{◌≡◌, ◌+◌, ◌<◌, ◌^◌, Bool, List, [], true};
+ghost use Rattle.std.specs.Prelude.{unwrap_or};
 ghost use Rattle.ick_code.specs.Compiled.{code_program};
 ghost use Rattle.ick_code.specs.meaning.Move.{first_state};
 ghost use Rattle.ick_runs.specs.Chosen.{IsChosen, chosen_of};

@@ -1,5 +1,6 @@
 //! `ick runs`: the runs of a program are listed.
-ghost use Rattle.std.specs.Prelude.{◌≡◌, ◌+◌, ◌<◌, ◌≤◌, ◌^◌, IfErr, IfOk, [], false, true};
+ghost use Rattle.std.specs.Prelude.{◌≡◌, ◌+◌, ◌<◌, ◌≤◌, ◌^◌, IfErr, IfOk};
+ghost use Rattle.std.specs.Prelude.{[], false, true};
 ghost use Rattle.ick_code.specs.Compiled.{code_program};
 ghost use Rattle.ick_code.specs.meaning.Move.{first_state};
 ghost use Rattle.ick_code.specs.meaning.State.{State};
@@ -57,7 +58,8 @@ fn list_over<W: ByteSink>(
 ) -> Ending
     requires { W.failed writer.old + 1 < 2 ^ 64 }
     ensures leaves { LeavesWriter result (W.failed writer.old) (W.failed writer.new) }
-    ensures answer { W.told ≡ true → (answer : Answer) → let program = code_program code.now in
+    ensures answer { W.told ≡ true → (answer : Answer)
+        → let program = code_program code.now in
         IsRunsAnswer program (first_state program input.now) limit count from.now answer
         → Answers answer result (W.written writer.old) (W.written writer.new) }
 {
@@ -125,7 +127,8 @@ fn list_from<'c, M: Asks<'c>, W: ByteSink>(
     requires small { (explored explorer).limit < 2 ^ 32 }
     requires fresh { (explored explorer).work ≤ (explored explorer).limit }
     ensures leaves { LeavesWriter result (W.failed writer.old) (W.failed writer.new) }
-    ensures answer { W.told ≡ true → (s : State) → Stands s (explored explorer) → (answer : Answer)
+    ensures answer { W.told ≡ true → (s : State) → Stands s (explored explorer)
+        → (answer : Answer)
         → IsRunsAnswerAt s count (explored explorer) answer
         → Answers answer result (W.written writer.old) (W.written writer.new) }
 {

@@ -1,6 +1,7 @@
 -- Turing text: an array of one dimension is printed and read as bytes, each as a distance on a tape from the last one
 -- (Revised Manual, 5.2). An array without dimensions, or with more than one, is a fault before any byte.
-use Rattle.std.specs.Prelude.{ℕ, zero, suc, ◌==◌, List, [], ◌∷◌, ◌++◌, drop, length, if◌then◌else◌}
+use Rattle.std.specs.Prelude.{ℕ, zero, suc, ◌==◌, List, [], ◌∷◌, ◌++◌, drop, length}
+use Rattle.std.specs.Prelude.{if◌then◌else◌}
 use Rattle.ick_bits.specs.Tape.{tape_position, tape_difference, reversed_byte}
 use Rattle.ick_bits.specs.declared.faults.FaultKind.TheVariants.{Hyperspace}
 use Rattle.ick_source.specs.declared.tree.Name.{Name}

@@ -70,8 +70,8 @@ const BODIES: [&[u8]; 48] = [
     b"%20 SOMETHING ELSE",
 ];
 
-/// Arrays and stashes, and then four to twelve of the bodies, with labels from 1 on. Every fourth of
-/// them is polite.
+/// Arrays and stashes, and then four to twelve of the bodies, with labels from 1 on. Every fourth
+/// of them is polite.
 fn source_of(rt: &impl Abort, alloc: Global, words: &mut Words) -> Vec<u8> {
     let mut source = Vec::from_slice(alloc, BEGINNING).expect(rt, "memory");
     let last = 4 + words.below(9);

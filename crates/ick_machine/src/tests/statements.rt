@@ -1,4 +1,5 @@
-//! Plans held against operations: pseudo-random statements, each done both ways from equal memories.
+//! Plans held against operations: pseudo-random statements, each done both ways from equal
+//! memories.
 
 ghost use Rattle.std.specs.Prelude.{◌≡◌, true};
 ghost use Rattle.std.proofs.Props.{props};

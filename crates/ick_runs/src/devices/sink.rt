@@ -1,7 +1,7 @@
 //! Where bytes go.
-ghost use Rattle.std.specs.Prelude.{◌≡◌, ◌+◌, ◌≤◌, ◌<◌, ◌^◌, ◌++◌, if◌then◌else◌};
-ghost use Rattle.std.specs.Prelude.{ℕ, List, Bool, true};
-ghost use Rattle.std.specs.Prelude.{IfOk, OnErr, is_ok, length, take};
+ghost use Rattle.std.specs.Prelude.{◌≡◌, ◌+◌, ◌≤◌, ◌<◌, ◌^◌, ◌++◌};
+ghost use Rattle.std.specs.Prelude.{if◌then◌else◌, ℕ, List, Bool, true, IfOk, OnErr, is_ok};
+ghost use Rattle.std.specs.Prelude.{length, take};
 
 use crate::devices::DeviceFault;
 

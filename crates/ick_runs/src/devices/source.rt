@@ -1,7 +1,7 @@
 //! Where bytes come from.
-ghost use Rattle.std.specs.Prelude.{◌≡◌, ◌+◌, ◌≤◌, ◌<◌, ◌^◌, ◌++◌, if◌then◌else◌};
-ghost use Rattle.std.specs.Prelude.{ℕ, List, Bool, [], true};
-ghost use Rattle.std.specs.Prelude.{IfOk, OnErr, is_ok, length, take};
+ghost use Rattle.std.specs.Prelude.{◌≡◌, ◌+◌, ◌≤◌, ◌<◌, ◌^◌, ◌++◌};
+ghost use Rattle.std.specs.Prelude.{if◌then◌else◌, ℕ, List, Bool, [], true, IfOk, OnErr};
+ghost use Rattle.std.specs.Prelude.{is_ok, length, take};
 
 /// A device didn't do what it was asked for.
 #[derive(Clone, Copy, Debug, PartialEq, Eq)]

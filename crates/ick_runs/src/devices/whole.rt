@@ -1,5 +1,6 @@
 //! The front of a source that is read, and a text that is written whole.
-ghost use Rattle.std.specs.Prelude.{◌≡◌, ◌+◌, ◌≤◌, ◌<◌, ◌^◌, ◌++◌, ℕ, true, if◌then◌else◌};
+ghost use Rattle.std.specs.Prelude.{◌≡◌, ◌+◌, ◌≤◌, ◌<◌, ◌^◌, ◌++◌, ℕ};
+ghost use Rattle.std.specs.Prelude.{true, if◌then◌else◌};
 ghost use Rattle.std.specs.Prelude.{IfOk, OnOk, is_ok, length, take, drop};
 ghost use Rattle.ick_runs.specs.Whole.{read_failures};
 

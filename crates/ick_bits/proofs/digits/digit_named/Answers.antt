@@ -10,11 +10,14 @@ loop-name-init c = refl
 pub loop-name-preserved : goal.loop-name-preserved
 loop-name-preserved c =
     c.loop-name.invariant
-    ∙ named-past c.args.word.now _ c.loop-name.name-index c.loop-name-test.true (sym c.is_name.ensures ∙ c.if-is_name.false)
+    ∙ named-past c.args.word.now _ c.loop-name.name-index c.loop-name-test.true
+    (sym c.is_name.ensures ∙ c.if-is_name.false)
 
 pub returns-then-is_name-clause-value : goal.returns-then-is_name-clause-value
 returns-then-is_name-clause-value c =
-    sym (c.loop-name.invariant ∙ named-here c.args.word.now _ c.loop-name.name-index c.loop-name-test.true (sym c.is_name.ensures ∙ c.if-is_name.true))
+    sym (c.loop-name.invariant ∙ named-here c.args.word.now _ c.loop-name.name-index c.loop-name-test.true
+    (sym c.is_name.ensures ∙ c.if-is_name.true))
 
 pub returns-clause-value : goal.returns-clause-value
-returns-clause-value c = sym (c.loop-name.invariant ∙ named-nowhere c.args.word.now _ c.loop-name.name-index c.loop-name-test.false)
+returns-clause-value c =
+    sym (c.loop-name.invariant ∙ named-nowhere c.args.word.now _ c.loop-name.name-index c.loop-name-test.false)

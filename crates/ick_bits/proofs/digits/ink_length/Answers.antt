@@ -5,8 +5,10 @@ use Rattle.ick_bits.proofs.digits.ink_length.Goals as goal
 
 pub returns-then-is_white : goal.returns-then-is_white
 returns-then-is_white c =
-    let here : is_white_byte (get_or c.args.rest.now c.loop-index.index 0) ≡ true = sym c.is_white.ensures ∙ c.if-is_white.true in
-    sym (position_or_len_is is_white_byte c.args.rest.now c.loop-index.index 0 (omega arith) c.loop-index.invariant (λ l. here))
+    let here : is_white_byte (get_or c.args.rest.now c.loop-index.index 0) ≡ true =
+    sym c.is_white.ensures ∙ c.if-is_white.true in
+    sym (position_or_len_is is_white_byte c.args.rest.now c.loop-index.index 0 (omega arith) c.loop-index.invariant
+    (λ l. here))
 
 pub returns : goal.returns
 returns c =

@@ -11,6 +11,8 @@ loop-index-preserved c = elim c.if-symbol.branch [
   }
   | else-symbol w ↦ record {
     within = omega (arith, w.count-is, c.loop-index.invariant.within);
-    bars = rw w.count-is (bars_plain c.args.symbols.now c.loop-index.index _ c.loop-index-test.true w.if-symbol.false ∙ c.loop-index.invariant.bars);
+    bars =
+        rw w.count-is (bars_plain c.args.symbols.now c.loop-index.index _ c.loop-index-test.true w.if-symbol.false
+        ∙ c.loop-index.invariant.bars);
   }
 ]

@@ -11,6 +11,7 @@ returns-in_err-push_escaped-clause-full c =
     let full = c.in_err-push_escaped.ensures.full in
     let part = length-flat_map-take escaped c.args.text.now c.loop-byte.byte-index 0 c.loop-byte-test.true in
     let items = ap length c.loop-byte.invariant.items in
-    let before = length-append c.args.out.now.items (34 ∷ flat_map escaped (take c.loop-byte.byte-index c.args.text.now)) in
+    let before =
+    length-append c.args.out.now.items (34 ∷ flat_map escaped (take c.loop-byte.byte-index c.args.text.now)) in
     let whole = length-append (flat_map escaped c.args.text.now) (34 ∷ []) in
     on-err c.from_residual-in_err-push_escaped.result (omega (arith, full, part, items, before, whole))

@@ -10,7 +10,8 @@ returns-in-Err-clause-answer g c = λ files_told reader_told writer_told answer 
     answered_unplanned (task_of c.args.job.now.subcommand) _ _ c.in-Err.ending _ c.in-Err.ensures.err answer is
 
 pub returns-in-Some-clause-unplanned : goal.returns-in-Some-clause-unplanned
-returns-in-Some-clause-unplanned g c = λ line h. absurd (planned_not_unplanned _ c.in-Ok.plan line c.in-Ok.ensures.ok h)
+returns-in-Some-clause-unplanned g c =
+    λ line h. absurd (planned_not_unplanned _ c.in-Ok.plan line c.in-Ok.ensures.ok h)
 
 pub returns-in-Some-clause-answer : goal.returns-in-Some-clause-answer
 returns-in-Some-clause-answer g c = λ files_told reader_told writer_told answer is.

@@ -1,5 +1,5 @@
-use Rattle.std.proofs.Common.{◌≡◌, ◌∙◌, List, ℕ, Result, Ok, Err, if◌then◌else◌, false, refl, arith, subst, sym, is_ok}
-use Rattle.std.proofs.Common.{take}
+use Rattle.std.proofs.Common.{◌≡◌, ◌∙◌, List, ℕ, Result, Ok, Err, if◌then◌else◌, false, refl, arith}
+use Rattle.std.proofs.Common.{subst, sym, is_ok, take}
 use Rattle.std.specs.Prelude.{IfOk, is_err}
 use Rattle.ick_cli.specs.Tool.{IsSourceAnswer}
 use Rattle.ick_cli.specs.declared.dispatch.TheConstants.{MOST_READ}

@@ -24,7 +24,8 @@ memory_is_mistake : (k : ErrorKind) → k ≡ kind.OutOfMemory → IsMistake k
 memory_is_mistake k e = (λ h. cc, λ h. cc)
 
 -- where the words ask for a job, an error is want of memory
-memory_ran_out : (error : Error) (kinds : Kinds) → kinds ≡ [] → HasKind kinds error → kind_of error ≡ kind.OutOfMemory
+memory_ran_out : (error : Error) (kinds : Kinds) → kinds ≡ [] → HasKind kinds error →
+    kind_of error ≡ kind.OutOfMemory
 memory_ran_out error kinds none (inl e) = e
 memory_ran_out error kinds none (inr h) = absurd (subst (λ (ks : Kinds). IsAmong (kind_of error) ks) none h)
 

@@ -4,7 +4,8 @@ use Rattle.ick_cli.specs.Tool.{longest_input}
 use Rattle.ick_cli.proofs.input.read_input.Goals as goal
 
 -- a front that ends before its most bytes is all
-all_of_front : (most : ℕ) (front whole : List ℕ) → front ≡ take (most + 1) whole → length front ≤ most → front ≡ whole
+all_of_front : (most : ℕ) (front whole : List ℕ) → front ≡ take (most + 1) whole → length front ≤ most →
+    front ≡ whole
 all_of_front most front whole is short =
     let size = ap (λ (t : List ℕ). length t) is ∙ length-take (most + 1) whole in
     is ∙ take_all (most + 1) whole (omega arith)

@@ -8,7 +8,8 @@ use Rattle.ick_cli.proofs.Planned.{given_some}
 use Rattle.ick_cli.proofs.plan.choices_of.Goals as goal
 
 -- the text that was read is the one that is given
-named : {T : Type 0} (f : T → List ℕ) (text : Option T) (t : T) (read : List ℕ) → text ≡ Some t → read ≡ f t
+named : {T : Type 0} (f : T → List ℕ) (text : Option T) (t : T) (read : List ℕ) → text ≡ Some t
+    → read ≡ f t
     → option_map f text ≡ Some read
 named f text t read is same = given_some f text t is ∙ ap (λ (x : List ℕ). Some x) (sym same)
 

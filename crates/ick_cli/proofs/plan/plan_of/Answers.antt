@@ -9,7 +9,8 @@ use Rattle.ick_cli.proofs.Lines.{by_other_line}
 use Rattle.ick_cli.proofs.plan.plan_of.Goals as goal
 
 pub returns-in-Check-clause-ok : goal.returns-in-Check-clause-ok
-returns-in-Check-clause-ok c = subst (λ (s : Subcommand). IsPlanned (task_of s) Check) (sym c.in-Check.is) check_planned
+returns-in-Check-clause-ok c =
+    subst (λ (s : Subcommand). IsPlanned (task_of s) Check) (sym c.in-Check.is) check_planned
 
 pub returns-in-List-clause-ok : goal.returns-in-List-clause-ok
 returns-in-List-clause-ok c =

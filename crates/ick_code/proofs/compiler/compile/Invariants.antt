@@ -4,4 +4,6 @@ use Rattle.ick_code.proofs.CompiledStatements.{CompiledSoFar}
 use Rattle.ick_code.proofs.compiler.compile.Given as goal
 
 abbrev pub invariant-loop-statement : goal.invariant-loop-statement
-invariant-loop-statement l = CompiledSoFar (place_in l.labels) (table_slots l.table) l.source l.ops.items l.statements.items l.operands l.statement-index
+invariant-loop-statement l =
+    CompiledSoFar (place_in l.labels) (table_slots l.table) l.source l.ops.items l.statements.items l.operands
+    l.statement-index

@@ -11,15 +11,18 @@ use Rattle.ick_code.proofs.emit.+expression.Goals as goal
 
 pub emit_exprs-loop-e-preserved : goal.emit_exprs-loop-e-preserved
 emit_exprs-loop-e-preserved t c =
-    emitted_more _ _ _ _ c.deref-e-items.result.now c.loop-e.e-index _ c.loop-e.invariant c.in_ok-emit_expr.ensures c.loop-e-test.true c.e-item.is
+    emitted_more _ _ _ _ c.deref-e-items.result.now c.loop-e.e-index _ c.loop-e.invariant c.in_ok-emit_expr.ensures
+    c.loop-e-test.true c.e-item.is
 
 pub emit_expr-returns-in_ok-emit_fetch-in-Element : goal.emit_expr-returns-in_ok-emit_fetch-in-Element
 emit_expr-returns-in_ok-emit_fetch-in-Element t c =
     c.in_ok-emit_fetch-in-Element.ensures
-    ∙ ap (λ t. c.args.ops.now.items ++ ops_of_tree (table_slots c.args.table.now) t) (sym (ap tree_of c.in-Element.is ∙ tree_of-element c.in-Element.element))
+    ∙ ap (λ t. c.args.ops.now.items ++ ops_of_tree (table_slots c.args.table.now) t)
+    (sym (ap tree_of c.in-Element.is ∙ tree_of-element c.in-Element.element))
 
 pub emit_exprs-overflow_cast-count : goal.emit_exprs-overflow_cast-count
-emit_exprs-overflow_cast-count t c = let few = few_fits c.args.list.now.items c.len-count.result (search rules) c.requires.few in omega (arith, few)
+emit_exprs-overflow_cast-count t c = let few =
+    few_fits c.args.list.now.items c.len-count.result (search rules) c.requires.few in omega (arith, few)
 
 pub emit_exprs-returns-clause-count : goal.emit_exprs-returns-clause-count
 emit_exprs-returns-clause-count t c = count_is c.args.list.now.items c.len-count.result (search rules)
@@ -33,5 +36,10 @@ pub emit_exprs-emit_expr-requires : goal.emit_exprs-emit_expr-requires
 emit_exprs-emit_expr-requires t c =
     let es = c.deref-e-items.result.now in
     let is = c.deref-e-items.ensures.value in
-    let kinded = kinded_at es c.loop-e.e-index c.e-item.result (ap (λ l. are_kinded (trees_in l)) is ∙ c.requires.kinded) c.loop-e-test.true c.e-item.is in
-    (smaller_member es c.loop-e.e-index c.e-item.result t c.loop-e-test.true c.e-item.is (ap (λ l. 1 + sizes_of (trees_in l)) is ∙ c.decreases), kinded)
+    let kinded =
+    kinded_at es c.loop-e.e-index c.e-item.result (ap (λ l. are_kinded (trees_in l)) is ∙ c.requires.kinded)
+    c.loop-e-test.true c.e-item.is in (
+      smaller_member es c.loop-e.e-index c.e-item.result t c.loop-e-test.true c.e-item.is
+          (ap (λ l. 1 + sizes_of (trees_in l)) is ∙ c.decreases),
+      kinded,
+    )

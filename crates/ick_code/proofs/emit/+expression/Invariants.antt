@@ -15,4 +15,5 @@ abbrev pub decreases-emit_exprs : goal.decreases-emit_exprs
 decreases-emit_exprs l = 1 + sizes_of (trees_in l.list.now.items)
 
 abbrev pub invariant-emit_exprs-loop-e : goal.invariant-emit_exprs-loop-e
-invariant-emit_exprs-loop-e l = l.ops.items ≡ l.initial.ops.items ++ ops_of_trees (table_slots l.table) (trees_in (take l.e-index l.e-items))
+invariant-emit_exprs-loop-e l =
+    l.ops.items ≡ l.initial.ops.items ++ ops_of_trees (table_slots l.table) (trees_in (take l.e-index l.e-items))

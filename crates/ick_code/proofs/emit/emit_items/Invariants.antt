@@ -5,4 +5,5 @@ use Rattle.ick_code.specs.Operations.{print_ops}
 use Rattle.ick_code.proofs.emit.emit_items.Given as goal
 
 abbrev pub invariant-loop-item : goal.invariant-loop-item
-invariant-loop-item l = l.ops.items ≡ l.initial.ops.items ++ flat_map (print_ops (table_slots l.table)) (take l.item-index l.items)
+invariant-loop-item l =
+    l.ops.items ≡ l.initial.ops.items ++ flat_map (print_ops (table_slots l.table)) (take l.item-index l.items)

@@ -5,4 +5,6 @@ use Rattle.ick_code.specs.Forms.{on_name_of}
 use Rattle.ick_code.proofs.emit.emit_names.Given as goal
 
 abbrev pub invariant-loop-name : goal.invariant-loop-name
-invariant-loop-name l = l.ops.items ≡ l.initial.ops.items ++ name_ops (table_slots l.table) (on_name_of l.form) (take l.name-index l.names)
+invariant-loop-name l =
+    l.ops.items
+    ≡ l.initial.ops.items ++ name_ops (table_slots l.table) (on_name_of l.form) (take l.name-index l.names)

@@ -5,4 +5,5 @@ use Rattle.ick_code.specs.Operations.{read_ops}
 use Rattle.ick_code.proofs.emit.emit_places.Given as goal
 
 abbrev pub invariant-loop-place : goal.invariant-loop-place
-invariant-loop-place l = l.ops.items ≡ l.initial.ops.items ++ flat_map (read_ops (table_slots l.table)) (take l.place-index l.places)
+invariant-loop-place l =
+    l.ops.items ≡ l.initial.ops.items ++ flat_map (read_ops (table_slots l.table)) (take l.place-index l.places)

@@ -1,4 +1,5 @@
-use Rattle.std.proofs.Common.{◌≡◌, ℕ, List, get_or, ◌-◌, ◌<◌, ◌≤◌, length, ap, ◌∙◌, sym, subst, arith}
+use Rattle.std.proofs.Common.{◌≡◌, ℕ, List, get_or, ◌-◌, ◌<◌, ◌≤◌, length, ap, ◌∙◌, sym}
+use Rattle.std.proofs.Common.{subst, arith}
 use Rattle.ick_code.specs.meaning.State.{State}
 use Rattle.ick_code.specs.meaning.Outcome.{done}
 use Rattle.ick_memory.specs.View.{View, view_of, state_of}
@@ -13,13 +14,16 @@ returns-clause-does g c = λ code input.
     let e = v.returns in
     let n = c.args.number in
     let first : 0 < n = omega (arith, c.if-number-eq0.false) in
-    let last : n ≤ length e = subst (λ l. n ≤ length l) c.as_slice-returns.ensures.value c.if-count-returns.false in
+    let last : n ≤ length e =
+    subst (λ l. n ≤ length l) c.as_slice-returns.ensures.value c.if-count-returns.false in
     let r = c.as_slice-returns.result.now in
     let to = get_or r (length r - n) 0 in
     let went : View → View = λ x. record x { place = to } in
     let put : List ℕ → State = λ l. record s { place = to; returns = l } in
-    let same : to ≡ get_or e (length e - n) 0 = ap (λ l. get_or l (length l - n) 0) c.as_slice-returns.ensures.value in
-    ap (λ x. done (state_of code input x)) (c.in_ok-put_place.ensures.view ∙ ap went c.in_ok-drop_returns.ensures.view)
+    let same : to ≡ get_or e (length e - n) 0 =
+    ap (λ l. get_or l (length l - n) 0) c.as_slice-returns.ensures.value in
+    ap (λ x. done (state_of code input x))
+    (c.in_ok-put_place.ensures.view ∙ ap went c.in_ok-drop_returns.ensures.view)
     ∙ ap (λ l. done (put l)) (drop_reverse e n last)
     ∙ sym (resume_done n to s first
     (newest_taken e n to first last (same ∙ read_any e (length e - n) 0 to (omega (arith, first, last)))))

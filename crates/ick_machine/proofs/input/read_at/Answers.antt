@@ -1,4 +1,5 @@
-use Rattle.std.proofs.Common.{rules, ◌≡◌, ◌<◌, ℕ, length, get_or, Some, Result, Err, ap, sym, ◌∙◌, subst}
+use Rattle.std.proofs.Common.{rules, ◌≡◌, ◌<◌, ℕ, length, get_or, Some, Result, Err, ap, sym, ◌∙◌}
+use Rattle.std.proofs.Common.{subst}
 use Rattle.ick_code.specs.declared.code.Code.{Code}
 use Rattle.ick_code.specs.meaning.Outcome.{Outcome}
 use Rattle.std.proofs.lemmas.List.{length-map}

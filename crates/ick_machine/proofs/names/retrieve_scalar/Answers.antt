@@ -39,7 +39,8 @@ returns-then-ignored-clause-does g c = λ input name at.
     (flag ∙ read_as v.ignored_scalars slot
     (length (scalar_names code)) false c.index-ignored.result.now true c.requires.slot
     (ap (λ z. z.ignored_scalars) c.requires.fits) c.index-ignored.ensures c.if-ignored.true))
-    ∙ retrieve_some code input v slot name is c.requires.fits w c.in-Some.number taken c.in_ok-take_scalar.ensures.view
+    ∙ retrieve_some code input v slot name is c.requires.fits w c.in-Some.number taken
+    c.in_ok-take_scalar.ensures.view
 
 pub returns-in_ok-put_scalar-in-Some-clause-does : goal.returns-in_ok-put_scalar-in-Some-clause-does
 returns-in_ok-put_scalar-in-Some-clause-does g c = λ input name at.
@@ -60,4 +61,5 @@ returns-in_ok-put_scalar-in-Some-clause-does g c = λ input name at.
     (flag ∙ read_as v.ignored_scalars slot
     (length (scalar_names code)) false c.index-ignored.result.now false c.requires.slot
     (ap (λ z. z.ignored_scalars) c.requires.fits) c.index-ignored.ensures c.if-ignored.false))
-    ∙ retrieve_some code input v slot name is c.requires.fits w c.in-Some.number taken c.in_ok-take_scalar.ensures.view
+    ∙ retrieve_some code input v slot name is c.requires.fits w c.in-Some.number taken
+    c.in_ok-take_scalar.ensures.view

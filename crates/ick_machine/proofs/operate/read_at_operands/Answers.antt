@@ -18,7 +18,8 @@ returns-clause-flow g c = λ text.
     let code = c.args.code.now in
     let items = c.args.operands.now.items in
     let k = c.args.count in
-    let go : State → Name → List Value → List Value → Flow = λ s name subs rest. flow_of rest (read_at name subs s) in
+    let go : State → Name → List Value → List Value → Flow =
+    λ s name subs rest. flow_of rest (read_at name subs s) in
     let n = named (slice_get (array_names code) c.args.slot)
     (λ name. on_last k (reverse items) (go (state_of code c.requires.sound.1 (view_of c.args.memory.now)) name))
     c.requires.sound.2.moves in

@@ -10,7 +10,8 @@ returns-in_default-clause-does g c = λ statement at.
     let code = c.args.code.now in
     let v = view_of c.args.memory.now in
     let done = c.work-done.new in
-    does_go g.R.Reader.Has c.args.reader.now code statement (code_ops code v.place) (c.law.ensures.means v.place statement at)
+    does_go g.R.Reader.Has c.args.reader.now code statement (code_ops code v.place)
+    (c.law.ensures.means v.place statement at)
     done.reader [] done.engine.operands.items v (view_of c.put_place.new.memory) (view_of done.memory)
     refl c.in_ok-put_place.ensures.view
     c.in_default.field-0 (c.in_default.ensures.flow statement.text)

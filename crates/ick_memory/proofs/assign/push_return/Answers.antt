@@ -8,5 +8,7 @@ pub returns-clause-follows : goal.returns-clause-follows
 returns-clause-follows g c = λ k before h.
     let m = c.args.memory.now in
     c.note.ensures k m _ before (c.reserve.ensures.keeps k m before h) (at_least_same _)
-    (ap (λ l. record (view_of m) { returns = all_but_last l }) c.push.ensures.items ∙ ap (λ l. record (view_of m) { returns = l }) (front_kept m.returns.items c.args.place))
-    (lt-ltb _ _ (subst (λ l. 0 < length l) (sym c.push.ensures.items) (omega (arith, length-append m.returns.items (c.args.place ∷ [])))))
+    (ap (λ l. record (view_of m) { returns = all_but_last l }) c.push.ensures.items
+    ∙ ap (λ l. record (view_of m) { returns = l }) (front_kept m.returns.items c.args.place))
+    (lt-ltb _ _ (subst (λ l. 0 < length l) (sym c.push.ensures.items)
+    (omega (arith, length-append m.returns.items (c.args.place ∷ [])))))

@@ -13,5 +13,8 @@ returns-clause-follows g c = λ k before h.
     let put : List Array → View = λ l. record (view_of m) { arrays = l } in
     let new = array_of c.args.array in
     c.note_array.ensures k m _ before (c.reserve_array.ensures.keeps k m before h) (at_least_same _)
-    (ap put (ap₂ (λ xs a. slice_set xs c.args.slot a) c.replace_array-old.ensures.arrays c.replace_array-old.ensures.old ∙ set_back had c.args.slot new no_array))
-    (lt-ltb _ _ (subst (λ n. c.args.slot < n) (sym (ap length c.replace_array-old.ensures.arrays ∙ length-set had c.args.slot new ∙ length-map m.arrays.items array_of)) c.requires.slot))
+    (ap put (ap₂ (λ xs a. slice_set xs c.args.slot a) c.replace_array-old.ensures.arrays
+    c.replace_array-old.ensures.old ∙ set_back had c.args.slot new no_array))
+    (lt-ltb _ _ (subst (λ n. c.args.slot < n)
+    (sym (ap length c.replace_array-old.ensures.arrays ∙ length-set had c.args.slot new
+    ∙ length-map m.arrays.items array_of)) c.requires.slot))

@@ -10,5 +10,6 @@ pub returns-clause-follows : goal.returns-clause-follows
 returns-clause-follows g c = λ k before h.
     let m = c.args.memory.now in
     c.note.ensures k m _ before (c.reserve.ensures.keeps k m before h) (at_least_same _)
-    (ap (λ e. record (view_of m) { end = e }) (ap (λ b. if b then Some GaveUp else None) c.is_some.ensures ∙ end_undone m.end c.requires.faultless))
+    (ap (λ e. record (view_of m) { end = e })
+    (ap (λ b. if b then Some GaveUp else None) c.is_some.ensures ∙ end_undone m.end c.requires.faultless))
     refl

@@ -7,5 +7,6 @@ pub returns-clause-follows : goal.returns-clause-follows
 returns-clause-follows g c = λ k before h.
     let m = c.args.memory.now in
     c.note.ensures k m _ before (c.reserve.ensures.keeps k m before h) (at_least_same _)
-    (ap (λ l. record (view_of m) { ignored_arrays = l }) (set_undone m.ignored_arrays.items c.args.slot c.args.on c.index.result.now c.index.ensures))
+    (ap (λ l. record (view_of m) { ignored_arrays = l })
+    (set_undone m.ignored_arrays.items c.args.slot c.args.on c.index.result.now c.index.ensures))
     (set_within m.ignored_arrays.items c.args.slot c.args.on c.requires.slot)

@@ -9,12 +9,16 @@ pub returns-in_err-append_numeral-clause-follows : goal.returns-in_err-append_nu
 returns-in_err-append_numeral-clause-follows g c = λ k before h.
     let m = c.args.memory.now in
     c.note.ensures k m _ before (c.reserve.ensures.keeps k m before h) (at_least_same _)
-    (ap (λ l. record (view_of m) { output = l }) (ap (λ n. take n c.append_numeral.new.out.items) (c.len.ensures ∙ m.output.ok.0) ∙ ap (take (length m.output.items)) c.in_err-append_numeral.ensures.err ∙ take_whole m.output.items))
+    (ap (λ l. record (view_of m) { output = l })
+    (ap (λ n. take n c.append_numeral.new.out.items) (c.len.ensures ∙ m.output.ok.0)
+    ∙ ap (take (length m.output.items)) c.in_err-append_numeral.ensures.err ∙ take_whole m.output.items))
     refl
 
 pub returns-clause-follows : goal.returns-clause-follows
 returns-clause-follows g c = λ k before h.
     let m = c.args.memory.now in
     c.note.ensures k m _ before (c.reserve.ensures.keeps k m before h) (at_least_same _)
-    (ap (λ l. record (view_of m) { output = l }) (ap (λ n. take n c.append_numeral.new.out.items) (c.len.ensures ∙ m.output.ok.0) ∙ ap (take (length m.output.items)) c.in_ok-append_numeral.ensures.ok ∙ take-append_seam m.output.items _))
+    (ap (λ l. record (view_of m) { output = l })
+    (ap (λ n. take n c.append_numeral.new.out.items) (c.len.ensures ∙ m.output.ok.0)
+    ∙ ap (take (length m.output.items)) c.in_ok-append_numeral.ensures.ok ∙ take-append_seam m.output.items _))
     refl

@@ -9,6 +9,8 @@ abbrev pub invariant-loop-at : goal.invariant-loop-at
 invariant-loop-at l = record {
   count : length l.statuses.items ≡ length l.initial.statuses.items;
   chances : map chance_of l.statuses.items ≡ map chance_of l.initial.statuses.items;
-  flags : (n : ℕ) → n ≤ l.at → flag_at l.statuses.items n ≡ (if is_of_kind (code_program l.code) l.kind n then l.on else flag_at l.initial.statuses.items n);
+  flags : (n : ℕ) → n ≤ l.at →
+      flag_at l.statuses.items n
+      ≡ (if is_of_kind (code_program l.code) l.kind n then l.on else flag_at l.initial.statuses.items n);
   rest : (k : ℕ) → l.at ≤ k → get_or l.statuses.items k 0 ≡ get_or l.initial.statuses.items k 0;
 }

@@ -1,4 +1,5 @@
-use Rattle.std.proofs.Common.{◌≡◌, ◌<◌, ◌++◌, length, ap, ◌∙◌, arith, le_trans, take, length-append, [], ◌∷◌}
+use Rattle.std.proofs.Common.{◌≡◌, ◌<◌, ◌++◌, length, ap, ◌∙◌, arith, le_trans, take, length-append}
+use Rattle.std.proofs.Common.{[], ◌∷◌}
 use Rattle.ick_code.specs.meaning.Tape.{tape_bytes, tape_after}
 use Rattle.ick_memory.proofs.ListLemmas.{take_all}
 use Rattle.ick_memory.proofs.TapeLemmas.{next_bytes, next_position}
@@ -10,19 +11,35 @@ loop-at-preserved c =
     let at = c.loop-at.at in
     let within : at < length vs = omega (arith, c.loop-at-test.true, c.args.elements.now.ok.0) in
     record {
-      output = next_bytes vs at c.index.result.now c.args.last c.loop-at.position c.tape_out-next.result.0 c.tape_out-next.result.1 c.loop-at.output.items c.push.new.self.items c.reserve.new.self.items within c.index.ensures c.loop-at.invariant.position c.tape_out-next.ensures.position c.tape_out-next.ensures.byte c.in-Ok.ensures.items c.loop-at.invariant.output;
-      position = next_position vs at c.index.result.now c.args.last c.loop-at.position c.tape_out-next.result.0 within c.index.ensures c.loop-at.invariant.position c.tape_out-next.ensures.position;
+      output =
+          next_bytes vs at c.index.result.now c.args.last c.loop-at.position c.tape_out-next.result.0
+          c.tape_out-next.result.1 c.loop-at.output.items c.push.new.self.items c.reserve.new.self.items within
+          c.index.ensures c.loop-at.invariant.position c.tape_out-next.ensures.position c.tape_out-next.ensures.byte
+          c.in-Ok.ensures.items c.loop-at.invariant.output;
+      position =
+          next_position vs at c.index.result.now c.args.last c.loop-at.position c.tape_out-next.result.0 within
+          c.index.ensures c.loop-at.invariant.position c.tape_out-next.ensures.position;
       room = le_trans c.loop-at.invariant.room c.in-Ok.ensures.capacity;
-      count = omega (arith, c.push.new.self.ok.0, ap length c.in-Ok.ensures.items, length-append c.loop-at.output.items (c.tape_out-next.result.1 ∷ []), c.loop-at.output.ok.0, c.loop-at.invariant.count);
+      count =
+          omega (
+            arith,
+            c.push.new.self.ok.0,
+            ap length c.in-Ok.ensures.items,
+            length-append c.loop-at.output.items (c.tape_out-next.result.1 ∷ []),
+            c.loop-at.output.ok.0,
+            c.loop-at.invariant.count,
+          );
     }
 
 pub returns-clause-output : goal.returns-clause-output
 returns-clause-output c =
     c.loop-at.invariant.output
     ∙ ap (λ l. l ++ tape_bytes c.args.last (take c.loop-at.at c.args.elements.now.items)) c.reserve.ensures.items
-    ∙ ap (λ l. c.args.output.now.items ++ tape_bytes c.args.last l) (take_all c.loop-at.at c.args.elements.now.items (omega (arith, c.loop-at-test.false, c.args.elements.now.ok.0)))
+    ∙ ap (λ l. c.args.output.now.items ++ tape_bytes c.args.last l)
+    (take_all c.loop-at.at c.args.elements.now.items (omega (arith, c.loop-at-test.false, c.args.elements.now.ok.0)))
 
 pub returns-clause-last : goal.returns-clause-last
 returns-clause-last c =
     c.loop-at.invariant.position
-    ∙ ap (tape_after c.args.last) (take_all c.loop-at.at c.args.elements.now.items (omega (arith, c.loop-at-test.false, c.args.elements.now.ok.0)))
+    ∙ ap (tape_after c.args.last)
+    (take_all c.loop-at.at c.args.elements.now.items (omega (arith, c.loop-at-test.false, c.args.elements.now.ok.0)))

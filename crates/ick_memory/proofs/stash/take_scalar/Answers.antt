@@ -16,4 +16,5 @@ pub returns-in-None-clause-follows : goal.returns-in-None-clause-follows
 returns-in-None-clause-follows g c = λ k before h.
     let m = c.args.memory.now in
     let put : List (List ℕ) → View = λ l. record (view_of m) { scalar_stashes = l } in
-    c.reserve.ensures.grows k m _ before h (record { scalars = c.take_newest.ensures.more; arrays = all_same _ }) (ap put c.in-None.ensures.same)
+    c.reserve.ensures.grows k m _ before h (record { scalars = c.take_newest.ensures.more; arrays = all_same _ })
+    (ap put c.in-None.ensures.same)

@@ -6,7 +6,8 @@ use Rattle.ick_memory.proofs.undo.rewind.Given as goal
 
 abbrev pub invariant-loop-trail : goal.invariant-loop-trail
 invariant-loop-trail l = record {
-  rewinds : Rewinds (history l.trail) l.length (stash_room l.memory) (view_of l.memory) (rewound (reverse (drop l.length (history l.initial.trail))) (view_of l.initial.memory));
+  rewinds : Rewinds (history l.trail) l.length (stash_room l.memory) (view_of l.memory) (rewound
+      (reverse (drop l.length (history l.initial.trail))) (view_of l.initial.memory));
   room : AtLeast (stash_room l.initial.memory) (stash_room l.memory);
   history : take l.length (history l.trail) ≡ take l.length (history l.initial.trail);
 }

@@ -16,7 +16,9 @@ returns-in-Restored-clause-room c = record { scalars = all_same _; arrays = c.pu
 pub returns-in-Taken-clause-view : goal.returns-in-Taken-clause-view
 returns-in-Taken-clause-view c =
     let v = view_of c.args.memory.now in
-    ap (λ ss. record v { array_stashes = ss }) (ap (map (map array_of)) c.put_back.ensures.lists ∙ saved-map array_of (lists_of c.args.memory.now.array_stashes.items) c.args.slot c.args.array)
+    ap (λ ss. record v { array_stashes = ss })
+    (ap (map (map array_of)) c.put_back.ensures.lists
+    ∙ saved-map array_of (lists_of c.args.memory.now.array_stashes.items) c.args.slot c.args.array)
     ∙ ap (λ e. undone_array e c.args.slot (array_of c.args.array) v) (sym c.in-Taken.is)
 
 pub returns-in-Restored-clause-view : goal.returns-in-Restored-clause-view

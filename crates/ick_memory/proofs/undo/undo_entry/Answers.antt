@@ -55,5 +55,7 @@ returns-in-ScalarTaken-clause-room c = record { scalars = c.put_back.ensures.roo
 pub returns-in-ArraySaved-clause-view : goal.returns-in-ArraySaved-clause-view
 returns-in-ArraySaved-clause-view c =
     let v = view_of c.args.memory.now in
-    ap (λ ss. record v { array_stashes = ss }) (ap (map (map array_of)) c.drop_newest-in-ArraySaved.ensures.lists ∙ unsaved-map array_of (lists_of c.args.memory.now.array_stashes.items) c.in-ArraySaved.slot)
+    ap (λ ss. record v { array_stashes = ss })
+    (ap (map (map array_of)) c.drop_newest-in-ArraySaved.ensures.lists
+    ∙ unsaved-map array_of (lists_of c.args.memory.now.array_stashes.items) c.in-ArraySaved.slot)
     ∙ ap (λ e. undone_entry e v) (sym c.in-ArraySaved.is)

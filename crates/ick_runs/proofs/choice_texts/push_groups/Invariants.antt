@@ -1,4 +1,5 @@
-use Rattle.std.proofs.Common.{◌≡◌, ◌<◌, ◌≤◌, ◌-◌, ◌++◌, length, take, drop, vec_len, vec_capacity}
+use Rattle.std.proofs.Common.{◌≡◌, ◌<◌, ◌≤◌, ◌-◌, ◌++◌, length, take, drop, vec_len}
+use Rattle.std.proofs.Common.{vec_capacity}
 use Rattle.ick_runs.specs.ChoiceTexts.{grouped_text}
 use Rattle.ick_runs.proofs.choice_texts.push_groups.Given as goal
 

@@ -1,4 +1,5 @@
-use Rattle.std.proofs.Common.{◌≡◌, ◌<◌, ◌+◌, ◌∷◌, ◌++◌, [], length, drop, get_or, refl, arith, ap, sym, subst, ◌∙◌}
+use Rattle.std.proofs.Common.{◌≡◌, ◌<◌, ◌+◌, ◌∷◌, ◌++◌, [], length, drop, get_or, refl, arith}
+use Rattle.std.proofs.Common.{ap, sym, subst, ◌∙◌}
 use Rattle.std.specs.Prelude.{Some, None}
 use Rattle.std.proofs.lemmas.Grind.{common_steps}
 use Rattle.std.proofs.lemmas.List.{drop_more, take_rest}
@@ -29,11 +30,14 @@ returns-then-at-text-clause-ok c =
     let at_end : after ≡ length text = grind (arith, common_steps) in
     let is = front_text text c.groups.last c.groups.at after f h refl in
     let none : drop after text ≡ [] = ap (λ n. drop n text) at_end ∙ drop-length text in
-    let fits = stretch_fits text c.groups.last c.groups.at c.groups.choices.items g (drop after text) i.read is h.length_is
+    let fits =
+    stretch_fits text c.groups.last c.groups.at c.groups.choices.items g (drop after text) i.read is h.length_is
     (front_stops text c.groups.last c.groups.at after f h refl) valid.0 valid.1 in
     let size = exact_size f.size (digits_value 10 g.digits) (length valid.0) h.size fits valid.2 in
-    subst (λ x. IsGrouped None text x) (sym (filled c.groups.choices.items c.push_stretch.new.choices.items g f.size c.in_ok-push_stretch.ensures.ok size))
-    (read_end text c.groups.last c.groups.at c.groups.choices.items g i.read (is ∙ ap (λ x. group_text g ++ x) none) h.differs h.length_is)
+    subst (λ x. IsGrouped None text x)
+    (sym (filled c.groups.choices.items c.push_stretch.new.choices.items g f.size c.in_ok-push_stretch.ensures.ok size))
+    (read_end text c.groups.last c.groups.at c.groups.choices.items g i.read (is ∙ ap (λ x. group_text g ++ x) none)
+    h.differs h.length_is)
 
 pub groups-preserved : goal.groups-preserved
 groups-preserved c =
@@ -48,14 +52,20 @@ groups-preserved c =
     let is = front_text text c.groups.last c.groups.at after f h refl in
     let stops = front_stops text c.groups.last c.groups.at after f h refl in
     let split = drop_more text after 0 some in
-    let fits = stretch_fits text c.groups.last c.groups.at c.groups.choices.items g (drop after text) i.read is h.length_is stops valid.0 valid.1 in
+    let fits =
+    stretch_fits text c.groups.last c.groups.at c.groups.choices.items g (drop after text) i.read is h.length_is stops
+    valid.0 valid.1 in
     let size = exact_size f.size (digits_value 10 g.digits) (length valid.0) h.size fits valid.2 in
-    let comma = comma_follows text c.groups.last c.groups.at c.groups.choices.items g (get_or text after 0) (drop (after + 1) text) i.read
+    let comma =
+    comma_follows text c.groups.last c.groups.at c.groups.choices.items g (get_or text after 0) (drop (after + 1) text)
+    i.read
     (is ∙ ap (λ x. group_text g ++ x) split) h.length_is (subst HasNoDigit split stops) valid.0 valid.1 in
     record {
       within = omega arith;
       read = subst (λ x. IsRead text (Some f.choice) (after + 1) x)
-          (sym (filled c.groups.choices.items c.push_stretch.new.choices.items g f.size c.in_ok-push_stretch.ensures.ok size))
+          (sym (filled c.groups.choices.items c.push_stretch.new.choices.items g f.size c.in_ok-push_stretch.ensures.ok
+          size))
           (read_on text c.groups.last c.groups.at (after + 1) c.groups.choices.items g (drop (after + 1) text) i.read
-          (is ∙ ap (λ x. group_text g ++ x) (split ∙ ap (λ b. b ∷ drop (after + 1) text) comma)) h.differs h.length_is refl);
+          (is ∙ ap (λ x. group_text g ++ x) (split ∙ ap (λ b. b ∷ drop (after + 1) text) comma)) h.differs
+          h.length_is refl);
     }

@@ -1,4 +1,5 @@
-use Rattle.std.proofs.Common.{◌≡◌, ◌≢◌, ◌<◌, ◌+◌, ◌∷◌, ◌++◌, [], length, drop, get_or, refl, arith, ap, sym, subst, ◌∙◌}
+use Rattle.std.proofs.Common.{◌≡◌, ◌≢◌, ◌<◌, ◌+◌, ◌∷◌, ◌++◌, [], length, drop, get_or}
+use Rattle.std.proofs.Common.{refl, arith, ap, sym, subst, ◌∙◌}
 use Rattle.std.proofs.lemmas.Grind.{common_steps}
 use Rattle.std.proofs.lemmas.List.{drop_more, take_rest}
 use Rattle.std.proofs.Math.Seq.{drop-length}
@@ -27,9 +28,11 @@ returns-then-at-text-clause-some c =
     let is = front_text text c.groups.last c.groups.at after f h refl in
     let none : drop after text ≡ [] = ap (λ n. drop n text) at_end ∙ drop-length text in (
       _,
-      read_end text c.groups.last c.groups.at i.read.0 g i.read.1 (is ∙ ap (λ x. group_text g ++ x) none) h.differs h.length_is,
+      read_end text c.groups.last c.groups.at i.read.0 g i.read.1 (is ∙ ap (λ x. group_text g ++ x) none) h.differs
+          h.length_is,
       subst (λ n. IsCapped c.capped-total.result n) (sym (stretch_size g i.read.0))
-          (capped_sum c.groups.total f.size (length i.read.0) (digits_value 10 g.digits) c.capped-total.result i.read.2 h.size c.capped-total.ensures),
+          (capped_sum c.groups.total f.size (length i.read.0) (digits_value 10 g.digits) c.capped-total.result i.read.2
+          h.size c.capped-total.ensures),
     )
 
 pub returns-then-text-at-ne44-clause-none : goal.returns-then-text-at-ne44-clause-none
@@ -44,7 +47,8 @@ returns-then-text-at-ne44-clause-none c = λ e.
     let is = front_text text c.groups.last c.groups.at after f h refl in
     let split = drop_more text after 0 some in
     let other : get_or text after 0 ≢ 44 = grind (arith, common_steps) in
-    no_comma text c.groups.last c.groups.at i.read.0 g (get_or text after 0) (drop (after + 1) text) i.read.1 (is ∙ ap (λ x. group_text g ++ x) split) h.length_is
+    no_comma text c.groups.last c.groups.at i.read.0 g (get_or text after 0) (drop (after + 1) text) i.read.1
+    (is ∙ ap (λ x. group_text g ++ x) split) h.length_is
     (subst HasNoDigit split (front_stops text c.groups.last c.groups.at after f h refl)) other
 
 pub groups-preserved : goal.groups-preserved
@@ -64,8 +68,10 @@ groups-preserved c =
       read = (
         _,
         read_on text c.groups.last c.groups.at (after + 1) i.read.0 g (drop (after + 1) text) i.read.1
-            (is ∙ ap (λ x. group_text g ++ x) (split ∙ ap (λ b. b ∷ drop (after + 1) text) comma)) h.differs h.length_is refl,
+            (is ∙ ap (λ x. group_text g ++ x) (split ∙ ap (λ b. b ∷ drop (after + 1) text) comma)) h.differs
+            h.length_is refl,
         subst (λ n. IsCapped c.capped-total.result n) (sym (stretch_size g i.read.0))
-            (capped_sum c.groups.total f.size (length i.read.0) (digits_value 10 g.digits) c.capped-total.result i.read.2 h.size c.capped-total.ensures),
+            (capped_sum c.groups.total f.size (length i.read.0) (digits_value 10 g.digits) c.capped-total.result
+            i.read.2 h.size c.capped-total.ensures),
       );
     }

@@ -20,6 +20,9 @@ loop-count-preserved c =
     record {
       within = omega arith;
       digits = digits_more 10 text at lt i.digits digit;
-      value = capped_more c.loop-count.value _ (get_or text at 0) (digit_value (get_or text at 0)) c.capped-value.result _ i.value is
-          (subst (λ x. IsCapped c.capped-value.result (c.loop-count.value * 10 + x)) c.from.ensures c.capped-value.ensures) (digits_value_more 10 text at lt);
+      value =
+          capped_more c.loop-count.value _ (get_or text at 0) (digit_value (get_or text at 0)) c.capped-value.result _
+          i.value is
+          (subst (λ x. IsCapped c.capped-value.result (c.loop-count.value * 10 + x)) c.from.ensures
+          c.capped-value.ensures) (digits_value_more 10 text at lt);
     }

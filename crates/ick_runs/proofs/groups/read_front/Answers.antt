@@ -20,5 +20,6 @@ returns-clause-some c =
     let found = c.read_digits-digits.ensures in
     front_is text c.args.last c.in_ok-choice.choice digits.value digits.count size first star no_zero
     (c.repeats.ensures.other c.if-repeats.false) some (subst (λ t. digits.count ≤ length t) rest found.within)
-    (subst (λ t. AllDigits 10 (take digits.count t)) rest found.digits) (subst (λ t. HasNoDigit (drop digits.count t)) rest found.stops)
+    (subst (λ t. AllDigits 10 (take digits.count t)) rest found.digits)
+    (subst (λ t. HasNoDigit (drop digits.count t)) rest found.stops)
     (subst (λ t. IsCapped digits.value (digits_value 10 (take digits.count t))) rest found.value)

@@ -14,4 +14,8 @@ returns-clause-ok c =
     let le : c.in-Some.size ≤ c.args.limit = grind (arith, common_steps) in
     let cap : c.args.limit < 2 ^ 32 = grind (arith, common_steps) in
     let within = small_size c.in-Some.size (length found.0) c.args.limit found.2 le cap in
-    if_ok c.fill.result (λ v h. (h, subst (λ x. length x ≤ c.args.limit) (grouped_one c.args.text.now found.0 v.items found.1 h) within)) c.fill.ensures.ok
+    if_ok c.fill.result (λ v h. (
+      h,
+      subst (λ x. length x ≤ c.args.limit)
+          (grouped_one c.args.text.now found.0 v.items found.1 h) within,
+    )) c.fill.ensures.ok

@@ -10,8 +10,11 @@ pub returns-in-Ended : goal.returns-in-Ended
 returns-in-Ended g c =
     let seen = g.M.Backtrack.seen in
     let i = c.along.invariant in
-    let r = ran_ended c.args.limit (seen c.args.machine) (seen c.along.machine) c.args.choices.now c.along.used c.along.steps (finish_of c.in-Ended.end) i.used i.runs
-    (asks_end c.asks-asked.result c.in-Ended.end c.args.limit c.along.steps (seen c.along.machine) c.in-Ended.is c.asks-asked.ensures)
+    let r =
+    ran_ended c.args.limit (seen c.args.machine) (seen c.along.machine) c.args.choices.now c.along.used c.along.steps
+    (finish_of c.in-Ended.end) i.used i.runs
+    (asks_end c.asks-asked.result c.in-Ended.end c.args.limit c.along.steps (seen c.along.machine) c.in-Ended.is
+    c.asks-asked.ensures)
     c.ended.result c.ended.ensures in
     record { run = r.is_run; unused = r.ignores_unused }
 
@@ -22,7 +25,9 @@ returns-then-steps-limit g c =
     let at : c.along.steps ≡ c.args.limit = grind (arith, common_steps) in
     let here = ends_limit c.args.limit (seen c.along.machine) c.along.steps at
     (asks_going c.asks-asked.result (seen c.along.machine) c.in_default.not-Ended c.asks-asked.ensures) in
-    let r = ran_ended c.args.limit (seen c.args.machine) (seen c.along.machine) c.args.choices.now c.along.used c.along.steps at_limit i.used i.runs here
+    let r =
+    ran_ended c.args.limit (seen c.args.machine) (seen c.along.machine) c.args.choices.now c.along.used c.along.steps
+    at_limit i.used i.runs here
     c.ended-then-steps-limit.result c.ended-then-steps-limit.ensures in
     record { run = r.is_run; unused = r.ignores_unused }
 
@@ -32,7 +37,9 @@ returns-then-used-choices g c =
     let i = c.along.invariant in
     let lt : c.along.steps < c.args.limit = grind (arith, common_steps) in
     let all : c.along.used ≡ length c.args.choices.now = grind (arith, common_steps) in
-    let r = ran_wants c.args.limit (seen c.args.machine) (seen c.along.machine) c.args.choices.now c.along.used c.along.steps c.in-Choice.field-0 all i.runs
+    let r =
+    ran_wants c.args.limit (seen c.args.machine) (seen c.along.machine) c.args.choices.now c.along.used c.along.steps
+    c.in-Choice.field-0 all i.runs
     (asks_chance c.asks-asked.result c.in-Choice.field-0 (seen c.along.machine) c.in-Choice.is c.asks-asked.ensures) lt
     c.wanting.result c.wanting.ensures in
     record { run = r.is_run; unused = r.ignores_unused }
@@ -45,8 +52,11 @@ along-preserved-in-Choice g c =
     let some : c.along.used < length c.args.choices.now = grind (arith, common_steps) in
     record {
       used = omega arith;
-      runs = runs_next c.args.limit (seen c.args.machine) (seen c.along.machine) (seen c.step.new.self) c.args.choices.now c.along.used c.along.steps
-          c.in-Choice.field-0 _ i.runs (asks_chance c.asks-asked.result c.in-Choice.field-0 (seen c.along.machine) c.in-Choice.is c.asks-asked.ensures) lt some
+      runs =
+          runs_next c.args.limit (seen c.args.machine) (seen c.along.machine) (seen c.step.new.self) c.args.choices.now
+          c.along.used c.along.steps
+          c.in-Choice.field-0 _ i.runs (asks_chance c.asks-asked.result c.in-Choice.field-0 (seen c.along.machine)
+          c.in-Choice.is c.asks-asked.ensures) lt some
           c.in_ok-step.ensures.ok;
     }
 

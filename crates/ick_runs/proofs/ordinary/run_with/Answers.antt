@@ -7,10 +7,12 @@ use Rattle.ick_runs.proofs.ordinary.run_with.Goals as goal
 pub returns-clause-run : goal.returns-clause-run
 returns-clause-run c =
     let choices = c.args.choices.now in
-    let holds : Machine → Type 0 = λ m. IfOk c.run_from.result (λ r. IsRan choices (run m.program m.state c.args.limit choices) r) in
+    let holds : Machine → Type 0 =
+    λ m. IfOk c.run_from.result (λ r. IsRan choices (run m.program m.state c.args.limit choices) r) in
     subst holds c.in_ok-machine.ensures c.run_from.ensures.run
 
 pub returns-clause-unused : goal.returns-clause-unused
 returns-clause-unused c =
-    let holds : Machine → Type 0 = λ m. IfOk c.run_from.result (λ r. IgnoresUnused m.program m.state c.args.limit c.args.choices.now r) in
+    let holds : Machine → Type 0 =
+    λ m. IfOk c.run_from.result (λ r. IgnoresUnused m.program m.state c.args.limit c.args.choices.now r) in
     subst holds c.in_ok-machine.ensures c.run_from.ensures.unused

@@ -1,5 +1,5 @@
-use Rattle.std.proofs.Common.{◌≡◌, ◌≢◌, ◌==◌, ◌<◌, ◌≤◌, ◌∷◌, [], nat_eq, true, false, length, map, rules, arith, refl}
-use Rattle.std.proofs.Common.{ap, sym, ◌∙◌}
+use Rattle.std.proofs.Common.{◌≡◌, ◌≢◌, ◌==◌, ◌<◌, ◌≤◌, ◌∷◌, [], nat_eq, true, false}
+use Rattle.std.proofs.Common.{length, map, rules, arith, refl, ap, sym, ◌∙◌}
 use Rattle.std.proofs.lemmas.Grind.{common_steps}
 use Rattle.std.specs.Cmp.Lexicographic.{pointwise}
 use Rattle.std.specs.List.{list_all}
@@ -23,7 +23,8 @@ returns-clause-ok c =
     let digits : list_all is_digit text ≡ true = search rules in
     let within : length text ≤ c.args.limit = grind (arith, common_steps) in
     let n = length_read text in
-    if_ok c.choices_of.result (λ v e. (reads_digits text v.items some digits e, let m = ap length e in omega arith)) c.choices_of.ensures.ok
+    if_ok c.choices_of.result (λ v e. (reads_digits text v.items some digits e, let m = ap length e in omega arith))
+    c.choices_of.ensures.ok
 
 pub returns-clause-no_memory : goal.returns-clause-no_memory
 returns-clause-no_memory c = λ e.
@@ -39,7 +40,8 @@ returns-then-not-all_digits-clause-bad_cursor c = λ e c'.
     let text = c.args.text.now in
     let dash : text ≢ 45 ∷ [] = λ f.
     let g : false ≡ pointwise nat_eq (45 ∷ []) (45 ∷ []) =
-    sym c.if-eq.false ∙ (c.eq.ensures ∙ (ap (λ x. pointwise nat_eq x c.as_slice.result.now) f ∙ ap (λ x. pointwise nat_eq (45 ∷ []) x) c.as_slice.ensures)) in
+    sym c.if-eq.false ∙ (c.eq.ensures ∙ (ap (λ x. pointwise nat_eq x c.as_slice.result.now) f
+    ∙ ap (λ x. pointwise nat_eq (45 ∷ []) x) c.as_slice.ensures)) in
     let h : false ≡ true = g in
     cc in
     let digits : list_all is_digit text ≡ false = sym c.all_digits.ensures ∙ c.if-not-all_digits.true in

@@ -11,9 +11,12 @@ use Rattle.ick_runs.proofs.seeded.run_seeded_from.Goals as goal
 pub returns-in-Ended : goal.returns-in-Ended
 returns-in-Ended g c =
     let seen = g.M.Backtrack.seen in
-    let r = seeded_ended c.args.limit c.args.seed (seen c.args.machine) (seen c.along.machine) c.along.choices.items c.along.generator c.along.steps
+    let r =
+    seeded_ended c.args.limit c.args.seed (seen c.args.machine) (seen c.along.machine) c.along.choices.items
+    c.along.generator c.along.steps
     (finish_of c.in-Ended.end) c.along.invariant.draws
-    (asks_end c.asks-asked.result c.in-Ended.end c.args.limit c.along.steps (seen c.along.machine) c.in-Ended.is c.asks-asked.ensures)
+    (asks_end c.asks-asked.result c.in-Ended.end c.args.limit c.along.steps (seen c.along.machine) c.in-Ended.is
+    c.asks-asked.ensures)
     c.drawn_run.result c.drawn_run.ensures.choices c.drawn_run.ensures.ran in
     record { choices = r.choices; all = c.drawn_run.ensures.all; ran = r.ran }
 
@@ -23,9 +26,12 @@ returns-then-steps-limit g c =
     let at : c.along.steps ≡ c.args.limit = grind (arith, common_steps) in
     let here = ends_limit c.args.limit (seen c.along.machine) c.along.steps at
     (asks_going c.asks-asked.result (seen c.along.machine) c.in_default.not-Ended c.asks-asked.ensures) in
-    let r = seeded_ended c.args.limit c.args.seed (seen c.args.machine) (seen c.along.machine) c.along.choices.items c.along.generator c.along.steps
+    let r =
+    seeded_ended c.args.limit c.args.seed (seen c.args.machine) (seen c.along.machine) c.along.choices.items
+    c.along.generator c.along.steps
     at_limit c.along.invariant.draws here
-    c.drawn_run-then-steps-limit.result c.drawn_run-then-steps-limit.ensures.choices c.drawn_run-then-steps-limit.ensures.ran in
+    c.drawn_run-then-steps-limit.result c.drawn_run-then-steps-limit.ensures.choices
+    c.drawn_run-then-steps-limit.ensures.ran in
     record { choices = r.choices; all = c.drawn_run-then-steps-limit.ensures.all; ran = r.ran }
 
 pub drawn-done-requires : goal.drawn-done-requires
@@ -40,9 +46,13 @@ along-preserved-in-Choice g c =
     let seen = g.M.Backtrack.seen in
     let lt : c.along.steps < c.args.limit = grind (arith, common_steps) in
     record {
-      draws = draws_choice c.args.limit c.args.seed (seen c.args.machine) (seen c.along.machine) (seen c.step.new.self) c.along.choices.items c.push.new.self.items
-          c.along.generator c.next_word.new.self c.along.steps c.in-Choice.chance c.next_word.result c.drawn-done.result c.along.invariant.draws
-          (asks_chance c.asks-asked.result c.in-Choice.chance (seen c.along.machine) c.in-Choice.is c.asks-asked.ensures) lt
+      draws =
+          draws_choice c.args.limit c.args.seed (seen c.args.machine) (seen c.along.machine) (seen c.step.new.self)
+          c.along.choices.items c.push.new.self.items
+          c.along.generator c.next_word.new.self c.along.steps c.in-Choice.chance c.next_word.result c.drawn-done.result
+          c.along.invariant.draws
+          (asks_chance c.asks-asked.result c.in-Choice.chance (seen c.along.machine) c.in-Choice.is
+          c.asks-asked.ensures) lt
           c.next_word.ensures c.drawn-done.ensures c.in_ok-push.ensures.items c.in_ok-step.ensures.ok;
     }
 
@@ -53,9 +63,12 @@ along-preserved g c =
     let lt : c.along.steps < c.args.limit = grind (arith, common_steps) in
     let made = c.in_ok-made.ensures in
     record {
-      draws = draws_plain c.args.limit c.args.seed (seen c.args.machine) (seen c.along.machine) (seen c.run.new.self) c.along.choices.items
+      draws =
+          draws_plain c.args.limit c.args.seed (seen c.args.machine) (seen c.along.machine) (seen c.run.new.self)
+          c.along.choices.items
           c.along.generator c.along.steps c.in_ok-made.made d
-          (runs_plain c.args.limit (seen c.args.machine) (seen c.along.machine) (seen c.run.new.self) c.along.choices.items c.along.steps
+          (runs_plain c.args.limit (seen c.args.machine) (seen c.along.machine) (seen c.run.new.self)
+          c.along.choices.items c.along.steps
           c.in_ok-made.made d.runs made.ok (omega (arith, made.within, lt)));
     }
 

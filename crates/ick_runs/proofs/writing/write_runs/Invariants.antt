@@ -13,6 +13,8 @@ invariant-each g l = record {
   work : (explored l.explorer).work ≤ (explored l.initial.explorer).work + l._i * (explored l.initial.explorer).limit;
   count : g.W.ByteSink.failed l.writer ≡ g.W.ByteSink.failed l.initial.writer;
   along : (s : State) (cs : List (List Bool)) → Stands s (explored l.initial.explorer) →
-      IsListing (explored l.initial.explorer).program s (explored l.initial.explorer).limit (explored l.initial.explorer).from cs →
-      Along g.W.ByteSink.told s cs l._i (explored l.initial.explorer) (explored l.explorer) (g.W.ByteSink.written l.initial.writer) (g.W.ByteSink.written l.writer);
+      IsListing (explored l.initial.explorer).program s (explored l.initial.explorer).limit
+      (explored l.initial.explorer).from cs →
+      Along g.W.ByteSink.told s cs l._i (explored l.initial.explorer) (explored l.explorer)
+      (g.W.ByteSink.written l.initial.writer) (g.W.ByteSink.written l.writer);
 }

@@ -14,4 +14,5 @@ returns-in_default-byte_position c =
 pub returns : goal.returns
 returns c =
     let found = rw c.in-Some.is at c.in_ok-found.ensures in
-    body_stands (from_byte c.args.text.now c.args.at) found c.in-Some-byte_position.ensures.0 c.in-Some-byte_position.ensures.1
+    body_stands (from_byte c.args.text.now c.args.at) found c.in-Some-byte_position.ensures.0
+    c.in-Some-byte_position.ensures.1

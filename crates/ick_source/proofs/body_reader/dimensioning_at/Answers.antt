@@ -1,5 +1,6 @@
 use Rattle.std.proofs.Common.{sym, ◌∙◌}
-use Rattle.ick_source.proofs.BodyReadings.{dimensioning_no_name, dimensioning_no_arrow, dimensioning_no_values, dimensioning_found}
+use Rattle.ick_source.proofs.BodyReadings.{dimensioning_no_name, dimensioning_no_arrow, dimensioning_no_values}
+use Rattle.ick_source.proofs.BodyReadings.{dimensioning_found}
 use Rattle.ick_source.proofs.body_reader.dimensioning_at.Goals as goal
 
 pub returns-in_default-name_at : goal.returns-in_default-name_at
@@ -16,4 +17,5 @@ returns-in_default-2 c =
 pub returns : goal.returns
 returns c =
     let values = rw c.in-Some-2.is at c.in_ok-dimensions.ensures in
-    rw c.union.ensures (dimensioning_found (sym c.lead_at.ensures.lead ∙ c.in-Array.is) c.in-Some.ensures c.in-Some-word_at.ensures values)
+    rw c.union.ensures (dimensioning_found (sym c.lead_at.ensures.lead ∙ c.in-Array.is) c.in-Some.ensures
+    c.in-Some-word_at.ensures values)

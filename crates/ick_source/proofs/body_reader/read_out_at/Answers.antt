@@ -5,4 +5,6 @@ use Rattle.ick_source.proofs.BodyReadings.{made_as, read_out_made}
 use Rattle.ick_source.proofs.body_reader.read_out_at.Goals as goal
 
 pub returns : goal.returns
-returns c = made_as (read_out_made _ _ c.in-Some.ensures) (λ xs. map item_tree xs.items) body_tree_of (λ v b e. search rules) c.args.text.now c.made.ensures c.in_ok-items.ensures
+returns c =
+    made_as (read_out_made _ _ c.in-Some.ensures) (λ xs. map item_tree xs.items) body_tree_of (λ v b e. search rules)
+    c.args.text.now c.made.ensures c.in_ok-items.ensures

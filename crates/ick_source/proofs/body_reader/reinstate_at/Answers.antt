@@ -8,10 +8,16 @@ use Rattle.ick_source.proofs.body_reader.reinstate_at.Goals as goal
 
 pub returns-then-is_some : goal.returns-then-is_some
 returns-then-is_some c =
-    let o = word_stands (codes "(") (left_at c.args.text.now c.args.from) c.args.text.now c.word_at.result c.word_at.ensures c.if-is_some.ensures in
-    made_as (reinstate_label_made _ _ o.1) (λ n. n) body_tree_of (λ v b e. search rules) c.args.text.now c.made.ensures c.label_at.ensures
+    let o =
+    word_stands (codes "(") (left_at c.args.text.now c.args.from) c.args.text.now c.word_at.result c.word_at.ensures
+    c.if-is_some.ensures in
+    made_as (reinstate_label_made _ _ o.1) (λ n. n) body_tree_of (λ v b e. search rules) c.args.text.now
+    c.made.ensures c.label_at.ensures
 
 pub returns : goal.returns
 returns c =
-    let o = no_word_stands (codes "(") (left_at c.args.text.now c.args.from) c.args.text.now c.word_at.result c.word_at.ensures c.if-is_some.ensures in
-    made_as (reinstate_kinds_made _ o) (λ gs. gs.items) body_tree_of (λ v b e. search rules) c.args.text.now c.made-2.ensures c.in_ok-kinds.ensures
+    let o =
+    no_word_stands (codes "(") (left_at c.args.text.now c.args.from) c.args.text.now c.word_at.result c.word_at.ensures
+    c.if-is_some.ensures in
+    made_as (reinstate_kinds_made _ o) (λ gs. gs.items) body_tree_of (λ v b e. search rules) c.args.text.now
+    c.made-2.ensures c.in_ok-kinds.ensures

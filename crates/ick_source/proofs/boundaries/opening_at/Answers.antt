@@ -9,12 +9,15 @@ returns-in-Some-clause-opening c =
 
 pub returns-in_err-label-clause-opening : goal.returns-in_err-label-clause-opening
 returns-in_err-label-clause-opening c =
-    rw c.from_residual.ensures (λ j a x. opening_neither c.in_default.ensures.identifier c.in_err-label.ensures.label x)
+    rw c.from_residual.ensures
+    (λ j a x. opening_neither c.in_default.ensures.identifier c.in_err-label.ensures.label x)
 
 pub returns-in_err-polite-clause-opening : goal.returns-in_err-polite-clause-opening
 returns-in_err-polite-clause-opening c =
     let label = c.in_ok-label.ensures.label in
-    rw c.from_residual-in_err-polite.ensures (λ j a x. opening_unfinished c.in_default.ensures.identifier label.1 c.after_white.ensures.gap c.in_err-polite.ensures.identifier x)
+    rw c.from_residual-in_err-polite.ensures
+    (λ j a x. opening_unfinished c.in_default.ensures.identifier label.1 c.after_white.ensures.gap
+    c.in_err-polite.ensures.identifier x)
 
 pub returns-clause-opening : goal.returns-clause-opening
 returns-clause-opening c =

@@ -27,7 +27,8 @@ decreases-rest_at l = 8 * l.limit + 5
 
 abbrev pub invariant-rest_at-further : goal.invariant-rest_at-further
 invariant-rest_at-further l =
-    GoesOn l.delimiter l.limit (left_at l.text l.initial.all.to) (left_at l.text l.all.to) (trees_in l.initial.all.value.items) (trees_in l.all.value.items)
+    GoesOn l.delimiter l.limit (left_at l.text l.initial.all.to) (left_at l.text l.all.to)
+    (trees_in l.initial.all.value.items) (trees_in l.all.value.items)
     l.initial.all.height l.all.height l.initial.all.faults l.all.faults
 
 abbrev pub decreases-rest_at-further : goal.decreases-rest_at-further

@@ -7,4 +7,6 @@ pub returns : goal.returns
 returns c =
     rw c.of_name.ensures
     (spot_stands c.args.kind _ _ _ _ _ _ c.prefix_at-prefix.ensures.op c.prefix_at-prefix.ensures.to c.in-Some.ensures
-    (c.in_ok-applied.ensures ∙ ap (λ n. under c.prefix_at-prefix.result.value (scalar (record { kind = c.args.kind; number = n }))) c.clamped_number.ensures))
+    (c.in_ok-applied.ensures ∙ ap (λ n.
+    under c.prefix_at-prefix.result.value (scalar (record { kind = c.args.kind; number = n })))
+    c.clamped_number.ensures))

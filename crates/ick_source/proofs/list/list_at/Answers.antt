@@ -1,4 +1,5 @@
-use Rattle.ick_source.proofs.ListReadings.{map-push, so_far-start, so_far-more, so_far-ends, so_far-no_part, so_far-shorter}
+use Rattle.ick_source.proofs.ListReadings.{map-push, so_far-start, so_far-more, so_far-ends, so_far-no_part}
+use Rattle.ick_source.proofs.ListReadings.{so_far-shorter}
 use Rattle.ick_source.proofs.list.list_at.Goals as goal
 
 pub more-init : goal.more-init

@@ -5,11 +5,13 @@ use Rattle.ick_source.proofs.part.target_at.Goals as goal
 
 pub returns-in-Array : goal.returns-in-Array
 returns-in-Array c =
-    if_ok_as (targets_by_elements _ _ (sym c.lead_at.ensures.lead ∙ c.in-Array.is)) target_tree target_tree (λ v. refl) c.args.text.now c.whole_element_at.result c.whole_element_at.ensures
+    if_ok_as (targets_by_elements _ _ (sym c.lead_at.ensures.lead ∙ c.in-Array.is)) target_tree target_tree
+    (λ v. refl) c.args.text.now c.whole_element_at.result c.whole_element_at.ensures
 
 pub returns-in_default-name_at : goal.returns-in_default-name_at
 returns-in_default-name_at c =
-    absent_as (targets_by_names _ (λ k e. c.in_default.not-Array k (c.lead_at.ensures.lead ∙ e))) c.in_default-name_at.ensures
+    absent_as (targets_by_names _ (λ k e. c.in_default.not-Array k (c.lead_at.ensures.lead ∙ e)))
+    c.in_default-name_at.ensures
 
 pub returns : goal.returns
 returns c =

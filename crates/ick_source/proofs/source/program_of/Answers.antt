@@ -7,7 +7,8 @@ pub returns-in_err-check-clause-err : goal.returns-in_err-check-clause-err
 returns-in_err-check-clause-err c =
     let read = c.in_ok-statements.ensures.read in
     let refused = c.in_err-check.ensures.err read.trees read.reads.out_of_range in
-    on_error c.from_residual-in_err-check.result (RefusesFitting c.args.text.now) c.in_err-check.field-0.0 c.from_residual-in_err-check.ensures.1 (refused_cut c.in_err-check.field-0.0 read.cut c.requires refused)
+    on_error c.from_residual-in_err-check.result (RefusesFitting c.args.text.now) c.in_err-check.field-0.0
+    c.from_residual-in_err-check.ensures.1 (refused_cut c.in_err-check.field-0.0 read.cut c.requires refused)
 
 pub checked-requires-clause-kinded : goal.checked-requires-clause-kinded
 checked-requires-clause-kinded c =

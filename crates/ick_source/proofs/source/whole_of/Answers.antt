@@ -32,7 +32,8 @@ loop-reader-preserved c =
     let found = rw c.in-Some.is at c.in_ok-statement.ensures in
     let read = c.loop-reader.invariant in
     record {
-      read = read_more read.read found.0.1 (c.in_ok-add.ensures.added read.read.front found.0.0 read.read.reads found.0.2);
+      read =
+          read_more read.read found.0.1 (c.in_ok-add.ensures.added read.read.front found.0.0 read.read.reads found.0.2);
       count = omega (arith, statement_longer found.0.1, read.count, c.in_ok-add.ensures.count);
       fits = read.fits;
     }
@@ -41,4 +42,5 @@ pub returns-clause-read : goal.returns-clause-read
 returns-clause-read c = read_whole c.loop-reader.invariant.read (rw c.in_default.is at c.in_ok-statement.ensures)
 
 pub returns-clause-count : goal.returns-clause-count
-returns-clause-count c = let read = c.loop-reader.invariant in omega (arith, read.count, boundary_inside read.read.boundary)
+returns-clause-count c = let read = c.loop-reader.invariant in
+    omega (arith, read.count, boundary_inside read.read.boundary)

@@ -5,7 +5,13 @@ use Rattle.ick_source.proofs.statement_reader.ending_at.Goals as goal
 pub returns-in-Some : goal.returns-in-Some
 returns-in-Some c =
     let found = rw c.in-Some.is at c.in_ok-body.ensures in
-    record { begin = c.after_white-begin.result; body = Some found.tree; gap = c.after_white-begin.ensures.gap; ends = recognised found.recognised; reads = found.reads }
+    record {
+      begin = c.after_white-begin.result;
+      body = Some found.tree;
+      gap = c.after_white-begin.ensures.gap;
+      ends = recognised found.recognised;
+      reads = found.reads;
+    }
 
 pub returns-in-None : goal.returns-in-None
 returns-in-None c =

@@ -12,7 +12,12 @@ returns-in_default c = λ x. c.in_default.ensures.opening x.end (x.label, x.poli
 pub trimmed-requires-clause-some : goal.trimmed-requires-clause-some
 trimmed-requires-clause-some c =
     let ends = c.in_ok-body.ensures in
-    omega (arith, opening_longer c.in-Some.ensures.opening.1, qualifiers_order c.qualifiers_at-qualifiers.ensures.qualifiers.stand, ends_order ends.gap ends.ends)
+    omega (
+      arith,
+      opening_longer c.in-Some.ensures.opening.1,
+      qualifiers_order c.qualifiers_at-qualifiers.ensures.qualifiers.stand,
+      ends_order ends.gap ends.ends,
+    )
 
 pub trimmed-requires-clause-within : goal.trimmed-requires-clause-within
 trimmed-requires-clause-within c = ends_inside c.in_ok-body.ensures.ends
@@ -39,7 +44,14 @@ returns c =
         record {
           head = c.qualifiers_at-qualifiers.result.to;
           begin = ends.begin;
-          says = record { after = c.in-Some.start.to; percentage = qualifiers.percentage; opening = opening.1; qualifiers = qualifiers.stand; chance = qualifiers.chance };
+          says =
+              record {
+                after = c.in-Some.start.to;
+                percentage = qualifiers.percentage;
+                opening = opening.1;
+                qualifiers = qualifiers.stand;
+                chance = qualifiers.chance;
+              };
           gap = ends.gap;
           ends = ends.ends;
           trimmed = c.trimmed.ensures;
@@ -49,7 +61,8 @@ returns c =
           polite = opening.2.1;
           same = λ f.
               let both = sym c.union.ensures ∙ f in
-              same_tree _ _ (label.same (left_fine _ _ both)) opening.2.1 refl refl (ends.reads.same (right_fine _ _ both)) refl;
+              same_tree _ _ (label.same (left_fine _ _ both)) opening.2.1 refl refl
+              (ends.reads.same (right_fine _ _ both)) refl;
         },
       ),
       refl,

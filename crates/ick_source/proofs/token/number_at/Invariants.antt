@@ -8,7 +8,8 @@ abbrev pub invariant-loop-next : goal.invariant-loop-next
 invariant-loop-next l =
     (l.value ≤ cap)
     × (past_digits (left_at l.text l.to) ≡ past_digits (left_at l.text l.initial.to))
-    × (min (value_after l.value (digits_of (left_at l.text l.to))) cap ≡ min (value_after 0 (digits_of (left_at l.text l.initial.to))) cap)
+    × (min (value_after l.value (digits_of (left_at l.text l.to))) cap
+    ≡ min (value_after 0 (digits_of (left_at l.text l.initial.to))) cap)
 
 abbrev pub decreases-loop-next : goal.decreases-loop-next
 decreases-loop-next l = length (left_at l.text l.to)

@@ -12,11 +12,14 @@ loop-statement-preserved c =
       counted = omega arith;
       noted = λ q.
           c.in_ok-note.ensures q
-          ∙ ap (λ o. with_place o (is_label q statement.label) c.loop-statement.past) (c.loop-statement.invariant.noted q)
+          ∙ ap (λ o. with_place o (is_label q statement.label) c.loop-statement.past)
+          (c.loop-statement.invariant.noted q)
           ∙ ap (with_place _ (is_label q statement.label)) c.loop-statement.invariant.counted
           ∙ sym (noted_more c.args.statements.now i statement c.loop-statement-test.true c.statement-item.is q);
     }
 
 pub returns : goal.returns
 returns c =
-    λ label. noted_all c.args.statements.now c.loop-statement.statement-index c.loop-statement.past _ label c.loop-statement.auto.statement-index-end c.loop-statement-test.false c.loop-statement.invariant.counted (c.loop-statement.invariant.noted label)
+    λ label. noted_all c.args.statements.now c.loop-statement.statement-index c.loop-statement.past _ label
+    c.loop-statement.auto.statement-index-end c.loop-statement-test.false c.loop-statement.invariant.counted
+    (c.loop-statement.invariant.noted label)

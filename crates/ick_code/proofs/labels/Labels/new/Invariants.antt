@@ -7,5 +7,6 @@ use Rattle.ick_code.proofs.labels.Labels.new.Given as goal
 abbrev pub invariant-loop-statement : goal.invariant-loop-statement
 invariant-loop-statement l = record {
   counted : l.past ≡ l.statement-index + 1;
-  noted : (q : ℕ) → get nat_cmp l.places q ≡ first_place q (map statement_tree_of (take l.statement-index l.statements));
+  noted : (q : ℕ) →
+      get nat_cmp l.places q ≡ first_place q (map statement_tree_of (take l.statement-index l.statements));
 }

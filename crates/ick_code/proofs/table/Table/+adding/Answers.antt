@@ -7,8 +7,12 @@ use Rattle.ick_code.proofs.table.Table.+adding.Goals as goal
 
 pub add_exprs-loop-e-preserved : goal.add_exprs-loop-e-preserved
 add_exprs-loop-e-preserved t c =
-    came_more (λ l. names_of_trees (trees_in l)) (λ x. names_of_tree (tree_of x)) trees-step _ _ _ c.deref-e-items.result.now c.loop-e.e-index _ _ c.loop-e.invariant c.in_ok-add_expr.ensures c.loop-e-test.true c.e-item.is
+    came_more (λ l. names_of_trees (trees_in l)) (λ x. names_of_tree (tree_of x)) trees-step _ _ _
+    c.deref-e-items.result.now c.loop-e.e-index _ _ c.loop-e.invariant c.in_ok-add_expr.ensures c.loop-e-test.true
+    c.e-item.is
 
 pub add_expr-returns-in_ok-add-in-Element : goal.add_expr-returns-in_ok-add-in-Element
 add_expr-returns-in_ok-add-in-Element t c =
-    on_ok_array _ _ _ _ c.in-Element.element.array (names_of_trees (trees_in c.in-Element.element.subs.items)) _ c.in_ok-add-in-Element.ensures c.add_exprs.ensures (ap (λ e. names_of_tree (tree_of e)) c.in-Element.is ∙ ap names_of_tree (tree_of-element c.in-Element.element))
+    on_ok_array _ _ _ _ c.in-Element.element.array (names_of_trees (trees_in c.in-Element.element.subs.items)) _
+    c.in_ok-add-in-Element.ensures c.add_exprs.ensures
+    (ap (λ e. names_of_tree (tree_of e)) c.in-Element.is ∙ ap names_of_tree (tree_of-element c.in-Element.element))

@@ -5,4 +5,6 @@ use Rattle.ick_code.specs.Tables.{table_slots, with_names}
 use Rattle.ick_code.proofs.table.Table.+adding.Given as goal
 
 abbrev pub invariant-add_exprs-loop-e : goal.invariant-add_exprs-loop-e
-invariant-add_exprs-loop-e l = table_slots l.self ≡ with_names (table_slots l.initial.self) (names_of_trees (trees_in (take l.e-index l.e-items)))
+invariant-add_exprs-loop-e l =
+    table_slots l.self
+    ≡ with_names (table_slots l.initial.self) (names_of_trees (trees_in (take l.e-index l.e-items)))

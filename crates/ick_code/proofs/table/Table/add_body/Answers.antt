@@ -10,4 +10,5 @@ pub returns-in_ok-add-in-Dimension : goal.returns-in_ok-add-in-Dimension
 returns-in_ok-add-in-Dimension c =
     let array = c.in-Dimension.array in
     let es = c.in-Dimension.dimensions.items in
-    on_ok_array _ _ _ _ array (names_of_trees (trees_in es)) _ c.in_ok-add-in-Dimension.ensures c.add_exprs.ensures (ap (λ b. names_of_body (body_tree_of b)) c.in-Dimension.is ∙ ap (λ ns. array ∷ ns) (names-listed es))
+    on_ok_array _ _ _ _ array (names_of_trees (trees_in es)) _ c.in_ok-add-in-Dimension.ensures c.add_exprs.ensures
+    (ap (λ b. names_of_body (body_tree_of b)) c.in-Dimension.is ∙ ap (λ ns. array ∷ ns) (names-listed es))

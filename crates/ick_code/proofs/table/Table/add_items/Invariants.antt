@@ -6,4 +6,6 @@ use Rattle.ick_code.specs.Tables.{table_slots, with_names}
 use Rattle.ick_code.proofs.table.Table.add_items.Given as goal
 
 abbrev pub invariant-loop-item : goal.invariant-loop-item
-invariant-loop-item l = table_slots l.self ≡ with_names (table_slots l.initial.self) (flat_map names_of_item (map item_tree (take l.item-index l.items)))
+invariant-loop-item l =
+    table_slots l.self
+    ≡ with_names (table_slots l.initial.self) (flat_map names_of_item (map item_tree (take l.item-index l.items)))

@@ -6,4 +6,6 @@ use Rattle.ick_code.specs.Tables.{table_slots, with_names}
 use Rattle.ick_code.proofs.table.Table.add_places.Given as goal
 
 abbrev pub invariant-loop-place : goal.invariant-loop-place
-invariant-loop-place l = table_slots l.self ≡ with_names (table_slots l.initial.self) (flat_map names_of_item (map place_tree (take l.place-index l.places)))
+invariant-loop-place l =
+    table_slots l.self
+    ≡ with_names (table_slots l.initial.self) (flat_map names_of_item (map place_tree (take l.place-index l.places)))

@@ -7,4 +7,7 @@ use Rattle.ick_code.proofs.table.Table.new.Goals as goal
 
 pub loop-statement-preserved : goal.loop-statement-preserved
 loop-statement-preserved c =
-    came_more (λ l. names_of (map statement_tree_of l)) (λ x. names_of_body (body_tree_of x.body)) (mapped-step (λ x. names_of_body x.body) statement_tree_of) _ _ _ c.args.statements.now c.loop-statement.statement-index _ _ c.loop-statement.invariant c.in_ok-add_body.ensures c.loop-statement-test.true c.statement-item.is
+    came_more (λ l. names_of (map statement_tree_of l)) (λ x. names_of_body (body_tree_of x.body))
+    (mapped-step (λ x. names_of_body x.body) statement_tree_of) _ _ _ c.args.statements.now
+    c.loop-statement.statement-index _ _ c.loop-statement.invariant c.in_ok-add_body.ensures c.loop-statement-test.true
+    c.statement-item.is

@@ -5,4 +5,5 @@ use Rattle.ick_code.specs.Tables.{table_slots, with_names, no_slots}
 use Rattle.ick_code.proofs.table.Table.new.Given as goal
 
 abbrev pub invariant-loop-statement : goal.invariant-loop-statement
-invariant-loop-statement l = table_slots l.table ≡ with_names no_slots (names_of (map statement_tree_of (take l.statement-index l.statements)))
+invariant-loop-statement l =
+    table_slots l.table ≡ with_names no_slots (names_of (map statement_tree_of (take l.statement-index l.statements)))

@@ -5,4 +5,5 @@ use Rattle.ick_memory.proofs.trail.Trail.len.Goals as goal
 pub returns : goal.returns
 returns c =
     let t = c.args.self.now in
-    c.len.ensures ∙ t.entries.ok.0 ∙ sym (length-history t.entries.items (reverse t.arrays.items) (reverse t.statuses.items))
+    c.len.ensures ∙ t.entries.ok.0
+    ∙ sym (length-history t.entries.items (reverse t.arrays.items) (reverse t.statuses.items))

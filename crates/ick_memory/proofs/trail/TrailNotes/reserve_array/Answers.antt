@@ -9,16 +9,19 @@ pub returns-clause-grows : goal.returns-clause-grows
 returns-clause-grows c = λ k now after before h grown same.
     let t = c.args.self.now in
     rewinds-grown (history t) _ k (stash_room now) (stash_room after) (view_of now) (view_of after) before h grown same
-    (ap₂ (λ l m. reverse (changes_of (reverse l) (reverse m) (reverse t.statuses.items))) c.reserve.ensures.items c.reserve-2.ensures.items)
+    (ap₂ (λ l m. reverse (changes_of (reverse l) (reverse m) (reverse t.statuses.items))) c.reserve.ensures.items
+    c.reserve-2.ensures.items)
 
 pub returns-in_err-reserve-clause-grows : goal.returns-in_err-reserve-clause-grows
 returns-in_err-reserve-clause-grows c = λ k now after before h grown same.
     let t = c.args.self.now in
     rewinds-grown (history t) _ k (stash_room now) (stash_room after) (view_of now) (view_of after) before h grown same
-    (ap (λ l. reverse (changes_of (reverse l) (reverse t.arrays.items) (reverse t.statuses.items))) c.reserve.ensures.items)
+    (ap (λ l. reverse (changes_of (reverse l) (reverse t.arrays.items) (reverse t.statuses.items)))
+    c.reserve.ensures.items)
 
 pub returns-in_err-reserve-2-clause-grows : goal.returns-in_err-reserve-2-clause-grows
 returns-in_err-reserve-2-clause-grows c = λ k now after before h grown same.
     let t = c.args.self.now in
     rewinds-grown (history t) _ k (stash_room now) (stash_room after) (view_of now) (view_of after) before h grown same
-    (ap₂ (λ l m. reverse (changes_of (reverse l) (reverse m) (reverse t.statuses.items))) c.reserve.ensures.items c.reserve-2.ensures.items)
+    (ap₂ (λ l m. reverse (changes_of (reverse l) (reverse m) (reverse t.statuses.items))) c.reserve.ensures.items
+    c.reserve-2.ensures.items)

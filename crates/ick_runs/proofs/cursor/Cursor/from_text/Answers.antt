@@ -16,8 +16,11 @@ returns-in_err-choices-clause-back c = λ c' e le.
     let f : c.from_residual.result ≡ Err c.in_err-choices.field-0.0 = search rules in
     let cap : c.args.limit < 2 ^ 32 = grind (arith, common_steps) in
     let refused = c.in_err-choices.ensures in
-    subst (λ r. IfOk r (λ d. d ≡ c') × IfErr r (λ x. x ≡ NoMemory)) (sym f)
-    (tt, back_error c.args.text.now c.args.limit c.in_err-choices.field-0.0 cap (λ b. refused.bad_cursor (ap Err b)) (λ n. refused.no_such_run (ap Err n)) refused.errors c' e le)
+    subst (λ r. IfOk r (λ d. d ≡ c') × IfErr r (λ x. x ≡ NoMemory)) (sym f) (
+      tt,
+      back_error c.args.text.now c.args.limit c.in_err-choices.field-0.0 cap (λ b. refused.bad_cursor (ap Err b))
+          (λ n. refused.no_such_run (ap Err n)) refused.errors c' e le,
+    )
 
 pub returns-clause-back : goal.returns-clause-back
 returns-clause-back c = λ c' e le.

@@ -1,5 +1,5 @@
-use Rattle.std.proofs.Common.{◌≡◌, ◌∙◌, ◌+◌, ◌-◌, ◌++◌, ℕ, List, length, ap, append_assoc, sym, take, drop, arith}
-use Rattle.std.proofs.Common.{rules, length-drop}
+use Rattle.std.proofs.Common.{◌≡◌, ◌∙◌, ◌+◌, ◌-◌, ◌++◌, ℕ, List, length, ap, append_assoc}
+use Rattle.std.proofs.Common.{sym, take, drop, arith, rules, length-drop}
 use Rattle.std.proofs.Math.Seq.{take-add}
 use Rattle.std.proofs.lemmas.List.{take_rest}
 use Rattle.ick_runs.proofs.devices.whole.write_whole.Goals as goal
