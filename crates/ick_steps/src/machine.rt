@@ -1,5 +1,13 @@
 //! The machines, and a run on each.
 
+ghost use Rattle.std.specs.Prelude.{◌≡◌, ◌≢◌, ◌-◌, ◌^◌, ◌⊎◌, Bool, List, []};
+ghost use Rattle.std.specs.Prelude.{IfSome, IfNone, IfOk, IfErr};
+ghost use Rattle.ick_code.specs.Compiled.{code_program};
+ghost use Rattle.ick_code.specs.meaning.Move.{first_state};
+ghost use Rattle.ick_runs.specs.Runs.{Execution, run};
+ghost use Rattle.ick_runs.specs.Ordinary.{IsRan};
+ghost use Rattle.ick_steps.specs.Machines.{name_of};
+
 use ick_code::Code;
 use ick_machine::{Copied, Trailed};
 use ick_runs::{Chooser, Ran, RunsError, SliceSource, VecSink, run_from, run_stream};
@@ -14,8 +22,11 @@ pub(crate) enum Machine {
 }
 
 impl Machine {
-    /// The machine of a name.
-    pub(crate) fn named(name: &str) -> Option<Machine> {
+    /// The machine of a name, or `None` where none has it.
+    pub(crate) fn named(name: &str) -> Option<Machine>
+        ensures some { IfSome result (λ machine. name.now ≡ name_of machine) }
+        ensures none { IfNone result ((machine : Machine) → name.now ≢ name_of machine) }
+    {
         match name {
             "copied" => Some(Machine::Copied),
             "trailed" => Some(Machine::Trailed),
@@ -26,7 +37,14 @@ impl Machine {
 
     /// Runs a program without input and choices on this machine, and answers how many steps it
     /// made. What it prints is kept until its end.
-    pub(crate) fn run(self, alloc: Global, code: &Code<'_>) -> Result<u32, RunsError> {
+    ///
+    /// The answer is `NoMemory` where the run could not grow, and `Write` where what `Live` prints
+    /// could not.
+    pub(crate) fn run(self, alloc: Global, code: &Code<'_>) -> Result<u32, RunsError>
+        ensures steps { let program = code_program code.now in IfOk result (λ steps.
+            steps ≡ (run program (first_state program []) (2 ^ 32 - 1) []).steps) }
+        ensures errors { IfErr result (λ e. (e ≡ RunsError.NoMemory) ⊎ (e ≡ RunsError.Write)) }
+    {
         match self {
             Machine::Copied => {
                 let machine = Copied::new(alloc, code, &[], 0)?;
@@ -48,7 +66,10 @@ impl Machine {
 }
 
 /// How many steps a run made.
-fn steps_of(ran: Ran<'_>) -> u32 {
+fn steps_of(ran: Ran<'_>) -> u32
+    ensures { (choices : List Bool) (made : Execution) → IsRan choices made ran.entry
+        → result ≡ made.steps }
+{
     match ran {
         Ran::Ended { steps, .. } | Ran::Wants { steps, .. } => steps,
     }
