@@ -1,8 +1,6 @@
 -- What is kept of a statement by the shape of its operations: `IsEmitted` is a shape, and says nothing of what they do.
 use Rattle.std.specs.Prelude.{ℕ, ◌≡◌, ◌≤◌, List, length, slice_range}
 use Rattle.ick_source.specs.declared.statements.Statement.{Statement}
-use Rattle.ick_source.specs.Kinds.{kind_of}
-use Rattle.ick_source.specs.BodyTree.{body_tree_of}
 use Rattle.ick_code.specs.declared.op.Op.{Op}
 use Rattle.ick_code.specs.declared.code.CompiledStatement.{CompiledStatement}
 use Rattle.ick_code.specs.Effects.{Slots}
@@ -16,5 +14,4 @@ pub record IsEmitted (place : ℕ → ℕ) (slots : Slots) (ops : List Op) (comp
   pub is : slice_range ops compiled.from compiled.to ≡ ops_of_body place slots statement.body
   pub chance : compiled.chance ≡ statement.chance
   pub abstained : compiled.abstained ≡ statement.abstained
-  pub kind : compiled.kind ≡ kind_of (body_tree_of statement.body)
   pub text : compiled.text.now ≡ statement.text.now

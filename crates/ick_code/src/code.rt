@@ -19,11 +19,11 @@ pub struct CompiledStatement<'a> {
     pub to: usize,
     pub chance: u8,
     pub abstained: bool,
-    pub kind: Kind,
     pub text: &'a [u8],
 }
 
-/// A compiled program: all operations in one list, and for each statement where its own stand.
+/// A compiled program: all operations in one list, and for each statement where its own stand. The
+/// kinds of statements are a list of their own, so that a gerund goes over few bytes.
 ///
 /// It keeps, for contracts alone, the program that it was compiled from, and its type keeps that it
 /// is the code of that program.
@@ -32,11 +32,13 @@ pub struct Code<'a> {
     program: Snapshot<Program<'a>>,
     ops: Vec<Op>,
     statements: Vec<CompiledStatement<'a>>,
+    kinds: Vec<Kind>,
     scalars: Vec<Name>,
     arrays: Vec<Name>,
     operands: usize,
     pub ghost compiled: { IsCode (trees_of program.value)
-        scalars.items arrays.items operands ops.items statements.items } by { Prim.hlevel props },
+        scalars.items arrays.items operands ops.items statements.items kinds.items }
+        by { Prim.hlevel props },
     pub ghost few: { length statements.items ≤ most_statements },
     pub ghost few_scalars: { length scalars.items ≤ most_names },
     pub ghost few_arrays: { length arrays.items ≤ most_names },
@@ -45,7 +47,7 @@ pub struct Code<'a> {
 impl<'a> Code<'a> {
     ghost use Rattle.std.specs.Prelude.{Some, IsSomeAnd, slice_get, option_map};
     ghost use Rattle.ick_source.specs.Kinds.{kind_of};
-    ghost use Rattle.ick_code.specs.Code.{Means};
+    ghost use Rattle.ick_code.specs.Code.{Means, kinds_of};
     ghost use Rattle.ick_code.specs.Compiled.{code_program, code_slots, code_statement};
     ghost use Rattle.ick_code.specs.Compiled.{compiled_at, code_ops, code_operands, Shows};
     ghost use Rattle.ick_code.specs.Compiled.{IsCompiled};
@@ -55,17 +57,20 @@ impl<'a> Code<'a> {
         program: &Program<'a>,
         ops: Vec<Op>,
         statements: Vec<CompiledStatement<'a>>,
+        kinds: Vec<Kind>,
         table: Table,
         operands: usize,
     ) -> Code<'a>
         requires { IsCode (trees_of program.now)
-            table.scalars.list.items table.arrays.list.items operands ops.items statements.items }
+            table.scalars.list.items table.arrays.list.items operands ops.items statements.items
+            kinds.items }
         ensures { IsCompiled (trees_of program.now) result }
     {
         Code {
             program: Snapshot::of(program),
             ops,
             statements,
+            kinds,
             scalars: table.scalars.into_list(),
             arrays: table.arrays.into_list(),
             operands,
@@ -127,7 +132,14 @@ impl<'a> Code<'a> {
         ensures { option_map (λ statement. kind_of statement.body) (code_statement self.now n) ≡
             Some result }
     {
-        self.statement(n).kind
+        self.kinds[n as usize - 1]
+    }
+
+    /// The kinds of all statements, in order.
+    pub fn kinds(&self) -> &[Kind]
+        ensures { result.now ≡ kinds_of (code_program self.now) }
+    {
+        &self.kinds
     }
 
     /// The text of statement `n`, from 1 to `count()`: its bytes in the source.

@@ -1,13 +1,15 @@
 //! From programs to code: all names get their slots first, then each statement its operations.
 
-ghost use Rattle.std.specs.Prelude.{◌≡◌, ◌++◌, true, OnOk, IfOk};
+ghost use Rattle.std.specs.Prelude.{◌≡◌, ◌++◌, true, map, OnOk, IfOk};
 ghost use Rattle.ick_source.specs.NameKinds.{is_body_kinded};
 ghost use Rattle.ick_source.specs.Programs.{trees_of};
 ghost use Rattle.ick_source.specs.BodyTree.{body_tree_of};
+ghost use Rattle.ick_source.specs.StatementTree.{statement_tree_of};
 ghost use Rattle.ick_code.specs.Tables.{table_slots};
 ghost use Rattle.ick_code.specs.Labels.{place_in};
 ghost use Rattle.ick_code.specs.Operations.{ops_of_body};
 ghost use Rattle.ick_code.specs.Emitted.{IsEmitted};
+ghost use Rattle.ick_code.specs.Code.{kinds_of};
 ghost use Rattle.ick_code.specs.Compiled.{IsCompiled};
 
 use crate::code::{Code, CompiledStatement};
@@ -32,6 +34,7 @@ pub fn compile<'a>(alloc: Global, program: &Program<'a>) -> Result<Code<'a>, NoM
     let source = program.statements();
     let table = Table::new(alloc, source)?;
     let labels = Labels::new(alloc, source)?;
+    let kinds = kinds(alloc, source)?;
     let mut ops = Vec::new(alloc);
     let mut statements = Vec::new(alloc);
     let mut operands = 0usize;
@@ -40,7 +43,19 @@ pub fn compile<'a>(alloc: Global, program: &Program<'a>) -> Result<Code<'a>, NoM
         operands = operands.max(most_operands(&ops[compiled.from..compiled.to]));
         statements.push(compiled)?;
     }
-    Ok(Code::new(program, ops, statements, table, operands))
+    Ok(Code::new(program, ops, statements, kinds, table, operands))
+}
+
+/// The kinds of statements, in order.
+fn kinds(alloc: Global, statements: &[Statement]) -> Result<Vec<Kind>, NoMemory>
+    ensures { IfOk result (λ kinds. kinds.items ≡ kinds_of (map statement_tree_of
+        statements.now)) }
+{
+    let mut kinds = Vec::new(alloc);
+    for statement in statements {
+        kinds.push(statement.body.kind())?;
+    }
+    Ok(kinds)
 }
 
 /// Appends the operations of a statement, and answers where they stand.
@@ -65,7 +80,6 @@ fn compile_statement<'a>(
         to: ops.len(),
         chance: statement.chance,
         abstained: statement.abstained,
-        kind: statement.body.kind(),
         text: statement.text,
     })
 }
