@@ -44,10 +44,10 @@ passing_once : (p : Name → Bool) (names : List Name) → list_all p names ≡ 
 passing_once p [] h = refl
 passing_once p (name ∷ names) h =
     let rest =
-        passing_filtered p (λ other. not (same_name name other)) (each_once names)
-        (passing_once p names (both_right (p name) (list_all p names) h)) in
+    passing_filtered p (λ other. not (same_name name other)) (each_once names)
+    (passing_once p names (both_right (p name) (list_all p names) h)) in
     ap (λ b. b && list_all p (filter (λ other. not (same_name name other)) (each_once names)))
-        (both_left (p name) (list_all p names) h) ∙ rest
+    (both_left (p name) (list_all p names) h) ∙ rest
 
 passing_own : (p : Name → Bool) (names : List Name) → list_all p (filter p names) ≡ true
 passing_own p [] = refl
@@ -96,19 +96,19 @@ pub is_compiled : (program : List StatementTree) (code : Code) → code_program 
     code.kinds.items → IsCompiled program code
 is_compiled program code are h =
     let slots : code_slots code ≡ slots_of program =
-        slots_is (code_slots code) (slots_of program) h.scalars_are h.arrays_are in
+    slots_is (code_slots code) (slots_of program) h.scalars_are h.arrays_are in
     record {
       program_is = are;
       means = λ n statement at.
           let compiled = compiled_of program code h n statement at in
           subst (λ sl. Means program sl (code_ops code n) statement code.operands) (sym slots)
           (subst (λ o. Means program (slots_of program) (ops_in code.ops.items o) statement code.operands)
-              (sym compiled.1) compiled.2.means);
+          (sym compiled.1) compiled.2.means);
       least = λ most all.
           h.least most (λ n compiled e.
           let reached = peak_reached (slice_range code.ops.items compiled.from compiled.to) 0 in
           let here : code_ops code (suc n) ≡ slice_range code.ops.items compiled.from compiled.to =
-              ap (ops_in code.ops.items) e in
+          ap (ops_in code.ops.items) e in
           let fits = all (suc n) reached.0 in
           omega (arith, fits, ap (λ o. count_after (take reached.0 o) 0) here, reached.1));
       enough = λ n k. le_trans (prefix-le (code_ops code n) k 0) (each_ops program code h n);
@@ -130,7 +130,7 @@ pub named_code : (program : List StatementTree) (scalars scalars' arrays arrays'
     IsCode program scalars' arrays' most ops statements kinds
 named_code program scalars scalars' arrays arrays' most ops statements kinds e f h =
     subst (λ xs. IsCode program xs arrays' most ops statements kinds) (sym e)
-        (subst (λ ys. IsCode program scalars ys most ops statements kinds) (sym f) h)
+    (subst (λ ys. IsCode program scalars ys most ops statements kinds) (sym f) h)
 
 -- what a reader takes
 pub record Taken (code : Code) (n : ℕ) (compiled : CompiledStatement) : Type 0 where
@@ -145,7 +145,7 @@ taken_at : (code : Code) (k : ℕ) (compiled : CompiledStatement) →
     code.kinds.items → Taken code (suc k) compiled
 taken_at code k compiled at h =
     let there =
-        some_member (code_program code) k (omega (arith, h.count, slice_get_within code.statements.items k compiled at)) in
+    some_member (code_program code) k (omega (arith, h.count, slice_get_within code.statements.items k compiled at)) in
     let is = h.each k compiled there.0 at there.1 in
     record {
       at = at;
@@ -167,7 +167,7 @@ is_taken code (suc k) compiled first last is =
     let low : k < length code.statements.items = omega (arith, h.count) in
     let one : suc k - 1 ≡ k = omega arith in
     taken_at code k compiled (slice_get-get_or code.statements.items k compiled low
-        ∙ ap (λ x. Some x) (sym (is ∙ ap (λ i. get_or code.statements.items i compiled) one))) h
+    ∙ ap (λ x. Some x) (sym (is ∙ ap (λ i. get_or code.statements.items i compiled) one))) h
 
 -- a kind that a reader takes
 pub kind_at : (code : Code) (n : ℕ) (kind : Kind) → 1 ≤ n → n ≤ length (code_program code) →
@@ -179,7 +179,7 @@ kind_at code (suc k) kind first last is =
     let kinds = code.kinds.items in
     let are : kinds ≡ kinds_of program = code.compiled.kinds_are in
     let low : k < length kinds =
-        omega (arith, ap length are, length-map program (λ statement. kind_of statement.body)) in
+    omega (arith, ap length are, length-map program (λ statement. kind_of statement.body)) in
     let one : suc k - 1 ≡ k = omega arith in
     sym (slice_get-map (λ statement. kind_of statement.body) program k)
     ∙ ap (λ l. slice_get l k) (sym are)

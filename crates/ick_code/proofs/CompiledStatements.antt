@@ -109,40 +109,41 @@ pub more_compiled : (place : ℕ → ℕ) (slots : Slots) (statements : List Sta
     (statement : Statement) → CompiledSoFar place slots statements ops list most i →
     IsEmitted place slots ops' compiled statement → ops' ≡ ops ++ more → list' ≡ list ++ compiled ∷ [] →
     most' ≡ max most (peak (slice_range ops' compiled.from compiled.to) 0) → i < length statements →
-        statement ≡ get_or statements i statement →
+    statement ≡ get_or statements i statement →
     CompiledSoFar place slots statements ops' list' most' (i + 1)
 more_compiled place slots statements ops more ops' list list' most most' i compiled statement so_far new grown pushed
     is_most within is = record {
-  count = ap length pushed ∙ length-append list (compiled ∷ []) ∙ ap (λ n. n + 1) so_far.count;
-  each = λ n l s e f.
-      ⊎_elim
-      (λ old.
-      let before = so_far.each n l s old f in
-      let fits = before.1 in
-      let same : slice_range ops' l.from l.to ≡ slice_range ops l.from l.to =
+      count = ap length pushed ∙ length-append list (compiled ∷ []) ∙ ap (λ n. n + 1) so_far.count;
+      each = λ n l s e f.
+          ⊎_elim
+          (λ old.
+          let before = so_far.each n l s old f in
+          let fits = before.1 in
+          let same : slice_range ops' l.from l.to ≡ slice_range ops l.from l.to =
           ap (λ o. slice_range o l.from l.to) grown
-          ∙ range-append ops more l.from l.to before.0.order before.0.within in
-      (subst (λ o. IsEmitted place slots o l s) (sym grown) (emitted_grows place slots ops more l s before.0),
-          omega (arith, ap (λ o. peak o 0) same)))
-      (λ last.
-      let at : slice_get statements i ≡ Some statement =
+          ∙ range-append ops more l.from l.to before.0.order before.0.within in (
+            subst (λ o. IsEmitted place slots o l s) (sym grown) (emitted_grows place slots ops more l s before.0),
+            omega (arith, ap (λ o. peak o 0) same),
+          ))
+          (λ last.
+          let at : slice_get statements i ≡ Some statement =
           slice_get-get_or statements i statement within ∙ ap (λ x. Some x) (sym is) in
-      let spot : n ≡ i = last.0 ∙ so_far.count in
-      let same : s ≡ statement = some_is s statement (sym f ∙ ap (slice_get statements) spot ∙ at) in
-      let whole : IsEmitted place slots ops' compiled statement
+          let spot : n ≡ i = last.0 ∙ so_far.count in
+          let same : s ≡ statement = some_is s statement (sym f ∙ ap (slice_get statements) spot ∙ at) in
+          let whole : IsEmitted place slots ops' compiled statement
           × (peak (slice_range ops' compiled.from compiled.to) 0 ≤ most') = (new, omega arith) in
-      subst (λ l. IsEmitted place slots ops' l s × (peak (slice_range ops' l.from l.to) 0 ≤ most')) last.1
-      (subst (λ s. IsEmitted place slots ops' compiled s
+          subst (λ l. IsEmitted place slots ops' l s × (peak (slice_range ops' l.from l.to) 0 ≤ most')) last.1
+          (subst (λ s. IsEmitted place slots ops' compiled s
           × (peak (slice_range ops' compiled.from compiled.to) 0 ≤ most')) (sym same) whole))
-      (push_cases list compiled n l (subst (λ ls. slice_get ls n ≡ Some l) pushed e));
-  greatest =
-      is_most
-      ∙ ap (λ n. max n (peak (slice_range ops' compiled.from compiled.to) 0)) so_far.greatest
-      ∙ ap (λ o. max (most_of (map peaks (take i statements))) (peak o 0)) new.is
-      ∙ sym (most_of-push (map peaks (take i statements)) (peaks statement))
-      ∙ ap most_of (sym (ap (map peaks) (take_with statements i statement within is)
+          (push_cases list compiled n l (subst (λ ls. slice_get ls n ≡ Some l) pushed e));
+      greatest =
+          is_most
+          ∙ ap (λ n. max n (peak (slice_range ops' compiled.from compiled.to) 0)) so_far.greatest
+          ∙ ap (λ o. max (most_of (map peaks (take i statements))) (peak o 0)) new.is
+          ∙ sym (most_of-push (map peaks (take i statements)) (peaks statement))
+          ∙ ap most_of (sym (ap (map peaks) (take_with statements i statement within is)
           ∙ map-append peaks (take i statements) (statement ∷ [])));
-}
+    }
   where
     peaks : Statement → ℕ
     peaks s = peak (ops_of_body place slots s.body) 0
@@ -171,16 +172,16 @@ ops_placed place place' slots same body.Unrecognised = refl
 emitted_means : (program : List StatementTree) (statements : List Statement) (place : ℕ → ℕ) (most : ℕ)
     (ops : List Op) (compiled : CompiledStatement) (n : ℕ) (statement : Statement) →
     program ≡ map statement_tree_of statements → ((label : ℕ) → place label ≡ place_of label program) →
-        list_all is_statement_kinded program ≡ true →
+    list_all is_statement_kinded program ≡ true →
     slice_get statements n ≡ Some statement → IsEmitted place (slots_of program) ops compiled statement →
-        peak (slice_range ops compiled.from compiled.to) 0 ≤ most →
+    peak (slice_range ops compiled.from compiled.to) 0 ≤ most →
     IsCompiledStatement program (slots_of program) most ops compiled (statement_tree_of statement)
 emitted_means program statements place most ops compiled n statement trees places kinded at h low =
     let tree = statement_tree_of statement in
     let slots = slots_of program in
     let at_tree : slice_get program n ≡ Some tree =
-        ap (λ p. slice_get p n) trees ∙ slice_get-map statement_tree_of statements n
-        ∙ ap (option_map statement_tree_of) at in
+    ap (λ p. slice_get p n) trees ∙ slice_get-map statement_tree_of statements n
+    ∙ ap (option_map statement_tree_of) at in
     let are = h.is ∙ ops_placed place (λ label. place_of label program) slots places statement.body in
     record {
       order = h.order;
@@ -189,10 +190,11 @@ emitted_means program statements place most ops compiled n statement trees place
         does = λ s.
             ap (λ o. effects program slots statement.text.now o [] s) are
             ∙ body_runs program slots statement.text.now statement.body (kinded_part program n tree at_tree kinded)
-                (covers_part slots program n tree at_tree (covers_all program)) s;
+            (covers_part slots program n tree at_tree (covers_all program)) s;
         keeps =
             λ s k.
-            le_trans (within_peak program slots statement.text.now (slice_range ops compiled.from compiled.to) k [] s) low;
+            le_trans (within_peak program slots statement.text.now (slice_range ops compiled.from compiled.to) k [] s)
+            low;
       };
       low = low;
       chance = h.chance;
@@ -205,30 +207,32 @@ pub whole_code : (program : List StatementTree) (statements : List Statement) (p
     (ops : List Op) (list : List CompiledStatement) (kinds : List Kind) (most i : ℕ) →
     CompiledSoFar place slots statements ops list most i → i ≤ length statements → length statements ≤ i →
     program ≡ map statement_tree_of statements → ((label : ℕ) → place label ≡ place_of label program) →
-        list_all is_statement_kinded program ≡ true → slots ≡ slots_of program → kinds ≡ kinds_of program →
+    list_all is_statement_kinded program ≡ true → slots ≡ slots_of program → kinds ≡ kinds_of program →
     IsCode program slots.scalars slots.arrays most ops list kinds
 whole_code program statements place slots ops list kinds most i so_far low high trees places kinded are_slots
     are_kinds = record {
-  count = so_far.count ∙ whole ∙ sym (ap length trees ∙ length-map statements statement_tree_of);
-  each = λ n compiled tree e f.
-      let from = mapped_from statement_tree_of statements n tree (subst (λ p. slice_get p n ≡ Some tree) trees f) in
-      let here = so_far.each n compiled from.0 e from.1 in
-      subst (IsCompiledStatement program (slots_of program) most ops compiled) (sym from.2)
-      (emitted_means program statements place most ops compiled n from.0 trees places kinded from.1
+      count = so_far.count ∙ whole ∙ sym (ap length trees ∙ length-map statements statement_tree_of);
+      each = λ n compiled tree e f.
+          let from =
+          mapped_from statement_tree_of statements n tree (subst (λ p. slice_get p n ≡ Some tree) trees f) in
+          let here = so_far.each n compiled from.0 e from.1 in
+          subst (IsCompiledStatement program (slots_of program) most ops compiled) (sym from.2)
+          (emitted_means program statements place most ops compiled n from.0 trees places kinded from.1
           (subst (λ sl. IsEmitted place sl ops compiled from.0) are_slots here.0) here.1);
-  scalars_are = ap (λ sl. sl.scalars) are_slots;
-  arrays_are = ap (λ sl. sl.arrays) are_slots;
-  kinds_are = are_kinds;
-  least = λ m all.
-      subst (λ k. k ≤ m) (sym (so_far.greatest ∙ ap (λ l. most_of (map peaks l)) (take_all i statements high)))
-      (most_of-least (map peaks statements) m (λ n k e.
-      let from = mapped_from peaks statements n k e in
-      let long = slice_get_within statements n from.0 from.1 in
-      let here = some_member list n (omega (arith, so_far.count)) in
-      let there = so_far.each n here.0 from.0 here.1 from.1 in
-      let fits = all n here.0 here.1 in
-      omega (arith, fits, from.2, ap (λ o. peak o 0) there.0.is)));
-}
+      scalars_are = ap (λ sl. sl.scalars) are_slots;
+      arrays_are = ap (λ sl. sl.arrays) are_slots;
+      kinds_are = are_kinds;
+      least = λ m all.
+          subst (λ k. k ≤ m)
+          (sym (so_far.greatest ∙ ap (λ l. most_of (map peaks l)) (take_all i statements high)))
+          (most_of-least (map peaks statements) m (λ n k e.
+          let from = mapped_from peaks statements n k e in
+          let long = slice_get_within statements n from.0 from.1 in
+          let here = some_member list n (omega (arith, so_far.count)) in
+          let there = so_far.each n here.0 from.0 here.1 from.1 in
+          let fits = all n here.0 here.1 in
+          omega (arith, fits, from.2, ap (λ o. peak o 0) there.0.is)));
+    }
   where
     whole : i ≡ length statements
     whole = omega arith

@@ -36,9 +36,8 @@ pub struct Code<'a> {
     scalars: Vec<Name>,
     arrays: Vec<Name>,
     operands: usize,
-    pub ghost compiled: { IsCode (trees_of program.value)
-        scalars.items arrays.items operands ops.items statements.items kinds.items }
-        by { Prim.hlevel props },
+    pub ghost compiled: { IsCode (trees_of program.value) scalars.items arrays.items
+        operands ops.items statements.items kinds.items } by { Prim.hlevel props },
     pub ghost few: { length statements.items ≤ most_statements },
     pub ghost few_scalars: { length scalars.items ≤ most_names },
     pub ghost few_arrays: { length arrays.items ≤ most_names },

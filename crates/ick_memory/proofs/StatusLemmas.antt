@@ -3,7 +3,6 @@ use Rattle.std.proofs.Common.{◌≡◌, ℕ, zero, suc, ◌+◌, ◌%◌, ◌<�
 use Rattle.std.proofs.Common.{true, false, List, [], ◌∷◌, map, length, get_or, refl, sym, ap, ◌∙◌, arith}
 use Rattle.std.proofs.Common.{ltb-true, le-leb, le_refl, eqb-true, eq-eqb}
 use Rattle.std.proofs.lemmas.List.{get_or-set_same, get_or-set_other}
-use Rattle.std.proofs.lemmas.Grind.{get_or_default_zero}
 use Rattle.std.proofs.Math.ListN.{get_or-eq_default}
 use Rattle.std.specs.Prelude.{nat_lt, nat_le, if◌then◌else◌, slice_set}
 use Rattle.std.specs.Option.{option_map_or}
@@ -12,9 +11,11 @@ use Rattle.std.proofs.lemmas.Option.{slice_get_past}
 use Rattle.ick_source.specs.StatementTree.{StatementTree}
 use Rattle.ick_source.specs.Kinds.{kind_of}
 use Rattle.ick_source.specs.declared.kinds.Kind.{Kind}
+use Rattle.ick_source.specs.declared.kinds.Kind.TheVariants.{Calculate}
 use Rattle.ick_code.specs.meaning.Abstain.{is_of_kind, kind_number}
 use Rattle.std.proofs.lemmas.List.{length-map}
 use Rattle.ick_code.specs.declared.code.Code.{Code}
+use Rattle.ick_code.specs.Code.{kinds_of}
 use Rattle.ick_code.specs.Compiled.{code_program}
 use Rattle.ick_memory.specs.View.{View, Fits}
 use Rattle.ick_memory.specs.Status.{percent_of, chance_of, is_abstained, with_flag, flag_at, same_chances}
@@ -90,14 +91,17 @@ flag_chosen true on status = flag-with_flag on status
 flag_chosen false on status = refl
 
 -- one more status is done of those of a kind
-pub flags_next : (old now : List ℕ) (at status x : ℕ) (on b : Bool) (is : ℕ → Bool) → at < length now →
-    b ≡ is (at + 1) → status ≡ get_or now at status → x ≡ (if b then with_flag on status else status) →
+pub flags_next : (old now : List ℕ) (at x : ℕ) (on b : Bool) (is : ℕ → Bool) → at < length now →
+    b ≡ is (at + 1) → x ≡ (if b then with_flag on (get_or now at 0) else get_or now at 0) →
     ((n : ℕ) → n ≤ at → flag_at now n ≡ (if is n then on else flag_at old n)) →
     ((k : ℕ) → at ≤ k → get_or now k 0 ≡ get_or old k 0) →
     (n : ℕ) → n ≤ at + 1 → flag_at (slice_set now at x) n ≡ (if is n then on else flag_at old n)
-flags_next old now at status x on b is within kind read chosen done rest zero le = done zero (omega arith)
-flags_next old now at status x on b is within kind read chosen done rest (suc k) le = cases (nat_lt k at) refl
+flags_next old now at x on b is within kind chosen done rest zero le = done zero (omega arith)
+flags_next old now at x on b is within kind chosen done rest (suc k) le = cases (nat_lt k at) refl
   where
+    status : ℕ
+    status = get_or now at 0
+
     cases : (c : Bool) → nat_lt k at ≡ c →
         is_abstained (get_or (slice_set now at x) k 0) ≡ (if is (suc k) then on else is_abstained (get_or old k 0))
     cases true e =
@@ -108,9 +112,7 @@ flags_next old now at status x on b is within kind read chosen done rest (suc k)
         let above : at ≤ k = grind (arith, nat_tests) in
         let same : k ≡ at = omega (arith, above, le) in
         let one : at + 1 ≡ suc k = omega (arith, same) in
-        let was : status ≡ get_or old k 0 =
-        read ∙ get_or_default_zero now at status within ∙ rest at (le_refl at)
-        ∙ ap (λ i. get_or old i 0) (sym same) in
+        let was : status ≡ get_or old k 0 = rest at (le_refl at) ∙ ap (λ i. get_or old i 0) (sym same) in
         ap (λ i. is_abstained (get_or (slice_set now at x) i 0)) same
         ∙ ap is_abstained (get_or-set_same now at x 0 within ∙ chosen)
         ∙ flag_chosen b on status
@@ -151,6 +153,14 @@ kind_past program kind zero past = absurd (omega arith)
 kind_past program kind (suc k) past =
     ap (λ o. option_map_or (λ statement. kind_number (kind_of statement.body) == kind_number kind) o false)
     (slice_get_past program k (omega (arith, past)))
+
+-- a statement is of a kind where the list of the kinds has it at the statement's place
+pub kind_here : (program : List StatementTree) (kind : Kind) (at : ℕ) → at < length program →
+    (kind_number (get_or (kinds_of program) at Calculate) == kind_number kind) ≡ is_of_kind program kind (suc at)
+kind_here [] kind at within = absurd (omega arith)
+kind_here (statement ∷ program) kind zero within = refl
+kind_here (statement ∷ program) kind (suc k) within =
+    kind_here program kind k (omega (arith, within))
 
 -- there is a status for each statement
 pub statuses_count : (code : Code) (v : View) → Fits code v → length v.statuses ≡ length (code_program code)

@@ -1,9 +1,9 @@
 //! Statements that are abstained from.
 
-ghost use Rattle.std.specs.Prelude.{◌≡◌, ◌≤◌, true, ℕ, length, OnOk, OnErr};
+ghost use Rattle.std.specs.Prelude.{◌≡◌, ◌≤◌, ◌==◌, true, ℕ, length, OnOk, OnErr};
 ghost use Rattle.std.specs.Prelude.{if◌then◌else◌};
 ghost use Rattle.ick_code.specs.meaning.Abstain.{is_of_kind, can_be_set, set_abstained};
-ghost use Rattle.ick_code.specs.meaning.Abstain.{set_kind_abstained};
+ghost use Rattle.ick_code.specs.meaning.Abstain.{set_kind_abstained, kind_number};
 ghost use Rattle.ick_code.specs.Compiled.{code_program};
 ghost use Rattle.ick_memory.specs.Status.{flag_at, same_chances};
 ghost use Rattle.ick_memory.specs.View.{Input, view_of, state_of, shape_of, Fits};
@@ -85,23 +85,21 @@ fn flag_kind(code: &Code, statuses: &mut Vec<u8>, kind: Kind, on: bool)
     requires count { length statuses.old.items ≡ length (code_program code.now) }
     ensures chances { same_chances statuses.old.items statuses.new.items ≡ true }
     ensures flags { (n : ℕ) → flag_at statuses.new.items n
-        ≡ (if is_of_kind (code_program code.now) kind n then on
-        else flag_at statuses.old.items n) }
+        ≡ (if is_of_kind (code_program code.now) kind n then on else flag_at statuses.old.items
+        n) }
 {
-    for at in 0..statuses.len() {
-        let is = is_of(code, at as u32 + 1, kind);
-        let status = statuses[at];
-        statuses[at] = chosen(is, flagged(status, on), status);
+    let kinds = code.kinds();
+    for (at, status) in statuses.iter_mut().enumerate() {
+        let is = same_kind(kinds[at], kind);
+        *status = chosen(is, flagged(*status, on), *status);
     }
 }
 
-/// Whether a statement is of a kind.
-fn is_of(code: &Code, n: u32, kind: Kind) -> bool
-    requires first { 1 ≤ n }
-    requires last { n ≤ length (code_program code.now) }
-    ensures { result ≡ is_of_kind (code_program code.now) kind n }
+/// Whether two kinds are one.
+fn same_kind(one: Kind, other: Kind) -> bool
+    ensures { result ≡ (kind_number one == kind_number other) }
 {
-    code.kind(n) == kind
+    one == other
 }
 
 /// One status or the other.

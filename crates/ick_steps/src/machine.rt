@@ -1,7 +1,7 @@
 //! The machines, and a run on each.
 
-ghost use Rattle.std.specs.Prelude.{◌≡◌, ◌≢◌, ◌-◌, ◌^◌, ◌⊎◌, Bool, List, []};
-ghost use Rattle.std.specs.Prelude.{IfSome, IfNone, IfOk, IfErr};
+ghost use Rattle.std.specs.Prelude.{◌≡◌, ◌≢◌, ◌-◌, ◌^◌, ◌⊎◌, Bool, List};
+ghost use Rattle.std.specs.Prelude.{[], IfSome, IfNone, IfOk, IfErr};
 ghost use Rattle.ick_code.specs.Compiled.{code_program};
 ghost use Rattle.ick_code.specs.meaning.Move.{first_state};
 ghost use Rattle.ick_runs.specs.Runs.{Execution, run};
@@ -43,7 +43,8 @@ impl Machine {
     pub(crate) fn run(self, alloc: Global, code: &Code<'_>) -> Result<u32, RunsError>
         ensures steps { let program = code_program code.now in IfOk result (λ steps.
             steps ≡ (run program (first_state program []) (2 ^ 32 - 1) []).steps) }
-        ensures errors { IfErr result (λ e. (e ≡ RunsError.NoMemory) ⊎ (e ≡ RunsError.Write)) }
+        ensures errors { IfErr result
+            (λ e. (e ≡ RunsError.NoMemory) ⊎ (e ≡ RunsError.Write)) }
     {
         match self {
             Machine::Copied => {
