@@ -1,6 +1,7 @@
--- Marks that are kept, as numbers of changes or as copies.
-use Rattle.std.specs.Prelude.{ℕ, ◌≡◌, true, List, map}
+-- Marks that are kept, over a trail or as copies.
+use Rattle.std.specs.Prelude.{◌≡◌, true, List, map}
 use Rattle.std.specs.Global.{Vec}
+use Rattle.ick_memory.specs.declared.mark.Mark.{Mark}
 use Rattle.ick_memory.specs.declared.memory.Memory.{Memory}
 use Rattle.ick_memory.specs.declared.trail.Trail.{Trail}
 use Rattle.ick_memory.specs.View.{View, view_of}
@@ -9,7 +10,7 @@ use Rattle.ick_memory.specs.Marks.{marked_views, are_marks}
 -- whatever marks there are, they stay, and stand for the same
 abbrev pub KeepsMarks : Trail → Memory → Trail → Memory → Type 0
 KeepsMarks old_trail old trail new =
-    (marks : Vec ℕ) → are_marks old_trail old marks ≡ true →
+    (marks : Vec Mark) → are_marks old_trail old marks ≡ true →
     (marked_views trail new marks ≡ marked_views old_trail old marks) × (are_marks trail new marks ≡ true)
 
 -- the views that copies of a memory have, the last one last

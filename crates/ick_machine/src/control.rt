@@ -25,7 +25,7 @@ pub fn call<N: Notes>(memory: &mut Memory, notes: &mut N, to: u32) -> Result<(),
     }
     let here = memory.place;
     push_return(memory, notes, here)?;
-    put_place(memory, notes, to)?;
+    put_place(memory, notes, to);
     Ok(())
 }
 
@@ -80,6 +80,6 @@ pub fn resume<N: Notes>(memory: &mut Memory, notes: &mut N, number: u32) -> Resu
     }
     let to = returns[returns.len() - count];
     drop_returns(memory, notes, count)?;
-    put_place(memory, notes, to)?;
+    put_place(memory, notes, to);
     Ok(())
 }

@@ -1,13 +1,13 @@
 -- The changes that a trail holds.
-use Rattle.std.proofs.Common.{◌≡◌, ℕ, suc, ◌+◌, true, List, [], ◌∷◌, ◌++◌, length, reverse, refl}
-use Rattle.std.proofs.Common.{sym, ap, ap₂, ◌∙◌}
+use Rattle.std.proofs.Common.{◌≡◌, ℕ, suc, true, List, [], ◌∷◌, ◌++◌, length, reverse, refl, ap}
+use Rattle.std.proofs.Common.{◌∙◌}
 use Rattle.std.specs.Global.{Vec}
 use Rattle.std.proofs.lemmas.List.{reverse-append, length-reverse}
 use Rattle.ick_memory.specs.View.{View, Room}
 use Rattle.ick_memory.specs.declared.memory.Array.{Array as ArrayKept}
 use Rattle.ick_memory.specs.declared.change.ArrayChange.{ArrayChange}
 use Rattle.ick_memory.specs.declared.change.Entry.{Entry}
-use Rattle.ick_memory.specs.declared.change.Entry.TheVariants.{Place, End, Pushed, Popped, Scalar, Element, ScalarSaved}
+use Rattle.ick_memory.specs.declared.change.Entry.TheVariants.{End, Pushed, Popped, Scalar, Element, ScalarSaved}
 use Rattle.ick_memory.specs.declared.change.Entry.TheVariants.{ArraySaved, ScalarTaken, ScalarIgnored, ArrayIgnored}
 use Rattle.ick_memory.specs.declared.change.Entry.TheVariants.{Status, Printed, Read, Last, LastIn, Array, Statuses}
 use Rattle.ick_memory.specs.declared.change.Change.{Change}
@@ -18,7 +18,6 @@ use Rattle.ick_memory.specs.Undo.{changes_of, can_undo_entry}
 pub changes-plain : (entry : Entry) (room : Room) (v : View) (entries : List Entry) (arrays : List ArrayKept)
     (statuses : List (Vec ℕ)) → can_undo_entry entry room v ≡ true →
     changes_of (entry ∷ entries) arrays statuses ≡ Plain entry ∷ changes_of entries arrays statuses
-changes-plain (Place place) room v entries arrays statuses can = refl
 changes-plain (End gave_up) room v entries arrays statuses can = refl
 changes-plain Pushed room v entries arrays statuses can = refl
 changes-plain (Popped place) room v entries arrays statuses can = refl
@@ -41,7 +40,6 @@ changes-plain Statuses room v entries arrays statuses can = absurd (cc)
 pub length-changes : (entries : List Entry) (arrays : List ArrayKept) (statuses : List (Vec ℕ)) →
     length (changes_of entries arrays statuses) ≡ length entries
 length-changes [] arrays statuses = refl
-length-changes ((Place place) ∷ entries) arrays statuses = ap suc (length-changes entries arrays statuses)
 length-changes ((End gave_up) ∷ entries) arrays statuses = ap suc (length-changes entries arrays statuses)
 length-changes (Pushed ∷ entries) arrays statuses = ap suc (length-changes entries arrays statuses)
 length-changes ((Popped place) ∷ entries) arrays statuses = ap suc (length-changes entries arrays statuses)

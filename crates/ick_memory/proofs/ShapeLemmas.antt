@@ -1,6 +1,6 @@
 -- Undoing keeps how many slots there are, and the chances.
-use Rattle.std.proofs.Common.{◌≡◌, ℕ, suc, ◌-◌, ◌==◌, List, [], ◌∷◌, length, take, map, true}
-use Rattle.std.proofs.Common.{refl, sym, ap, ap₂, ◌∙◌, length-set, get_or, eqb-true}
+use Rattle.std.proofs.Common.{◌≡◌, ℕ, ◌-◌, ◌==◌, List, [], ◌∷◌, length, take, map, true, refl}
+use Rattle.std.proofs.Common.{sym, ap, ap₂, ◌∙◌, length-set, get_or, eqb-true}
 use Rattle.std.specs.Prelude.{nat_lt}
 use Rattle.std.proofs.lemmas.List.{length-map}
 use Rattle.ick_code.specs.meaning.State.{Array as ArrayValue}
@@ -9,19 +9,19 @@ use Rattle.ick_memory.specs.View.{View, Room, Shape, shape_of, array_of}
 use Rattle.ick_memory.specs.declared.change.ArrayChange.{ArrayChange}
 use Rattle.ick_memory.specs.declared.change.ArrayChange.TheVariants.{Replaced, Taken, Restored}
 use Rattle.ick_memory.specs.declared.change.Entry.{Entry}
-use Rattle.ick_memory.specs.declared.change.Entry.TheVariants.{Place, End, Pushed, Popped, Scalar, Element, ScalarSaved}
+use Rattle.ick_memory.specs.declared.change.Entry.TheVariants.{End, Pushed, Popped, Scalar, Element, ScalarSaved}
 use Rattle.ick_memory.specs.declared.change.Entry.TheVariants.{ArraySaved, ScalarTaken, ScalarIgnored, ArrayIgnored}
 use Rattle.ick_memory.specs.declared.change.Entry.TheVariants.{Status, Printed, Read, Last, LastIn, Array, Statuses}
 use Rattle.ick_memory.specs.declared.change.Change.{Change}
 use Rattle.ick_memory.specs.declared.change.Change.TheVariants.{Plain, Array as ArrayOf, Statuses as StatusesOf}
-use Rattle.ick_memory.specs.Undo.{undone, undone_entry, undone_array, rewound, marked, can_undo, can_undo_entry}
-use Rattle.ick_memory.specs.Undo.{can_rewind}
+use Rattle.ick_memory.specs.declared.mark.Mark.{Mark}
+use Rattle.ick_memory.specs.Undo.{undone, undone_entry, undone_array, rewound, marked, marked_view, can_undo}
+use Rattle.ick_memory.specs.Undo.{can_undo_entry, can_rewind}
 use Rattle.ick_memory.proofs.ListLemmas.{map-front, both_true}
 use Rattle.ick_memory.proofs.StatusLemmas.{chances-set, same_chances-map}
 
 undone_entry-shape : (entry : Entry) (room : Room) (v : View) → can_undo_entry entry room v ≡ true →
     shape_of (undone_entry entry v) ≡ shape_of v
-undone_entry-shape (Place place) room v can = refl
 undone_entry-shape (End gave_up) room v can = refl
 undone_entry-shape Pushed room v can = refl
 undone_entry-shape (Popped place) room v can = refl
@@ -74,10 +74,9 @@ rewound-shape (change ∷ changes) room v can =
     let parts = both_true (can_undo change room v) (can_rewind changes room (undone change v)) can in
     rewound-shape changes room (undone change v) parts.1 ∙ undone-shape change room v parts.0
 
-pub marked_count : (changes : List Change) (v : View) (marks : List ℕ) →
+pub marked_count : (changes : List Change) (v : View) (marks : List Mark) →
     length (marked changes v marks) ≡ length marks
-marked_count changes v [] = refl
-marked_count changes v (k ∷ marks) = ap suc (marked_count changes v marks)
+marked_count changes v marks = length-map marks (marked_view changes v)
 
 pub mapped_dropped : {A B : Type 0} (f : A → B) (all kept : List A) → kept ≡ take (length all - 1) all →
     map f kept ≡ take (length (map f all) - 1) (map f all)

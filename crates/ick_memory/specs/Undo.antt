@@ -1,10 +1,12 @@
 -- Changes that can be undone, one after another.
 use Rattle.std.specs.Prelude.{ℕ, ◌-◌, ◌==◌, ◌≡◌, ◌≤◌, nat_lt, nat_le, Bool, true, false, ◌&&◌}
-use Rattle.std.specs.Prelude.{List, [], ◌∷◌, ◌++◌, length, take, drop, reverse, Option, None, Some, Result}
-use Rattle.std.specs.Prelude.{Ok, Err, slice_set, if◌then◌else◌}
+use Rattle.std.specs.Prelude.{List, [], ◌∷◌, ◌++◌}
+use Rattle.std.specs.Prelude.{length, map, take, drop, reverse, Option, None, Some, Result, Ok, Err, slice_set}
+use Rattle.std.specs.Prelude.{if◌then◌else◌}
 use Rattle.std.proofs.Common.{get_or}
 use Rattle.std.specs.Global.{Vec}
-use Rattle.ick_code.specs.meaning.State.{no_array, Array as ArrayValue}
+use Rattle.ick_code.specs.meaning.State.{no_array}
+use Rattle.ick_code.specs.meaning.State.{Array as ArrayValue}
 use Rattle.ick_memory.specs.Status.{chance_of, same_chances}
 use Rattle.ick_memory.specs.View.{View, Room, AtLeast, array_of, view_of, stash_room}
 use Rattle.ick_memory.specs.With.{with_place, with_returns, with_scalar, with_array, with_number, with_statuses}
@@ -16,10 +18,11 @@ use Rattle.ick_memory.specs.declared.memory.Ended.TheVariants.{GaveUp}
 use Rattle.ick_memory.specs.declared.change.ArrayChange.{ArrayChange}
 use Rattle.ick_memory.specs.declared.change.ArrayChange.TheVariants.{Replaced, Taken, Restored}
 use Rattle.ick_memory.specs.declared.change.Entry.{Entry}
-use Rattle.ick_memory.specs.declared.change.Entry.TheVariants.{Place, End, Pushed, Popped, Scalar, Element, ScalarSaved}
+use Rattle.ick_memory.specs.declared.change.Entry.TheVariants.{End, Pushed, Popped, Scalar, Element, ScalarSaved}
 use Rattle.ick_memory.specs.declared.change.Entry.TheVariants.{ArraySaved, ScalarTaken, ScalarIgnored, ArrayIgnored}
 use Rattle.ick_memory.specs.declared.change.Entry.TheVariants.{Status, Printed, Read, Last, LastIn, Array, Statuses}
 use Rattle.ick_memory.specs.declared.change.Change.{Change}
+use Rattle.ick_memory.specs.declared.mark.Mark.{Mark}
 use Rattle.ick_memory.specs.declared.change.Change.TheVariants.{Plain, Array as ArrayOf, Statuses as StatusesOf}
 
 abbrev pub all_but_last : {A : Type 0} → List A → List A
@@ -60,7 +63,6 @@ OnFalseOf (Err e) P = Unit {0}
 
 -- the view from before the change that an entry notes
 abbrev pub undone_entry : Entry → View → View
-undone_entry (Place place) v = with_place place v
 undone_entry (End gave_up) v = with_end (if gave_up then Some GaveUp else None) v
 undone_entry Pushed v = with_returns (all_but_last v.returns) v
 undone_entry (Popped place) v = with_returns (v.returns ++ place ∷ []) v
@@ -98,7 +100,6 @@ has_room stashes room slot =
 
 -- the change can be undone at this view, and no memory is asked for
 abbrev pub can_undo_entry : Entry → Room → View → Bool
-can_undo_entry (Place place) room v = true
 can_undo_entry (End gave_up) room v = true
 can_undo_entry Pushed room v = nat_lt 0 (length v.returns)
 can_undo_entry (Popped place) room v = nat_lt (length v.returns) 79
@@ -138,10 +139,11 @@ abbrev pub can_rewind : List Change → Room → View → Bool
 can_rewind [] room v = true
 can_rewind (change ∷ changes) room v = can_undo change room v && can_rewind changes room (undone change v)
 
--- undoing all changes above the first k leads from one view to another. The newest change stands last
+-- undoing all changes above the first k, and then going to the place of a view, leads to that view. The newest change
+-- stands last
 pub record Rewinds (changes : List Change) (k : ℕ) (room : Room) (now before : View) : Type 0 where
   pub within : k ≤ length changes
-  pub leads : rewound (reverse (drop k changes)) now ≡ before
+  pub leads : with_place before.place (rewound (reverse (drop k changes)) now) ≡ before
   pub can : can_rewind (reverse (drop k changes)) room now ≡ true
 
 -- what could be undone before a change can be undone after it, where undoing it leads back
@@ -158,6 +160,13 @@ Grows Undoes old new =
     (k : ℕ) (now after : Memory) (before : View) → Undoes old k now before →
     AtLeast (stash_room now) (stash_room after) →
     view_of after ≡ view_of now → Undoes new k after before
+
+-- and where nothing has changed but the place, which nobody is told of
+abbrev pub Moves : {N : Type 0} → (N → ℕ → Memory → View → Type 0) → N → Type 0
+Moves Undoes notes =
+    (k : ℕ) (now after : Memory) (before : View) → Undoes notes k now before →
+    AtLeast (stash_room now) (stash_room after) →
+    view_of after ≡ with_place after.place (view_of now) → Undoes notes k after before
 
 -- and where nothing has changed at all
 abbrev pub Keeps : {N : Type 0} → (N → ℕ → Memory → View → Type 0) → N → N → Type 0
@@ -178,18 +187,20 @@ changes_of (Array change slot ∷ entries) (array ∷ arrays) statuses =
 changes_of (Statuses ∷ entries) arrays (old ∷ statuses) = StatusesOf old ∷ changes_of entries arrays statuses
 changes_of (entry ∷ entries) arrays statuses = Plain entry ∷ changes_of entries arrays statuses
 
--- the views that marks stand for, each mark a number of changes
-abbrev pub marked : List Change → View → List ℕ → List View
-marked changes now [] = []
-marked changes now (k ∷ marks) = rewound (reverse (drop k changes)) now ∷ marked changes now marks
+-- the view that a mark stands for: all changes after its own undone, and at its place
+abbrev pub marked_view : List Change → View → Mark → View
+marked_view changes now mark = with_place mark.place (rewound (reverse (drop mark.changes changes)) now)
 
-abbrev pub all_above : ℕ → List ℕ → Bool
-all_above k [] = true
-all_above k (m ∷ marks) = nat_le k m && all_above k marks
+abbrev pub marked : List Change → View → List Mark → List View
+marked changes now marks = map (marked_view changes now) marks
+
+abbrev pub all_above : Mark → List Mark → Bool
+all_above mark [] = true
+all_above mark (m ∷ marks) = nat_le mark.changes m.changes && all_above mark marks
 
 -- the marks rise, and each can be gone back to
-abbrev pub are_good : List Change → Room → View → List ℕ → Bool
+abbrev pub are_good : List Change → Room → View → List Mark → Bool
 are_good changes room now [] = true
-are_good changes room now (k ∷ marks) =
-    (nat_le k (length changes) && can_rewind (reverse (drop k changes)) room now)
-    && (all_above k marks && are_good changes room now marks)
+are_good changes room now (mark ∷ marks) =
+    (nat_le mark.changes (length changes) && can_rewind (reverse (drop mark.changes changes)) room now)
+    && (all_above mark marks && are_good changes room now marks)

@@ -42,18 +42,15 @@ pub fn put_scalar<N: Notes>(
     Ok(())
 }
 
-/// The run goes on at the statement with a number, or past the last one.
-pub fn put_place<N: Notes>(memory: &mut Memory, notes: &mut N, place: u32) -> Result<(), NoMemory>
-    ensures view { OnOk result (view_of memory.new ≡ with_place place (view_of memory.old)) }
-    ensures err { OnErr result (view_of memory.new ≡ view_of memory.old) }
-    ensures follows { Follows N.Undoes notes.old memory.old notes.new memory.new }
+/// The run goes on at the statement with a number, or past the last one. Nothing is noted.
+pub fn put_place<N: Notes>(memory: &mut Memory, notes: &N, place: u32)
+    ensures view { view_of memory.new ≡ with_place place (view_of memory.old) }
+    ensures follows { Follows N.Undoes notes.now memory.old notes.now memory.new }
     ensures shape { shape_of (view_of memory.new) ≡ shape_of (view_of memory.old) }
     ensures end { memory.new.end ≡ memory.old.end }
 {
-    notes.reserve()?;
-    notes.note(Entry::Place(memory.place));
+    notes.moved();
     memory.place = place;
-    Ok(())
 }
 
 /// The run has ended. It may have given up before, but may have had no fault (Revised Manual,

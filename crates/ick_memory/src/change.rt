@@ -14,11 +14,10 @@ pub enum ArrayChange {
     Restored,
 }
 
-/// What stands in a trail for one change: where it was, and what was there before it.
+/// What stands in a trail for one change: where it was, and what was there before it. The place is
+/// no change that is noted: who goes back knows it.
 #[derive(Clone, Copy)]
 pub enum Entry {
-    /// The place.
-    Place(u32),
     /// The end, and whether the run had given up before.
     End(bool),
     /// A return was pushed.

@@ -13,7 +13,8 @@
 //! - `print`: arrays printed as bytes, each change noted
 //! - `stash`: values put on stashes and taken off them, each noted
 //! - `flags`: statements that are abstained from, each change noted
-//! - `marks`: states to go back to
+//! - `mark`: a state to go back to
+//! - `marks`: the states that are marked
 #![tactic(auto)]
 
 mod assign;
@@ -22,6 +23,7 @@ mod copy;
 mod flags;
 mod fresh;
 mod lists;
+mod mark;
 mod marks;
 mod memory;
 mod notes;
@@ -40,7 +42,8 @@ pub use assign::{
 pub use copy::copy_memory;
 pub use flags::{abstain_kind, abstain_one};
 pub use fresh::fresh_memory;
-pub use marks::{back, drop_mark, mark, settle};
+pub use mark::Mark;
+pub use marks::{add_mark, back, drop_mark, settle};
 pub use memory::{Array, Ended, Memory};
 pub use notes::{Nobody, Notes};
 pub use print::print_elements;

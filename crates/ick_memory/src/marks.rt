@@ -1,4 +1,4 @@
-//! States to go back to. A mark is the number of changes that the trail had when it was made.
+//! The states that are marked, the last one last.
 
 ghost use Rattle.std.specs.Prelude.{◌≡◌, ◌<◌, [], ◌∷◌, ◌++◌, length, OnOk};
 ghost use Rattle.std.specs.Prelude.{OnErr, true};
@@ -7,6 +7,7 @@ ghost use Rattle.ick_memory.specs.View.{view_of, shape_of};
 ghost use Rattle.ick_memory.specs.Undo.{all_but_last};
 ghost use Rattle.ick_memory.specs.Marks.{marked_views, are_marks};
 
+use crate::mark::Mark;
 use crate::memory::Memory;
 use crate::trail::Trail;
 use crate::undo::rewind;
@@ -14,7 +15,7 @@ use ick_bits::NoMemory;
 
 /// Where nothing is marked, the changes are forgotten, since nobody goes back over them. Else they
 /// stay. The marks stay.
-pub fn settle(memory: &Memory, trail: &mut Trail, marks: &Vec<usize>)
+pub fn settle(memory: &Memory, trail: &mut Trail, marks: &Vec<Mark>)
     requires marks { are_marks trail.old memory.now marks.now ≡ true }
     ensures same { marked_views trail.new memory.now marks.now ≡
         marked_views trail.old memory.now marks.now }
@@ -28,23 +29,22 @@ pub fn settle(memory: &Memory, trail: &mut Trail, marks: &Vec<usize>)
 }
 
 /// The present state is marked. After `NoMemory` the marks are as before.
-pub fn mark(memory: &Memory, trail: &Trail, marks: &mut Vec<usize>) -> Result<(), NoMemory>
+pub fn add_mark(memory: &Memory, trail: &Trail, marks: &mut Vec<Mark>) -> Result<(), NoMemory>
     requires marks { are_marks trail.now memory.now marks.old ≡ true }
     ensures ok { OnOk result (marked_views trail.now memory.now marks.new ≡
         marked_views trail.now memory.now marks.old ++ view_of memory.now ∷ []) }
     ensures err { OnErr result (marks.new.items ≡ marks.old.items) }
     ensures marks { are_marks trail.now memory.now marks.new ≡ true }
 {
-    let _ = memory;
-    let length = trail.len();
-    match marks.push(length) {
+    let mark = Mark::here(memory, trail);
+    match marks.push(mark) {
         Ok(()) => Ok(()),
         Err(_) => Err(NoMemory),
     }
 }
 
 /// The state becomes the last marked one, whole, and that mark is gone. It takes no memory.
-pub fn back(memory: &mut Memory, trail: &mut Trail, marks: &mut Vec<usize>)
+pub fn back(memory: &mut Memory, trail: &mut Trail, marks: &mut Vec<Mark>)
     requires some { 0 < length marks.old.items }
     requires marks { are_marks trail.old memory.old marks.old ≡ true }
     ensures back { marked_views trail.old memory.old marks.old ≡
@@ -52,14 +52,14 @@ pub fn back(memory: &mut Memory, trail: &mut Trail, marks: &mut Vec<usize>)
     ensures shape { shape_of (view_of memory.new) ≡ shape_of (view_of memory.old) }
     ensures marks { are_marks trail.new memory.new marks.new ≡ true }
 {
-    if let Some(length) = marks.pop() {
-        rewind(memory, trail, length);
+    if let Some(mark) = marks.pop() {
+        rewind(memory, trail, mark);
     }
 }
 
 /// The last mark is gone, and the state stays. The changes since then stay for the mark below, and
 /// are forgotten where there is none. It takes no memory.
-pub fn drop_mark(memory: &Memory, trail: &mut Trail, marks: &mut Vec<usize>)
+pub fn drop_mark(memory: &Memory, trail: &mut Trail, marks: &mut Vec<Mark>)
     requires some { 0 < length marks.old.items }
     requires marks { are_marks trail.old memory.now marks.old ≡ true }
     ensures dropped { marked_views trail.new memory.now marks.new ≡ all_but_last

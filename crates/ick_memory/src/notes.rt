@@ -6,15 +6,15 @@ ghost use Rattle.ick_memory.specs.declared.change.Change.TheVariants.{Plain as P
 ghost use Rattle.ick_memory.specs.declared.change.Change.TheVariants.{Array as ArrayMoved};
 ghost use Rattle.ick_memory.specs.declared.change.Change.TheVariants.{Statuses as StatusesMoved};
 ghost use Rattle.ick_memory.specs.View.{View, view_of};
-ghost use Rattle.ick_memory.specs.Undo.{Notes as Noting, Keeps, Grows};
+ghost use Rattle.ick_memory.specs.Undo.{Notes as Noting, Keeps, Grows, Moves};
 ghost use Rattle.ick_memory.specs.Output.{KeepsOutput};
 
 use crate::change::{ArrayChange, Entry};
 use crate::memory::Array;
 use ick_bits::NoMemory;
 
-/// Who is told of each change. A change is told of just before or after it is made, with nothing
-/// changed in between but what it says.
+/// Who is told of each change but that of the place. A change is told of just before or after it is
+/// made, with nothing changed in between but what it says and the place.
 pub trait Notes: Drop {
     /// How many changes may be noted before memory is asked for again.
     ghost room: { Self → ℕ };
@@ -24,6 +24,11 @@ pub trait Notes: Drop {
 
     /// Undoing what was noted since there were k changes leads from a memory to a view.
     ghost Undoes: { Self → ℕ → Memory → View → Type 0 };
+
+    /// The place is no change to be told of: what could be undone before it moved can be undone
+    /// after. The call does nothing.
+    fn moved(&self)
+        ensures { Moves Undoes self.now };
 
     /// Makes room for one change. The memory may have got more room in its lists before it.
     fn reserve(&mut self) -> Result<(), NoMemory>
@@ -65,6 +70,8 @@ impl Notes for Nobody {
     ghost array_room = { λ _. 1 };
 
     ghost Undoes = { λ _ k now before. KeepsOutput k (view_of now) before };
+
+    fn moved(&self) {}
 
     fn reserve(&mut self) -> Result<(), NoMemory> {
         Ok(())

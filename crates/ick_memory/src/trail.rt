@@ -94,6 +94,8 @@ impl Notes for Trail {
     ghost Undoes = { λ t k now before.
         Rewinds (history t) k (stash_room now) (view_of now) before };
 
+    fn moved(&self) {}
+
     fn reserve(&mut self) -> Result<(), NoMemory> {
         self.entries.reserve(1)?;
         Ok(())

@@ -1,16 +1,16 @@
 //! Changes undone. It takes no memory.
 
-ghost use Rattle.std.specs.Prelude.{◌≡◌, Some, None, true, if◌then◌else◌, take, drop};
-ghost use Rattle.std.specs.Prelude.{reverse};
+ghost use Rattle.std.specs.Prelude.{◌≡◌, Some, None, true, if◌then◌else◌, take};
 ghost use Rattle.ick_memory.specs.View.{View, view_of, stash_room, AtLeast};
 ghost use Rattle.ick_memory.specs.Undo.{can_undo, can_undo_array, can_undo_entry, undone};
-ghost use Rattle.ick_memory.specs.Undo.{undone_array, undone_entry, rewound, Rewinds};
+ghost use Rattle.ick_memory.specs.Undo.{undone_array, undone_entry, marked_view, Rewinds};
 ghost use Rattle.ick_memory.specs.History.{history};
 ghost use Rattle.ick_memory.specs.View.{array_of};
 ghost use Rattle.ick_memory.specs.declared.memory.Ended.TheVariants.{GaveUp as GaveUpEnd};
 
 use crate::change::{ArrayChange, Change, Entry};
 use crate::lists::{drop_newest, put_back, replace_array, set_element};
+use crate::mark::Mark;
 use crate::memory::{Array, Ended, Memory};
 use crate::trail::Trail;
 
@@ -21,7 +21,6 @@ fn undo_entry(memory: &mut Memory, entry: Entry)
     ensures room { AtLeast (stash_room memory.old) (stash_room memory.new) }
 {
     match entry {
-        Entry::Place(place) => memory.place = place,
         Entry::End(gave_up) => memory.end = end_before(gave_up),
         Entry::Pushed => {
             let _ = memory.returns.pop();
@@ -83,18 +82,20 @@ fn undo(memory: &mut Memory, change: Change)
     }
 }
 
-/// Undoes all changes but the first ones.
-pub fn rewind(memory: &mut Memory, trail: &mut Trail, length: usize)
-    requires can { (before : View) × Rewinds (history trail.old) length (stash_room memory.old)
-        (view_of memory.old) before }
-    ensures view { view_of memory.new ≡ rewound (reverse (drop length (history trail.old)))
-        (view_of memory.old) }
+/// The state becomes that of a mark, whole: all changes since then are undone, and the run is at
+/// its place.
+pub fn rewind(memory: &mut Memory, trail: &mut Trail, mark: Mark)
+    requires can { (before : View) × Rewinds (history trail.old) mark.changes (stash_room
+        memory.old) (view_of memory.old) before }
+    ensures view { view_of memory.new ≡ marked_view (history trail.old) (view_of memory.old)
+        mark }
     ensures room { AtLeast (stash_room memory.old) (stash_room memory.new) }
-    ensures history { history trail.new ≡ take length (history trail.old) }
+    ensures history { history trail.new ≡ take mark.changes (history trail.old) }
 {
-    while trail.len() > length {
+    while trail.len() > mark.changes {
         if let Some(change) = trail.pop() {
             undo(memory, change);
         }
     }
+    memory.place = mark.place;
 }

@@ -181,7 +181,7 @@ impl<'c, 'a> Bench<'c, 'a> {
 
     /// The statement behind which the run goes on.
     fn stand(&mut self, rt: &impl Abort, n: u32) {
-        put_place(&mut self.memory, &mut Nobody, n).expect(rt, "memory");
+        put_place(&mut self.memory, &Nobody, n);
     }
 
     /// Does a statement by its plan, where it has one.

@@ -22,8 +22,7 @@ returns-clause-does g c = λ code input.
     let put : List ℕ → State = λ l. record s { place = to; returns = l } in
     let same : to ≡ get_or e (length e - n) 0 =
     ap (λ l. get_or l (length l - n) 0) c.as_slice-returns.ensures.value in
-    ap (λ x. done (state_of code input x))
-    (c.in_ok-put_place.ensures.view ∙ ap went c.in_ok-drop_returns.ensures.view)
+    ap (λ x. done (state_of code input x)) (c.put_place.ensures.view ∙ ap went c.in_ok-drop_returns.ensures.view)
     ∙ ap (λ l. done (put l)) (drop_reverse e n last)
     ∙ sym (resume_done n to s first
     (newest_taken e n to first last (same ∙ read_any e (length e - n) 0 to (omega (arith, first, last)))))

@@ -13,7 +13,7 @@ returns-in_default-clause-does g c = λ statement at.
     does_go g.R.Reader.Has c.args.reader.now code statement (code_ops code v.place)
     (c.law.ensures.means v.place statement at)
     done.reader [] done.engine.operands.items v (view_of c.put_place.new.memory) (view_of done.memory)
-    refl c.in_ok-put_place.ensures.view
+    refl c.put_place.ensures.view
     c.in_default.field-0 (c.in_default.ensures.flow statement.text)
 
 pub returns-clause-does : goal.returns-clause-does
@@ -25,6 +25,6 @@ returns-clause-does g c = λ statement at.
     does_stop g.R.Reader.Has c.args.reader.now code statement (code_ops code v.place)
     (c.law.ensures.means v.place statement at)
     done.reader [] done.engine.operands.items v (view_of c.put_place.new.memory) (view_of done.memory)
-    refl c.in_ok-put_place.ensures.view
+    refl c.put_place.ensures.view
     c.in-Err.halt c.in-Some.end (view_of c.put_end.new.memory) c.in-Some.ensures at changed
     (c.in-Err.ensures.flow statement.text))

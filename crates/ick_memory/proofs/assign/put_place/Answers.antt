@@ -5,6 +5,4 @@ use Rattle.ick_memory.proofs.assign.put_place.Goals as goal
 pub returns-clause-follows : goal.returns-clause-follows
 returns-clause-follows g c = λ k before h.
     let m = c.args.memory.now in
-    c.note.ensures k m _ before (c.reserve.ensures.keeps k m before h) (at_least_same _)
-    (refl)
-    (refl)
+    c.moved.ensures k m _ before h (at_least_same _) refl

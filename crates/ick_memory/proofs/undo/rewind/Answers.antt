@@ -16,7 +16,8 @@ loop-trail-init c =
 pub loop-trail-preserved-in-Some : goal.loop-trail-preserved-in-Some
 loop-trail-preserved-in-Some c =
     let one =
-    undone_one (history c.loop-trail.trail) (history c.pop.new.self) c.in-Some.change c.args.length c.len.result
+    undone_one (history c.loop-trail.trail) (history c.pop.new.self) c.in-Some.change c.args.mark.changes
+    c.len.result
     (stash_room c.loop-trail.memory) (stash_room c.undo.new.memory) (view_of c.loop-trail.memory)
     (view_of c.undo.new.memory) _ c.in-Some.ensures.some c.loop-trail-test.true c.len.ensures
     c.loop-trail.invariant.rewinds c.undo.ensures.room c.undo.ensures.view in

@@ -4,9 +4,6 @@ use Rattle.ick_memory.specs.Undo.{undone_entry}
 use Rattle.ick_memory.proofs.ListLemmas.{at_least_same, all_same, unsaved-map}
 use Rattle.ick_memory.proofs.undo.undo_entry.Goals as goal
 
-pub returns-in-Place-clause-room : goal.returns-in-Place-clause-room
-returns-in-Place-clause-room c = at_least_same (stash_room c.args.memory.now)
-
 pub returns-in-End-clause-room : goal.returns-in-End-clause-room
 returns-in-End-clause-room c = at_least_same (stash_room c.args.memory.now)
 
