@@ -9,7 +9,7 @@ use Rattle.ick_runs.specs.Chosen.{chosen_of, Picks, answer_of}
 use Rattle.ick_runs.specs.Streams.{Streams}
 use Rattle.ick_runs.specs.Streaming.{IsAlong, AreTaken}
 use Rattle.ick_runs.proofs.ChosenLaws.{all_taken, picked, one_more}
-use Rattle.ick_runs.proofs.StreamLaws.{Here, along_start, none_taken, asks_chance, here_stays, here_ended, here_limit}
+use Rattle.ick_runs.proofs.StreamLaws.{along_start, none_taken, asks_chance, here_stays, here_ended, here_limit}
 use Rattle.ick_runs.proofs.StreamLaws.{here_wants, taken_choice, choice_turned, choice_refused, plain_turned}
 use Rattle.ick_runs.proofs.StreamLaws.{plain_refused, goes_by_itself}
 use Rattle.ick_runs.proofs.streamed.stream_from.Goals as goal
@@ -29,9 +29,13 @@ along-init g c =
       within = omega arith;
       picks = subst (λ k. Picks (chosen_of c.args.chooser) k c.new-picker.result) (sym (ap length none))
           c.new-picker.ensures;
-      along = λ _.
-          subst (λ x. IsAlong g.W.ByteSink.told first.program begin c.args.limit x begin start start 0) (sym none)
-          (along_start g.W.ByteSink.told first.program begin c.args.limit start);
+      here = λ _. record {
+        along = subst (λ x. IsAlong g.W.ByteSink.told first.program begin c.args.limit x begin start start 0)
+            (sym none) (along_start g.W.ByteSink.told first.program begin c.args.limit start);
+        program = refl;
+        sound = c.requires.sound;
+        empty = c.requires.empty;
+      };
       taken = λ _ c' _. subst (λ x. AreTaken c' x) (sym none) (none_taken c');
     }
 
@@ -40,15 +44,10 @@ returns-in-Ended-clause-run g c = λ t c' chosen.
     let i = c.along.invariant in
     let told = g.W.ByteSink.told in
     let left = g.R.ByteSource.left in
-    let written = g.W.ByteSink.written in
     let first = seen c.args.machine in
     let begin = fed (left c.args.reader.now) first.state in
     let limit = c.args.limit in
-    let taken = c.along.choices.items in
-    let here : Here told first.program begin limit taken (seen c.along.machine) (left c.along.reader)
-    (written c.args.writer.now) (written c.along.writer) c.along.steps =
-    record { along = i.along t; program = i.program; sound = i.sound; empty = i.empty } in
-    here_ended told first.program begin limit here c' (i.taken t c' chosen) c.asks-asked.result c.in-Ended.end
+    here_ended told first.program begin limit (i.here t) c' (i.taken t c' chosen) c.asks-asked.result c.in-Ended.end
     c.asks-asked.ensures c.in-Ended.is c.finish.result c.finish.ensures.end c.finish.ensures.message
     c.finish.ensures.choices c.finish.ensures.steps
 
@@ -57,16 +56,11 @@ returns-then-steps-limit-clause-run g c = λ t c' chosen.
     let i = c.along.invariant in
     let told = g.W.ByteSink.told in
     let left = g.R.ByteSource.left in
-    let written = g.W.ByteSink.written in
     let first = seen c.args.machine in
     let begin = fed (left c.args.reader.now) first.state in
     let limit = c.args.limit in
-    let taken = c.along.choices.items in
-    let here : Here told first.program begin limit taken (seen c.along.machine) (left c.along.reader)
-    (written c.args.writer.now) (written c.along.writer) c.along.steps =
-    record { along = i.along t; program = i.program; sound = i.sound; empty = i.empty } in
     let all : c.along.steps ≡ limit = grind (arith, common_steps) in
-    here_limit told first.program begin limit here c' (i.taken t c' chosen) c.asks-asked.result c.stop.result
+    here_limit told first.program begin limit (i.here t) c' (i.taken t c' chosen) c.asks-asked.result c.stop.result
     c.asks-asked.ensures c.in_default.not-Ended all c.stop.ensures.end c.stop.ensures.message c.stop.ensures.choices
     c.stop.ensures.steps
 
@@ -83,14 +77,10 @@ returns-in_default-pick-clause-run g c = λ t c' is_chosen.
     let i = c.along.invariant in
     let told = g.W.ByteSink.told in
     let left = g.R.ByteSource.left in
-    let written = g.W.ByteSink.written in
     let first = seen c.args.machine in
     let begin = fed (left c.args.reader.now) first.state in
     let limit = c.args.limit in
     let taken = c.along.choices.items in
-    let here : Here told first.program begin limit taken (seen c.along.machine) (left c.along.reader)
-    (written c.args.writer.now) (written c.along.writer) c.along.steps =
-    record { along = i.along t; program = i.program; sound = i.sound; empty = i.empty } in
     let lt : c.along.steps < limit = grind (arith, common_steps) in
     let chosen = chosen_of c.args.chooser in
     let size : length taken ≡ c.len.result = omega (arith, c.len.ensures, c.along.choices.ok.0) in
@@ -99,7 +89,7 @@ returns-in_default-pick-clause-run g c = λ t c' is_chosen.
     (c.in_default-pick.ensures.answer chosen) in
     let all = all_taken first.program begin limit chosen c' taken c.in-Choice.chance is_chosen (i.taken t c' is_chosen)
     none in
-    here_wants told first.program begin limit here c.asks-asked.ensures c.in-Choice.is lt c' all
+    here_wants told first.program begin limit (i.here t) c.asks-asked.ensures c.in-Choice.is lt c' all
     c.stop-in_default-pick.result c.stop-in_default-pick.ensures.end c.stop-in_default-pick.ensures.message
     c.stop-in_default-pick.ensures.choices c.stop-in_default-pick.ensures.steps
 
@@ -112,14 +102,10 @@ returns-in_err-push-clause-run g c = λ t c' chosen.
     let first = seen c.args.machine in
     let begin = fed (left c.args.reader.now) first.state in
     let limit = c.args.limit in
-    let taken = c.along.choices.items in
-    let here : Here told first.program begin limit taken (seen c.along.machine) (left c.along.reader)
-    (written c.args.writer.now) (written c.along.writer) c.along.steps =
-    record { along = i.along t; program = i.program; sound = i.sound; empty = i.empty } in
     let e : c.from_residual.result ≡ Err NoMemory = search rules in
     subst (λ r. Streams told (run first.program begin limit c') c' (written c.args.writer.now) (written c.along.writer)
     (left c.along.reader) r) (sym e)
-    (here_stays told first.program begin limit here c' (i.taken t c' chosen) (left c.along.reader) NoMemory)
+    (here_stays told first.program begin limit (i.here t) c' (i.taken t c' chosen) (left c.along.reader) NoMemory)
 
 pub returns-in_err-turn-clause-run : goal.returns-in_err-turn-clause-run
 returns-in_err-turn-clause-run g c = λ t c' is_chosen.
@@ -131,21 +117,19 @@ returns-in_err-turn-clause-run g c = λ t c' is_chosen.
     let begin = fed (left c.args.reader.now) first.state in
     let limit = c.args.limit in
     let taken = c.along.choices.items in
-    let here : Here told first.program begin limit taken (seen c.along.machine) (left c.along.reader)
-    (written c.args.writer.now) (written c.along.writer) c.along.steps =
-    record { along = i.along t; program = i.program; sound = i.sound; empty = i.empty } in
     let lt : c.along.steps < limit = grind (arith, common_steps) in
     let chosen = chosen_of c.args.chooser in
     let size : length taken ≡ c.len.result = omega (arith, c.len.ensures, c.along.choices.ok.0) in
     let some : Some c.in-Some.done ≡ answer_of chosen (length taken) c.in-Choice.chance =
     picked chosen c.along.picker c.len.result (length taken) c.in-Choice.chance (Some c.in-Some.done) size i.picks
     (c.in-Some.ensures.answer chosen) in
-    let are_taken = taken_choice told first.program begin limit here c.asks-asked.ensures c.in-Choice.is lt chosen c'
+    let are_taken =
+    taken_choice told first.program begin limit (i.here t) c.asks-asked.ensures c.in-Choice.is lt chosen c'
     c.push.new.self.items c.in-Some.done is_chosen (i.taken t c' is_chosen) some c.in_ok-push.ensures.items in
     let e : c.from_residual-in_err-turn.result ≡ Err c.in_err-turn.field-0.0 = search rules in
     subst (λ r. Streams told (run first.program begin limit c') c' (written c.args.writer.now)
     (written c.turn.new.writer) (left c.turn.new.reader) r) (sym e)
-    (choice_refused told first.program begin limit here c.asks-asked.ensures c.in-Choice.is lt c'
+    (choice_refused told first.program begin limit (i.here t) c.asks-asked.ensures c.in-Choice.is lt c'
     c.push.new.self.items c.in-Some.done (fed (left c.turn.new.reader) (seen c.turn.new.machine).state)
     (written c.turn.new.writer) (left c.turn.new.reader) c.in_err-turn.field-0.0 are_taken
     c.in_ok-push.ensures.items (c.in_err-turn.ensures.moved t))
@@ -173,21 +157,20 @@ along-preserved-in-Choice g c =
       empty = c.in_ok-turn.ensures.empty;
       within = omega arith;
       picks = subst (λ k. Picks chosen k c.pick.new.self) more (c.in-Some.ensures.on chosen picks);
-      along = λ t.
-          let here : Here told first.program begin limit taken (seen c.along.machine) (left c.along.reader)
-          (written c.args.writer.now) (written c.along.writer) c.along.steps =
-          record { along = i.along t; program = i.program; sound = i.sound; empty = i.empty } in
-          choice_turned told first.program begin limit here c.asks-asked.ensures c.in-Choice.is lt
-          c.push.new.self.items c.in-Some.done (fed (left c.turn.new.reader) (seen c.turn.new.machine).state)
-          (written c.turn.new.writer) c.in_ok-turn.field-0 c.in_ok-push.ensures.items (c.in_ok-turn.ensures.moved t);
+      here = λ t. record {
+        along =
+            choice_turned told first.program begin limit (i.here t) c.asks-asked.ensures c.in-Choice.is lt
+            c.push.new.self.items c.in-Some.done (fed (left c.turn.new.reader) (seen c.turn.new.machine).state)
+            (written c.turn.new.writer) c.in_ok-turn.field-0 c.in_ok-push.ensures.items (c.in_ok-turn.ensures.moved t);
+        program = c.in_ok-turn.ensures.program ∙ i.program;
+        sound = c.in_ok-turn.ensures.sound;
+        empty = c.in_ok-turn.ensures.empty;
+      };
       taken = λ t c' is_chosen.
-          let here : Here told first.program begin limit taken (seen c.along.machine) (left c.along.reader)
-          (written c.args.writer.now) (written c.along.writer) c.along.steps =
-          record { along = i.along t; program = i.program; sound = i.sound; empty = i.empty } in
           let some : Some c.in-Some.done ≡ answer_of chosen (length taken) c.in-Choice.chance =
           picked chosen c.along.picker c.len.result (length taken) c.in-Choice.chance (Some c.in-Some.done) size i.picks
           (c.in-Some.ensures.answer chosen) in
-          taken_choice told first.program begin limit here c.asks-asked.ensures c.in-Choice.is lt chosen c'
+          taken_choice told first.program begin limit (i.here t) c.asks-asked.ensures c.in-Choice.is lt chosen c'
           c.push.new.self.items c.in-Some.done is_chosen (i.taken t c' is_chosen) some c.in_ok-push.ensures.items;
     }
 
@@ -206,15 +189,11 @@ returns-in_err-made-clause-run g c = λ t c' chosen.
     let first = seen c.args.machine in
     let begin = fed (left c.args.reader.now) first.state in
     let limit = c.args.limit in
-    let taken = c.along.choices.items in
-    let here : Here told first.program begin limit taken (seen c.along.machine) (left c.along.reader)
-    (written c.args.writer.now) (written c.along.writer) c.along.steps =
-    record { along = i.along t; program = i.program; sound = i.sound; empty = i.empty } in
     let lt : c.along.steps < limit = grind (arith, common_steps) in
     let e : c.from_residual-in_err-made.result ≡ Err c.in_err-made.field-0.0 = search rules in
     subst (λ r. Streams told (run first.program begin limit c') c' (written c.args.writer.now)
     (written c.stride.new.writer) (left c.stride.new.reader) r) (sym e)
-    (plain_refused told first.program begin limit here c.asks-asked.ensures c.in_default-asked.not-Choice
+    (plain_refused told first.program begin limit (i.here t) c.asks-asked.ensures c.in_default-asked.not-Choice
     c.in_default.not-Ended lt c' (fed (left c.stride.new.reader) (seen c.stride.new.machine).state)
     (written c.stride.new.writer) (left c.stride.new.reader) c.in_err-made.field-0.0
     (i.taken t c' chosen) (c.in_err-made.ensures.moved t))
@@ -228,7 +207,6 @@ along-preserved g c =
     let first = seen c.args.machine in
     let begin = fed (left c.args.reader.now) first.state in
     let limit = c.args.limit in
-    let taken = c.along.choices.items in
     let lt : c.along.steps < limit = grind (arith, common_steps) in
     record {
       reads = search rules;
@@ -238,13 +216,15 @@ along-preserved g c =
       empty = c.in_ok-made.ensures.empty;
       within = omega (arith, c.in_ok-made.ensures.within, lt);
       picks = i.picks;
-      along = λ t.
-          let here : Here told first.program begin limit taken (seen c.along.machine) (left c.along.reader)
-          (written c.args.writer.now) (written c.along.writer) c.along.steps =
-          record { along = i.along t; program = i.program; sound = i.sound; empty = i.empty } in
-          plain_turned told first.program begin limit here c.asks-asked.ensures c.in_default-asked.not-Choice
-          c.in_default.not-Ended lt c.in_ok-made.made
-          (fed (left c.stride.new.reader) (seen c.stride.new.machine).state)
-          (written c.stride.new.writer) (c.in_ok-made.ensures.moved t);
+      here = λ t. record {
+        along =
+            plain_turned told first.program begin limit (i.here t) c.asks-asked.ensures c.in_default-asked.not-Choice
+            c.in_default.not-Ended lt c.in_ok-made.made
+            (fed (left c.stride.new.reader) (seen c.stride.new.machine).state)
+            (written c.stride.new.writer) (c.in_ok-made.ensures.moved t);
+        program = c.in_ok-made.ensures.program ∙ i.program;
+        sound = c.in_ok-made.ensures.sound;
+        empty = c.in_ok-made.ensures.empty;
+      };
       taken = i.taken;
     }

@@ -1,7 +1,8 @@
 use Rattle.std.proofs.Common.{◌≡◌, ◌≤◌, ◌-◌, [], length, true, false, List, Bool}
 use Rattle.ick_machine.specs.Live.{seen, fed}
 use Rattle.ick_runs.specs.Chosen.{IsChosen, Picks, chosen_of}
-use Rattle.ick_runs.specs.Streaming.{IsAlong, AreTaken}
+use Rattle.ick_runs.specs.Streaming.{AreTaken}
+use Rattle.ick_runs.proofs.StreamLaws.{Here}
 use Rattle.ick_runs.proofs.streamed.stream_from.Given as goal
 
 abbrev pub invariant-along : goal.invariant-along
@@ -18,9 +19,9 @@ invariant-along g l =
       empty : now.state.output ≡ [];
       within : l.steps ≤ l.limit;
       picks : Picks (chosen_of l.chooser) (length l.choices.items) l.picker;
-      along : g.R.ByteSource.told ≡ true →
-          IsAlong g.W.ByteSink.told first.program (fed (left l.initial.reader) first.state) l.limit l.choices.items
-          (fed (left l.reader) now.state) (written l.initial.writer) (written l.writer) l.steps;
+      here : g.R.ByteSource.told ≡ true →
+          Here g.W.ByteSink.told first.program (fed (left l.initial.reader) first.state) l.limit l.choices.items now
+          (left l.reader) (written l.initial.writer) (written l.writer) l.steps;
       taken : g.R.ByteSource.told ≡ true → (c : List Bool) →
           IsChosen first.program (fed (left l.initial.reader) first.state) l.limit (chosen_of l.chooser) c →
           AreTaken c l.choices.items;
