@@ -9,17 +9,23 @@ Three programs. Two have twenty chances and so 1,048,576 runs: one makes 40,000 
 nothing, and of the other each run prints a numeral. The third has ten chances, and then each run goes through the loops
 of workloads.py: there nearly all steps are made in the runs' own parts, while marks stand. Listed are the first 1,000
 runs, and of the first two programs 1,000,000: the least processor time of five listings, the runs and the steps a
-second, the nanoseconds a step, and the largest resident memory. Nothing is judged.
+second, the nanoseconds a step, and the largest resident memory.
+
+And in turns, the least of twenty rounds each: a step of the third program's runs, while marks stand, and a step of the
+same loops by `ick run`, where nothing is marked. Nothing is judged.
 """
 import os
 import subprocess
 import sys
 import tempfile
 
-from workloads import loop, polite
+from workloads import WORKLOADS, loop, polite
 
 HERE = os.path.dirname(os.path.realpath(__file__))
 ROUNDS = 5
+TURNS = 20
+LISTED = 60
+LIMIT = 1_500_000
 
 
 def program(before, chances, after):
@@ -44,12 +50,41 @@ def steps(before, chances, after, runs):
 
 
 def measured(words):
-    """The processor time and the resident memory in KiB of a listing that is printed to nowhere."""
+    """The processor time and the resident memory in KiB of a command that prints to nowhere."""
     with open(os.devnull, "r+b") as nowhere:
-        child = subprocess.Popen(words, stdin=nowhere, stdout=nowhere)
+        child = subprocess.Popen(words, stdin=nowhere, stdout=nowhere, stderr=nowhere)
         _, status, usage = os.wait4(child.pid, 0)
         child.returncode = status
     return usage.ru_utime + usage.ru_stime, usage.ru_maxrss
+
+
+def written(folder, name, source):
+    """A file of a source."""
+    path = os.path.join(folder, name)
+    with open(path, "w", encoding="ascii") as file:
+        file.write(source)
+    return path
+
+
+def compare(ick, folder):
+    """Prints how long a step takes in a listing, while marks stand, and in a run of the same loops."""
+    source, before, chances, after, _ = PROGRAMS["loops behind the chances"]
+    third, alone = written(folder, "third.i", source), written(folder, "loop.i", WORKLOADS["loop"])
+    commands = {
+        "listing": [ick, "runs", "--limit", "50000", "--count", str(LISTED), third],
+        "first run": [ick, "runs", "--limit", "50000", "--count", "1", third],
+        "run": [ick, "run", "--limit", str(LIMIT), alone],
+        "no run": [ick, "run", "--limit", "0", alone],
+    }
+    least = {name: float("inf") for name in commands}
+    for _ in range(TURNS):
+        for name, words in commands.items():
+            least[name] = min(least[name], measured(words)[0])
+    marked = (least["listing"] - least["first run"]) \
+        / (steps(before, chances, after, LISTED) - steps(before, chances, after, 1))
+    plain = (least["run"] - least["no run"]) / LIMIT
+    print(f"\nA step takes {marked * 1e9:.1f} ns while marks stand, and {plain * 1e9:.1f} in a run: "
+          f"{marked / plain:.2f} times as much.")
 
 
 def main():
@@ -62,9 +97,7 @@ def main():
     print("|---|---|---|---|---|---|---|")
     with tempfile.TemporaryDirectory() as folder:
         for name, (source, before, chances, after, counts) in PROGRAMS.items():
-            path = os.path.join(folder, "program.i")
-            with open(path, "w", encoding="ascii") as file:
-                file.write(source)
+            path = written(folder, "program.i", source)
             for runs in counts:
                 words = [ick, "runs", "--limit", "50000", "--count", str(runs), path]
                 found = [measured(words) for _ in range(ROUNDS)]
@@ -72,6 +105,7 @@ def main():
                 made = steps(before, chances, after, runs)
                 print(f"| {name} | {runs:,} | {time:.3f} | {runs / time:,.0f} | {made / time:,.0f} "
                       f"| {time / made * 1e9:.1f} | {memory / 1024:.0f} |", flush=True)
+        compare(ick, folder)
 
 
 if __name__ == "__main__":

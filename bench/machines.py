@@ -5,9 +5,10 @@
 
 It needs that program (`rt run` in crates/ick_steps builds it), Python 3.8 and Linux.
 
-For each program and machine the nanoseconds a step: the least processor time of ten rounds, in each of which every
-machine makes the whole run, without the time that the machine takes for a program that ends at once. The machines must
-make equally many steps. Nothing else is judged.
+For each program and machine the nanoseconds a step. The program makes a run once, and so often more that the further
+runs have some five million steps; what these take is measured, without what as many runs take of the same source with
+GIVE UP in front, which only make the machine. It is the least processor time of ten rounds in each of which every
+machine is measured. All runs must make equally many steps. Nothing else is judged.
 """
 import os
 import subprocess
@@ -19,34 +20,42 @@ from workloads import WORKLOADS
 
 HERE = os.path.dirname(os.path.realpath(__file__))
 MACHINES = {"copied": "Copied", "trailed": "Trailed", "live": "Live"}
+STEPS = 5_000_000
 
 
-def run(program, machine, source):
-    """The processor time of a run on a machine, and its steps."""
+def run(program, machine, source, runs):
+    """The processor time of some runs on a machine, and the steps of each."""
     with tempfile.TemporaryFile() as text:
         text.write(source.encode())
         text.seek(0)
-        child = subprocess.Popen([program, machine], stdin=text, stdout=subprocess.PIPE)
-        line = child.stdout.read().decode().split()
+        child = subprocess.Popen([program] + [machine] * runs, stdin=text, stdout=subprocess.PIPE)
+        words = child.stdout.read().decode().split()
         _, status, usage = os.wait4(child.pid, 0)
         child.returncode = status
         child.stdout.close()
-    if status or len(line) != 2:
-        sys.exit(f"machines.py: {program} {machine} ended with status {status} and printed {line}")
-    return usage.ru_utime + usage.ru_stime, int(line[1])
+    if status or len(words) != 2 * runs or len(set(words[1::2])) != 1:
+        sys.exit(f"machines.py: {program} {machine} ended with status {status} and printed {words[:6]}")
+    return usage.ru_utime + usage.ru_stime, int(words[1])
+
+
+def further(program, machine, source, runs):
+    """The processor time of further runs, after a first one."""
+    return run(program, machine, source, 1 + runs)[0] - run(program, machine, source, 1)[0]
 
 
 def least(program, source):
-    """The least time of each machine, and how many steps each makes."""
-    best, steps = {}, set()
+    """The least time that a step takes on each machine, and how many steps each makes."""
+    made = {run(program, machine, source, 1)[1] for machine in MACHINES}
+    if len(made) != 1:
+        sys.exit(f"machines.py: the machines don't make equally many steps: {sorted(made)}")
+    steps = made.pop()
+    runs = max(1, STEPS // steps)
+    whole, start = {}, {}
     for _ in range(ROUNDS):
         for machine in MACHINES:
-            taken, made = run(program, machine, source)
-            best[machine] = min(taken, best.get(machine, float("inf")))
-            steps.add(made)
-    if len(steps) != 1:
-        sys.exit(f"machines.py: the machines don't make equally many steps: {sorted(steps)}")
-    return best, steps.pop()
+            for best, text in (whole, source), (start, NOTHING + source):
+                best[machine] = min(further(program, machine, text, runs), best.get(machine, float("inf")))
+    return {machine: (whole[machine] - start[machine]) / (runs * steps) for machine in MACHINES}, steps
 
 
 def main():
@@ -55,12 +64,11 @@ def main():
         sys.exit(__doc__)
     if not os.access(program, os.X_OK) or os.path.isdir(program):
         sys.exit(f"machines.py: {program} is no program that can be run: `rt run` in crates/ick_steps builds it")
-    start, _ = least(program, NOTHING)
     print("| Program | steps | " + " | ".join(f"`{name}`, ns" for name in MACHINES.values()) + " |")
     print("|---|---|" + "---|" * len(MACHINES))
     for name in sorted(WORKLOADS):
         best, steps = least(program, WORKLOADS[name])
-        row = [f"{(best[machine] - start[machine]) * 1e9 / steps:.1f}" for machine in MACHINES]
+        row = [f"{best[machine] * 1e9:.1f}" for machine in MACHINES]
         print(f"| `{name}` | {steps:,} | " + " | ".join(row) + " |", flush=True)
 
 
