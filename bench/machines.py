@@ -6,8 +6,8 @@
 It needs that program (`rt run` in crates/ick_steps builds it), Python 3.8 and Linux.
 
 For each program and machine the nanoseconds a step. The program makes a run once, and so often more that the further
-runs have some five million steps; what these take is measured, without what as many runs take of the same source with
-GIVE UP in front, which only make the machine. It is the least processor time of ten rounds in each of which every
+runs have some twenty million steps; what these take is measured, without what as many runs take of the same source with
+GIVE UP in front, which only make the machine. Each is the least processor time of ten rounds in each of which every
 machine is measured. All runs must make equally many steps. Nothing else is judged.
 """
 import os
@@ -20,7 +20,7 @@ from workloads import WORKLOADS
 
 HERE = os.path.dirname(os.path.realpath(__file__))
 MACHINES = {"copied": "Copied", "trailed": "Trailed", "live": "Live"}
-STEPS = 5_000_000
+STEPS = 20_000_000
 
 
 def run(program, machine, source, runs):
@@ -38,11 +38,6 @@ def run(program, machine, source, runs):
     return usage.ru_utime + usage.ru_stime, int(words[1])
 
 
-def further(program, machine, source, runs):
-    """The processor time of further runs, after a first one."""
-    return run(program, machine, source, 1 + runs)[0] - run(program, machine, source, 1)[0]
-
-
 def least(program, source):
     """The least time that a step takes on each machine, and how many steps each makes."""
     made = {run(program, machine, source, 1)[1] for machine in MACHINES}
@@ -50,12 +45,19 @@ def least(program, source):
         sys.exit(f"machines.py: the machines don't make equally many steps: {sorted(made)}")
     steps = made.pop()
     runs = max(1, STEPS // steps)
-    whole, start = {}, {}
+    best = {}
     for _ in range(ROUNDS):
         for machine in MACHINES:
-            for best, text in (whole, source), (start, NOTHING + source):
-                best[machine] = min(further(program, machine, text, runs), best.get(machine, float("inf")))
-    return {machine: (whole[machine] - start[machine]) / (runs * steps) for machine in MACHINES}, steps
+            for text in source, NOTHING + source:
+                for count in 1 + runs, 1:
+                    taken, _ = run(program, machine, text, count)
+                    best[machine, text, count] = min(taken, best.get((machine, text, count), float("inf")))
+
+    def further(machine, text):
+        return best[machine, text, 1 + runs] - best[machine, text, 1]
+
+    return {machine: (further(machine, source) - further(machine, NOTHING + source)) / (runs * steps)
+            for machine in MACHINES}, steps
 
 
 def main():
