@@ -15,12 +15,12 @@ import subprocess
 import sys
 import tempfile
 
-from steps import NOTHING, ROUNDS
-from workloads import WORKLOADS
+from workloads import NOTHING, WORKLOADS
 
 HERE = os.path.dirname(os.path.realpath(__file__))
 MACHINES = {"copied": "Copied", "trailed": "Trailed", "live": "Live"}
 STEPS = 20_000_000
+ROUNDS = 10
 
 
 def run(program, machine, source, runs):

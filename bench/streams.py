@@ -16,17 +16,18 @@ import subprocess
 import sys
 import tempfile
 
-from steps import commands
+from speed import commands
 from workloads import program
 
 HERE = os.path.dirname(os.path.realpath(__file__))
 ROUNDS = 5
 DEPTH = 5
 TURNS = 16 ** DEPTH
+TITLES = {"-b": "C-INTERCAL -b", "-bO": "C-INTERCAL -bO"}
 LINE = b"ONE NINE SEVEN TWO\n"
 PROGRAMS = {
     "lines in": program(DEPTH, ["WRITE IN .1"]),
-    "numerals out": program(DEPTH, ["READ OUT .1"], [(None, ".1 <- #1972")]),
+    "numerals out": program(DEPTH, ["READ OUT .1"], [".1 <- #1972"]),
     "lines in, numerals out": program(DEPTH, ["WRITE IN .1", "READ OUT .1"]),
 }
 
@@ -68,7 +69,6 @@ def main():
         sys.exit(__doc__)
     if not os.access(built, os.X_OK) or os.path.isdir(built):
         sys.exit(f"streams.py: {built} is no program that can be run: a call of ./ick builds ick")
-    compiler = "/usr/bin/ick" if os.access("/usr/bin/ick", os.X_OK) else None
     with tempfile.TemporaryDirectory() as folder:
         lines = os.path.join(folder, "lines")
         with open(lines, "wb") as file:
@@ -78,10 +78,10 @@ def main():
             source = os.path.join(folder, name.replace(" ", "-").replace(",", "") + ".i")
             with open(source, "w", encoding="ascii") as file:
                 file.write(text)
-            table = commands(built, compiler, source, folder)
+            table = commands(built, source, folder)
             if heading is None:
                 heading = list(table)
-                print("| Program | over | " + " | ".join(f"{it}, ms | system" for it in heading) + " |")
+                print("| Program | over | " + " | ".join(f"{TITLES.get(it, it)}, ms | system" for it in heading) + " |")
                 print("|---|---|" + "---|" * 2 * len(heading))
             for over, kind in ((over_files, "files"), (over_pipes, "pipes")):
                 best = least(table, over, lines)

@@ -1,9 +1,10 @@
 #!/usr/bin/env python3
-"""Writes the programs whose steps are measured: one kind of work each, in nested loops of 16 turns.
+"""Writes the programs whose speed is measured, and the lines that one of them reads.
 
   workloads.py FOLDER
 
-Each ends by GIVE UP. They are programs of C-INTERCAL too, but for `gerunds`, which is as large as its compiler takes.
+Most do one kind of work each, in nested loops of 16 turns, and then print what came of it; each ends by GIVE UP. They
+are programs of C-INTERCAL too; `gerunds` is as large as its compiler takes.
 """
 import os
 import sys
@@ -35,35 +36,59 @@ def loop(depth, body):
            (label + 3, "FORGET #1")]
 
 
-def program(depth, body, before=()):
-    return polite(list(before) + loop(depth, [(None, it) for it in body]) + [(None, "GIVE UP")])
+def program(depth, body, before=(), after=("READ OUT .11",)):
+    """A body in loops, between what is done before and after."""
+    return polite([(None, it) for it in before] + loop(depth, [(None, it) for it in body])
+                  + [(None, it) for it in after] + [(None, "GIVE UP")])
+
+
+def calculations(count):
+    """As many statements as that, one after another."""
+    return polite([(None, f".{k % 9 + 1} <- '.{k % 7 + 1}$#{k % 200 + 1}'~#{k % 99 + 3}") for k in range(count - 2)]
+                  + [(None, "READ OUT .1+.2+.3"), (None, "GIVE UP")])
 
 
 WORKLOADS = {
     "loop": program(5, []),
     "expressions": program(5, [
-        """.1 <- "?'.2$.3'~'#21845$#0'"~'V"&.4$.5"~"#0$#65535"'""",
-        """:1 <- '"V.1$#3"~"#43690$.2"'$'?"&.3$.1"~"#255$#255"'"""]),
+        """.1 <- '"?.2$.3"~"#21845$#4095"'~'"&.4$.5"~"#255$#65280"'""",
+        """:1 <- '"V.1$#3"~"#43690$#0"'$'"?.3$:2"~"#255$#255"'"""],
+        [".2 <- #1972", ".3 <- #40961", ".4 <- #65244", ".5 <- #32767", ":2 <- #51966"],
+        # small numbers alone, whose numerals have the same letters everywhere
+        [".1 <- .1~#2047", ".2 <- :1~#2047", "READ OUT .1+.2"]),
     "arrays": program(5, [
         ",1SUB.1 <- ,1SUB#2", ";1SUB#3.1 <- ;1SUB.1#4", ".2 <- ,1SUB.1"],
-        [(None, ",1 <- #8"), (None, ";1 <- #8 BY #8"), (None, ".1 <- #5")]),
+        [",1 <- #8", ";1 <- #8 BY #8", ".1 <- #5", ",1SUB#2 <- #77", ";1SUB#5#4 <- #1066"],
+        ["READ OUT .2+;1SUB#3#5"]),
     "stashes": program(5, [
         "STASH .1+.2+:1", ".1 <- .3", "RETRIEVE .1+.2+:1", "STASH ,1", "RETRIEVE ,1"],
-        [(None, ",1 <- #16")]),
+        [",1 <- #16", ".1 <- #3", ".3 <- #7"], ["READ OUT .1"]),
     "gerunds": program(2, [
         "ABSTAIN FROM CALCULATING", "REINSTATE CALCULATING"],
-        [(None, f".{k % 7 + 1} <- #{k % 100}") for k in range(4000)]),
-    "numerals": program(4, ["READ OUT .1"], [(None, ".1 <- #1972")]),
+        [f".{k % 7 + 1} <- #{k % 100}" for k in range(4000)]),
+    "numerals": program(4, ["READ OUT .1"], [".1 <- #1972"]),
 }
+
+NOTHING = "DO GIVE UP\n"
+
+JOBS = {
+    "lines": program(4, ["WRITE IN .1"], after=["READ OUT .1"]),
+    "statements-1000": calculations(1000),
+    "statements-3000": calculations(3000),
+    "tiny": NOTHING,
+}
+
+LINES = "ONE NINE SEVEN TWO\n" * 16 ** 4
 
 
 def main():
     if len(sys.argv) != 2 or sys.argv[1] in ("-h", "--help"):
         sys.exit(__doc__)
     os.makedirs(sys.argv[1], exist_ok=True)
-    for name, source in WORKLOADS.items():
-        with open(os.path.join(sys.argv[1], name + ".i"), "w", encoding="ascii") as file:
-            file.write(source)
+    files = {name + ".i": source for name, source in {**WORKLOADS, **JOBS}.items()}
+    for name, text in {**files, "lines": LINES}.items():
+        with open(os.path.join(sys.argv[1], name), "w", encoding="ascii") as file:
+            file.write(text)
 
 
 if __name__ == "__main__":

@@ -1,0 +1,144 @@
+#!/usr/bin/env python3
+"""Measures how fast programs run: those of workloads.py, by the built program's `ick run`.
+
+  speed.py [PROGRAM]
+
+It needs the built program (a call of ./ick builds it), Python 3.8 and Linux. Where C-INTERCAL is installed (Debian's
+package `intercal`, whose compiler is called `ick` too), its compiled programs are measured beside, in the same rounds,
+without and with its optimiser (-O), once what they print was seen to be the same.
+
+The first table is of the run alone: the least processor time of nine rounds or more, without the time that the same
+command takes for a program that ends at once. The second is of the whole job, from the source to the program's end: for
+C-INTERCAL its compiler, gcc, and the compiled program. Nothing is judged.
+"""
+import os
+import shutil
+import subprocess
+import sys
+import tempfile
+import time
+
+HERE = os.path.dirname(os.path.realpath(__file__))
+COMPILER = "/usr/bin/ick"
+ROUNDS = 11
+JOBS = 9
+PATIENCE = 60
+OPTIONS = ("-b", "-bO")
+
+
+def seconds(words, source, folder=None):
+    """The processor time of a command and its children, with a file as its input, that prints to nowhere."""
+    with open(source, "rb") as lines, open(os.devnull, "wb") as nowhere:
+        child = subprocess.Popen(words, cwd=folder, stdin=lines, stdout=nowhere, stderr=nowhere)
+        _, status, usage = os.wait4(child.pid, 0)
+        child.returncode = status
+    if status:
+        raise OSError(f"{' '.join(words)} ends with {status}")
+    return usage.ru_utime + usage.ru_stime
+
+
+def printed(words, source):
+    """What a command prints, without white at the ends of lines, which C-INTERCAL's programs fill up."""
+    with open(source, "rb") as lines:
+        output = subprocess.run(words, stdin=lines, stdout=subprocess.PIPE, check=True).stdout
+    return b"\n".join(line.rstrip() for line in output.split(b"\n"))
+
+
+def ours(program, source):
+    return [program, "run", "--limit", "4294967295", source]
+
+
+def compiled(option, source, folder):
+    """The program that C-INTERCAL makes of a source, or none where it makes none."""
+    os.makedirs(folder, exist_ok=True)
+    shutil.copy(source, folder)
+    name = os.path.basename(source)
+    subprocess.run([COMPILER, option, name], cwd=folder, stdout=subprocess.DEVNULL, stderr=subprocess.DEVNULL)
+    made = os.path.join(folder, name[:-2])
+    return made if os.access(made, os.X_OK) else None
+
+
+def commands(program, source, folder):
+    """The commands that run a source, by their names."""
+    found = {"ick run": ours(program, source)}
+    for option in OPTIONS if os.access(COMPILER, os.X_OK) else ():
+        made = compiled(option, source, os.path.join(folder, option))
+        if made:
+            found[option] = [made]
+    return found
+
+
+def jobs(program, source, folder):
+    """The commands that do the whole job, by their names."""
+    found = {"ick run": (ours(program, source), None)}
+    for option in OPTIONS if os.access(COMPILER, os.X_OK) else ():
+        place = os.path.join(folder, option)
+        name = os.path.basename(source)
+        if os.access(os.path.join(place, name[:-2]), os.X_OK):
+            found[option] = (["sh", "-c", f"{COMPILER} {option} {name} >&2 && ./{name[:-2]}"], place)
+    return found
+
+
+def least(table, rounds, measure):
+    """The least time of each command, where each round does all of them; fewer rounds where they take long."""
+    best = {}
+    began = time.monotonic()
+    for _ in range(rounds):
+        for name, command in table.items():
+            best[name] = min(measure(command), best.get(name, float("inf")))
+        if time.monotonic() - began > PATIENCE:
+            break
+    return best
+
+
+def row(name, best, digits):
+    """A line of a table: milliseconds, and how many times as long the others take."""
+    mine = best["ick run"]
+    cells = [f"{mine * 1000:.{digits}f}"]
+    for option in OPTIONS:
+        cells += [f"{best[option] * 1000:.{digits}f}", f"{best[option] / mine:.2f}"] if option in best else ["", ""]
+    return f"| {name} | " + " | ".join(cells) + " |"
+
+
+def head(title):
+    names = " | ".join(f"C-INTERCAL `{option}`, ms | ratio" for option in OPTIONS)
+    return f"| {title} | `ick run`, ms | {names} |\n|---|---|---|---|---|---|"
+
+
+def main():
+    program = os.path.abspath(sys.argv[1] if len(sys.argv) == 2 else os.path.join(HERE, "../crates/ick/out/ick"))
+    if len(sys.argv) > 2 or sys.argv[1:] in (["-h"], ["--help"]):
+        sys.exit(__doc__)
+    if not os.access(program, os.X_OK) or os.path.isdir(program):
+        sys.exit(f"speed.py: {program} is no program that can be run: a call of ./ick builds ick")
+    with tempfile.TemporaryDirectory() as folder:
+        if subprocess.run([sys.executable, os.path.join(HERE, "workloads.py"), folder]).returncode:
+            sys.exit("speed.py: there are no programs to measure")
+        lines = os.path.join(folder, "lines")
+        sources = sorted(it for it in os.listdir(folder) if it.endswith(".i"))
+        table = {it: commands(program, os.path.join(folder, it), folder) for it in sources}
+        for name in sources:
+            found = {printed(words, lines) for words in table[name].values()}
+            if len(found) > 1:
+                sys.exit(f"speed.py: what {name} prints isn't the same")
+        start = least(table["tiny.i"], ROUNDS, lambda words: seconds(words, lines))
+        print(head("Run alone"))
+        for name in sources:
+            if name != "tiny.i":
+                best = least(table[name], ROUNDS, lambda words: seconds(words, lines))
+                alone = {it: max(best[it] - start[it], 1e-6) for it in best}
+                print(row(name[:-2], alone, 1), flush=True)
+        print("\n" + head("Whole job"))
+        for name in sources:
+            source = os.path.join(folder, name)
+            best = least(jobs(program, source, folder), JOBS, lambda job: seconds(job[0], lines, job[1]))
+            print(row(name[:-2], best, 1), flush=True)
+
+
+if __name__ == "__main__":
+    try:
+        main()
+    except (OSError, subprocess.CalledProcessError) as error:
+        sys.exit(f"speed.py: {error}")
+    except KeyboardInterrupt:
+        sys.exit(130)
