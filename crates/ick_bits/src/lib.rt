@@ -43,6 +43,3 @@ pub use quoted::append_quoted;
 pub use tape::{tape_in, tape_out};
 pub use values::{Value, Width};
 pub use white::is_white;
-
-#[cfg(test)]
-mod tests;

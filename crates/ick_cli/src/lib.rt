@@ -38,6 +38,3 @@ pub use driver::{WordsFault, refuse_words, serve};
 pub use files::Files;
 pub use laws::one_answer;
 pub use status::Status;
-
-#[cfg(test)]
-mod tests;

@@ -19,8 +19,6 @@ mod laws;
 mod names;
 mod op;
 mod table;
-#[cfg(test)]
-mod tests;
 
 pub use code::Code;
 pub use compiler::compile;

@@ -57,6 +57,3 @@ pub use run::Run;
 pub use seeded::{Drawn, run_seeded, run_seeded_from};
 pub use streamed::{Streamed, run_stream};
 pub use writing::write_runs;
-
-#[cfg(test)]
-mod tests;

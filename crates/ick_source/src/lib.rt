@@ -63,6 +63,3 @@ pub use refusals::Refusal;
 pub use source::read_source;
 pub use statements::Statement;
 pub use tree::{BinaryOp, Element, Expr, Name, NameKind, UnaryOp};
-
-#[cfg(test)]
-mod tests;

@@ -1,9 +1,7 @@
 //! Runs with choices, seeds and limits.
 use super::table::{Row, RunRow, assert_row, assert_run};
+use crate::programs::AGAIN;
 use std::test::Fail;
-
-/// A program that asks one choice after another until it gives up.
-const LOOP: &[u8] = b"(1) DO %50 (1) NEXT\nPLEASE GIVE UP\n";
 
 #[test]
 fn takes_choices(rt: HostRuntime) {
@@ -71,7 +69,7 @@ fn takes_choices(rt: HostRuntime) {
         ),
     ] {
         let row = Row {
-            source: LOOP,
+            source: AGAIN,
             output: b"",
             error_text,
             code,
@@ -83,7 +81,7 @@ fn takes_choices(rt: HostRuntime) {
 #[test]
 fn takes_choices_in_groups(rt: HostRuntime) -> Result<(), Fail> {
     let row = RunRow {
-        source: LOOP,
+        source: AGAIN,
         input: b"",
         output: b"",
         fault: b"123I PROGRAM HAS DISAPPEARED INTO THE BLACK LAGOON",

@@ -1,9 +1,10 @@
 //! Runs whose choices a seed draws are runs with given choices, and listed.
 
-use super::programs::{AGAIN, assert_same, code_of};
-use crate::{Drawn, Explorer, Ran, Run, run_seeded, run_with};
+use super::found::{assert_same, ended};
+use crate::programs::{AGAIN, code_of};
 use ick_code::Code;
 use ick_machine::Trailed;
+use ick_runs::{Drawn, Explorer, Run, run_seeded, run_with};
 use std::alloc::Global;
 use std::process::Abort;
 
@@ -19,27 +20,6 @@ const DRAWN: [(&[u8], u32); 3] = [
         10_000,
     ),
 ];
-
-/// The run that came to its end with all of its choices used.
-pub fn ended<'c>(rt: &impl Abort, alloc: Global, choices: Vec<bool>, ran: Ran<'c>) -> Run<'c> {
-    match ran {
-        Ran::Ended {
-            output,
-            end,
-            used,
-            steps,
-        } => {
-            assert!(rt; used == choices.len());
-            Run {
-                choices,
-                output,
-                end,
-                steps,
-            }
-        }
-        Ran::Wants { .. } => panic!(rt; "a choice is wanted"),
-    }
-}
 
 /// The run of a program that is listed with these choices.
 fn listed<'c, 'a>(
@@ -70,12 +50,12 @@ fn drawn_runs_are_listed(rt: HostRuntime) {
             let Drawn { choices, ran } = run_seeded(alloc, &code, b"", *limit, seed).expect(
                 &rt, "memory",
             );
-            let drawn = ended(&rt, alloc, choices, ran);
+            let drawn = ended(&rt, choices, ran);
             let found = listed(&rt, alloc, &code, *limit, &drawn.choices);
-            assert_same(&rt, alloc, &found, &drawn);
+            assert_same(&rt, &found, &drawn);
             let ran = run_with(alloc, &code, b"", *limit, &drawn.choices).expect(&rt, "memory");
-            let given = ended(&rt, alloc, found.choices, ran);
-            assert_same(&rt, alloc, &given, &drawn);
+            let given = ended(&rt, found.choices, ran);
+            assert_same(&rt, &given, &drawn);
         }
     }
 }

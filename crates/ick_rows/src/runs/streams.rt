@@ -1,11 +1,11 @@
 //! Runs whose input and output are streams.
 
-use super::programs::{AGAIN, code_of};
-use super::seeds::ended;
-use crate::{Chooser, Drawn, SliceSource, Streamed, VecSink, run_seeded, run_stream};
+use super::found::ended;
+use crate::programs::{AGAIN, code_of};
 use ick_bits::FaultKind;
 use ick_code::Code;
 use ick_machine::{End, EndKind};
+use ick_runs::{Chooser, Drawn, SliceSource, Streamed, VecSink, run_seeded, run_stream};
 use std::alloc::Global;
 use std::process::Abort;
 
@@ -210,7 +210,7 @@ fn drawn_runs_are_streamed(rt: HostRuntime) {
             let Drawn { choices, ran } = run_seeded(alloc, &code, input, 100, seed).expect(
                 &rt, "memory",
             );
-            let drawn = ended(&rt, alloc, choices, ran);
+            let drawn = ended(&rt, choices, ran);
             let (first, out) = streamed(&rt, alloc, &code, input, Chooser::Seeded(seed));
             assert!(rt;
                 first.choices.as_slice() == drawn.choices.as_slice(),

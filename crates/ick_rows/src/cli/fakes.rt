@@ -1,10 +1,10 @@
-//! Devices that do what they say, and fail where a test wants it.
+//! A reader and files that do what they say, and fail where a test wants it.
 ghost use Rattle.std.specs.Prelude.{◌≡◌, [], find, true};
 ghost use Rattle.std.specs.Option.{option_copied, option_map_or};
 ghost use Rattle.std.specs.Str.{bytes_eq};
 
-use crate::Files;
-use ick_runs::{ByteSink, ByteSource, DeviceFault};
+use ick_cli::Files;
+use ick_runs::{ByteSource, DeviceFault};
 
 /// A source that hands out one byte a call and so many `more`, and fails once `good` calls were
 /// made.
@@ -111,36 +111,5 @@ impl Files for Shelf<'_> {
                 Err(DeviceFault)
             }
         }
-    }
-}
-
-/// A sink that takes so many bytes, one a call, and then fails.
-#[derive(Drop)]
-pub struct WornSink {
-    pub bytes: Vec<u8>,
-    pub room: usize,
-    pub failures: u64,
-}
-
-impl ByteSink for WornSink {
-    ghost told = { true };
-
-    ghost written = { λ s. s.bytes.items };
-
-    ghost failed = { λ s. s.failures };
-
-    fn failures(&self) -> u64 {
-        self.failures
-    }
-
-    fn write(&mut self, text: &[u8]) -> Result<usize, DeviceFault> {
-        let Some(first) = text.first() else {
-            return Ok(0);
-        };
-        if self.bytes.len() < self.room && self.bytes.push(*first).is_ok() {
-            return Ok(1);
-        }
-        self.failures += 1;
-        Err(DeviceFault)
     }
 }

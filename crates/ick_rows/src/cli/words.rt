@@ -1,6 +1,6 @@
 //! Words that ask for no job.
 use super::table::{ONE_NUMERAL, left_by_words};
-use crate::{WordsFault, refuse_words};
+use ick_cli::{WordsFault, refuse_words};
 use ick_runs::VecSink;
 use std::alloc::Global;
 use std::process::Abort;

@@ -1,8 +1,8 @@
 //! A listing that no one could make who began each run anew.
 
-use super::programs::code_of;
-use crate::Explorer;
+use crate::programs::code_of;
 use ick_machine::Trailed;
+use ick_runs::Explorer;
 
 #[test]
 fn a_million_runs_share_their_beginnings(rt: HostRuntime) {

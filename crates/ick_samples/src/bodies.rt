@@ -1,9 +1,12 @@
 //! Worked bodies, shown as text: `(op a b)` for operators, `[name subscripts]` for an element, then
-//! the byte where the body ends and `M`, `N`, `L` where a mesh, a name or a label is out of range.
-//! `-` is no body.
+//! the byte where the body ends. `-` is no body; `M`, `N` or `L` one that is refused, for a mesh, a
+//! name or a label that is out of range.
 
-use crate::body_bytes::body_in;
-use crate::*;
+use ick_bits::FaultKind;
+use ick_source::{
+    BinaryOp, Body, Element, Expr, Gerund, Item, Name, NameKind, Place, Refusal, Statement, Target,
+    UnaryOp, read_source,
+};
 use std::alloc::{AllocError, Global};
 use std::test::Fail;
 
@@ -201,33 +204,49 @@ fn shown_body(alloc: Global, body: &Body) -> Result<String, AllocError> {
     Ok(shown)
 }
 
-fn shown_at(alloc: Global, text: &[u8]) -> Result<String, AllocError> {
-    let Some(found) = body_in(alloc, text, 0)? else {
+/// A statement whose head is `DO `: its body, and the byte where that ends, counted from its first.
+fn shown_statement(alloc: Global, statement: &Statement<'_>) -> Result<String, AllocError> {
+    if matches!(statement.body, Body::Unrecognised) {
         return String::from_str(alloc, "-");
-    };
-    let mut shown = shown_body(alloc, &found.value)?;
-    let end = found.to;
+    }
+    let mut shown = shown_body(alloc, &statement.body)?;
+    let end = statement.text.len().saturating_sub(3);
     let position = format!(in alloc; " {end}")?;
     shown.push_str(position.as_str())?;
-    if found.faults.mesh {
-        shown.push_str(" M")?;
-    }
-    if found.faults.name {
-        shown.push_str(" N")?;
-    }
-    if found.faults.label {
-        shown.push_str(" L")?;
-    }
     Ok(shown)
+}
+
+/// Four statements with the labels that bodies name, and the head of the fifth.
+const FRONT: &[u8] = b"(1) PLEASE X (5) DO X (6) DO X (7) DO X DO ";
+
+/// The body of a statement, whose head stands before the text.
+fn shown_at(alloc: Global, text: &[u8]) -> Result<String, Fail> {
+    let mut source = FRONT.to_vec(alloc)?;
+    source.extend_from_slice(text)?;
+    let shown = match read_source(alloc, &source) {
+        Ok(program) => {
+            let Some(statement) = program.statements().get(4) else {
+                return Err("a fifth statement")?;
+            };
+            return Ok(shown_statement(alloc, statement)?);
+        }
+        Err(Refusal::Fault(FaultKind::MeshTooLarge, 5)) => "M",
+        Err(Refusal::Fault(FaultKind::NameRange, 5)) => "N",
+        Err(Refusal::Fault(FaultKind::LabelRange, 5)) => "L",
+        Err(refusal) => return Err(refusal)?,
+    };
+    Ok(String::from_str(alloc, shown)?)
 }
 
 #[test]
 fn expressions_are_read(rt: HostRuntime) -> Result<(), Fail> {
-    let rows: [(&[u8], &str); 24] = [
+    let rows: [(&[u8], &str); 28] = [
         (b".1 <- !1~#5'", "CALCULATE .1 (~ .1 #5) 12"),
         (b".1 <- ,1SUB'.1''.2'", "CALCULATE .1 [,1 .1 .2] 19"),
         (b".1 <- ',1SUB#1\"#2\"'", "CALCULATE .1 [,1 #1 #2] 19"),
-        (b".1 <- ',1SUB#1'#2''", "CALCULATE .1 [,1 #1] 15"),
+        // The second spark closes the group, and what is behind it is of no body.
+        (b".1 <- ',1SUB#1'#2''", "-"),
+        (b".1 <- ',1SUB#1'", "CALCULATE .1 [,1 #1] 15"),
         (b".1 <- ,1SUB,2SUB#1#2", "CALCULATE .1 [,1 [,2 #1 #2]] 20"),
         (b".1 <- #&&77", "-"),
         (b".1 <- ,V1SUB#1", "-"),
@@ -244,7 +263,8 @@ fn expressions_are_read(rt: HostRuntime) -> Result<(), Fail> {
         (b".1 <- \"!1~.2\"", "-"),
         (b".1 <- '#1!2", "-"),
         (b".1 <- '#1!", "-"),
-        (b".1 <- '#1'.2", "CALCULATE .1 #1 10"),
+        (b".1 <- '#1'", "CALCULATE .1 #1 10"),
+        (b".1 <- '#1'.2", "-"),
         (b":1 <- #0$#1$#1", "CALCULATE :1 ($ #0 ($ #1 #1)) 14"),
         (
             b":1 <- \"#65535$#1\"$#1",
@@ -258,8 +278,10 @@ fn expressions_are_read(rt: HostRuntime) -> Result<(), Fail> {
         (b".1 <- ,1SUB#1#2~.3", "CALCULATE .1 (~ [,1 #1 #2] .3) 18"),
         (b".1 <- '#1", "-"),
         (b".1 <- '#1\"", "-"),
-        (b".1 <- #70000", "CALCULATE .1 #65535 12 M"),
-        (b".0 <- #70000", "CALCULATE .0 #65535 12 M N"),
+        (b".1 <- #65535", "CALCULATE .1 #65535 12"),
+        (b".1 <- #70000", "M"),
+        (b".0 <- #70000", "M"),
+        (b".0 <- #65535", "N"),
     ];
     for (text, wanted) in rows {
         let shown = shown_at(rt.alloc(), text)?;
@@ -270,24 +292,29 @@ fn expressions_are_read(rt: HostRuntime) -> Result<(), Fail> {
 
 #[test]
 fn bodies_are_read(rt: HostRuntime) -> Result<(), Fail> {
-    let rows: [(&[u8], &str); 44] = [
+    let rows: [(&[u8], &str); 50] = [
         (b",1SUB'#2''#3' <- #7", "CALCULATE [,1 #2 #3] #7 19"),
         (b",1 <- #2 BY #3", "DIMENSION ,1 #2 #3 14"),
-        (b";4<-.1BY'#2~.3'BY#4 B", "DIMENSION ;4 .1 (~ #2 .3) #4 19"),
-        (b".1 <- #2 BY #3", "CALCULATE .1 #2 8"),
+        (b";4<-.1BY'#2~.3'BY#4", "DIMENSION ;4 .1 (~ #2 .3) #4 19"),
+        (b";4<-.1BY'#2~.3'BY#4 B", "-"),
+        (b".1 <- #2", "CALCULATE .1 #2 8"),
+        (b".1 <- #2 BY #3", "-"),
         (b"(1) NEXT", "NEXT (1) 8"),
         (b"( 007 )NEXT", "NEXT (7) 11"),
-        (b"(0) NEXT", "NEXT (0) 8 L"),
-        (b"(99999999999999999999999) NEXT", "NEXT (65535) 30 L"),
+        (b"(0) NEXT", "L"),
+        (b"(99999999999999999999999) NEXT", "L"),
         (b"FORGET #1", "FORGET #1 9"),
         (b"RESUME .5~#3", "RESUME (~ .5 #3) 12"),
         (b"STASH .1 + :2+,3+ ;4", "STASH .1 :2 ,3 ;4 20"),
         (b"RETRIEVE,1", "RETRIEVE ,1 10"),
         (b"IGNORE .1+", "-"),
-        (b"IGNORE .00065535+:70000", "IGNORE .65535 :65535 23 N"),
-        (b"REMEMBER :1 .2", "REMEMBER :1 11"),
+        (b"IGNORE .00065535+:65535", "IGNORE .65535 :65535 23"),
+        (b"IGNORE .00065535+:70000", "N"),
+        (b"REMEMBER :1", "REMEMBER :1 11"),
+        (b"REMEMBER :1 .2", "-"),
         (b"ABSTAIN FROM (5)", "ABSTAIN (5) 16"),
-        (b"ABSTAINFROM(65536)", "ABSTAIN (65535) 18 L"),
+        (b"ABSTAINFROM(00007)", "ABSTAIN (7) 18"),
+        (b"ABSTAINFROM(65536)", "L"),
         (b"ABSTAIN FROM READING OUT", "ABSTAIN ReadingOut 24"),
         (b"ABSTAIN (5)", "-"),
         (b"REINSTATE (6)", "REINSTATE (6) 13"),
@@ -301,15 +328,16 @@ fn bodies_are_read(rt: HostRuntime) -> Result<(), Fail> {
         (b"WRITE IN .1+,2SUB.3+:4", "WRITE IN .1 [,2 .3] :4 22"),
         (b"WRITE IN #1", "-"),
         (b"READ OUT ,1SUB#2#3+#4+.5", "READ OUT [,1 #2 #3] #4 .5 24"),
-        (b"READOUT #70000", "READ OUT #65535 14 M"),
+        (b"READOUT #65535", "READ OUT #65535 14"),
+        (b"READOUT #70000", "M"),
         (b"READ OUT #&1", "-"),
         (b"READ OUT ,1", "READ OUT ,1 11"),
         (b"WRITE IN .1+,1", "WRITE IN .1 ,1 14"),
         (b"READ OUT ,1+,1SUB#1+#3", "READ OUT ,1 [,1 #1] #3 22"),
         (b"WRITE IN ,1SUB#1 + , 2", "WRITE IN [,1 #1] ,2 22"),
-        (b"READ OUT ,0", "READ OUT ,0 11 N"),
-        (b"WRITE IN ,70000", "WRITE IN ,65535 15 N"),
-        (b"READ OUT ,1~#1", "READ OUT ,1 11"),
+        (b"READ OUT ,0", "N"),
+        (b"WRITE IN ,70000", "N"),
+        (b"READ OUT ,1~#1", "-"),
         (b"READ OUT ;1", "-"),
         (b"WRITE IN ;1", "-"),
         (b"READ OUT ,1 SUB", "-"),
@@ -359,16 +387,21 @@ fn white_bytes_may_stand_between_all_tokens(rt: HostRuntime) -> Result<(), Fail>
 
 #[test]
 fn numbers_of_any_length_are_read(rt: HostRuntime) -> Result<(), Fail> {
-    let rows: [(&[u8], &str); 3] = [
+    let rows: [(&[u8], &str); 5] = [
         (
             b".000000000000000000000000000001 <- #999999999999999999999999999999",
-            "CALCULATE .1 #65535 66 M",
+            "M",
         ),
         (
             b".100000000000000000000000065535 <- #000000000000000000000000065535",
-            "CALCULATE .65535 #65535 66 N",
+            "N",
         ),
-        (b"(000000000000000000000000000000) NEXT", "NEXT (0) 37 L"),
+        (
+            b".000000000000000000000000065535 <- #000000000000000000000000065535",
+            "CALCULATE .65535 #65535 66",
+        ),
+        (b"(000000000000000000000000000000) NEXT", "L"),
+        (b"(000000000000000000000000000007) NEXT", "NEXT (7) 37"),
     ];
     for (text, wanted) in rows {
         let shown = shown_at(rt.alloc(), text)?;
@@ -409,24 +442,36 @@ fn the_height_is_at_most_256(rt: HostRuntime) -> Result<(), Fail> {
     let alloc = rt.alloc();
     let shown = shown_at(alloc, grouped(alloc, 255)?.as_slice())?;
     assert_eq!(rt; shown.as_str(), "CALCULATE .1 #1 518");
-    assert!(rt; body_in(alloc, grouped(alloc, 256)?.as_slice(), 0)?.is_none());
-    assert!(rt; body_in(alloc, chained(alloc, 256)?.as_slice(), 0)?.is_some());
-    assert!(rt; body_in(alloc, chained(alloc, 257)?.as_slice(), 0)?.is_none());
+    let shown = shown_at(alloc, grouped(alloc, 256)?.as_slice())?;
+    assert_eq!(rt; shown.as_str(), "-");
+    let shown = shown_at(alloc, chained(alloc, 256)?.as_slice())?;
+    assert!(rt; shown.as_str().starts_with("CALCULATE .1 (~ #1 (~ #1 "));
+    assert!(rt; shown.as_str().ends_with(" 773"));
+    let shown = shown_at(alloc, chained(alloc, 257)?.as_slice())?;
+    assert_eq!(rt; shown.as_str(), "-");
     Ok(())
 }
 
+// The body of the first statement begins behind the head, with or without white bytes before it,
+// and nowhere else.
 #[test]
 fn a_body_is_read_at_a_byte(rt: HostRuntime) -> Result<(), Fail> {
-    let text: &[u8] = b"DO GIVE UP";
-    for (at, wanted) in [
-        (0, None),
-        (2, Some(10)),
-        (3, Some(10)),
-        (10, None),
-        (11, None),
-    ] {
-        let end = body_in(rt.alloc(), text, at)?.map(|found| found.to);
-        assert_eq!(rt; end, wanted, "at {at}");
+    let rows: [(&[u8], &[u8], bool); 6] = [
+        (b"DO GIVE UP", b"DO GIVE UP", true),
+        (b"DOGIVE UP", b"DOGIVE UP", true),
+        (b"DODO GIVE UP", b"DO", false),
+        (b"GIVE UP", b"GIVE UP", false),
+        (b"DO", b"DO", false),
+        (b"DO \n", b"DO", false),
+    ];
+    for (source, text, recognised) in rows {
+        let program = read_source(rt.alloc(), source)?;
+        let Some(statement) = program.statements().first() else {
+            return Err("a statement")?;
+        };
+        assert_eq!(rt; statement.text, text);
+        assert_eq!(rt; matches!(statement.body, Body::GiveUp), recognised);
+        assert_eq!(rt; matches!(statement.body, Body::Unrecognised), !recognised);
     }
     Ok(())
 }

@@ -1,9 +1,7 @@
 //! Worked examples, and sources that strain the reader.
 
-mod bodies;
-
-use crate::*;
 use ick_bits::FaultKind;
+use ick_source::{Body, Kind, Refusal, append_listing, read_source};
 use std::alloc::Global;
 use std::test::Fail;
 

@@ -2,9 +2,10 @@
 
 ghost use Rattle.std.specs.Prelude.{◌≡◌, []};
 
-use super::programs::{AGAIN, PRINTS, code_of, listing};
-use crate::{Cursor, Explorer, RunsError};
+use super::found::listing;
+use crate::programs::{AGAIN, PRINTS, code_of};
 use ick_machine::{Asks, Copied, Trailed};
+use ick_runs::{Cursor, Explorer, RunsError};
 use std::alloc::Global;
 use std::process::Abort;
 

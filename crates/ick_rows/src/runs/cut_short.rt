@@ -1,9 +1,10 @@
 //! A listing on a writer that fails, and how it goes on after that.
 
-use super::programs::{PRINTS, code_of, listing};
-use super::writers::WornSink;
-use crate::{Explorer, Listed2, RunsError, write_runs};
+use super::found::listing;
+use crate::programs::{PRINTS, code_of};
+use crate::sinks::WornSink;
 use ick_machine::Trailed;
+use ick_runs::{Explorer, Listed2, RunsError, write_runs};
 use std::alloc::Global;
 
 const LINES: &[u8] = b"0 GIVE-UP \"\"\n1 GIVE-UP \"\\nI\\n\"\nDONE\n";

@@ -1,8 +1,6 @@
 //! Listings of runs.
 use super::table::{Row, assert_row, assert_row_over, left_by_words};
-
-/// A program that asks one choice after another until it gives up.
-const LOOP: &[u8] = b"(1) DO %50 (1) NEXT\nPLEASE GIVE UP\n";
+use crate::programs::AGAIN;
 
 #[test]
 fn lists_runs(rt: HostRuntime) {
@@ -143,7 +141,7 @@ fn lists_runs_in_parts(rt: HostRuntime) {
         ),
     ] {
         let row = Row {
-            source: LOOP,
+            source: AGAIN,
             output: lines,
             error_text: b"",
             code: 0,
@@ -171,7 +169,7 @@ fn refuses_cursors(rt: HostRuntime) {
         ("100", "0*2,0*1", bad),
     ] {
         let row = Row {
-            source: LOOP,
+            source: AGAIN,
             output: b"",
             error_text,
             code: 64,
@@ -205,7 +203,7 @@ fn lists_after_a_run(rt: HostRuntime) {
 fn lists_long_runs(rt: HostRuntime) {
     let of_62 = "111111111111111111111111111111111111111111111111111111111111110";
     let row = Row {
-        source: LOOP,
+        source: AGAIN,
         output: b"1111111111111111111111111111111111111111111111111111111111111110 GIVE-UP \"\"
 1*64,0*1 GIVE-UP \"\"
 MORE
@@ -222,7 +220,7 @@ MORE
         ("81", b"\n1*79,0*1 GIVE-UP \"\"\n1*80 E123@1 \"\"\nDONE\n"),
     ] {
         let words = ["runs", "--limit", "100", "--count", count, "f"];
-        let left = left_by_words(rt.alloc(), &words, LOOP, b"");
+        let left = left_by_words(rt.alloc(), &words, AGAIN, b"");
         assert!(rt; left.code == 0);
         assert!(rt; left.output.as_slice().ends_with(end));
     }

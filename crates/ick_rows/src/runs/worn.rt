@@ -2,14 +2,14 @@
 
 ghost use Rattle.std.specs.Prelude.{[], false};
 
-use super::programs::code_of;
-use super::writers::WornSink;
-use crate::{
-    ByteSink, ByteSource, Chooser, DeviceFault, RunsError, SliceSource, VecSink, run_stream,
-};
+use crate::programs::code_of;
+use crate::sinks::WornSink;
 use ick_bits::{FaultKind, NoMemory};
 use ick_code::{Code, compile};
 use ick_machine::EndKind;
+use ick_runs::{
+    ByteSink, ByteSource, Chooser, DeviceFault, RunsError, SliceSource, VecSink, run_stream,
+};
 use ick_source::read_source;
 use std::alloc::Global;
 use std::cell::Cell;

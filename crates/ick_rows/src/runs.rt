@@ -1,13 +1,13 @@
-//! What no contract says: that calls succeed, and worked values from outside.
+//! What no contract says of runs: that calls succeed, and worked values from outside.
 
 mod counts;
 mod cursors;
 mod cut_short;
 mod draws;
+mod found;
 mod generated;
 mod listings;
 mod many;
-mod programs;
 mod seeds;
 mod streams;
 mod worn;

@@ -2,9 +2,9 @@
 
 ghost use Rattle.std.specs.Prelude.{◌≡◌, []};
 
-use super::programs::{AGAIN, code_of};
-use crate::{Cursor, Explorer, RunsError};
+use crate::programs::{AGAIN, code_of};
 use ick_machine::{Asks, Copied, Trailed};
+use ick_runs::{Cursor, Explorer, RunsError};
 use std::alloc::Global;
 use std::process::Abort;
 

@@ -1,7 +1,11 @@
 //! Worked values: what the calls answer for numbers, lines and texts whose answers are known from
 //! elsewhere.
 
-use crate::*;
+use ick_bits::{
+    DigitFault, Fault, FaultKind, Symbol, Value, Width, append_decimal, append_message,
+    append_numeral, append_quoted, digits_value, is_white, mingle, numeral, select, tape_in,
+    tape_out, unary_and, unary_or, unary_xor,
+};
 use std::test::Fail;
 
 #[test]

@@ -1,7 +1,8 @@
 //! Calls of `serve` over fakes, and rows of tables: a source, and what words leave that are given
 //! it.
-use super::fakes::{NamedFile, Shelf, WornSink, WornSource};
-use crate::serve;
+use super::fakes::{NamedFile, Shelf, WornSource};
+use crate::sinks::WornSink;
+use ick_cli::serve;
 use std::alloc::{AllocError, Global};
 use std::process::Abort;
 

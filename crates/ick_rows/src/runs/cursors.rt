@@ -1,6 +1,6 @@
 //! Texts of cursors.
 
-use crate::{Cursor, RunsError};
+use ick_runs::{Cursor, RunsError};
 use std::alloc::Global;
 use std::process::Abort;
 

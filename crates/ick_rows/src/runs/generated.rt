@@ -2,12 +2,13 @@
 
 ghost use Rattle.std.specs.Prelude.{◌≡◌, []};
 
-use super::programs::{assert_same, code_of, cursor_of};
-use crate::draws::generator;
-use crate::{Explorer, Ran, Run, RunsError, run_with};
+use super::found::{assert_same, cursor_of};
+use crate::programs::code_of;
 use ick_bits::append_decimal;
 use ick_code::Code;
 use ick_machine::{Asks, Copied, Trailed};
+use ick_runs::{Explorer, Ran, Run, RunsError, run_with};
+use rand_core::SeedableRng;
 use rand_core::utils::NextWord;
 use rand_pcg::Pcg32;
 use std::alloc::Global;
@@ -130,7 +131,7 @@ fn assert_gives<'c, M: Asks<'c>>(
 ) {
     for wanted in runs {
         match explorer.next().expect(rt, "memory") {
-            Some(found) => assert_same(rt, alloc, &found, wanted),
+            Some(found) => assert_same(rt, &found, wanted),
             None => assert!(rt; false, "a run is missing"),
         }
     }
@@ -182,7 +183,7 @@ fn assert_neighbours<'c, 'a>(rt: &impl Abort, alloc: Global, code: &'c Code<'a>,
 #[test]
 fn listings_are_what_comes_of_trying_every_list_of_choices(rt: HostRuntime) {
     let alloc = rt.alloc();
-    let mut words = generator(1972);
+    let mut words = Pcg32::seed_from_u64(1972);
     for _ in 0..PROGRAMS {
         let source = source_of(&rt, alloc, &mut words);
         let code = code_of(&rt, alloc, &source);
