@@ -11,9 +11,11 @@ mod TextLemmas
 mod StepLemmas
 mod AnswerLemmas
 mod StepsLemmas
+mod TrailedLemmas
 mod CopyLemmas
 mod NameLemmas
 mod FeedLemmas
 mod FedLemmas
 mod LiveLemmas
 mod PlanLemmas
+mod SureLemmas

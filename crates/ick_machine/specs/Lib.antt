@@ -6,6 +6,7 @@ pub mod Planned
 pub mod Run
 pub mod Walk
 pub mod Step
+pub mod Sure
 pub mod Marks
 pub mod Seen
 pub mod Feeds

@@ -30,6 +30,7 @@ pub fn call<N: Notes>(memory: &mut Memory, notes: &mut N, to: u32) -> Result<(),
 }
 
 /// The newest returns leave the NEXT stack, all of them where there are fewer.
+#[inline(always)]
 fn drop_returns<N: Notes>(memory: &mut Memory, notes: &mut N, count: usize) -> Result<(), NoMemory>
     ensures view { OnOk result (view_of memory.new ≡ record (view_of memory.old) {
       returns = take
@@ -46,6 +47,7 @@ fn drop_returns<N: Notes>(memory: &mut Memory, notes: &mut N, count: usize) -> R
 }
 
 /// As many returns leave the NEXT stack, all of them where there are fewer (Revised Manual, 4.4.3).
+#[inline(always)]
 pub fn forget<N: Notes>(memory: &mut Memory, notes: &mut N, number: u32) -> Result<(), NoMemory>
     ensures does { OnOk result ((code : Coded) (input : Input) → state_of code input (view_of
         memory.new) ≡ forgotten number (state_of code input (view_of memory.old))) }

@@ -22,6 +22,8 @@ pub enum Halt {
 impl From<NoMemory> for Halt {
     ghost from_gives = { λ _ halt. halt ≡ OutOfMemory };
 
+    #[cold]
+    #[inline(never)]
     fn from(_refused: NoMemory) -> Halt {
         Halt::NoMemory
     }

@@ -21,9 +21,11 @@
 //! | `operate` | operations that take operands and change what a run remembers |
 //! | `operation` | one operation, and a list of them |
 //! | `engine` | what statements are worked with, beside the memory |
+//! | `elements` | the elements of a memory's arrays, for the calculations of plans |
 //! | `planned` | statements that are done by their plans |
 //! | `met` | the statement that is met next |
 //! | `step` | one step of a run |
+//! | `sure` | steps of statements that are sure to be done, by their plans |
 //! | `answer` | what a machine asks, by what it remembers |
 //! | `whole` | a step that is made whole or not at all |
 //! | `trailed` | a machine with marks that notes each change |
@@ -41,6 +43,7 @@ mod asking;
 mod backtrack;
 mod control;
 mod copied;
+mod elements;
 mod engine;
 mod evaluate;
 mod fed;
@@ -62,6 +65,7 @@ mod reader;
 mod size;
 mod step;
 mod store;
+mod sure;
 mod tape;
 #[cfg(test)]
 mod tests;

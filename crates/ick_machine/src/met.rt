@@ -12,6 +12,7 @@ use ick_memory::{Memory, odds};
 
 /// The chance in percent that the statement is done that is met next, 0 where it is abstained from
 /// (Revised Manual, 4.3); none past the last statement.
+#[inline(always)]
 pub fn met(code: &Code, memory: &Memory) -> Option<u8>
     requires fits { Fits code.now (view_of memory.now) }
     ensures some { IfSome result (λ odds. IsSomeAnd (statement_at (code_program code.now)
@@ -23,7 +24,7 @@ pub fn met(code: &Code, memory: &Memory) -> Option<u8>
     if here == 0 {
         return None;
     }
-    if here > code.count() {
+    if here as usize > memory.statuses.len() {
         return None;
     }
     Some(odds(code, memory, here))

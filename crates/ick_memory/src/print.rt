@@ -53,10 +53,7 @@ fn append_elements(output: &mut Vec<u8>, last: u8, elements: &Vec<u32>) -> Resul
     for at in 0..elements.len() {
         let number = (elements[at] % 65536) as u16;
         let (next, byte) = tape_out(position, number);
-        match output.push(byte) {
-            Ok(()) => (),
-            Err(_) => unreachable!(),
-        }
+        output.push_reserved(byte);
         position = next;
     }
     Ok(position)

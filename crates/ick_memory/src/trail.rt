@@ -108,30 +108,19 @@ impl Notes for Trail {
     }
 
     fn note(&mut self, entry: Entry) {
-        match self.entries.push(entry) {
-            Ok(()) => (),
-            Err(_) => unreachable!(),
-        }
+        self.entries.push_reserved(entry);
     }
 
     fn note_array(&mut self, change: ArrayChange, slot: u32, array: Array) {
-        match self.arrays.push(array) {
-            Ok(()) => (),
-            Err(_) => unreachable!(),
-        }
-        match self.entries.push(Entry::Array(change, slot)) {
-            Ok(()) => (),
-            Err(_) => unreachable!(),
-        }
+        self.arrays.push_reserved(array);
+        self.entries.push_reserved(Entry::Array(change, slot));
     }
 
     fn note_statuses(&mut self, statuses: &Vec<u8>) -> Result<(), NoMemory> {
         let old = copy_bytes(statuses)?;
         self.entries.reserve(1)?;
         self.statuses.push(old)?;
-        match self.entries.push(Entry::Statuses) {
-            Ok(()) => Ok(()),
-            Err(_) => unreachable!(),
-        }
+        self.entries.push_reserved(Entry::Statuses);
+        Ok(())
     }
 }

@@ -14,7 +14,7 @@ use crate::operation::do_operations;
 use crate::planned::do_plan;
 use crate::text::TextReader;
 use ick_bits::append_decimal;
-use ick_code::Code;
+use ick_code::{Code, Op};
 use ick_memory::{Array, Ended, Memory, Nobody, fresh_memory, put_place, put_scalar};
 use std::alloc::Global;
 use std::process::Abort;
@@ -26,8 +26,8 @@ const STATEMENTS: u32 = 200;
 /// Lines, of which every statement that reads one takes some.
 const INPUT: &[u8] = b"ONE\nTWO\nTEN FOUR\nSIX FIVE FIVE THREE SIX\nthree\n";
 
-/// Expressions, where `@` stands for an operand.
-const EXPRESSIONS: [&[u8]; 24] = [
+/// Expressions, where `@` stands for an operand, and `%` for one that is small.
+const EXPRESSIONS: [&[u8]; 32] = [
     b"@",
     b"@",
     b"@$@",
@@ -52,6 +52,14 @@ const EXPRESSIONS: [&[u8]; 24] = [
     b"'&\"@~:1\"'~'V\"@$@\"'",
     b"',1SUB#1'$@",
     b",1SUB@~@",
+    b",1SUB%",
+    b";1SUB%%",
+    b"';1SUB%%'$',1SUB%'",
+    b"',1SUB%'~@",
+    b"V,1SUB%",
+    b",1SUB;1SUB%%",
+    b"';1SUB%%'~\"@$@\"",
+    b";1SUB%%%",
 ];
 
 /// Operands, where `@` stands for a number.
@@ -59,8 +67,12 @@ const OPERANDS: [&[u8]; 10] = [
     b".1", b".2", b".3", b".4", b":1", b":2", b"#@", b"#@", b"#1", b"#65535",
 ];
 
-/// Bodies, where `*` stands for an expression and `@` for the number of a statement.
-const BODIES: [&[u8]; 24] = [
+/// Operands that are small, or small numbers at times.
+const SMALL: [&[u8]; 8] = [b"#1", b"#2", b"#3", b"#4", b"#1", b"#2", b".1", b":1"];
+
+/// Bodies, where `*` stands for an expression, `%` for a small operand and `@` for the number of a
+/// statement.
+const BODIES: [&[u8]; 32] = [
     b".1 <- *",
     b".2 <- *",
     b".3 <- *",
@@ -82,6 +94,14 @@ const BODIES: [&[u8]; 24] = [
     b"RETRIEVE :2+,1",
     b",1 <- #4",
     b",1SUB#2 <- *",
+    b",1SUB% <- *",
+    b";1SUB%% <- *",
+    b";1SUB%% <- ;1SUB%%",
+    b",1SUB% <- ,1SUB%",
+    b";1 <- #3 BY #4",
+    b";1 <- #2 BY %",
+    b"IGNORE ,1+.2",
+    b"REMEMBER ,1+.2",
     b"READ OUT *",
     b"WRITE IN .3",
     b"GIVE UP",
@@ -112,10 +132,12 @@ fn append_operand(rt: &impl Abort, source: &mut Vec<u8>, words: &mut Words) {
 
 /// Appends an expression.
 fn append_expression(rt: &impl Abort, source: &mut Vec<u8>, words: &mut Words) {
-    let expression = EXPRESSIONS[words.below(24) as usize];
+    let expression = EXPRESSIONS[words.below(32) as usize];
     for byte in expression {
         if *byte == b'@' {
             append_operand(rt, source, words);
+        } else if *byte == b'%' {
+            append(rt, source, SMALL[words.below(8) as usize]);
         } else {
             append(rt, source, &[*byte]);
         }
@@ -124,10 +146,12 @@ fn append_expression(rt: &impl Abort, source: &mut Vec<u8>, words: &mut Words) {
 
 /// Appends a body.
 fn append_body(rt: &impl Abort, source: &mut Vec<u8>, words: &mut Words) {
-    let body = BODIES[words.below(24) as usize];
+    let body = BODIES[words.below(32) as usize];
     for byte in body {
         if *byte == b'*' {
             append_expression(rt, source, words);
+        } else if *byte == b'%' {
+            append(rt, source, SMALL[words.below(8) as usize]);
         } else if *byte == b'@' {
             append_number(rt, source, 1 + words.below(STATEMENTS));
         } else {
@@ -281,16 +305,38 @@ fn prepare(rt: &impl Abort, one: &mut Bench, other: &mut Bench, words: &mut Word
     other.stand(rt, place);
 }
 
-/// Every statement of a code does by its plan what it does by its operations. How many have a plan.
-fn assert_plans(rt: &impl Abort, alloc: Global, code: &Code, words: &mut Words) -> u32 {
+/// Whether a statement reads or stores an element.
+fn has_element(code: &Code, n: u32) -> bool {
+    if n < 1 || n > code.count() {
+        return false;
+    }
+    code.ops(n)
+        .iter()
+        .any(|op| matches!(op, Op::Fetch(..) | Op::StoreAt(..)))
+}
+
+/// How many statements were done by their plans.
+#[derive(Clone, Copy)]
+struct Met {
+    planned: u32,
+    /// Those among them that read or store elements, and have no fault.
+    elements: u32,
+}
+
+/// Every statement of a code does by its plan what it does by its operations. How many more have a
+/// plan.
+fn assert_plans(rt: &impl Abort, alloc: Global, code: &Code, words: &mut Words, met: Met) -> Met {
     let mut one = Bench::new(rt, alloc, code);
     let mut other = Bench::new(rt, alloc, code);
-    let mut planned = 0u32;
+    let mut met = met;
     for n in 1..=code.count() {
         prepare(rt, &mut one, &mut other, words);
         let done = match one.plan(n) {
             Some(done) => {
-                planned = planned.saturating_add(1);
+                met.planned = met.planned.saturating_add(1);
+                if done.is_ok() && has_element(code, n) {
+                    met.elements = met.elements.saturating_add(1);
+                }
                 done
             }
             None => one.work(alloc, n),
@@ -298,18 +344,23 @@ fn assert_plans(rt: &impl Abort, alloc: Global, code: &Code, words: &mut Words) 
         assert!(rt; done == other.work(alloc, n));
         assert_alike(rt, &one.memory, &other.memory);
     }
-    planned
+    met
 }
 
 #[test]
 fn plans_do_what_operations_do(rt: HostRuntime) {
     let alloc = rt.alloc();
     let mut words = Words { state: 1972 };
-    let mut planned = 0u32;
+    let mut met = Met {
+        planned: 0,
+        elements: 0,
+    };
     for _ in 0..PROGRAMS {
         let source = source_of(&rt, alloc, &mut words);
         let code = code_of(&rt, alloc, &source);
-        planned = planned.saturating_add(assert_plans(&rt, alloc, &code, &mut words));
+        met = assert_plans(&rt, alloc, &code, &mut words, met);
     }
+    let Met { planned, elements } = met;
     assert!(rt; planned > 40_000, "{planned}");
+    assert!(rt; elements > 2_000, "{elements}");
 }

@@ -1,5 +1,4 @@
-use Rattle.std.proofs.Common.{◌≡◌, ◌<◌, ◌++◌, length, ap, ◌∙◌, arith, le_trans, take, length-append}
-use Rattle.std.proofs.Common.{[], ◌∷◌}
+use Rattle.std.proofs.Common.{◌≡◌, ◌<◌, ◌≤◌, ◌+◌, ◌++◌, length, ap, ◌∙◌, arith, take, sym, subst, vec_len}
 use Rattle.ick_code.specs.meaning.Tape.{tape_bytes, tape_after}
 use Rattle.ick_memory.proofs.ListLemmas.{take_all}
 use Rattle.ick_memory.proofs.TapeLemmas.{next_bytes, next_position}
@@ -13,22 +12,16 @@ loop-at-preserved c =
     record {
       output =
           next_bytes vs at c.index.result.now c.args.last c.loop-at.position c.tape_out-next.result.0
-          c.tape_out-next.result.1 c.loop-at.output.items c.push.new.self.items c.reserve.new.self.items within
+          c.tape_out-next.result.1 c.loop-at.output.items c.push_reserved.new.self.items c.reserve.new.self.items within
           c.index.ensures c.loop-at.invariant.position c.tape_out-next.ensures.position c.tape_out-next.ensures.byte
-          c.in-Ok.ensures.items c.loop-at.invariant.output;
+          c.push_reserved.ensures.items c.loop-at.invariant.output;
       position =
           next_position vs at c.index.result.now c.args.last c.loop-at.position c.tape_out-next.result.0 within
           c.index.ensures c.loop-at.invariant.position c.tape_out-next.ensures.position;
-      room = le_trans c.loop-at.invariant.room c.in-Ok.ensures.capacity;
-      count =
-          omega (
-            arith,
-            c.push.new.self.ok.0,
-            ap length c.in-Ok.ensures.items,
-            length-append c.loop-at.output.items (c.tape_out-next.result.1 ∷ []),
-            c.loop-at.output.ok.0,
-            c.loop-at.invariant.count,
-          );
+      room =
+          subst (λ n. vec_len c.reserve.new.self + vec_len c.args.elements.now ≤ n)
+          (sym c.push_reserved.ensures.capacity) c.loop-at.invariant.room;
+      count = omega (arith, c.push_reserved.ensures.len, c.loop-at.invariant.count);
     }
 
 pub returns-clause-output : goal.returns-clause-output

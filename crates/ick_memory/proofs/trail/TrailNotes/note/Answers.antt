@@ -12,9 +12,9 @@ returns c = λ k now after before h grown back can.
     let entry = c.args.entry in
     let arrays = reverse t.arrays.items in
     let statuses = reverse t.statuses.items in
-    noted (history t) (history (record t { entries = c.push.new.self })) (Plain entry) k (stash_room now)
+    noted (history t) (history (record t { entries = c.push_reserved.new.self })) (Plain entry) k (stash_room now)
     (stash_room after) (view_of now) (view_of after) before
-    (newest_change c.push.new.self.items t.entries.items entry arrays arrays statuses statuses (Plain entry)
-    c.in-Ok.ensures.items
+    (newest_change c.push_reserved.new.self.items t.entries.items entry arrays arrays statuses statuses (Plain entry)
+    c.push_reserved.ensures.items
     (changes-plain entry (stash_room after) (view_of after) (reverse t.entries.items) arrays statuses can))
     h grown back can

@@ -13,10 +13,10 @@ returns-clause-ok c = λ k now after before h grown back can.
     let t = c.args.self.now in
     let old = c.in_ok-old.old in
     let same : old.items ≡ c.args.statuses.now.items = c.in_ok-old.ensures in
-    noted (history t) (history (record t { entries = c.push-2.new.self; statuses = c.push.new.self })) (Statuses old) k
+    noted (history t) (history (record t { entries = c.push_reserved.new.self; statuses = c.push.new.self })) (Statuses old) k
     (stash_room now) (stash_room after) (view_of now) (view_of after) before
-    (newest_statuses c.push-2.new.self.items t.entries.items (reverse t.arrays.items) t.statuses.items
-    c.push.new.self.items old (c.in-Ok.ensures.items ∙ ap (λ l. l ++ StatusesEntry ∷ []) c.reserve.ensures.items)
+    (newest_statuses c.push_reserved.new.self.items t.entries.items (reverse t.arrays.items) t.statuses.items
+    c.push.new.self.items old (c.push_reserved.ensures.items ∙ ap (λ l. l ++ StatusesEntry ∷ []) c.reserve.ensures.items)
     c.in_ok-push.ensures.items)
     h grown (ap (λ l. record (view_of after) { statuses = l }) same ∙ back)
     (ap (λ l. same_chances l (view_of after).statuses) same ∙ can)
