@@ -1,6 +1,6 @@
 -- The changes that a trail holds.
-use Rattle.std.proofs.Common.{◌≡◌, ℕ, suc, true, List, [], ◌∷◌, ◌++◌, length, reverse, refl, ap}
-use Rattle.std.proofs.Common.{◌∙◌}
+use Rattle.std.proofs.Common.{◌≡◌, ℕ, suc, true, false, List, [], ◌∷◌, ◌++◌, length, reverse, refl, ap}
+use Rattle.std.proofs.Common.{sym, ◌∙◌}
 use Rattle.std.specs.Global.{Vec}
 use Rattle.std.proofs.lemmas.List.{reverse-append, length-reverse}
 use Rattle.ick_memory.specs.View.{View, Room}
@@ -12,29 +12,52 @@ use Rattle.ick_memory.specs.declared.change.Entry.TheVariants.{ArraySaved, Scala
 use Rattle.ick_memory.specs.declared.change.Entry.TheVariants.{Status, Printed, Read, Last, LastIn, Array, Statuses}
 use Rattle.ick_memory.specs.declared.change.Change.{Change}
 use Rattle.ick_memory.specs.declared.change.Change.TheVariants.{Plain, Array as ArrayOf, Statuses as StatusesOf}
-use Rattle.ick_memory.specs.Undo.{changes_of, can_undo_entry}
+use Rattle.ick_memory.specs.Undo.{changes_of, has_moved, can_undo_entry}
+use Rattle.ick_memory.specs.History.{history}
+use Rattle.ick_memory.specs.declared.trail.Trail.{Trail}
 
 -- an entry that can be undone alone moved nothing
-pub changes-plain : (entry : Entry) (room : Room) (v : View) (entries : List Entry) (arrays : List ArrayKept)
-    (statuses : List (Vec ℕ)) → can_undo_entry entry room v ≡ true →
+pub not_moved : (entry : Entry) (room : Room) (v : View) → can_undo_entry entry room v ≡ true →
+    has_moved entry ≡ false
+not_moved (End gave_up) room v can = refl
+not_moved Pushed room v can = refl
+not_moved (Popped place) room v can = refl
+not_moved (Scalar slot old) room v can = refl
+not_moved (Element slot at old) room v can = refl
+not_moved (ScalarSaved slot) room v can = refl
+not_moved (ArraySaved slot) room v can = refl
+not_moved (ScalarTaken slot value) room v can = refl
+not_moved (ScalarIgnored slot old) room v can = refl
+not_moved (ArrayIgnored slot old) room v can = refl
+not_moved (Status at old) room v can = refl
+not_moved (Printed count) room v can = refl
+not_moved (Read taken) room v can = refl
+not_moved (Last last) room v can = refl
+not_moved (LastIn lastin) room v can = refl
+not_moved (Array change slot) room v can = absurd (cc)
+not_moved Statuses room v can = absurd (cc)
+
+-- and is a change of its own
+pub changes-plain : (entry : Entry) (entries : List Entry) (arrays : List ArrayKept) (statuses : List (Vec ℕ)) →
+    has_moved entry ≡ false →
     changes_of (entry ∷ entries) arrays statuses ≡ Plain entry ∷ changes_of entries arrays statuses
-changes-plain (End gave_up) room v entries arrays statuses can = refl
-changes-plain Pushed room v entries arrays statuses can = refl
-changes-plain (Popped place) room v entries arrays statuses can = refl
-changes-plain (Scalar slot old) room v entries arrays statuses can = refl
-changes-plain (Element slot at old) room v entries arrays statuses can = refl
-changes-plain (ScalarSaved slot) room v entries arrays statuses can = refl
-changes-plain (ArraySaved slot) room v entries arrays statuses can = refl
-changes-plain (ScalarTaken slot value) room v entries arrays statuses can = refl
-changes-plain (ScalarIgnored slot old) room v entries arrays statuses can = refl
-changes-plain (ArrayIgnored slot old) room v entries arrays statuses can = refl
-changes-plain (Status at old) room v entries arrays statuses can = refl
-changes-plain (Printed count) room v entries arrays statuses can = refl
-changes-plain (Read taken) room v entries arrays statuses can = refl
-changes-plain (Last last) room v entries arrays statuses can = refl
-changes-plain (LastIn lastin) room v entries arrays statuses can = refl
-changes-plain (Array change slot) room v entries arrays statuses can = absurd (cc)
-changes-plain Statuses room v entries arrays statuses can = absurd (cc)
+changes-plain (End gave_up) entries arrays statuses plain = refl
+changes-plain Pushed entries arrays statuses plain = refl
+changes-plain (Popped place) entries arrays statuses plain = refl
+changes-plain (Scalar slot old) entries arrays statuses plain = refl
+changes-plain (Element slot at old) entries arrays statuses plain = refl
+changes-plain (ScalarSaved slot) entries arrays statuses plain = refl
+changes-plain (ArraySaved slot) entries arrays statuses plain = refl
+changes-plain (ScalarTaken slot value) entries arrays statuses plain = refl
+changes-plain (ScalarIgnored slot old) entries arrays statuses plain = refl
+changes-plain (ArrayIgnored slot old) entries arrays statuses plain = refl
+changes-plain (Status at old) entries arrays statuses plain = refl
+changes-plain (Printed count) entries arrays statuses plain = refl
+changes-plain (Read taken) entries arrays statuses plain = refl
+changes-plain (Last last) entries arrays statuses plain = refl
+changes-plain (LastIn lastin) entries arrays statuses plain = refl
+changes-plain (Array change slot) entries arrays statuses plain = absurd (cc)
+changes-plain Statuses entries arrays statuses plain = absurd (cc)
 
 -- there are as many changes as entries
 pub length-changes : (entries : List Entry) (arrays : List ArrayKept) (statuses : List (Vec ℕ)) →
@@ -72,6 +95,22 @@ newest_change all rest entry arrays arrays' statuses statuses' change is there =
     ∙ ap (λ l. reverse (changes_of l arrays statuses)) (reverse-append rest (entry ∷ []))
     ∙ ap reverse there
     ∙ reverse-append (change ∷ []) (changes_of (reverse rest) arrays' statuses')
+
+-- the same where the entry was taken off a trail, and then what it moved
+pub newest_taken : (old mid new : Trail) (entry : Entry) (change : Change) →
+    old.entries.items ≡ mid.entries.items ++ entry ∷ [] → mid.arrays ≡ old.arrays → mid.statuses ≡ old.statuses →
+    new.entries ≡ mid.entries →
+    ((rest : List Entry) → changes_of (entry ∷ rest) (reverse mid.arrays.items) (reverse mid.statuses.items)
+    ≡ change ∷ changes_of rest (reverse new.arrays.items) (reverse new.statuses.items)) →
+    history old ≡ history new ++ change ∷ []
+newest_taken old mid new entry change is arrays statuses entries there =
+    ap (λ l. reverse (changes_of (reverse old.entries.items) (reverse l.items) (reverse old.statuses.items))) (sym arrays)
+    ∙ ap (λ l. reverse (changes_of (reverse old.entries.items) (reverse mid.arrays.items) (reverse l.items)))
+    (sym statuses)
+    ∙ newest_change old.entries.items mid.entries.items entry (reverse mid.arrays.items) (reverse new.arrays.items)
+    (reverse mid.statuses.items) (reverse new.statuses.items) change is (there (reverse mid.entries.items))
+    ∙ ap (λ l. reverse (changes_of (reverse l.items) (reverse new.arrays.items) (reverse new.statuses.items))
+    ++ change ∷ []) (sym entries)
 
 pub newest_array : (all rest : List Entry) (arrays arrays' : List ArrayKept) (statuses : List (Vec ℕ))
     (change : ArrayChange) (slot : ℕ) (array : ArrayKept) → all ≡ rest ++ Array change slot ∷ [] →

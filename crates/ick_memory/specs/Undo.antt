@@ -61,6 +61,12 @@ OnFalseOf (Ok true) P = Unit {0}
 OnFalseOf (Ok false) P = P
 OnFalseOf (Err e) P = Unit {0}
 
+-- something was moved by the change that an entry notes, and stands apart
+abbrev pub has_moved : Entry → Bool
+has_moved (Array change slot) = true
+has_moved Statuses = true
+has_moved entry = false
+
 -- the view from before the change that an entry notes
 abbrev pub undone_entry : Entry → View → View
 undone_entry (End gave_up) v = with_end (if gave_up then Some GaveUp else None) v

@@ -1,5 +1,8 @@
 //! How one change of a memory is undone.
 
+ghost use Rattle.std.specs.Prelude.{◌≡◌};
+ghost use Rattle.ick_memory.specs.Undo.{has_moved};
+
 use crate::memory::Array;
 use std::mem::size_of;
 
@@ -55,6 +58,19 @@ pub enum Entry {
 }
 
 const _: () = prove!(size_of::<Entry>() <= 16);
+
+impl Entry {
+    /// Whether something was moved, which stands apart.
+    #[inline(always)]
+    pub fn has_moved(self) -> bool
+        ensures { result ≡ has_moved self }
+    {
+        match self {
+            Entry::Array(_, _) | Entry::Statuses => true,
+            _ => false,
+        }
+    }
+}
 
 /// One change, with what it moved.
 #[derive(Drop)]

@@ -53,20 +53,20 @@ impl Trail {
         self.statuses.clear();
     }
 
-    /// Takes the newest change off.
-    pub(crate) fn pop(&mut self) -> Option<Change>
-        ensures some { IfSome result (λ change.
-            history self.old ≡ history self.new ++ change ∷ []) }
+    /// Takes the newest entry off. What it moved stays.
+    #[inline(always)]
+    pub(crate) fn pop(&mut self) -> Option<Entry>
+        ensures some { IfSome result (λ entry.
+            self.old.entries.items ≡ self.new.entries.items ++ entry ∷ []) }
+        ensures arrays { self.new.arrays ≡ self.old.arrays }
+        ensures statuses { self.new.statuses ≡ self.old.statuses }
         ensures none { IfNone result (history self.old ≡ []) }
     {
-        match self.entries.pop() {
-            Some(entry) => Some(self.with_moved(entry)),
-            None => None,
-        }
+        self.entries.pop()
     }
 
     /// The change that an entry stands for. What it moved is taken off the list where it stands.
-    fn with_moved(&mut self, entry: Entry) -> Change
+    pub(crate) fn with_moved(&mut self, entry: Entry) -> Change
         ensures entries { self.new.entries ≡ self.old.entries }
         ensures change { (rest : List Entered) → changes_of (entry ∷ rest) (reverse
             self.old.arrays.items) (reverse self.old.statuses.items) ≡ result ∷ changes_of rest

@@ -93,8 +93,13 @@ pub fn rewind(memory: &mut Memory, trail: &mut Trail, mark: Mark)
     ensures history { history trail.new ≡ take mark.changes (history trail.old) }
 {
     while trail.len() > mark.changes {
-        if let Some(change) = trail.pop() {
-            undo(memory, change);
+        if let Some(entry) = trail.pop() {
+            if entry.has_moved() {
+                let change = trail.with_moved(entry);
+                undo(memory, change);
+            } else {
+                undo_entry(memory, entry);
+            }
         }
     }
     memory.place = mark.place;
