@@ -18,4 +18,5 @@ mod FeedLemmas
 mod FedLemmas
 mod LiveLemmas
 mod PlanLemmas
+mod BriefLemmas
 mod SureLemmas

@@ -41,6 +41,7 @@
 mod answer;
 mod asking;
 mod backtrack;
+mod brief;
 mod control;
 mod copied;
 mod elements;
