@@ -21,10 +21,7 @@ pub fn met(code: &Code, memory: &Memory) -> Option<u8>
     ensures none { IfNone result (statement_at (code_program code.now) memory.now.place ≡ None) }
 {
     let here = memory.place;
-    if here == 0 {
-        return None;
-    }
-    if here as usize > memory.statuses.len() {
+    if here.wrapping_sub(1) as usize >= memory.statuses.len() {
         return None;
     }
     Some(odds(code, memory, here))

@@ -11,9 +11,9 @@ use ick_source::NameKind;
 pub fn loaded(kind: NameKind, number: u32) -> Value
     ensures { result ≡ sized kind number }
 {
-    match kind {
-        NameKind::Onespot | NameKind::Tail => Value::sixteen((number % 65536) as u16),
-        NameKind::Twospot | NameKind::Hybrid => Value::thirty_two(number),
+    match width_of(kind) {
+        Width::Sixteen => Value::sixteen((number % 65536) as u16),
+        Width::ThirtyTwo => Value::thirty_two(number),
     }
 }
 

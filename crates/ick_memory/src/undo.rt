@@ -15,6 +15,7 @@ use crate::memory::{Array, Ended, Memory};
 use crate::trail::Trail;
 
 /// Undoes a change that moved nothing.
+#[inline(always)]
 fn undo_entry(memory: &mut Memory, entry: Entry)
     requires { can_undo_entry entry (stash_room memory.old) (view_of memory.old) ≡ true }
     ensures view { view_of memory.new ≡ undone_entry entry (view_of memory.old) }
@@ -70,6 +71,7 @@ fn undo_array(memory: &mut Memory, change: ArrayChange, slot: u32, array: Array)
 }
 
 /// Undoes one change.
+#[inline(never)]
 fn undo(memory: &mut Memory, change: Change)
     requires { can_undo change (stash_room memory.old) (view_of memory.old) ≡ true }
     ensures view { view_of memory.new ≡ undone change (view_of memory.old) }
