@@ -9,6 +9,7 @@ mod TapeLemmas
 mod LoopLemmas
 mod TextLemmas
 mod StepLemmas
+mod ListedLemmas
 mod AnswerLemmas
 mod StepsLemmas
 mod TrailedLemmas

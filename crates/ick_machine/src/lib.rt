@@ -19,13 +19,14 @@
 //! | `tape` | arrays as bytes |
 //! | `evaluate` | operations of expressions |
 //! | `operate` | operations that take operands and change what a run remembers |
+//! | `listed` | operations of statements that need no plan |
 //! | `operation` | one operation, and a list of them |
 //! | `engine` | what statements are worked with, beside the memory |
 //! | `elements` | the elements of a memory's arrays, for the calculations of plans |
 //! | `planned` | statements that are done by their plans |
 //! | `met` | the statement that is met next |
 //! | `step` | one step of a run |
-//! | `sure` | steps of statements that are sure to be done, by their plans |
+//! | `sure` | steps of statements that are sure to be done, by their plans or by lists |
 //! | `answer` | what a machine asks, by what it remembers |
 //! | `whole` | a step that is made whole or not at all |
 //! | `trailed` | a machine with marks that notes each change |
@@ -52,6 +53,7 @@ mod feed;
 mod feed_reader;
 mod halt;
 mod input;
+mod listed;
 mod live;
 mod live_ask;
 mod message;

@@ -10,6 +10,7 @@ use super::machines::code_of;
 use super::words::Words;
 use crate::engine::{Engine, engine_for};
 use crate::halt::Halt;
+use crate::listed::do_list;
 use crate::operation::do_operations;
 use crate::planned::do_plan;
 use crate::text::TextReader;
@@ -225,6 +226,18 @@ impl<'c, 'a> Bench<'c, 'a> {
         ))
     }
 
+    /// Does a statement by its operations alone, where it needs no plan.
+    fn list(&mut self, n: u32) -> Option<Result<(), Halt>> {
+        if n < 1 || n > self.code.count() {
+            return None;
+        }
+        if !self.engine.plans.brief(n).is_list() {
+            return None;
+        }
+        self.memory.end = None;
+        Some(do_list(self.code, &mut self.memory, &mut Nobody, n))
+    }
+
     /// Does a statement by its operations.
     fn work(&mut self, alloc: Global, n: u32) -> Result<(), Halt> {
         if n < 1 || n > self.code.count() {
@@ -319,12 +332,14 @@ fn has_element(code: &Code, n: u32) -> bool {
 #[derive(Clone, Copy)]
 struct Met {
     planned: u32,
+    /// Those that need none.
+    listed: u32,
     /// Those among them that read or store elements, and have no fault.
     elements: u32,
 }
 
-/// Every statement of a code does by its plan what it does by its operations. How many more have a
-/// plan.
+/// Every statement of a code does by its plan, or as a list, what it does by its operations. How
+/// many more have a plan, or need none.
 fn assert_plans(rt: &impl Abort, alloc: Global, code: &Code, words: &mut Words, met: Met) -> Met {
     let mut one = Bench::new(rt, alloc, code);
     let mut other = Bench::new(rt, alloc, code);
@@ -339,7 +354,13 @@ fn assert_plans(rt: &impl Abort, alloc: Global, code: &Code, words: &mut Words, 
                 }
                 done
             }
-            None => one.work(alloc, n),
+            None => match one.list(n) {
+                Some(done) => {
+                    met.listed = met.listed.saturating_add(1);
+                    done
+                }
+                None => one.work(alloc, n),
+            },
         };
         assert!(rt; done == other.work(alloc, n));
         assert_alike(rt, &one.memory, &other.memory);
@@ -353,6 +374,7 @@ fn plans_do_what_operations_do(rt: HostRuntime) {
     let mut words = Words { state: 1972 };
     let mut met = Met {
         planned: 0,
+        listed: 0,
         elements: 0,
     };
     for _ in 0..PROGRAMS {
@@ -360,7 +382,12 @@ fn plans_do_what_operations_do(rt: HostRuntime) {
         let code = code_of(&rt, alloc, &source);
         met = assert_plans(&rt, alloc, &code, &mut words, met);
     }
-    let Met { planned, elements } = met;
+    let Met {
+        planned,
+        listed,
+        elements,
+    } = met;
     assert!(rt; planned > 40_000, "{planned}");
+    assert!(rt; listed > 20_000, "{listed}");
     assert!(rt; elements > 2_000, "{elements}");
 }

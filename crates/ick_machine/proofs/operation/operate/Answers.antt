@@ -1,13 +1,10 @@
-use Rattle.std.proofs.Common.{reverse, ap, subst}
-use Rattle.std.specs.Prelude.{true, false, Ok, slice_get, ◌≢◌}
-use Rattle.ick_code.specs.declared.op.Op.TheVariants.{Constant, Load, And, Or, Xor, Select, AbstainKind, ReinstateKind}
-use Rattle.ick_code.specs.declared.op.Op.TheVariants.{Save, Restore, Hide, Show, ReadTo, ReadAt, PrintArray, ReadArray}
+use Rattle.std.proofs.Common.{subst}
+use Rattle.std.specs.Prelude.{Ok, slice_get, ◌≢◌}
+use Rattle.ick_code.specs.declared.op.Op.TheVariants.{Constant, Load, And, Or, Xor, Select}
+use Rattle.ick_code.specs.declared.op.Op.TheVariants.{ReadTo, ReadAt, PrintArray, ReadArray}
 use Rattle.ick_code.specs.meaning.InputOutput.{read_to}
-use Rattle.ick_code.specs.meaning.Outcome.{done}
-use Rattle.ick_code.specs.meaning.Stash.{stash, retrieve, ignore}
-use Rattle.ick_code.specs.Compiled.{code_slots}
 use Rattle.ick_code.specs.meaning.Tape.{print_array, read_array}
-use Rattle.ick_code.specs.Effects.{stuck, going, name_at}
+use Rattle.ick_code.specs.Effects.{stuck}
 use Rattle.ick_memory.specs.View.{view_of, state_of, scalar_names, array_names}
 use Rattle.ick_machine.specs.Run.{effect_at}
 use Rattle.ick_machine.proofs.FlowLemmas.{named}
@@ -62,24 +59,6 @@ returns-in-Select-clause-flow g c = λ text.
     (Ok tt) c.args.op Select c.in-Select.is
     (λ input. c.select_operands.ensures.flow c.args.code.now input text v)
 
-pub returns-in_ok-abstain_kind-in-AbstainKind-clause-flow : goal.returns-in_ok-abstain_kind-in-AbstainKind-clause-flow
-returns-in_ok-abstain_kind-in-AbstainKind-clause-flow g c = λ text.
-    let v = view_of c.args.memory.now in
-    let items = c.args.operands.now.items in
-    stays g.R.Reader.Has c.args.reader.now c.args.code.now items items v (view_of c.abstain_kind.new.memory) text
-    (Ok tt) c.args.op (AbstainKind c.in-AbstainKind.gerund) c.in-AbstainKind.is
-    (λ input. ap (going (reverse items)) (c.in_ok-abstain_kind-in-AbstainKind.ensures.does input))
-
-pub returns-in_ok-abstain_kind-in-ReinstateKind-clause-flow :
-    goal.returns-in_ok-abstain_kind-in-ReinstateKind-clause-flow
-returns-in_ok-abstain_kind-in-ReinstateKind-clause-flow g c = λ text.
-    let v = view_of c.args.memory.now in
-    let items = c.args.operands.now.items in
-    stays g.R.Reader.Has c.args.reader.now c.args.code.now items items v
-    (view_of c.abstain_kind-in-ReinstateKind.new.memory) text (Ok tt) c.args.op
-    (ReinstateKind c.in-ReinstateKind.gerund) c.in-ReinstateKind.is
-    (λ input. ap (going (reverse items)) (c.in_ok-abstain_kind-in-ReinstateKind.ensures.does input))
-
 pub returns-in-ReadTo-clause-flow : goal.returns-in-ReadTo-clause-flow
 returns-in-ReadTo-clause-flow g c = λ text.
     let code = c.args.code.now in
@@ -133,60 +112,3 @@ returns-in-ReadArray-clause-flow g c = λ text.
     (took_at_slot g.R.Reader.Has c.args.reader.now c.read_array.new.reader c.read_array.result code text items v w
     (slice_get (array_names code) c.in-ReadArray.slot) n.0 read_array n.1
     (c.read_array.ensures.does n.0 n.1))
-
-pub returns-in_ok-stash-in-Save-clause-flow : goal.returns-in_ok-stash-in-Save-clause-flow
-returns-in_ok-stash-in-Save-clause-flow g c = λ text.
-    let code = c.args.code.now in
-    let v = view_of c.args.memory.now in
-    let items = c.args.operands.now.items in
-    let sound = c.requires.sound in
-    let moves = subst (λ op. effect_at code sound.1 sound.0 op items v ≢ stuck) c.in-Save.is sound.2.moves in
-    let n = named (name_at (code_slots code) c.in-Save.name) _ moves in
-    stays g.R.Reader.Has c.args.reader.now code items items v (view_of c.stash.new.memory) text (Ok tt) c.args.op
-    (Save c.in-Save.name) c.in-Save.is
-    (λ input. at_slot (Ok tt) code input text items (view_of c.stash.new.memory)
-    (name_at (code_slots code) c.in-Save.name) n.0 (λ name. done (stash name (state_of code input v))) n.1
-    (ap done (c.in_ok-stash-in-Save.ensures.does input n.0 n.1)))
-
-pub returns-in_ok-ignore-in-Hide-clause-flow : goal.returns-in_ok-ignore-in-Hide-clause-flow
-returns-in_ok-ignore-in-Hide-clause-flow g c = λ text.
-    let code = c.args.code.now in
-    let v = view_of c.args.memory.now in
-    let items = c.args.operands.now.items in
-    let sound = c.requires.sound in
-    let moves = subst (λ op. effect_at code sound.1 sound.0 op items v ≢ stuck) c.in-Hide.is sound.2.moves in
-    let n = named (name_at (code_slots code) c.in-Hide.name) _ moves in
-    stays g.R.Reader.Has c.args.reader.now code items items v (view_of c.ignore.new.memory) text (Ok tt) c.args.op
-    (Hide c.in-Hide.name) c.in-Hide.is
-    (λ input. at_slot (Ok tt) code input text items (view_of c.ignore.new.memory)
-    (name_at (code_slots code) c.in-Hide.name) n.0 (λ name. done (ignore true name (state_of code input v))) n.1
-    (ap done (c.in_ok-ignore-in-Hide.ensures.does input n.0 n.1)))
-
-pub returns-in_ok-ignore-in-Show-clause-flow : goal.returns-in_ok-ignore-in-Show-clause-flow
-returns-in_ok-ignore-in-Show-clause-flow g c = λ text.
-    let code = c.args.code.now in
-    let v = view_of c.args.memory.now in
-    let items = c.args.operands.now.items in
-    let sound = c.requires.sound in
-    let moves = subst (λ op. effect_at code sound.1 sound.0 op items v ≢ stuck) c.in-Show.is sound.2.moves in
-    let n = named (name_at (code_slots code) c.in-Show.name) _ moves in
-    stays g.R.Reader.Has c.args.reader.now code items items v (view_of c.ignore-in-Show.new.memory) text
-    (Ok tt) c.args.op (Show c.in-Show.name) c.in-Show.is
-    (λ input. at_slot (Ok tt) code input text items (view_of c.ignore-in-Show.new.memory)
-    (name_at (code_slots code) c.in-Show.name) n.0 (λ name. done (ignore false name (state_of code input v))) n.1
-    (ap done (c.in_ok-ignore-in-Show.ensures.does input n.0 n.1)))
-
-pub returns-in-Restore-clause-flow : goal.returns-in-Restore-clause-flow
-returns-in-Restore-clause-flow g c = λ text.
-    let code = c.args.code.now in
-    let v = view_of c.args.memory.now in
-    let items = c.args.operands.now.items in
-    let sound = c.requires.sound in
-    let moves = subst (λ op. effect_at code sound.1 sound.0 op items v ≢ stuck) c.in-Restore.is sound.2.moves in
-    let n = named (name_at (code_slots code) c.in-Restore.name) _ moves in
-    let w = view_of c.retrieve.new.memory in
-    stays g.R.Reader.Has c.args.reader.now code items items v w text c.retrieve.result c.args.op
-    (Restore c.in-Restore.name) c.in-Restore.is
-    (λ input. at_slot c.retrieve.result code input text items w (name_at (code_slots code) c.in-Restore.name) n.0
-    (λ name. retrieve name (state_of code input v)) n.1
-    (c.retrieve.ensures.does input n.0 n.1))
