@@ -1,13 +1,12 @@
 -- The odds of statements.
-use Rattle.std.proofs.Common.{◌≡◌, ℕ, zero, suc, ◌-◌, ◌%◌, ◌<◌, ◌≤◌, ◌==◌, ◌&&◌, Bool}
+use Rattle.std.proofs.Common.{◌≡◌, ℕ, zero, suc, ◌-◌, ◌<◌, ◌≤◌, ◌==◌, ◌&&◌, Bool}
 use Rattle.std.proofs.Common.{true, false, List, [], ◌∷◌, map, length, get_or, Option, Some, None, refl, sym, ap}
-use Rattle.std.proofs.Common.{◌∙◌, subst, arith, ltb-true, leb-true, le-leb, IsSomeAnd}
+use Rattle.std.proofs.Common.{◌∙◌, subst, arith, ltb-true, IsSomeAnd}
 use Rattle.std.specs.Prelude.{nat_lt, nat_le, slice_get, if◌then◌else◌}
 use Rattle.std.proofs.lemmas.Bool.Decides.{nat_tests}
 use Rattle.std.proofs.lemmas.Grind.{get_or_default_zero}
 use Rattle.ick_source.specs.StatementTree.{StatementTree}
 use Rattle.ick_code.specs.meaning.State.{statement_at}
-use Rattle.ick_code.specs.meaning.Move.{is_uncertain, is_done}
 use Rattle.ick_code.specs.declared.code.Code.{Code}
 use Rattle.ick_code.specs.Compiled.{code_program}
 use Rattle.ick_memory.specs.Status.{chance_of, percent_of, is_abstained, flag_at}

@@ -1,6 +1,5 @@
 -- The changes that a trail holds.
-use Rattle.std.specs.Prelude.{ℕ, ◌≡◌, ◌≤◌, List, length, reverse, take}
-use Rattle.ick_memory.specs.View.{View}
+use Rattle.std.specs.Prelude.{List, reverse}
 use Rattle.ick_memory.specs.Undo.{changes_of}
 use Rattle.ick_memory.specs.declared.change.Change.{Change}
 use Rattle.ick_memory.specs.declared.trail.Trail.{Trail}

@@ -1,5 +1,5 @@
 -- Output that is kept.
-use Rattle.std.specs.Prelude.{ℕ, ◌≡◌, ◌≤◌, List, length, take}
+use Rattle.std.specs.Prelude.{ℕ, ◌≡◌, ◌≤◌, length, take}
 use Rattle.ick_memory.specs.View.{View}
 
 -- the first k bytes of the output were all of it before

@@ -2,7 +2,7 @@ use Rattle.std.proofs.Common.{◌≡◌, List, ℕ, ap, ◌∙◌, sym, get_or, 
 use Rattle.std.specs.Prelude.{slice_set}
 use Rattle.std.proofs.lemmas.List.{get_or-set_same}
 use Rattle.std.proofs.lemmas.Grind.{get_or_default_zero}
-use Rattle.ick_memory.specs.Status.{chance_of, with_flag}
+use Rattle.ick_memory.specs.Status.{chance_of}
 use Rattle.ick_memory.specs.View.{Shape, view_of, shape_of}
 use Rattle.ick_memory.proofs.ListLemmas.{set_undone, set_within, at_least_same, and_true}
 use Rattle.ick_memory.proofs.StatusLemmas.{chances-set, chance-with_flag}

@@ -1,4 +1,4 @@
-use Rattle.std.proofs.Common.{◌≡◌, map, take, ap, ◌∙◌, sym, arith}
+use Rattle.std.proofs.Common.{map, ◌∙◌, sym, arith}
 use Rattle.ick_memory.specs.View.{array_of, items_of}
 use Rattle.ick_memory.proofs.ListLemmas.{copied_next, copied_whole, map-map}
 use Rattle.ick_memory.proofs.copy.copy_array_stashes.Goals as goal

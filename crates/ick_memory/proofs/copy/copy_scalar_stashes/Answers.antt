@@ -1,4 +1,4 @@
-use Rattle.std.proofs.Common.{◌≡◌, map, take, ap, ◌∙◌, sym, arith}
+use Rattle.std.proofs.Common.{arith}
 use Rattle.ick_memory.specs.View.{items_of}
 use Rattle.ick_memory.proofs.ListLemmas.{copied_next, copied_whole}
 use Rattle.ick_memory.proofs.copy.copy_scalar_stashes.Goals as goal

@@ -1,9 +1,8 @@
 use Rattle.std.proofs.Common.{◌≡◌, ◌+◌, ◌-◌, ◌<◌, ◌==◌, ℕ, Bool, length, ap, ◌∙◌, sym}
-use Rattle.std.proofs.Common.{subst, arith}
+use Rattle.std.proofs.Common.{arith}
 use Rattle.std.specs.Prelude.{if◌then◌else◌}
 use mathlib.Core.Path.{fun_ext}
 use Rattle.ick_code.specs.meaning.State.{State}
-use Rattle.ick_code.specs.Compiled.{code_program}
 use Rattle.ick_memory.specs.Status.{flag_at}
 use Rattle.ick_memory.specs.View.{view_of, state_of}
 use Rattle.ick_memory.proofs.StatusLemmas.{flag-set, statuses_count}

@@ -1,4 +1,4 @@
-use Rattle.std.proofs.Common.{◌≡◌, ◌<◌, ◌≤◌, ◌+◌, ◌++◌, length, ap, ◌∙◌, arith, take, sym, subst, vec_len}
+use Rattle.std.proofs.Common.{◌<◌, ◌≤◌, ◌+◌, ◌++◌, length, ap, ◌∙◌, arith, take, sym, subst, vec_len}
 use Rattle.ick_code.specs.meaning.Tape.{tape_bytes, tape_after}
 use Rattle.ick_memory.proofs.ListLemmas.{take_all}
 use Rattle.ick_memory.proofs.TapeLemmas.{next_bytes, next_position}

@@ -1,6 +1,6 @@
-use Rattle.std.proofs.Common.{◌≡◌, ◌++◌, List, ℕ, length, take, refl, ap, ap₂, ◌∙◌, sym, get_or}
+use Rattle.std.proofs.Common.{◌≡◌, ◌++◌, List, ℕ, length, take, refl, ap, ap₂, ◌∙◌, sym}
 use Rattle.std.proofs.Math.Seq.{take-append_seam}
-use Rattle.ick_code.specs.meaning.State.{Array, no_array}
+use Rattle.ick_code.specs.meaning.State.{Array}
 use Rattle.ick_code.specs.meaning.Tape.{tape_bytes, tape_after}
 use Rattle.ick_memory.specs.declared.memory.Memory.{Memory}
 use Rattle.ick_memory.specs.View.{View, view_of}

@@ -1,7 +1,7 @@
 use Rattle.std.proofs.Common.{List, ap, sym, ◌∙◌, map}
 use Rattle.ick_code.specs.meaning.State.{Array as ArrayValue}
 use Rattle.ick_memory.specs.View.{View, view_of, lists_of, array_of, room_of}
-use Rattle.ick_memory.proofs.ListLemmas.{taken-map, at_least_same, all_same, saved-map, has_room-map}
+use Rattle.ick_memory.proofs.ListLemmas.{taken-map, all_same, saved-map, has_room-map}
 use Rattle.ick_memory.proofs.stash.drop_array.Goals as goal
 
 pub returns-in-Some-clause-follows : goal.returns-in-Some-clause-follows

@@ -4,7 +4,7 @@ use Rattle.std.proofs.lemmas.List.{length-map}
 use Rattle.ick_code.specs.meaning.State.{no_array, Array as ArrayValue}
 use Rattle.ick_memory.specs.View.{View, view_of, lists_of, array_of, room_of}
 use Rattle.ick_memory.specs.Undo.{saved}
-use Rattle.ick_memory.proofs.ListLemmas.{taken-map, at_least_same, all_same, saved-map, has_room-map, get_set}
+use Rattle.ick_memory.proofs.ListLemmas.{taken-map, all_same, saved-map, has_room-map, get_set}
 use Rattle.ick_memory.proofs.ListLemmas.{set_within, set_back, and_true}
 use Rattle.ick_memory.proofs.stash.restore_array.Goals as goal
 

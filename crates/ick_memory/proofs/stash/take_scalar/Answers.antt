@@ -1,6 +1,6 @@
 use Rattle.std.proofs.Common.{List, ℕ, ap}
 use Rattle.ick_memory.specs.View.{View, view_of}
-use Rattle.ick_memory.proofs.ListLemmas.{at_least_same, all_same}
+use Rattle.ick_memory.proofs.ListLemmas.{all_same}
 use Rattle.ick_memory.proofs.stash.take_scalar.Goals as goal
 
 pub returns-in-Some-clause-follows : goal.returns-in-Some-clause-follows
