@@ -8,3 +8,4 @@ pub mod ShapeLemmas
 pub mod HistoryLemmas
 pub mod MetLemmas
 pub mod TapeLemmas
+pub mod CancelLemmas

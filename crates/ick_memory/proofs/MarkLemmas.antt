@@ -59,11 +59,11 @@ from_good changes room v (mark ∷ marks) h =
     (and_true (all_above mark marks) (are_good changes room v marks) (from_above mark marks h.2)
     (from_good changes room v marks h.3))
 
-rewound-append : (a b : List Change) (v : View) → rewound (a ++ b) v ≡ rewound b (rewound a v)
+pub rewound-append : (a b : List Change) (v : View) → rewound (a ++ b) v ≡ rewound b (rewound a v)
 rewound-append [] b v = refl
 rewound-append (change ∷ a) b v = rewound-append a b (undone change v)
 
-can_rewind-append : (a b : List Change) (room : Room) (v : View) → can_rewind (a ++ b) room v ≡ true →
+pub can_rewind-append : (a b : List Change) (room : Room) (v : View) → can_rewind (a ++ b) room v ≡ true →
     can_rewind b room (rewound a v) ≡ true
 can_rewind-append [] b room v h = h
 can_rewind-append (change ∷ a) b room v h =
@@ -79,7 +79,7 @@ above_split changes j k le within =
     ∙ ap reverse (drop-append-le j (take k changes) (drop k changes) low)
     ∙ reverse-append (drop j (take k changes)) (drop k changes)
 
-abbrev AllBelow : List Mark → ℕ → Type 0
+abbrev pub AllBelow : List Mark → ℕ → Type 0
 AllBelow [] k = Unit {0}
 AllBelow (m ∷ marks) k = (m.changes ≤ k) × AllBelow marks k
 

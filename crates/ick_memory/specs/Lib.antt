@@ -6,3 +6,4 @@ pub mod Met
 pub mod History
 pub mod Marks
 pub mod Output
+pub mod Cancelled

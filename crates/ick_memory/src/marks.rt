@@ -28,6 +28,21 @@ pub fn settle(memory: &Memory, trail: &mut Trail, marks: &Vec<Mark>)
     }
 }
 
+/// The newest changes since the last mark are forgotten where they come to nothing: one or two
+/// returns that were pushed, and then popped again. Without a mark all stay. The marks stay.
+#[inline(always)]
+pub fn cancel_out(memory: &Memory, trail: &mut Trail, marks: &Vec<Mark>)
+    requires marks { are_marks trail.old memory.now marks.now ≡ true }
+    ensures same { marked_views trail.new memory.now marks.now ≡
+        marked_views trail.old memory.now marks.now }
+    ensures marks { are_marks trail.new memory.now marks.now ≡ true }
+{
+    let _ = memory;
+    if let Some(mark) = marks.last() {
+        trail.cancel_out(mark.changes);
+    }
+}
+
 /// The present state is marked. After `NoMemory` the marks are as before.
 pub fn add_mark(memory: &Memory, trail: &Trail, marks: &mut Vec<Mark>) -> Result<(), NoMemory>
     requires marks { are_marks trail.now memory.now marks.old ≡ true }

@@ -1,9 +1,10 @@
 //! A list of changes that can be undone.
 
-ghost use Rattle.std.specs.Prelude.{◌≡◌, ◌-◌, ◌++◌, [], ◌∷◌, length, vec_len};
+ghost use Rattle.std.specs.Prelude.{◌≡◌, ◌≤◌, ◌-◌, ◌++◌, [], ◌∷◌, length, vec_len};
 ghost use Rattle.std.specs.Prelude.{vec_capacity, IfSome, IfNone};
 ghost use Rattle.ick_memory.specs.View.{view_of, stash_room};
 ghost use Rattle.ick_memory.specs.Undo.{Rewinds};
+ghost use Rattle.ick_memory.specs.Cancelled.{IsCancelled};
 ghost use Rattle.ick_memory.specs.History.{history};
 ghost use Rattle.std.specs.Prelude.{List, reverse};
 ghost use Rattle.ick_memory.specs.declared.change.Entry.{Entry as Entered};
@@ -13,6 +14,7 @@ use crate::change::{ArrayChange, Change, Entry};
 use crate::copy::copy_bytes;
 use crate::memory::Array;
 use crate::notes::Notes;
+use crate::round::round_of;
 use ick_bits::NoMemory;
 use std::alloc::Global;
 
@@ -51,6 +53,17 @@ impl Trail {
         self.entries.clear();
         self.arrays.clear();
         self.statuses.clear();
+    }
+
+    /// Takes the newest changes off where they come to nothing, but none of the first `kept`.
+    #[inline(always)]
+    pub(crate) fn cancel_out(&mut self, kept: usize)
+        requires { kept ≤ length (history self.old) }
+        ensures { IsCancelled kept (history self.old) (history self.new) }
+    {
+        let round = round_of(&self.entries, kept);
+        let rest = self.entries.len() - round;
+        self.entries.truncate(rest);
     }
 
     /// Takes the newest entry off. What it moved stays.
