@@ -43,19 +43,6 @@ not_empty : (line rest : List ℕ) → line ++ 10 ∷ rest ≢ []
 not_empty [] rest e = cc
 not_empty (b ∷ line) rest e = cc
 
--- and so is a first line
-pub line_once : (text : List ℕ) → first_line (first_line text) ≡ first_line text
-line_once text =
-    let p : ℕ → Bool = λ b. b == 10 in
-    let size = position_or_len p text in
-    let long : length (take size text) ≡ size =
-    length-take-le size text (prefix_len-le-length (λ x. not (p x)) text) in
-    let whole : position_or_len p (take size text) ≡ size =
-    position_or_len_is p (take size text) size 0 (omega (arith, long))
-    (λ k lt. ap p (get_or-take size text k 0 lt) ∙ fails_before_first p text k 0 lt)
-    (λ lt. absurd (omega (arith, long, lt))) in
-    ap (λ n. take n (take size text)) (whole ∙ sym long) ∙ take-length (take size text)
-
 -- what comes of a line that was taken
 module _ (after : Input) (line : List ℕ) (from : ℕ)
     (word : (begin end : ℕ) → after.word begin end ≡ slice_range line begin end) (s : State)

@@ -70,8 +70,6 @@ mod step;
 mod store;
 mod sure;
 mod tape;
-#[cfg(test)]
-mod tests;
 mod text;
 mod trailed;
 mod values;

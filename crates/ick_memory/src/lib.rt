@@ -32,8 +32,6 @@ mod print;
 mod round;
 mod stash;
 mod status;
-#[cfg(test)]
-mod tests;
 mod trail;
 mod undo;
 

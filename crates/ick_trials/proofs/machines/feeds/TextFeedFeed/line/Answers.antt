@@ -1,8 +1,8 @@
 use Rattle.std.proofs.Common.{◌≡◌, subst, sym, arith}
 use Rattle.std.proofs.lemmas.Grind.{common_steps}
 use Rattle.ick_code.specs.meaning.InputOutput.{first_line}
-use Rattle.ick_machine.proofs.FeedLemmas.{line_once}
-use Rattle.ick_machine.proofs.tests.feeds.TextFeedFeed.line.Goals as goal
+use Rattle.ick_trials.proofs.LineLemmas.{line_once}
+use Rattle.ick_trials.proofs.machines.feeds.TextFeedFeed.line.Goals as goal
 
 pub returns-clause-one : goal.returns-clause-one
 returns-clause-one c = λ _.

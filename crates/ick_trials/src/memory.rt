@@ -1,22 +1,22 @@
 //! A program's memory: how it begins, changes and is copied.
 
-use crate::{
+use crate::programs::compiled;
+use ick_bits::NoMemory;
+use ick_code::Code;
+use ick_memory::{
     Nobody, Trail, abstain_kind, abstain_one, copy_memory, fresh_memory, odds, put_numeral,
     put_place, put_scalar, save_scalar, take_scalar,
 };
-use ick_bits::NoMemory;
-use ick_code::{Code, compile};
-use ick_source::{Gerund, read_source};
+use ick_source::Gerund;
 use std::alloc::Global;
 use std::test::Fail;
 
 /// Statements that are certain, abstained from and asked for, and one that gives up.
 fn code<'a>(alloc: Global) -> Result<Code<'a>, NoMemory> {
-    let source = b"DO .1 <- #1\nPLEASE NOT STASH .1\n(1) DO %50 READ OUT .1\nDO GIVE UP";
-    let Ok(program) = read_source(alloc, source) else {
-        return Err(NoMemory);
-    };
-    compile(alloc, &program)
+    compiled(
+        alloc,
+        b"DO .1 <- #1\nPLEASE NOT STASH .1\n(1) DO %50 READ OUT .1\nDO GIVE UP",
+    )
 }
 
 #[test]

@@ -4,10 +4,11 @@
 ghost use Rattle.std.specs.Prelude.{◌<◌};
 
 use super::feeds::TextFeed;
-use super::machines::{code_of, goes_on, is_same};
+use super::sides::{assert_alike, goes_on};
 use super::words::Words;
-use crate::{Asks, Copied, Feed, Live, LiveAsk, Trailed};
+use crate::programs::code_of;
 use ick_bits::append_decimal;
+use ick_machine::{Asks, Copied, Feed, Live, LiveAsk, Trailed};
 use std::alloc::Global;
 use std::process::Abort;
 
@@ -91,14 +92,6 @@ fn source_of(rt: &impl Abort, alloc: Global, words: &mut Words) -> Vec<u8> {
         source.push(b'\n').expect(rt, "memory");
     }
     source
-}
-
-/// Two machines ask the same, wrote the same, and have as many steps and marks.
-fn assert_alike<'c, A: Asks<'c>, B: Asks<'c>>(rt: &impl Abort, one: &A, other: &B) {
-    assert!(rt; is_same(one.asks(), other.asks()));
-    assert!(rt; one.output() == other.output());
-    assert!(rt; one.work() == other.work());
-    assert!(rt; one.marks() == other.marks());
 }
 
 /// Two machines do one thing alike: most often a step, else a mark is set, gone back to or dropped.

@@ -1,21 +1,12 @@
 //! Machines of tests, and what they ask.
 
-use crate::{Ask, Asks, End};
-use ick_code::{Code, compile};
-use ick_source::read_source;
-use std::alloc::Global;
+use ick_machine::{Ask, Asks, End};
 use std::process::Abort;
 
 /// How a run is to end: a fault has its number, its statement and its subject.
 pub enum Wanted<'r> {
     GivesUp,
     Faults(u16, u32, &'r [u8]),
-}
-
-/// The code of a source that is not refused.
-pub fn code_of<'a>(rt: &impl Abort, alloc: Global, source: &'a [u8]) -> Code<'a> {
-    let program = read_source(alloc, source).expect(rt, "a program");
-    compile(alloc, &program).expect(rt, "memory")
 }
 
 /// Makes a step, unless the run has ended. Whether it made one.
@@ -70,4 +61,12 @@ pub fn is_same(one: Ask<'_>, other: Ask<'_>) -> bool {
         }
         _ => false,
     }
+}
+
+/// Two machines ask the same, wrote the same, and have as many steps and marks.
+pub fn assert_alike<'c, A: Asks<'c>, B: Asks<'c>>(rt: &impl Abort, one: &A, other: &B) {
+    assert!(rt; is_same(one.asks(), other.asks()));
+    assert!(rt; one.output() == other.output());
+    assert!(rt; one.work() == other.work());
+    assert!(rt; one.marks() == other.marks());
 }

@@ -1,12 +1,11 @@
 //! Steps and marks after want of memory: all is as before, and the same call then succeeds. Memory
 //! is wanting where the tests are run with an allocation that fails.
 
-use super::machines::Wanted::{Faults, GivesUp};
-use super::machines::{Wanted, go_back, has_ended, is_same};
-use crate::{Ask, Asks, Copied, Trailed};
+use super::sides::Wanted::{Faults, GivesUp};
+use super::sides::{Wanted, go_back, has_ended, is_same};
+use crate::programs::compiled;
 use ick_bits::NoMemory;
-use ick_code::{Code, compile};
-use ick_source::read_source;
+use ick_machine::{Ask, Asks, Copied, Trailed};
 use std::alloc::Global;
 use std::process::Abort;
 
@@ -60,14 +59,6 @@ DO RETRIEVE ,1 DO RESUME #1",
         b"\xFD}",
     ),
 ];
-
-/// The code of a source that is not refused, if there is memory for it.
-fn code_of<'a>(alloc: Global, source: &'a [u8]) -> Result<Code<'a>, NoMemory> {
-    let Ok(program) = read_source(alloc, source) else {
-        return Err(NoMemory);
-    };
-    compile(alloc, &program)
-}
 
 /// Marks a state, at the second time where memory was wanting at the first.
 fn mark<'c, M: Asks<'c>>(rt: &impl Abort, machine: &mut M) {
@@ -125,7 +116,7 @@ fn assert_ends<'c, M: Asks<'c>>(rt: &impl Abort, machine: &mut M, row: &Row<'_>)
 /// Rows over both machines, as far as there is memory to make them.
 fn assert_rows(rt: &impl Abort, alloc: Global) -> Result<(), NoMemory> {
     for row in &ROWS {
-        let code = code_of(alloc, row.0)?;
+        let code = compiled(alloc, row.0)?;
         let mut copied = Copied::new(alloc, &code, row.1, 0)?;
         assert_ends(rt, &mut copied, row);
         let mut trailed = Trailed::new(alloc, &code, row.1, 0)?;

@@ -1,8 +1,9 @@
 //! Worked rows: programs without choices, over both machines.
 
-use super::machines::Wanted::{Faults, GivesUp};
-use super::machines::{Wanted, code_of, go_back, goes_on, has_ended, run_out};
-use crate::{Asks, Copied, Trailed};
+use super::sides::Wanted::{Faults, GivesUp};
+use super::sides::{Wanted, go_back, goes_on, has_ended, run_out};
+use crate::programs::code_of;
+use ick_machine::{Asks, Copied, Trailed};
 use std::alloc::Global;
 use std::process::Abort;
 

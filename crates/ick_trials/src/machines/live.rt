@@ -1,19 +1,10 @@
 //! Machines that take their input from a feed.
 
 use super::feeds::TextFeed;
-use crate::{EndKind, Feed, FeedFault, Live, LiveAsk};
-use ick_bits::{FaultKind, NoMemory};
-use ick_code::{Code, compile};
-use ick_source::read_source;
-use std::alloc::Global;
+use crate::programs::compiled;
+use ick_bits::FaultKind;
+use ick_machine::{EndKind, Feed, FeedFault, Live, LiveAsk};
 use std::test::Fail;
-
-fn code<'a>(alloc: Global, source: &'a [u8]) -> Result<Code<'a>, NoMemory> {
-    let Ok(program) = read_source(alloc, source) else {
-        return Err(NoMemory);
-    };
-    compile(alloc, &program)
-}
 
 /// Runs a machine to its end. Each statement is done that a choice is asked at.
 fn run(live: &mut Live<'_, '_>, feed: &mut TextFeed<'_>) -> Result<LiveAsk, FeedFault> {
@@ -88,7 +79,7 @@ static ROWS: [Row; 6] = [
 fn runs(rt: HostRuntime) -> Result<(), Fail> {
     let alloc = rt.alloc();
     for row in &ROWS {
-        let code = code(alloc, row.source)?;
+        let code = compiled(alloc, row.source)?;
         let mut live = Live::new(alloc, &code)?;
         let mut feed = TextFeed::new(row.input);
         assert_eq!(rt; run(&mut live, &mut feed), Ok(LiveAsk::Ended(row.end)));
@@ -101,7 +92,7 @@ fn runs(rt: HostRuntime) -> Result<(), Fail> {
 #[test]
 fn tells_its_fault(rt: HostRuntime) -> Result<(), Fail> {
     let alloc = rt.alloc();
-    let code = code(alloc, b"DO WRITE IN .1\nPLEASE GIVE UP")?;
+    let code = compiled(alloc, b"DO WRITE IN .1\nPLEASE GIVE UP")?;
     let mut live = Live::new(alloc, &code)?;
     let mut message = Vec::new(alloc);
     live.append_fault(&mut message)?;
@@ -124,7 +115,7 @@ fn tells_its_fault(rt: HostRuntime) -> Result<(), Fail> {
 #[test]
 fn fails_where_a_read_fails(rt: HostRuntime) -> Result<(), Fail> {
     let alloc = rt.alloc();
-    let code = code(alloc, b"DO READ OUT #1\nDO WRITE IN .1\nPLEASE GIVE UP")?;
+    let code = compiled(alloc, b"DO READ OUT #1\nDO WRITE IN .1\nPLEASE GIVE UP")?;
     let mut live = Live::new(alloc, &code)?;
     let mut feed = TextFeed {
         text: b"TWO\n",

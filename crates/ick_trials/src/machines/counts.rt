@@ -1,7 +1,8 @@
 //! The count of work, over all runs of a program that asks often.
 
-use super::machines::{code_of, goes_on};
-use crate::{Ask, Asks, Copied, Trailed};
+use super::sides::goes_on;
+use crate::programs::code_of;
+use ick_machine::{Ask, Asks, Copied, Trailed};
 use std::alloc::Global;
 use std::process::Abort;
 

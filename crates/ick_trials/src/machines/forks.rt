@@ -1,8 +1,9 @@
 //! Programs that ask once: what was passed over is gone back to and done.
 
-use super::machines::Wanted::{Faults, GivesUp};
-use super::machines::{Wanted, code_of, go_back, goes_on, has_ended};
-use crate::{Ask, Asks, Copied, Trailed};
+use super::sides::Wanted::{Faults, GivesUp};
+use super::sides::{Wanted, go_back, goes_on, has_ended};
+use crate::programs::code_of;
+use ick_machine::{Ask, Asks, Copied, Trailed};
 use std::alloc::Global;
 use std::process::Abort;
 

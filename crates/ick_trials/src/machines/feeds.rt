@@ -1,9 +1,9 @@
 //! Feeds over memory.
 
-ghost use Rattle.std.specs.Prelude.{true};
+ghost use Rattle.std.specs.Prelude.{◌≡◌, ◌==◌, ◌≤◌, length, true};
+ghost use Rattle.std.specs.List.{position_or_len};
 
-use crate::text::line_length;
-use crate::{Feed, FeedFault};
+use ick_machine::{Feed, FeedFault};
 
 /// The input is a text, of which so many bytes can't be read.
 #[derive(Drop)]
@@ -64,4 +64,17 @@ impl Feed for TextFeed<'_> {
         self.text = rest;
         Ok(Some(*byte))
     }
+}
+
+/// How many bytes stand before the end of the line.
+fn line_length(text: &[u8]) -> usize
+    ensures place { result ≡ position_or_len (λ b. b == 10) text.now }
+    ensures within { result ≤ length text.now }
+{
+    for (index, byte) in text.iter().enumerate() {
+        if *byte == b'\n' {
+            return index;
+        }
+    }
+    text.len()
 }
