@@ -388,7 +388,7 @@ fn plans_do_what_operations_do(rt: HostRuntime) {
         done > 200_000,
         "{done} {ended} {planned} {listed} {elements}"
     );
-    assert!(rt; planned > 40_000, "{planned}");
-    assert!(rt; listed > 20_000, "{listed}");
-    assert!(rt; elements > 2_000, "{elements}");
+    assert!(rt; planned > 45_000, "{planned}");
+    assert!(rt; listed > 25_000, "{listed}");
+    assert!(rt; elements > 20_000, "{elements}");
 }
