@@ -203,10 +203,13 @@ good_cancelled k changes rest room v (mark ∷ marks) cancelled below good =
       (low, can, good.2, further.1),
     )
 
-pub marks_cancelled : (k : ℕ) (changes rest : List Change) (room : Room) (v : View) (marks : List Mark) →
-    IsCancelled k changes rest → AllBelow marks k → are_good changes room v marks ≡ true →
+-- what was taken off above the last mark leaves all marks as they were
+pub marks_cancelled : (changes rest : List Change) (room : Room) (v : View) (marks seen : List Mark) (last : Mark) →
+    seen ≡ marks → Some last ≡ slice_get seen (length seen - 1) → IsCancelled last.changes changes rest →
+    are_good changes room v marks ≡ true →
     (marked rest v marks ≡ marked changes v marks) × (are_good rest room v marks ≡ true)
-marks_cancelled k changes rest room v marks cancelled below good =
+marks_cancelled changes rest room v marks seen last same found cancelled good =
+    let below = (below_newest changes room v marks seen last same found good).0 in
     let kept =
-    good_cancelled k changes rest room v marks cancelled below (to_good changes room v marks good) in
+    good_cancelled last.changes changes rest room v marks cancelled below (to_good changes room v marks good) in
     (kept.0, from_good rest room v marks kept.1)

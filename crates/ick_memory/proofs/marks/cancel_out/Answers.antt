@@ -12,17 +12,13 @@ cancel_out-requires c =
 pub returns-in-Some-clause-same : goal.returns-in-Some-clause-same
 returns-in-Some-clause-same c =
     let m = c.args.memory.now in
-    let below =
-    below_newest (history c.args.trail.now) (stash_room m) (view_of m) c.args.marks.now.items c.deref.result.now
-    c.in-Some.mark.now c.deref.ensures.value c.in-Some.ensures.value c.requires.marks in
-    (marks_cancelled c.in-Some.mark.now.changes (history c.args.trail.now) (history c.cancel_out.new.self)
-    (stash_room m) (view_of m) c.args.marks.now.items c.cancel_out.ensures below.0 c.requires.marks).0
+    (marks_cancelled (history c.args.trail.now) (history c.cancel_out.new.self) (stash_room m) (view_of m)
+    c.args.marks.now.items c.deref.result.now c.in-Some.mark.now c.deref.ensures.value c.in-Some.ensures.value
+    c.cancel_out.ensures c.requires.marks).0
 
 pub returns-in-Some-clause-marks : goal.returns-in-Some-clause-marks
 returns-in-Some-clause-marks c =
     let m = c.args.memory.now in
-    let below =
-    below_newest (history c.args.trail.now) (stash_room m) (view_of m) c.args.marks.now.items c.deref.result.now
-    c.in-Some.mark.now c.deref.ensures.value c.in-Some.ensures.value c.requires.marks in
-    (marks_cancelled c.in-Some.mark.now.changes (history c.args.trail.now) (history c.cancel_out.new.self)
-    (stash_room m) (view_of m) c.args.marks.now.items c.cancel_out.ensures below.0 c.requires.marks).1
+    (marks_cancelled (history c.args.trail.now) (history c.cancel_out.new.self) (stash_room m) (view_of m)
+    c.args.marks.now.items c.deref.result.now c.in-Some.mark.now c.deref.ensures.value c.in-Some.ensures.value
+    c.cancel_out.ensures c.requires.marks).1
