@@ -19,6 +19,7 @@ pub fn call<N: Notes>(memory: &mut Memory, notes: &mut N, to: u32) -> Result<(),
     ensures follows { Follows N.Undoes notes.old memory.old notes.new memory.new }
     ensures shape { shape_of (view_of memory.new) ≡ shape_of (view_of memory.old) }
     ensures end { memory.new.end ≡ memory.old.end }
+    ensures output { (view_of memory.new).output ≡ (view_of memory.old).output }
 {
     if memory.returns.is_full() {
         return Err(Halt::Fault(FaultKind::NextDepth));
@@ -39,6 +40,7 @@ fn drop_returns<N: Notes>(memory: &mut Memory, notes: &mut N, count: usize) -> R
     ensures follows { Follows N.Undoes notes.old memory.old notes.new memory.new }
     ensures shape { shape_of (view_of memory.new) ≡ shape_of (view_of memory.old) }
     ensures end { memory.new.end ≡ memory.old.end }
+    ensures output { (view_of memory.new).output ≡ (view_of memory.old).output }
 {
     for _ in 0..count {
         pop_return(memory, notes)?;
@@ -54,6 +56,7 @@ pub fn forget<N: Notes>(memory: &mut Memory, notes: &mut N, number: u32) -> Resu
     ensures follows { Follows N.Undoes notes.old memory.old notes.new memory.new }
     ensures shape { shape_of (view_of memory.new) ≡ shape_of (view_of memory.old) }
     ensures end { memory.new.end ≡ memory.old.end }
+    ensures output { (view_of memory.new).output ≡ (view_of memory.old).output }
 {
     let count = number as usize;
     let all = memory.returns.len();
@@ -71,6 +74,7 @@ pub fn resume<N: Notes>(memory: &mut Memory, notes: &mut N, number: u32) -> Resu
     ensures follows { Follows N.Undoes notes.old memory.old notes.new memory.new }
     ensures shape { shape_of (view_of memory.new) ≡ shape_of (view_of memory.old) }
     ensures end { memory.new.end ≡ memory.old.end }
+    ensures output { (view_of memory.new).output ≡ (view_of memory.old).output }
 {
     if number == 0 {
         return Err(Halt::Fault(FaultKind::ResumeZero));

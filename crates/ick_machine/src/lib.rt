@@ -26,6 +26,7 @@
 //! | `planned` | statements that are done by their plans |
 //! | `met` | the statement that is met next |
 //! | `step` | one step of a run |
+//! | `short` | statements that are sure to be done, by plans that are said in short |
 //! | `sure` | steps of statements that are sure to be done, by their plans or by lists |
 //! | `answer` | what a machine asks, by what it remembers |
 //! | `whole` | a step that is made whole or not at all |
@@ -65,6 +66,7 @@ mod operation;
 mod place;
 mod planned;
 mod reader;
+mod short;
 mod size;
 mod step;
 mod store;
