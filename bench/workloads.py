@@ -56,6 +56,11 @@ WORKLOADS = {
         [".2 <- #1972", ".3 <- #40961", ".4 <- #65244", ".5 <- #32767", ":2 <- #51966"],
         # small numbers alone, whose numerals have the same letters everywhere
         [".1 <- .1~#2047", ".2 <- :1~#2047", "READ OUT .1+.2"]),
+    "logic": program(5, [
+        """.1 <- '"?.2$.3"~"#0$#65535"'~'"&.4$.5"~"#0$#65535"'""",
+        """:1 <- '"V.1$#3"~"#0$#65535"'$'"?.3$.2"~"#0$#65535"'"""],
+        [".2 <- #1972", ".3 <- #40961", ".4 <- #65244", ".5 <- #32767"],
+        [".1 <- .1~#2047", ".2 <- :1~#2047", "READ OUT .1+.2"]),
     "arrays": program(5, [
         ",1SUB.1 <- ,1SUB#2", ";1SUB#3.1 <- ;1SUB.1#4", ".2 <- ,1SUB.1"],
         [",1 <- #8", ";1 <- #8 BY #8", ".1 <- #5", ",1SUB#2 <- #77", ";1SUB#5#4 <- #1066"],
@@ -63,7 +68,7 @@ WORKLOADS = {
     "stashes": program(5, [
         "STASH .1+.2+:1", ".1 <- .3", "RETRIEVE .1+.2+:1", "STASH ,1", "RETRIEVE ,1"],
         [",1 <- #16", ".1 <- #3", ".3 <- #7"], ["READ OUT .1"]),
-    "gerunds": program(2, [
+    "gerunds": program(3, [
         "ABSTAIN FROM CALCULATING", "REINSTATE CALCULATING"],
         [f".{k % 7 + 1} <- #{k % 100}" for k in range(4000)]),
     "numerals": program(4, ["READ OUT .1"], [".1 <- #1972"]),
