@@ -70,6 +70,18 @@ RUN = [
     ran('DO :1 <- "#65535$#1"$#1 / PLEASE GIVE UP', faults(533, 2)),
     ran("DO :1 <- 'V#1~#1' / DO :2 <- 'V#1~\"#65535$#65535\"' / PLEASE READ OUT :1+:2 / DO GIVE UP",
         prints(b"___\nXXXMMDCCLXIX\n      ________\nmmcxlvMMCDLXXXMMMDCXLIX\n")),
+    # and, or and exclusive or of two numbers, as programs say them: all even bits of the operator on their mingle
+    ran("DO .1 <- #12 / DO .2 <- #10 / DO .3 <- \"&.1$.2\"~\"#0$#65535\" / PLEASE READ OUT .3 / "
+        "DO .3 <- \"V.1$.2\"~\"#0$#65535\" / DO .4 <- \"?.1$.2\"~\"#0$#65535\" / PLEASE READ OUT .3+.4 / DO GIVE UP",
+        prints(b"\nVIII\n\nXIV\n\nVI\n")),
+    # all odd bits have the right number shifted by one; a mask and a select go on from there
+    ran("DO .1 <- #12 / DO .2 <- #10 / DO .3 <- \"V.1$.2\"~\"#65535$#0\" / PLEASE READ OUT .3 / "
+        "DO .3 <- '\"V.1$.2\"~\"#0$#65535\"'~#6 / DO .4 <- '\"V.1$.2\"~\"#0$#65535\"'~'\"?.1$.2\"~\"#0$#65535\"' / "
+        "PLEASE READ OUT .3+.4 / DO GIVE UP",
+        prints(b"\nXIII\n\nIII\n\nIII\n")),
+    ran("DO :1 <- #65535$#65535 / DO .3 <- \"?:1$#1\"~\"#0$#65535\" / PLEASE READ OUT #1 / DO GIVE UP", faults(533, 3)),
+    ran("DO :1 <- #0$#255 / DO .3 <- \"?:1$#1\"~\"#0$#65535\" / PLEASE READ OUT .3 / DO GIVE UP",
+        prints(b"__\nXXMDCCCXLIV\n")),
     # arrays
     ran("DO ,1 <- #2 BY #3 / DO ,1SUB'#2''#3' <- #7 / PLEASE READ OUT ,1SUB#2#3+,1SUB'#1$#0'#1 / DO GIVE UP",
         prints(b"\nVII\n_\n\n")),
