@@ -4,6 +4,7 @@ pub mod Steps
 pub mod Reads
 pub mod Planned
 pub mod Run
+pub mod Onward
 pub mod Listed
 pub mod Walk
 pub mod Step

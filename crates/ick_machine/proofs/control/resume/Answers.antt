@@ -1,28 +1,24 @@
-use Rattle.std.proofs.Common.{◌≡◌, ℕ, List, get_or, ◌-◌, ◌<◌, ◌≤◌, length, ap, ◌∙◌, sym}
-use Rattle.std.proofs.Common.{subst, arith}
-use Rattle.ick_code.specs.meaning.State.{State}
+use Rattle.std.proofs.Common.{◌≡◌, ap, sym, ◌∙◌, subst, rules}
+use Rattle.std.specs.Prelude.{Err}
+use Rattle.ick_code.specs.meaning.Control.{resume}
 use Rattle.ick_code.specs.meaning.Outcome.{done}
-use Rattle.ick_memory.specs.View.{View, view_of, state_of}
-use Rattle.ick_memory.proofs.ListLemmas.{read_any}
-use Rattle.ick_machine.proofs.ReturnLemmas.{drop_reverse, newest_taken, resume_done}
+use Rattle.ick_memory.specs.View.{view_of, state_of}
+use Rattle.ick_memory.specs.With.{with_place}
+use Rattle.ick_machine.specs.Run.{Does}
 use Rattle.ick_machine.proofs.control.resume.Goals as goal
+
+pub returns-in_err-place-clause-does : goal.returns-in_err-place-clause-does
+returns-in_err-place-clause-does g c = λ code input.
+    let before = view_of c.args.memory.now in
+    let after = view_of c.resume_from.new.memory in
+    let outcome = resume c.args.number (state_of code input before) in
+    let halt = c.in_err-place.field-0.0 in
+    let stopped : c.from_residual.result ≡ Err halt = search rules in
+    subst (λ r. Does r code input after outcome) (sym stopped)
+    (subst (λ p. Does (Err halt) code input (with_place p after) outcome) (sym c.in_err-place.ensures.place)
+    (c.in_err-place.ensures.does code input before.place))
 
 pub returns-clause-does : goal.returns-clause-does
 returns-clause-does g c = λ code input.
-    let v = view_of c.args.memory.now in
-    let s = state_of code input v in
-    let e = v.returns in
-    let n = c.args.number in
-    let first : 0 < n = omega (arith, c.if-number-eq0.false) in
-    let last : n ≤ length e =
-    subst (λ l. n ≤ length l) c.as_slice-returns.ensures.value c.if-count-returns.false in
-    let r = c.as_slice-returns.result.now in
-    let to = get_or r (length r - n) 0 in
-    let went : View → View = λ x. record x { place = to } in
-    let put : List ℕ → State = λ l. record s { place = to; returns = l } in
-    let same : to ≡ get_or e (length e - n) 0 =
-    ap (λ l. get_or l (length l - n) 0) c.as_slice-returns.ensures.value in
-    ap (λ x. done (state_of code input x)) (c.put_place.ensures.view ∙ ap went c.in_ok-drop_returns.ensures.view)
-    ∙ ap (λ l. done (put l)) (drop_reverse e n last)
-    ∙ sym (resume_done n to s first
-    (newest_taken e n to first last (same ∙ read_any e (length e - n) 0 to (omega (arith, first, last)))))
+    ap (λ w. done (state_of code input w)) c.put_place.ensures.view
+    ∙ c.in_ok-place.ensures.does code input c.args.memory.now.place
