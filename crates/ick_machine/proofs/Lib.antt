@@ -21,3 +21,4 @@ mod LiveLemmas
 mod PlanLemmas
 mod BriefLemmas
 mod SureLemmas
+mod TogetherLemmas

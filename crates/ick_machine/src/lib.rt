@@ -28,6 +28,7 @@
 //! | `step` | one step of a run |
 //! | `short` | statements that are sure to be done, by plans that are said in short |
 //! | `sure` | steps of statements that are sure to be done, by their plans or by lists |
+//! | `together` | such statements that are done together, where they choose where the run goes on |
 //! | `answer` | what a machine asks, by what it remembers |
 //! | `whole` | a step that is made whole or not at all |
 //! | `trailed` | a machine with marks that notes each change |
@@ -73,6 +74,7 @@ mod store;
 mod sure;
 mod tape;
 mod text;
+mod together;
 mod trailed;
 mod values;
 mod whole;
