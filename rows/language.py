@@ -74,11 +74,20 @@ RUN = [
     ran("DO .1 <- #12 / DO .2 <- #10 / DO .3 <- \"&.1$.2\"~\"#0$#65535\" / PLEASE READ OUT .3 / "
         "DO .3 <- \"V.1$.2\"~\"#0$#65535\" / DO .4 <- \"?.1$.2\"~\"#0$#65535\" / PLEASE READ OUT .3+.4 / DO GIVE UP",
         prints(b"\nVIII\n\nXIV\n\nVI\n")),
-    # all odd bits have the right number shifted by one; a mask and a select go on from there
+    # all odd bits have the right number rotated by one; a mask and a select go on from there
     ran("DO .1 <- #12 / DO .2 <- #10 / DO .3 <- \"V.1$.2\"~\"#65535$#0\" / PLEASE READ OUT .3 / "
         "DO .3 <- '\"V.1$.2\"~\"#0$#65535\"'~#6 / DO .4 <- '\"V.1$.2\"~\"#0$#65535\"'~'\"?.1$.2\"~\"#0$#65535\"' / "
         "PLEASE READ OUT .3+.4 / DO GIVE UP",
         prints(b"\nXIII\n\nIII\n\nIII\n")),
+    # its lowest bit comes to the highest place, and its highest one moves on; so it is with one of a wide number
+    ran("DO .1 <- #32777 / DO .2 <- #11 / DO .3 <- \"&.1$.2\"~\"#65535$#0\" / PLEASE READ OUT .3 / "
+        "DO .3 <- \"V.1$.2\"~\"#65535$#0\" / DO .4 <- \"?.1$.2\"~\"#65535$#0\" / PLEASE READ OUT .3+.4 / DO GIVE UP",
+        prints(b"___\nXXXMMDCCLXIX\n___\nXXXMMDCCLXXXI\n\nXII\n")),
+    ran("DO .1 <- #16386 / DO .2 <- #32770 / DO .3 <- \"?.1$.2\"~\"#65535$#0\" / DO .1 <- #3 / DO :1 <- #0$#255 / "
+        "DO .4 <- \"&.1$:1\"~\"#65535$#0\" / PLEASE READ OUT .3+.4 / DO GIVE UP",
+        prints(b"\nIII\n\nII\n")),
+    ran("DO :1 <- #65535$#65535 / DO .1 <- #1 / DO .3 <- \"?.1$:1\"~\"#65535$#0\" / PLEASE READ OUT #1 / DO GIVE UP",
+        faults(533, 4)),
     ran("DO :1 <- #65535$#65535 / DO .3 <- \"?:1$#1\"~\"#0$#65535\" / PLEASE READ OUT #1 / DO GIVE UP", faults(533, 3)),
     ran("DO :1 <- #0$#255 / DO .3 <- \"?:1$#1\"~\"#0$#65535\" / PLEASE READ OUT .3 / DO GIVE UP",
         prints(b"__\nXXMDCCCXLIV\n")),
