@@ -22,6 +22,7 @@ use crate::status::flagged;
 use ick_bits::{NoMemory, append_numeral};
 
 /// The scalar of a slot gets a number (Revised Manual, 4.4.1).
+#[inline(always)]
 pub fn put_scalar<N: Notes>(
     memory: &mut Memory,
     notes: &mut N,
@@ -69,6 +70,7 @@ pub fn put_end<N: Notes>(memory: &mut Memory, notes: &mut N, end: Ended) -> Resu
 }
 
 /// A return is pushed on the NEXT stack, which holds fewer than 79 (Revised Manual, 4.4.2).
+#[inline(always)]
 pub fn push_return<N: Notes>(memory: &mut Memory, notes: &mut N, place: u32) -> Result<(), NoMemory>
     requires fits { length memory.old.returns.items < 79 }
     ensures view { OnOk result (view_of memory.new ≡ with_returns (memory.old.returns.items ++
@@ -85,6 +87,7 @@ pub fn push_return<N: Notes>(memory: &mut Memory, notes: &mut N, place: u32) -> 
 }
 
 /// The newest return is popped. Nothing changes where there is none (Revised Manual, 4.4.3, 4.4.4).
+#[inline(always)]
 pub fn pop_return<N: Notes>(memory: &mut Memory, notes: &mut N) -> Result<(), NoMemory>
     ensures view { OnOk result (view_of memory.new ≡ with_returns (all_but_last
         memory.old.returns.items) (view_of memory.old)) }
