@@ -1,8 +1,8 @@
 -- A line one place further, and its answer.
 use Rattle.std.proofs.Common.{◌≡◌, ℕ, zero, suc, ◌+◌, ◌-◌, ◌*◌, ◌<◌, ◌≤◌, List, []}
 use Rattle.std.proofs.Common.{◌∷◌, ◌++◌, length, map, refl, ap, arith, ◌∙◌, Bool, true, false, min}
-use Rattle.std.proofs.Common.{Option, None, Some, Ok, Err, drop, ◌⊎◌, inl, inr, length-take, length-drop}
-use Rattle.std.proofs.Common.{append-nil, cond, get_or, Bor, ◌&&◌, drop-cons}
+use Rattle.std.proofs.Common.{Option, None, Some, Ok, Err, drop, inl, inr, length-take, length-drop}
+use Rattle.std.proofs.Common.{append-nil, cond, get_or, Bor, drop-cons}
 use Rattle.std.specs.Prelude.{is_none, unwrap_or, nat_lt, not, slice_range}
 use Rattle.std.specs.List.{filter, find, range_with_len, position_or_len}
 use Rattle.std.specs.Int.Digits.{number_from_digits}

@@ -5,6 +5,7 @@ pub mod NumeralSteps
 pub mod OperatorLemmas
 pub mod OperatorSteps
 pub mod PrintingLemmas
+pub mod RowLemmas
 pub mod TableLemmas
 pub mod TapeLemmas
 pub mod ValueLemmas

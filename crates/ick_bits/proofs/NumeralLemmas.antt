@@ -1,7 +1,7 @@
 -- What a numeral is worth, and how long it is.
 use Rattle.std.proofs.Common.{◌≡◌, ℕ, zero, suc, ◌+◌, ◌*◌, ◌^◌, ◌<◌, ◌≤◌, List, []}
 use Rattle.std.proofs.Common.{◌∷◌, ◌++◌, length, refl, ap, arith, true, false, length-append, ◌∙◌}
-use Rattle.std.proofs.Common.{◌⊎◌, inl, inr}
+use Rattle.std.proofs.Common.{inl, inr}
 use Rattle.std.specs.Prelude.{pos, neg_ℤ, ◌+ℤ◌, nat_lt}
 use Rattle.std.proofs.lemmas.Int.{ints}
 use Rattle.std.proofs.lemmas.Bool.{cases_lt}
@@ -256,3 +256,12 @@ pub length-numeral : (v : ℕ) → v < 2 ^ 32 → length (numeral_of v) ≤ 39
 unfolding numeral_of
 length-numeral v h =
     length-symbols-le (decimal_digits v) (length-decimal_digits v h) (omega (arith, value-decimal v (omega arith)))
+
+-- a number above zero has a symbol
+some-worth : (v : ℕ) (ss : List Symbol) → worth ss ≡ pos v → 0 < v → 0 < length ss
+unfolding worth
+some-worth v [] h some = absurd (omega (arith, ints, h, some))
+some-worth v (s ∷ ss) h some = omega arith
+
+pub some-numeral : (v : ℕ) → v < 2 ^ 32 → 0 < v → 0 < length (numeral_of v)
+some-numeral v h some = some-worth v (numeral_of v) (worth-numeral v h) some

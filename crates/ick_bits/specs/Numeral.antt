@@ -57,10 +57,14 @@ patterns p =
 unfoldable pub digit_symbols : Letters → ℕ → List Symbol
 digit_symbols p d = slice_index_or (patterns p) d []
 
+-- the symbols of a digit at the place that has k digits to its right
+abbrev pub place_symbols : ℕ → ℕ → List Symbol
+place_symbols k d = digit_symbols (letters_of k) d
+
 -- each digit at its place, from the left
 unfoldable pub symbols_of : List ℕ → List Symbol
 symbols_of [] = []
-symbols_of (d ∷ ds) = digit_symbols (letters_of (length ds)) d ++ symbols_of ds
+symbols_of (d ∷ ds) = place_symbols (length ds) d ++ symbols_of ds
 
 -- the decimal digits of a number, from the left
 abbrev pub decimal_digits : ℕ → List ℕ
@@ -94,6 +98,10 @@ worth (s ∷ ss) =
     (if nat_lt (symbol_value s) (first_value ss) then neg_ℤ (pos (symbol_value s)) else pos (symbol_value s))
     +ℤ worth ss
 
+-- the byte of a letter
+abbrev pub letter_byte : Symbol → ℕ
+letter_byte s = s.letter
+
 -- a `_` (95) over a barred letter and a space (32) over another
 abbrev pub bar_byte : Symbol → ℕ
 bar_byte s = if s.barred then 95 else 32
@@ -107,4 +115,4 @@ bar_line (s ∷ ss) = if list_any (λ t. t.barred) (s ∷ ss) then bar_byte s �
 unfoldable pub printed : List Symbol → List ℕ
 printed ss =
     if length ss == 0 then codes "_\n\n"
-    else bar_line ss ++ codes "\n" ++ map (λ t. t.letter) ss ++ codes "\n"
+    else bar_line ss ++ codes "\n" ++ map letter_byte ss ++ codes "\n"

@@ -10,6 +10,7 @@
 //! | `tables` | the same for a few bits at a time, which makes `operators` fast |
 //! | `numerals` | the letters of a number, with their bars |
 //! | `printing` | the two printed lines of a numeral |
+//! | `rows` | what each digit writes in these lines, which makes `printing` fast |
 //! | `digits` | lines of digit names |
 //! | `faults` | the kinds of faults and their messages |
 //! | `quoted` | texts in double quotes |
@@ -27,6 +28,7 @@ mod numerals;
 mod operators;
 mod printing;
 mod quoted;
+mod rows;
 mod tables;
 mod tape;
 mod values;

@@ -1,12 +1,18 @@
 //! The printed form of a numeral: a line of bars and a line of letters.
 
-ghost use Rattle.std.specs.Prelude.{◌≡◌, ◌≤◌, ◌<◌, ◌++◌, ◌+◌, length, map};
-ghost use Rattle.std.specs.Prelude.{take, OnOk, OnErr, vec_len, vec_capacity};
-ghost use Rattle.ick_bits.specs.Numeral.{numeral_of, printed, bar_line, bar_byte};
+ghost use Rattle.std.specs.Prelude.{◌≡◌, ◌≤◌, ◌<◌, ◌++◌, ◌+◌, length, map, take};
+ghost use Rattle.std.specs.Prelude.{OnOk, OnErr, vec_len, vec_capacity};
+ghost use Rattle.std.specs.Char.{digit_value};
+ghost use Rattle.std.specs.Str.Parse.{AllDigits};
+ghost use Rattle.ick_bits.specs.Numeral.{numeral_of, symbols_of, printed, bar_line, letter_byte};
 
 use crate::memory::NoMemory;
-use crate::numerals::{Symbol, numeral};
-use arrayvec::ArrayVec;
+use crate::rows::{inked_count, letter_count, row_of_bars, row_of_letters};
+use itoa::Buffer;
+
+/// How many bytes both lines of a numeral take at most, written four at a time: a number has ten
+/// digits at most.
+const MOST: usize = 82;
 
 /// Appends the numeral of `number` as two lines, each ended by byte 10 (Revised Manual, 4.4.13).
 ///
@@ -23,44 +29,75 @@ pub fn append_numeral(out: &mut Vec<u8>, number: u32) -> Result<(), NoMemory>
         OnErr result (vec_capacity out.old < vec_len out.old + length text) }
     ensures capacity { vec_capacity out.old ≤ vec_capacity out.new }
 {
-    let text = printed_lines(numeral(number).as_slice());
-    out.extend_from_slice(text.as_slice())?;
+    let mut text = [0; MOST];
+    let end = write_lines(&mut text, number);
+    out.extend_from_slice(&text[..end])?;
     Ok(())
 }
 
-/// Both lines of a numeral; zero is a lone bar.
-#[tactic(auto, unfolding(crate::specs::Numeral::printed))]
-fn printed_lines(symbols: &[Symbol]) -> ArrayVec<u8, 80>
-    requires { length symbols.now ≤ 39 }
-    ensures { result.items ≡ printed symbols.now }
+/// Writes both lines of the numeral of a number. The answer is where they end.
+fn write_lines(text: &mut [u8; MOST], number: u32) -> usize
+    ensures lines { take result text.new ≡ printed (numeral_of number) }
+    ensures within { result ≤ 82 }
 {
-    let mut text = ArrayVec::new();
-    if symbols.is_empty() {
-        text.try_extend_from_slice(b"_\n\n").unwrap();
-        return text;
+    if number == 0 {
+        text[..3].copy_from_slice(b"_\n\n");
+        return 3;
     }
-    for symbol in &symbols[..barred_length(symbols)] {
-        text.push(if symbol.barred { b'_' } else { b' ' });
-    }
-    text.push(b'\n');
-    for symbol in symbols {
-        text.push(symbol.letter);
-    }
-    text.push(b'\n');
-    text
+    let mut buffer = Buffer::new();
+    let digits = buffer.format(number).as_bytes();
+    let inked = write_bars(text, digits);
+    text[inked] = b'\n';
+    let end = write_letters(text, inked + 1, digits);
+    text[end] = b'\n';
+    end + 1
 }
 
-/// How many symbols there are up to the last that has a bar.
-#[tactic(auto, using(crate::proofs::PrintingLemmas::bars_none))]
-fn barred_length(symbols: &[Symbol]) -> usize
-    ensures within { result ≤ length symbols.now }
-    ensures bars { bar_line symbols.now ≡ map bar_byte (take result symbols.now) }
+/// Writes the line of bars of a number's digits. The answer is where it ends.
+fn write_bars(text: &mut [u8; MOST], digits: &[u8]) -> usize
+    requires digits { AllDigits 10 digits.now }
+    requires few { length digits.now ≤ 10 }
+    ensures bars { take result text.new ≡ bar_line (symbols_of (map digit_value digits.now)) }
+    ensures within { result ≤ 40 }
 {
-    let mut count = 0;
-    for (index, symbol) in symbols.iter().enumerate() {
-        if symbol.barred {
-            count = index + 1;
+    let mut end = 0;
+    let mut inked = 0;
+    for (index, digit) in digits.iter().enumerate() {
+        let place = digits.len() - 1 - index;
+        let digit = usize::from(*digit - b'0');
+        write_row(text, end, &row_of_bars(place, digit));
+        let count = inked_count(place, digit);
+        if count > 0 {
+            inked = end + count;
         }
+        end += letter_count(digit);
     }
-    count
+    inked
+}
+
+/// Writes the letters of a number's digits behind what stands before `start`. The answer is where
+/// they end.
+fn write_letters(text: &mut [u8; MOST], start: usize, digits: &[u8]) -> usize
+    requires digits { AllDigits 10 digits.now }
+    requires few { length digits.now ≤ 10 }
+    requires start { start ≤ 41 }
+    ensures letters { take result text.new
+        ≡ take start text.old ++ map letter_byte (symbols_of (map digit_value digits.now)) }
+    ensures within { result ≤ start + 40 }
+{
+    let mut end = start;
+    for (index, digit) in digits.iter().enumerate() {
+        let digit = usize::from(*digit - b'0');
+        write_row(text, end, &row_of_letters(digits.len() - 1 - index, digit));
+        end += letter_count(digit);
+    }
+    end
+}
+
+/// Writes four bytes over those at a place.
+fn write_row(text: &mut [u8; MOST], at: usize, row: &[u8; 4])
+    requires { at ≤ 77 }
+    ensures { take (at + 4) text.new ≡ take at text.old ++ row.now }
+{
+    text[at..at + 4].copy_from_slice(row);
 }
