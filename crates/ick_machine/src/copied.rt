@@ -37,7 +37,7 @@ pub struct Copied<'c, 'a> {
 
 impl<'c, 'a> Copied<'c, 'a> {
     /// A machine at the start of a run over an input, without marks, whose count of work begins at
-    /// `work`.
+    /// `work`. `NoMemory` is answered where memory is refused.
     pub fn new(
         alloc: Global,
         code: &'c Code<'a>,

@@ -24,6 +24,7 @@
 //! | `engine` | what statements are worked with, beside the memory |
 //! | `elements` | the elements of a memory's arrays, for the calculations of plans |
 //! | `planned` | statements that are done by their plans |
+//! | `brief` | statements that are done by their plans in short |
 //! | `met` | the statement that is met next |
 //! | `step` | one step of a run |
 //! | `short` | statements that are sure to be done, by plans that are said in short |

@@ -43,7 +43,8 @@ impl<'c, 'a> Live<'c, 'a> {
     ghost use Rattle.ick_machine.specs.Feeds.{feed_failures};
     ghost use Rattle.ick_machine.specs.Live.{seen, fed, cleared, live_ask, fault_message};
 
-    /// A machine at the start of a program (Revised Manual, 3.1, 3.3).
+    /// A machine at the start of a program (Revised Manual, 3.1, 3.3). `NoMemory` is answered where
+    /// memory is refused.
     #[tactic(auto, unfolding(crate::specs::Live::seen))]
     pub fn new(alloc: Global, code: &'c Code<'a>) -> Result<Live<'c, 'a>, NoMemory>
         ensures { IfOk result (λ live. seen live ≡ record {

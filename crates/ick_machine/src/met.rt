@@ -30,7 +30,8 @@ pub fn met(code: &Code, memory: &Memory) -> Option<u8>
     Some(odds(code, memory, here))
 }
 
-/// Whether the statement with a number is sure to be done where it is met.
+/// Whether the statement with a number is sure to be done where it is met: its chance is 100, and
+/// it isn't abstained from (Revised Manual, 4.3).
 #[inline(always)]
 pub fn is_sure(code: &Code, memory: &Memory, here: u32) -> bool
     requires fits { Fits code.now (view_of memory.now) }

@@ -65,7 +65,7 @@ fn copy_array_stashes(alloc: Global, stashes: &Vec<Vec<Array>>) -> Result<Vec<Ve
     Ok(copies)
 }
 
-/// A copy of a memory, which remembers the same.
+/// A copy of a memory, which remembers the same. `NoMemory` is answered where memory is refused.
 pub fn copy_memory(alloc: Global, memory: &Memory) -> Result<Memory, NoMemory>
     ensures { IfOk result (λ copy. view_of copy ≡ view_of memory.now) }
 {
