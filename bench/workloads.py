@@ -48,13 +48,25 @@ def calculations(count):
                   + [(None, "READ OUT .1+.2+.3"), (None, "GIVE UP")])
 
 
+def halves(target, source):
+    """A calculation of seventeen operators that takes the even and the odd bits of a scalar apart and together again."""
+    even, odd = (f"""'{source}~"{mask}"'""" for mask in ("#0$#65535", "#65535$#0"))
+    return f"""{target} <- '"?{even}${odd}"~"#0$#65535"'$'"V{odd}${even}"~"#65535$#0"'"""
+
+
 WORKLOADS = {
     "loop": program(5, []),
     "expressions": program(5, [
+        halves(":2", ":1"),
+        halves(":3", ":2"),
+        ':1 <- "?\':3~"#0$#65535"\'$.5"'],
+        [":1 <- #1972$#40961", ".5 <- #65535"],
+        # small numbers alone, whose numerals have the same letters everywhere
+        [".1 <- :1~#2047", "READ OUT .1"]),
+    "masks": program(5, [
         """.1 <- '"?.2$.3"~"#21845$#4095"'~'"&.4$.5"~"#255$#65280"'""",
         """:1 <- '"V.1$#3"~"#43690$#0"'$'"?.3$:2"~"#255$#255"'"""],
         [".2 <- #1972", ".3 <- #40961", ".4 <- #65244", ".5 <- #32767", ":2 <- #51966"],
-        # small numbers alone, whose numerals have the same letters everywhere
         [".1 <- .1~#2047", ".2 <- :1~#2047", "READ OUT .1+.2"]),
     "logic": program(5, [
         """.1 <- '"?.2$.3"~"#0$#65535"'~'"&.4$.5"~"#0$#65535"'""",
@@ -71,7 +83,9 @@ WORKLOADS = {
     "gerunds": program(3, [
         "ABSTAIN FROM CALCULATING", "REINSTATE CALCULATING"],
         [f".{k % 7 + 1} <- #{k % 100}" for k in range(4000)]),
-    "numerals": program(4, ["READ OUT .1"], [".1 <- #1972"]),
+    "numerals": program(4, ["READ OUT .1+.2+.3+.4+.1+.2+.3+.4"],
+                        [".1 <- #1972", ".2 <- #3", ".3 <- #444", ".4 <- #888"]),
+    "read-outs": program(4, ["READ OUT .1"], [".1 <- #1972"]),
 }
 
 NOTHING = "DO GIVE UP\n"
