@@ -21,9 +21,10 @@ pub fn loaded(kind: NameKind, number: u32) -> Value
 pub fn width_of(kind: NameKind) -> Width
     ensures { result ≡ width_for kind }
 {
-    match kind {
-        NameKind::Onespot | NameKind::Tail => Width::Sixteen,
-        NameKind::Twospot | NameKind::Hybrid => Width::ThirtyTwo,
+    if kind == NameKind::Twospot || kind == NameKind::Hybrid {
+        Width::ThirtyTwo
+    } else {
+        Width::Sixteen
     }
 }
 
