@@ -93,6 +93,7 @@ impl<'c, 'a> Backtrack for Copied<'c, 'a> {
             &mut self.memory,
             &mut self.trail,
             done,
+            false,
         )?;
         self.trail.clear();
         self.work += 1;

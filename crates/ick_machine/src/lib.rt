@@ -27,7 +27,7 @@
 //! | `brief` | statements that are done by their plans in short |
 //! | `met` | the statement that is met next |
 //! | `step` | one step of a run |
-//! | `short` | statements that are sure to be done, by plans that are said in short |
+//! | `short` | a statement that is met, and done by its plan in short |
 //! | `sure` | steps of statements that are sure to be done, by their plans or by lists |
 //! | `together` | such statements that are done together, where they choose where the run goes on |
 //! | `answer` | what a machine asks, by what it remembers |

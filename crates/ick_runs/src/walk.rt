@@ -22,6 +22,7 @@ use std::alloc::Global;
 
 /// One step by a choice, which is added to the path. Where it is a zero, the state before it is
 /// marked.
+#[inline(always)]
 fn choose<M: Backtrack>(
     machine: &mut M,
     path: &mut Path,

@@ -274,7 +274,7 @@ impl<'c, 'a> Sides<'c, 'a> {
         assert_alike(rt, &self.planned, &self.worked);
     }
 
-    /// A step that both make by operations, unless the run has ended.
+    /// A step that both make, unless the run has ended: by a plan in short where the one has that.
     fn step(&mut self, rt: &impl Abort, done: bool) {
         let goes = goes_on(rt, &mut self.planned, done);
         assert!(rt; goes_on(rt, &mut self.worked, done) == goes);

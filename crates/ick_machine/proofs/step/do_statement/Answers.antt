@@ -1,30 +1,21 @@
-use Rattle.std.proofs.Common.{[], refl}
-use Rattle.ick_code.specs.Compiled.{code_ops}
-use Rattle.ick_memory.specs.View.{view_of}
-use Rattle.ick_machine.proofs.ReturnLemmas.{on_ok}
-use Rattle.ick_machine.proofs.StepLemmas.{does_go, does_stop}
+use Rattle.std.proofs.Common.{◌≡◌, ◌∙◌, sym, subst}
+use Rattle.std.specs.Prelude.{OnOk}
+use Rattle.ick_code.specs.meaning.Do.{do_statement}
+use Rattle.ick_code.specs.Compiled.{code_program}
+use Rattle.ick_memory.specs.declared.memory.Memory.{Memory}
+use Rattle.ick_memory.specs.View.{view_of, state_of}
+use Rattle.ick_machine.specs.Reads.{Leads}
+use Rattle.ick_machine.specs.Step.{IsAt}
+use Rattle.ick_machine.proofs.StepsLemmas.{where_none}
 use Rattle.ick_machine.proofs.step.do_statement.Goals as goal
-
-pub returns-in_default-clause-does : goal.returns-in_default-clause-does
-returns-in_default-clause-does g c = λ statement at.
-    let code = c.args.code.now in
-    let v = view_of c.args.memory.now in
-    let done = c.do_operations-done.new in
-    does_go g.R.Reader.Has c.args.reader.now code statement (code_ops code v.place)
-    (c.law.ensures.means v.place statement at)
-    done.reader [] done.operands.items v (view_of c.put_place.new.memory) (view_of done.memory)
-    refl c.put_place.ensures.view
-    c.in_default.field-0 (c.in_default.ensures.flow statement.text)
 
 pub returns-clause-does : goal.returns-clause-does
 returns-clause-does g c = λ statement at.
     let code = c.args.code.now in
-    let v = view_of c.args.memory.now in
-    let done = c.do_operations-done.new in
-    on_ok c.put_end.result c.put_end.ensures.view (λ changed.
-    does_stop g.R.Reader.Has c.args.reader.now code statement (code_ops code v.place)
-    (c.law.ensures.means v.place statement at)
-    done.reader [] done.operands.items v (view_of c.put_place.new.memory) (view_of done.memory)
-    refl c.put_place.ensures.view
-    c.in-Err.halt c.in-Some.end (view_of c.put_end.new.memory) c.in-Some.ensures at changed
-    (c.in-Err.ensures.flow statement.text))
+    let done = c.do_by_operations-2 in
+    let kept = where_none _ c.in_ok-done.done (sym c.is_some.ensures ∙ c.if-is_some.false) c.in_ok-done.ensures.kept in
+    let Same : Memory → Type 0 = λ m. IsAt code m.place statement →
+    OnOk done.result (Leads g.R.Reader.Has c.args.reader.now done.new.reader (λ before after.
+    state_of code after (view_of done.new.memory) ≡
+    do_statement (code_program code) statement (state_of code before (view_of m)))) in
+    subst Same kept.0 (done.ensures.does statement) at
