@@ -18,8 +18,8 @@ pub enum ReadFault {
 }
 
 /// Reads the first `most` bytes of a source, or all that it has where they are fewer. The answer is
-/// `Failed` where a read failed, once, and `NoMemory` where the text could not grow. Each turn gains
-/// a byte or is the last.
+/// `Failed` where a read failed, once, and `NoMemory` where the text could not grow. Each turn
+/// gains a byte or is the last.
 pub fn read_first<R: ByteSource>(
     alloc: Global,
     source: &mut R,
