@@ -38,6 +38,7 @@ pub fn stash<N: Notes>(
     ensures follows { Follows N.Undoes notes.old memory.old notes.new memory.new }
     ensures shape { shape_of (view_of memory.new) ≡ shape_of (view_of memory.old) }
     ensures end { memory.new.end ≡ memory.old.end }
+    ensures output { (view_of memory.new).output ≡ (view_of memory.old).output }
 {
     code.law();
     match name {
@@ -63,6 +64,7 @@ fn retrieve_scalar<N: Notes>(
     ensures follows { Follows N.Undoes notes.old memory.old notes.new memory.new }
     ensures shape { shape_of (view_of memory.new) ≡ shape_of (view_of memory.old) }
     ensures end { memory.new.end ≡ memory.old.end }
+    ensures output { (view_of memory.new).output ≡ (view_of memory.old).output }
 {
     code.law();
     let ignored = memory.ignored_scalars[slot as usize];
@@ -94,6 +96,7 @@ fn retrieve_array<N: Notes>(
     ensures follows { Follows N.Undoes notes.old memory.old notes.new memory.new }
     ensures shape { shape_of (view_of memory.new) ≡ shape_of (view_of memory.old) }
     ensures end { memory.new.end ≡ memory.old.end }
+    ensures output { (view_of memory.new).output ≡ (view_of memory.old).output }
 {
     code.law();
     if memory.ignored_arrays[slot as usize] {
@@ -130,6 +133,7 @@ pub fn retrieve<N: Notes>(
     ensures follows { Follows N.Undoes notes.old memory.old notes.new memory.new }
     ensures shape { shape_of (view_of memory.new) ≡ shape_of (view_of memory.old) }
     ensures end { memory.new.end ≡ memory.old.end }
+    ensures output { (view_of memory.new).output ≡ (view_of memory.old).output }
 {
     match name {
         SlotName::Scalar(slot) => retrieve_scalar(code, memory, notes, slot),
@@ -154,6 +158,7 @@ pub fn ignore<N: Notes>(
     ensures follows { Follows N.Undoes notes.old memory.old notes.new memory.new }
     ensures shape { shape_of (view_of memory.new) ≡ shape_of (view_of memory.old) }
     ensures end { memory.new.end ≡ memory.old.end }
+    ensures output { (view_of memory.new).output ≡ (view_of memory.old).output }
 {
     code.law();
     match name {
