@@ -70,6 +70,22 @@ can_rewind-append (change ∷ a) b room v h =
     can_rewind-append a b room (undone change v)
     (both_true (can_undo change room v) (can_rewind (a ++ b) room (undone change v)) h).1
 
+pub can_rewind-front : (a b : List Change) (room : Room) (v : View) → can_rewind (a ++ b) room v ≡ true →
+    can_rewind a room v ≡ true
+can_rewind-front [] b room v h = refl
+can_rewind-front (change ∷ a) b room v h =
+    let parts = both_true (can_undo change room v) (can_rewind (a ++ b) room (undone change v)) h in
+    and_true (can_undo change room v) (can_rewind a room (undone change v)) parts.0
+    (can_rewind-front a b room (undone change v) parts.1)
+
+pub can_rewind-join : (a b : List Change) (room : Room) (v : View) → can_rewind a room v ≡ true →
+    can_rewind b room (rewound a v) ≡ true → can_rewind (a ++ b) room v ≡ true
+can_rewind-join [] b room v h g = g
+can_rewind-join (change ∷ a) b room v h g =
+    let parts = both_true (can_undo change room v) (can_rewind a room (undone change v)) h in
+    and_true (can_undo change room v) (can_rewind (a ++ b) room (undone change v)) parts.0
+    (can_rewind-join a b room (undone change v) parts.1 g)
+
 -- the changes above a lower mark are those above it below a higher one, and then those above that
 above_split : (changes : List Change) (j k : ℕ) → j ≤ k → k ≤ length changes →
     reverse (drop j changes) ≡ reverse (drop k changes) ++ reverse (drop j (take k changes))

@@ -7,7 +7,7 @@
 //! - `change`: how one change is undone
 //! - `notes`: who is told of each change
 //! - `trail`: a list of changes that can be undone
-//! - `round`: changes that come to nothing
+//! - `needless`: changes that need not be undone
 //! - `lists`: stashes and arrays by their slots
 //! - `undo`: changes undone
 //! - `assign`: single values that change, each noted
@@ -27,9 +27,9 @@ mod lists;
 mod mark;
 mod marks;
 mod memory;
+mod needless;
 mod notes;
 mod print;
-mod round;
 mod stash;
 mod status;
 mod trail;
@@ -43,7 +43,7 @@ pub use copy::copy_memory;
 pub use flags::{abstain_kind, abstain_one};
 pub use fresh::fresh_memory;
 pub use mark::Mark;
-pub use marks::{add_mark, back, cancel_out, drop_mark, settle};
+pub use marks::{add_mark, back, cancel_out, drop_mark, kept_changes, settle};
 pub use memory::{Array, Ended, Memory};
 pub use notes::{Nobody, Notes};
 pub use print::print_elements;

@@ -6,6 +6,7 @@ ghost use Rattle.ick_memory.specs.History.{history};
 ghost use Rattle.ick_memory.specs.View.{view_of, shape_of};
 ghost use Rattle.ick_memory.specs.Undo.{all_but_last};
 ghost use Rattle.ick_memory.specs.Marks.{marked_views, are_marks};
+ghost use Rattle.ick_memory.specs.Cancelled.{kept_by};
 
 use crate::mark::Mark;
 use crate::memory::Memory;
@@ -28,19 +29,30 @@ pub fn settle(memory: &Memory, trail: &mut Trail, marks: &Vec<Mark>)
     }
 }
 
-/// The newest changes since the last mark are forgotten where they come to nothing: one or two
-/// returns that were pushed, and then popped again. Without a mark all stay. The marks stay.
+/// How many changes the last mark keeps: none where there is no mark.
+pub fn kept_changes(marks: &Vec<Mark>) -> usize
+    ensures { result ≡ kept_by marks.now.items }
+{
+    match marks.last() {
+        Some(mark) => mark.changes,
+        None => 0,
+    }
+}
+
+/// The newest changes since the last mark, which keeps so many, are forgotten where they need not
+/// be undone: one or two returns that were pushed, and then popped again, and a scalar's change
+/// right behind another one of it. The marks stay.
 #[inline(always)]
-pub fn cancel_out(memory: &Memory, trail: &mut Trail, marks: &Vec<Mark>)
+pub fn cancel_out(memory: &Memory, trail: &mut Trail, marks: &Vec<Mark>, kept: usize)
     requires marks { are_marks trail.old memory.now marks.now ≡ true }
+    requires kept { kept ≡ kept_by marks.now.items }
     ensures same { marked_views trail.new memory.now marks.now ≡
         marked_views trail.old memory.now marks.now }
     ensures marks { are_marks trail.new memory.now marks.now ≡ true }
 {
     let _ = memory;
-    if let Some(mark) = marks.last() {
-        trail.cancel_out(mark.changes);
-    }
+    let _ = marks;
+    trail.cancel_out(kept);
 }
 
 /// The present state is marked. After `NoMemory` the marks are as before.

@@ -13,8 +13,8 @@ ghost use Rattle.ick_memory.specs.Undo.{changes_of};
 use crate::change::{ArrayChange, Change, Entry};
 use crate::copy::copy_bytes;
 use crate::memory::Array;
+use crate::needless::needless;
 use crate::notes::Notes;
-use crate::round::round_of;
 use ick_bits::NoMemory;
 use std::alloc::Global;
 
@@ -55,14 +55,13 @@ impl Trail {
         self.statuses.clear();
     }
 
-    /// Takes the newest changes off where they come to nothing, but none of the first `kept`.
+    /// Takes the newest changes off where they need not be undone, but none of the first `kept`.
     #[inline(always)]
     pub(crate) fn cancel_out(&mut self, kept: usize)
         requires { kept ≤ length (history self.old) }
         ensures { IsCancelled kept (history self.old) (history self.new) }
     {
-        let round = round_of(&self.entries, kept);
-        let rest = self.entries.len() - round;
+        let rest = self.entries.len() - needless(&self.entries, kept);
         self.entries.truncate(rest);
     }
 
@@ -109,8 +108,11 @@ impl Notes for Trail {
 
     fn moved(&self) {}
 
+    #[inline(always)]
     fn reserve(&mut self) -> Result<(), NoMemory> {
-        self.entries.reserve(1)?;
+        if self.entries.len() == self.entries.capacity() {
+            self.entries.reserve(1)?;
+        }
         Ok(())
     }
 
