@@ -7,7 +7,7 @@ It needs the built program (a call of ./ick builds it), Python 3.8 and Linux. Wh
 package `intercal`, whose compiler is called `ick` too), its compiled programs are measured beside, in the same rounds,
 without and with its optimiser (-O), once what they print was seen to be the same.
 
-The first table is of the run alone: the least processor time of eleven rounds, without what is done before the first
+The first table is of the run alone: the least processor time of forty-one rounds, without what is done before the first
 step. Of `ick run` this is the time that it takes for the same source with GIVE UP in front, which it reads and compiles
 too; of a compiled program, that of one which ends at once. The second is of the whole job, from the source to the
 program's end: for C-INTERCAL its compiler, gcc, and the compiled program. Nothing is judged.
@@ -23,7 +23,7 @@ from workloads import NOTHING
 
 HERE = os.path.dirname(os.path.realpath(__file__))
 COMPILER = "/usr/bin/ick"
-ROUNDS = 11
+ROUNDS = 41
 JOBS = 9
 PATIENCE = 60
 OPTIONS = ("-b", "-bO")
