@@ -5,7 +5,9 @@ pub mod NumeralSteps
 pub mod OperatorLemmas
 pub mod OperatorSteps
 pub mod PrintingLemmas
+pub mod QuotedLemmas
 pub mod RowLemmas
 pub mod TableLemmas
 pub mod TapeLemmas
 pub mod ValueLemmas
+pub mod WorkedRows

@@ -1,4 +1,4 @@
--- Want of memory.
+-- The error for out of memory.
 use Rattle.ick_bits.specs.declared.memory.NoMemory.{NoMemory}
 
 -- its only value

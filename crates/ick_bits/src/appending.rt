@@ -1,4 +1,4 @@
-//! Bytes at the end of a text: all of them, or none where memory is refused.
+//! Appends bytes to a text: all of them, or none if memory is refused.
 
 ghost use Rattle.std.specs.Prelude.{◌≤◌, ◌≡◌, ◌<◌, ◌+◌, ◌++◌, decimal};
 ghost use Rattle.std.specs.Prelude.{length, OnOk, OnErr, vec_len, vec_capacity};
@@ -7,9 +7,9 @@ ghost use Rattle.std.specs.List.{flat_map};
 use crate::memory::NoMemory;
 use itoa::Buffer;
 
-/// Appends the decimal digits of `number`, without leading zeros; `0` stands for zero.
+/// Appends the decimal digits of `number` to `out`, without leading zeros. Zero is `0`.
 ///
-/// The answer is `NoMemory` only where `out` had no room for them and could not grow; `out` is then
+/// Returns `NoMemory` only if `out` has no room for the digits and cannot grow. `out` is then
 /// unchanged.
 pub fn append_decimal(out: &mut Vec<u8>, number: u64) -> Result<(), NoMemory>
     ensures ok { OnOk result (out.new.items ≡ out.old.items ++ decimal number) }
@@ -22,7 +22,7 @@ pub fn append_decimal(out: &mut Vec<u8>, number: u64) -> Result<(), NoMemory>
     Ok(())
 }
 
-/// Appends the pieces one after another, or nothing.
+/// Appends the pieces in their order, or nothing if memory is refused.
 pub(crate) fn append_all(out: &mut Vec<u8>, pieces: &[&[u8]]) -> Result<(), NoMemory>
     ensures ok { OnOk result
         (out.new.items ≡ out.old.items ++ flat_map (λ p. p.now) pieces.now) }

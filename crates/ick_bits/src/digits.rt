@@ -1,4 +1,4 @@
-//! Numbers as lines of digit names.
+//! Reads numbers from lines of digit names.
 
 ghost use Rattle.std.specs.Prelude.{◌≡◌, ◌<◌, ◌≤◌, length, slice_range, IfSome};
 ghost use Rattle.std.specs.Prelude.{IfErr, true};
@@ -9,16 +9,17 @@ ghost use Rattle.ick_bits.specs.Digits.{begins_word, word_at, digit_of, line_ans
 
 use crate::white::is_white;
 
-/// Why a line is no number.
+/// Why a line is not a number.
 #[derive(Clone, Copy, Debug, PartialEq, Eq)]
 pub enum DigitFault {
-    /// The first word that names no digit: it goes from byte `from` of the line up to byte `to`.
+    /// The first word that names no digit. It begins at byte `from` of the line and ends before
+    /// byte `to`.
     Word { from: usize, to: usize },
     /// Each word names a digit, and the number is above 4294967295.
     TooLarge,
 }
 
-/// The names of the digits.
+/// The names of the digits, in capitals, and the digits.
 pub(crate) static NAMES: [(&[u8], u8); 12] = [
     (b"OH", 0),
     (b"ZERO", 0),
@@ -37,13 +38,13 @@ pub(crate) static NAMES: [(&[u8], u8); 12] = [
 /// One more than the greatest number.
 const LIMIT: u64 = 4294967296;
 
-/// The number that a line writes by the names of its decimal digits, the most significant first
-/// (Revised Manual, 4.4.12, after INTERCAL-72). White bytes separate the names, whose letters are
-/// capitals or small. A line without a word is 0 (this profile).
+/// Returns the number that a line writes by the names of its decimal digits, the most significant
+/// first (Revised Manual, 4.4.12, after INTERCAL-72). White bytes separate the names. Their letters
+/// are capital or small. A line without a word is 0 (this profile).
 ///
-/// `DigitFault::Word` is the first word anywhere in the line that names no digit; it has a byte at
-/// least and ends within the line, so that the line can be cut at its bounds. Where each word names
-/// a digit, `DigitFault::TooLarge` is a number above 4294967295.
+/// Returns `DigitFault::Word` if a word anywhere in the line names no digit. It holds the bounds of
+/// the first such word, which has at least one byte and ends within the line. Returns
+/// `DigitFault::TooLarge` if each word names a digit and the number is above 4294967295.
 pub fn digits_value(line: &[u8]) -> Result<u32, DigitFault>
     ensures answer { result ≡ line_answer line.now }
     ensures within { IfErr result (λ fault. IsWithinLine line.now fault) }
@@ -64,7 +65,7 @@ pub fn digits_value(line: &[u8]) -> Result<u32, DigitFault>
     Ok(value as u32)
 }
 
-/// Whether a word begins here.
+/// Returns whether a word begins at this position.
 #[tactic(auto, unfolding(crate::specs::Digits::begins_word))]
 fn begins(line: &[u8], position: usize) -> bool
     requires { position < length line.now }
@@ -73,7 +74,7 @@ fn begins(line: &[u8], position: usize) -> bool
     !is_white(line[position]) && (position == 0 || is_white(line[position - 1]))
 }
 
-/// The end of the word that begins here.
+/// Returns the end of the word that begins at `from`.
 #[tactic(auto, using(crate::proofs::DigitLemmas::ink_le), unfolding(crate::specs::Digits::word_at))]
 fn word_end(line: &[u8], from: usize) -> usize
     requires position { from < length line.now }
@@ -85,7 +86,7 @@ fn word_end(line: &[u8], from: usize) -> usize
     from + ink_length(&line[from..])
 }
 
-/// How many bytes stand before the first separator.
+/// Returns how many bytes precede the first white byte.
 fn ink_length(rest: &[u8]) -> usize
     ensures { result ≡ position_or_len is_white_byte rest.now }
 {
@@ -97,7 +98,7 @@ fn ink_length(rest: &[u8]) -> usize
     rest.len()
 }
 
-/// The digit that a word names, in either letter case.
+/// Returns the digit that a word names, in either letter case.
 fn digit_named(word: &[u8]) -> Option<u8>
     ensures value { result ≡ digit_of word.now }
     ensures small { IfSome result (λ digit. digit < 10) }
@@ -110,7 +111,7 @@ fn digit_named(word: &[u8]) -> Option<u8>
     None
 }
 
-/// Whether a word is this name, in either letter case.
+/// Returns whether a word is this name, in either letter case.
 fn is_name(word: &[u8], name: &[u8]) -> bool
     ensures { result ≡ str_eq_ignore_ascii_case word.now name.now }
 {

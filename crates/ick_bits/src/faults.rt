@@ -9,11 +9,11 @@ use crate::appending::append_all;
 use crate::memory::NoMemory;
 use itoa::Buffer;
 
-/// What can be wrong with a program, or go wrong in its run (after Revised Manual, 9.2; the numbers
-/// and texts are this profile's).
+/// The kinds of faults in a program or in its run (after Revised Manual, 9.2). The numbers and
+/// texts are this profile's.
 #[derive(Clone, Copy, Debug, PartialEq, Eq)]
 pub enum FaultKind {
-    /// A statement that is in no form of the language was to be done.
+    /// The run executes a statement that has no form of the language.
     Unrecognised,
     /// A mesh is above 65535.
     MeshTooLarge,
@@ -38,7 +38,7 @@ pub enum FaultKind {
     /// Subscripts do not fit the dimensions of their array, or an array would get more than 65,536
     /// elements.
     Hyperspace,
-    /// A number above 65535 would go into 16 bits.
+    /// A number above 65535 does not fit 16 bits.
     TooWide,
     /// RETRIEVE of a variable with nothing stashed.
     NothingStashed,
@@ -57,7 +57,7 @@ pub enum FaultKind {
 }
 
 impl FaultKind {
-    /// The number that the message prints with three digits.
+    /// Returns the number that the message prints with three digits. It is below 1000.
     pub fn number(self) -> u16
         ensures value { result ≡ fault_number self }
         ensures short { result < 1000 }
@@ -65,8 +65,7 @@ impl FaultKind {
         self.entry().0
     }
 
-    /// The kind's row in the table of faults: its number, and its text up to the place where a
-    /// subject is shown.
+    /// Returns the kind's row in the table of faults: its number, and its text before the subject.
     fn entry(self) -> (u16, &'static [u8])
         ensures number { result.0 ≡ fault_number self }
         ensures short { result.0 < 1000 }
@@ -102,7 +101,7 @@ impl FaultKind {
         }
     }
 
-    /// The three digits of the number.
+    /// Returns the three decimal digits of the number, as ASCII bytes.
     pub fn digits(self) -> [u8; 3]
         ensures { result ≡ three_digits (fault_number self) }
     {
@@ -114,7 +113,7 @@ impl FaultKind {
         ]
     }
 
-    /// The text, in pieces: the subject is shown by two kinds alone.
+    /// Returns the text in pieces. Two kinds show the subject; the others leave it out.
     #[tactic(auto, unfolding(crate::specs::Faults::text_of))]
     fn text<'a>(self, subject: &'a [u8]) -> Text<'a>
         ensures { let pieces = result.before.now ++ result.subject.now ++ result.after.now in
@@ -141,7 +140,7 @@ impl FaultKind {
     }
 }
 
-/// A message's text, taken apart where the subject stands.
+/// A message's text in pieces: before the subject, the subject, and after it.
 #[derive(Clone, Copy)]
 struct Text<'a> {
     before: &'a [u8],
@@ -152,21 +151,21 @@ struct Text<'a> {
 /// A fault of a statement.
 #[derive(Clone, Copy, Debug, PartialEq, Eq)]
 pub struct Fault<'a> {
-    /// What is wrong.
+    /// The kind of fault.
     pub kind: FaultKind,
-    /// The statement's number, counted from 1; 0 where the program has no statement.
+    /// The statement's number, counted from 1, or 0 if the program has no statement.
     pub statement: u32,
-    /// What the message shows: the statement's text for `Unrecognised`, the word for `NoDigit`. The
-    /// other kinds show none.
+    /// The bytes that the message shows: the statement's text for `Unrecognised`, the word for
+    /// `NoDigit`. Other kinds show no subject.
     pub subject: &'a [u8],
 }
 
-/// Appends the three lines of a fault's message, each ended by byte 10 (Revised Manual, 9.1): the
-/// number with the text, the number of the statement after the fault's, and the request to try
-/// again. The subject's bytes are printed as they are.
+/// Appends the three lines of a fault's message to `out`, each ended by byte 10 (Revised Manual,
+/// 9.1). The lines are the number with the text, the number of the next statement, and the request
+/// to try again. The subject's bytes are printed as they are.
 ///
-/// The answer is `NoMemory` only where `out` had no room for the whole message and could not grow;
-/// `out` is then unchanged.
+/// Returns `NoMemory` only if `out` has no room for the whole message and cannot grow. `out` is
+/// then unchanged.
 #[tactic(auto, unfolding(crate::specs::Faults::message_of))]
 pub fn append_message(out: &mut Vec<u8>, fault: &Fault<'_>) -> Result<(), NoMemory>
     ensures ok { let text = message_of fault.now.kind fault.now.statement fault.now.subject.now in

@@ -1,11 +1,11 @@
-//! Want of memory.
+//! The error for out of memory.
 
 ghost use Rattle.std.specs.Prelude.{◌≡◌};
 ghost use Rattle.ick_bits.specs.Memory.{no_memory};
 
 use std::alloc::{AllocError, AllocFailed};
 
-/// A text, a list or a table could not grow, since memory was refused.
+/// A text, a list or a table cannot grow, because memory is refused.
 #[derive(Clone, Copy, Debug, PartialEq, Eq)]
 pub struct NoMemory;
 

@@ -1,4 +1,4 @@
-//! Numbers as letters with bars over some of them.
+//! Numbers as letters, some of them with bars.
 
 ghost use Rattle.std.specs.Prelude.{◌≡◌, ◌≤◌, ◌<◌, ◌++◌, ◌+◌, pos, length};
 ghost use Rattle.arrayvec.specs.ArrayVec.{array_vec_len};
@@ -7,8 +7,8 @@ ghost use Rattle.ick_bits.specs.Numeral.{numeral_of, worth, digit_symbols, lette
 use arrayvec::ArrayVec;
 use itoa::Buffer;
 
-/// A letter of a numeral. A bar over it makes it worth a thousand times as much, and a small letter
-/// is worth a million times its capital (Revised Manual, 4.4.13).
+/// A letter of a numeral (Revised Manual, 4.4.13). A bar over it makes it worth a thousand times as
+/// much. A small letter is worth a million times its capital.
 #[derive(Clone, Copy, Debug, PartialEq, Eq, Default)]
 pub struct Symbol {
     /// The letter, as an ASCII byte.
@@ -17,7 +17,7 @@ pub struct Symbol {
     pub barred: bool,
 }
 
-/// The letters of one decimal place: for one, five and ten of it.
+/// The letters for one, five and ten of a decimal place.
 #[derive(Clone, Copy)]
 pub(crate) struct Letters {
     pub(crate) one: Symbol,
@@ -28,8 +28,8 @@ pub(crate) struct Letters {
 /// A letter, and whether it has a bar.
 type Letter = (u8, bool);
 
-/// The letters for one, five and ten of each decimal place, from the units up. That for ten of the
-/// last place is never used, since the digit there is at most 4.
+/// The letters for one, five and ten of each decimal place, from the units up. The last letter is
+/// never used, because the digit at the last place is at most 4.
 pub(crate) static PLACES: [(Letter, Letter, Letter); 10] = [
     ((b'I', false), (b'V', false), (b'X', false)),
     ((b'X', false), (b'L', false), (b'C', false)),
@@ -43,7 +43,7 @@ pub(crate) static PLACES: [(Letter, Letter, Letter); 10] = [
     ((b'm', false), (b'v', true), (b'x', true)),
 ];
 
-/// The letter as a symbol.
+/// Returns the letter as a symbol.
 fn symbol_of(letter: Letter) -> Symbol
     ensures { result ≡ symbol letter }
 {
@@ -53,7 +53,7 @@ fn symbol_of(letter: Letter) -> Symbol
     }
 }
 
-/// The letters of the place that has `digits_after` digits to its right.
+/// Returns the letters of the place that has `digits_after` digits to its right.
 fn letters_at(digits_after: usize) -> Letters
     requires { digits_after < 10 }
     ensures { result ≡ letters_of digits_after }
@@ -66,11 +66,11 @@ fn letters_at(digits_after: usize) -> Letters
     }
 }
 
-/// The numeral of a number: for each decimal digit, from the left, the letters of its place
-/// (Revised Manual, 4.4.13). Zero has no symbol (this profile).
+/// Returns the numeral of a number: for each decimal digit, from the left, the letters of its place
+/// (Revised Manual, 4.4.13). Zero has no symbols (this profile).
 ///
-/// Its worth, the sum in which a symbol counts with a minus sign where the next is worth more, is
-/// the number. It has at most 39 symbols, as 3888888888 has.
+/// The numeral's worth is the number. The worth adds the symbols' values, but subtracts a symbol if
+/// the next one is worth more. A numeral has at most 39 symbols, as 3888888888 has.
 pub fn numeral(number: u32) -> ArrayVec<Symbol, 39>
     ensures symbols { result.items ≡ numeral_of number }
     ensures worth { worth result.items ≡ pos number }
@@ -89,7 +89,7 @@ pub fn numeral(number: u32) -> ArrayVec<Symbol, 39>
     symbols
 }
 
-/// Adds the symbols of one digit.
+/// Pushes the symbols of one digit.
 #[tactic(auto, unfolding(crate::specs::Numeral::digit_symbols))]
 fn push_digit(symbols: &mut ArrayVec<Symbol, 39>, letters: Letters, digit: u8)
     requires digit { digit < 10 }
@@ -111,7 +111,7 @@ fn push_digit(symbols: &mut ArrayVec<Symbol, 39>, letters: Letters, digit: u8)
     }
 }
 
-/// Adds these symbols, for which there is room.
+/// Pushes these symbols, for which there is room.
 fn push_all(symbols: &mut ArrayVec<Symbol, 39>, more: &[Symbol])
     requires { array_vec_len symbols.old + length more.now ≤ 39 }
     ensures { symbols.new.items ≡ symbols.old.items ++ more.now }

@@ -13,8 +13,8 @@ use crate::values::{Value, Width};
 /// Alternates the bits of two numbers of 16 bits, the higher bit of each pair from `left` (Revised
 /// Manual, 3.4.1, after INTERCAL-72). The result has 32 bits.
 ///
-/// The answer is `FaultKind::SixtyFour` exactly where a number is above 65535, whatever its width
-/// (this profile).
+/// Returns `FaultKind::SixtyFour` if and only if a number is above 65535, whatever its width (this
+/// profile).
 #[tactic(auto, unfolding(crate::specs::Operators::mingled))]
 pub fn mingle(left: Value, right: Value) -> Result<Value, FaultKind>
     ensures { result ≡ mingled left right }
@@ -26,8 +26,11 @@ pub fn mingle(left: Value, right: Value) -> Result<Value, FaultKind>
     Ok(Value::thirty_two(alternated(high, low)))
 }
 
-/// The bits of both in turn, the lowest from `low`.
-fn alternated(high: u32, low: u32) -> u32
+/// Returns the 32 bits of `high` and `low` in turn: bit 2i + 1 is bit i of `high`, and bit 2i is
+/// bit i of `low` (Revised Manual, 3.4.1, after INTERCAL-72). Both numbers are at most 65535.
+/// `mingle` does the same for values, and checks this.
+#[inline(always)]
+pub fn alternated(high: u32, low: u32) -> u32
     requires high { high < limit_of Sixteen }
     requires low { low < limit_of Sixteen }
     ensures { result ≡ with_bits 32 (mingled_bit high low) }
@@ -35,7 +38,7 @@ fn alternated(high: u32, low: u32) -> u32
     2 * spread(high) + spread(low)
 }
 
-/// A zero above each of 16 bits.
+/// Returns the 16 bits with a zero above each.
 fn spread(number: u32) -> u32
     requires { number < limit_of Sixteen }
     ensures value { result ≡ with_bits 32 (mingled_bit 0 number) }
@@ -44,11 +47,11 @@ fn spread(number: u32) -> u32
     65536 * spread_byte(number / 256) + spread_byte(number % 256)
 }
 
-/// Takes the bits of `left` that stand where `right` has ones, and packs them to the right in their
-/// order; the narrower operand has zeros above (Revised Manual, 3.4.1, after INTERCAL-72).
+/// Returns the bits of `left` at the positions of the ones of `right`, packed to the right in their
+/// order. The narrower operand has zeros above (Revised Manual, 3.4.1, after INTERCAL-72).
 ///
-/// The result has 32 bits where `right` has more than 16 ones, and else 16. This is the rule of
-/// INTERCAL-72, and not that of Revised Manual, 3.4.1.1.
+/// The result has 32 bits if `right` has more than 16 ones, and 16 bits otherwise. This is the rule
+/// of INTERCAL-72, not that of Revised Manual, 3.4.1.1.
 pub fn select(left: Value, right: Value) -> Value
     ensures { result ≡ selected left right }
 {
@@ -69,8 +72,9 @@ pub fn select(left: Value, right: Value) -> Value
     }
 }
 
-/// Each bit and the next higher one, the highest and the lowest: the value combined with itself
-/// rotated right by one place in its width, which stays (Revised Manual, 3.4.2, after INTERCAL-72).
+/// Returns the and of the value and the value rotated right by one place in its width. Each bit is
+/// combined with the next higher bit, and the highest with the lowest. The width stays (Revised
+/// Manual, 3.4.2, after INTERCAL-72).
 pub fn unary_and(value: Value) -> Value
     ensures { result ≡ unary and_bit value }
 {
@@ -86,8 +90,9 @@ pub fn unary_and(value: Value) -> Value
     }
 }
 
-/// Each bit or the next higher one, the highest or the lowest: the value combined with itself
-/// rotated right by one place in its width, which stays (Revised Manual, 3.4.2, after INTERCAL-72).
+/// Returns the or of the value and the value rotated right by one place in its width. Each bit is
+/// combined with the next higher bit, and the highest with the lowest. The width stays (Revised
+/// Manual, 3.4.2, after INTERCAL-72).
 pub fn unary_or(value: Value) -> Value
     ensures { result ≡ unary or_bit value }
 {
@@ -103,9 +108,9 @@ pub fn unary_or(value: Value) -> Value
     }
 }
 
-/// Whether each bit differs from the next higher one, and the highest from the lowest: the value
-/// combined with itself rotated right by one place in its width, which stays (Revised Manual,
-/// 3.4.2, after INTERCAL-72).
+/// Returns the exclusive or of the value and the value rotated right by one place in its width.
+/// Each bit is combined with the next higher bit, and the highest with the lowest. The width stays
+/// (Revised Manual, 3.4.2, after INTERCAL-72).
 pub fn unary_xor(value: Value) -> Value
     ensures { result ≡ unary xor_bit value }
 {

@@ -10,18 +10,19 @@ use crate::memory::NoMemory;
 use crate::rows::{inked_count, letter_count, row_of_bars, row_of_letters};
 use itoa::Buffer;
 
-/// How many bytes both lines of a numeral take at most, written four at a time: a number has ten
-/// digits at most.
+/// The most bytes that both lines of a numeral take, written four at a time. A number has at most
+/// ten digits.
 const MOST: usize = 82;
 
-/// Appends the numeral of `number` as two lines, each ended by byte 10 (Revised Manual, 4.4.13).
+/// Appends the numeral of `number` to `out` as two lines, each ended by byte 10 (Revised Manual,
+/// 4.4.13).
 ///
-/// The first has `_` over each letter with a bar and a space over each other letter, without spaces
-/// at its end; the second has the letters. Zero, which has no letter, is a lone bar over an empty
-/// line (this profile).
+/// The first line has `_` over each barred letter and a space over each other letter, without
+/// spaces at its end. The second line has the letters. Zero, which has no letter, is a lone bar
+/// over an empty line (this profile).
 ///
-/// The answer is `NoMemory` only where `out` had no room for both lines and could not grow; `out`
-/// is then unchanged.
+/// Returns `NoMemory` only if `out` has no room for both lines and cannot grow. `out` is then
+/// unchanged.
 pub fn append_numeral(out: &mut Vec<u8>, number: u32) -> Result<(), NoMemory>
     ensures ok { OnOk result (out.new.items ≡ out.old.items ++ printed (numeral_of number)) }
     ensures err { OnErr result (out.new.items ≡ out.old.items) }
@@ -35,7 +36,7 @@ pub fn append_numeral(out: &mut Vec<u8>, number: u32) -> Result<(), NoMemory>
     Ok(())
 }
 
-/// Writes both lines of the numeral of a number. The answer is where they end.
+/// Writes both lines of the numeral of a number, and returns their end.
 fn write_lines(text: &mut [u8; MOST], number: u32) -> usize
     ensures lines { take result text.new ≡ printed (numeral_of number) }
     ensures within { result ≤ 82 }
@@ -53,7 +54,7 @@ fn write_lines(text: &mut [u8; MOST], number: u32) -> usize
     end + 1
 }
 
-/// Writes the line of bars of a number's digits. The answer is where it ends.
+/// Writes the line of bars of a number's digits, and returns its end.
 fn write_bars(text: &mut [u8; MOST], digits: &[u8]) -> usize
     requires digits { AllDigits 10 digits.now }
     requires few { length digits.now ≤ 10 }
@@ -75,8 +76,7 @@ fn write_bars(text: &mut [u8; MOST], digits: &[u8]) -> usize
     inked
 }
 
-/// Writes the letters of a number's digits behind what stands before `start`. The answer is where
-/// they end.
+/// Writes the letters of a number's digits from `start` on, and returns their end.
 fn write_letters(text: &mut [u8; MOST], start: usize, digits: &[u8]) -> usize
     requires digits { AllDigits 10 digits.now }
     requires few { length digits.now ≤ 10 }
@@ -94,7 +94,7 @@ fn write_letters(text: &mut [u8; MOST], start: usize, digits: &[u8]) -> usize
     end
 }
 
-/// Writes four bytes over those at a place.
+/// Overwrites the four bytes from a position on.
 fn write_row(text: &mut [u8; MOST], at: usize, row: &[u8; 4])
     requires { at ≤ 77 }
     ensures { take (at + 4) text.new ≡ take at text.old ++ row.now }

@@ -1,10 +1,10 @@
-//! What each digit of each place writes in the two lines of a numeral, by tables.
+//! The two lines of a numeral, digit by digit, from tables.
 
 ghost use Rattle.std.specs.Prelude.{◌≡◌, ◌<◌, length, map, take};
 ghost use Rattle.ick_bits.specs.Numeral.{place_symbols, digit_symbols, letter_byte, bar_byte, bar_line};
 ghost use Rattle.ick_bits.specs.declared.numerals.Letters.{Letters};
 
-/// The letters of a digit, in the first of four bytes.
+/// Returns the letters of a digit, in the first of four bytes.
 pub(crate) fn row_of_letters(place: usize, digit: usize) -> [u8; 4]
     requires place { place < 10 }
     requires digit { digit < 10 }
@@ -14,7 +14,7 @@ pub(crate) fn row_of_letters(place: usize, digit: usize) -> [u8; 4]
     LETTERS[place][digit]
 }
 
-/// What stands over the letters of a digit, in the first of four bytes.
+/// Returns the bars and spaces over the letters of a digit, in the first of four bytes.
 pub(crate) fn row_of_bars(place: usize, digit: usize) -> [u8; 4]
     requires place { place < 10 }
     requires digit { digit < 10 }
@@ -24,7 +24,7 @@ pub(crate) fn row_of_bars(place: usize, digit: usize) -> [u8; 4]
     BARS[place][digit]
 }
 
-/// How many letters of a digit there are up to the last that has a bar.
+/// Returns how many letters a digit has up to its last barred letter.
 pub(crate) fn inked_count(place: usize, digit: usize) -> usize
     requires place { place < 10 }
     requires digit { digit < 10 }
@@ -34,7 +34,7 @@ pub(crate) fn inked_count(place: usize, digit: usize) -> usize
     usize::from(INKED[place][digit])
 }
 
-/// How many letters a digit has, which is the same at each place.
+/// Returns how many letters a digit has, which is the same at each place.
 pub(crate) fn letter_count(digit: usize) -> usize
     requires { digit < 10 }
     ensures count { (letters : Letters) → result ≡ length (digit_symbols letters digit) }
@@ -87,7 +87,7 @@ static LETTERS: [[[u8; 4]; 10]; 10] = [
     ],
 ];
 
-/// For each place and each digit a bar or a space over each of its letters.
+/// For each place and each digit, a bar or a space over each letter.
 static BARS: [[[u8; 4]; 10]; 10] = [
     [
         *b"    ", *b"    ", *b"    ", *b"    ", *b"    ", *b"    ", *b"    ", *b"    ", *b"    ",
@@ -131,7 +131,7 @@ static BARS: [[[u8; 4]; 10]; 10] = [
     ],
 ];
 
-/// For each place and each digit how many letters there are up to the last that has a bar.
+/// For each place and each digit, the number of letters up to the last barred letter.
 static INKED: [[u8; 10]; 10] = [
     [0, 0, 0, 0, 0, 0, 0, 0, 0, 0],
     [0, 0, 0, 0, 0, 0, 0, 0, 0, 0],
@@ -145,5 +145,5 @@ static INKED: [[u8; 10]; 10] = [
     [0, 0, 0, 0, 2, 1, 1, 1, 1, 2],
 ];
 
-/// For each digit how many letters it has.
+/// For each digit, the number of its letters.
 static COUNTS: [u8; 10] = [0, 1, 2, 3, 2, 1, 2, 3, 4, 2];

@@ -3,7 +3,7 @@
 ghost use Rattle.std.specs.Prelude.{◌≡◌, ◌*◌, ◌<◌, ◌^◌};
 ghost use Rattle.ick_bits.specs.Operators.{with_bits, mingled_bit, selected_bits, ones_below};
 
-/// A zero above each of eight bits.
+/// Returns the eight bits with a zero above each.
 pub(crate) fn spread_byte(number: u32) -> u32
     requires { number < 256 }
     ensures value { result ≡ with_bits 16 (mingled_bit 0 number) }
@@ -12,7 +12,7 @@ pub(crate) fn spread_byte(number: u32) -> u32
     u32::from(SPREAD[number as usize])
 }
 
-/// Four bits packed to the right, as `select` does.
+/// Returns the bits of `from` at the ones of `mask`, packed to the right, as `select` does.
 pub(crate) fn packed_four(from: u32, mask: u32) -> u32
     requires from { from < 16 }
     requires mask { mask < 16 }
@@ -21,7 +21,7 @@ pub(crate) fn packed_four(from: u32, mask: u32) -> u32
     u32::from(PACKED[(mask * 16 + from) as usize])
 }
 
-/// How many ones there are in four bits.
+/// Returns how many ones four bits have.
 pub(crate) fn ones_of_four(mask: u32) -> u32
     requires { mask < 16 }
     ensures { result ≡ ones_below mask 4 }
@@ -29,7 +29,7 @@ pub(crate) fn ones_of_four(mask: u32) -> u32
     u32::from(ONES[mask as usize])
 }
 
-/// For each byte its bits with a zero above each.
+/// For each byte, its bits with a zero above each.
 static SPREAD: [u16; 256] = [
     0, 1, 4, 5, 16, 17, 20, 21, 64, 65, 68, 69, 80, 81, 84, 85, 256, 257, 260, 261, 272, 273, 276,
     277, 320, 321, 324, 325, 336, 337, 340, 341, 1024, 1025, 1028, 1029, 1040, 1041, 1044, 1045,
@@ -51,7 +51,8 @@ static SPREAD: [u16; 256] = [
     21829, 21840, 21841, 21844, 21845,
 ];
 
-/// For each four bits of a mask and each four bits, those at the mask's ones, packed to the right.
+/// For each four bits of a mask and each four bits of a number, the bits at the mask's ones, packed
+/// to the right.
 static PACKED: [u8; 256] = [
     0, 0, 0, 0, 0, 0, 0, 0, 0, 0, 0, 0, 0, 0, 0, 0, 0, 1, 0, 1, 0, 1, 0, 1, 0, 1, 0, 1, 0, 1, 0, 1,
     0, 0, 1, 1, 0, 0, 1, 1, 0, 0, 1, 1, 0, 0, 1, 1, 0, 1, 2, 3, 0, 1, 2, 3, 0, 1, 2, 3, 0, 1, 2, 3,
@@ -64,5 +65,5 @@ static PACKED: [u8; 256] = [
     14, 15,
 ];
 
-/// For each four bits how many ones they have.
+/// For each four bits, the number of ones.
 static ONES: [u8; 16] = [0, 1, 1, 2, 1, 2, 2, 3, 1, 2, 2, 3, 2, 3, 3, 4];

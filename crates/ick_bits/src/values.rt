@@ -5,7 +5,7 @@ ghost use Rattle.ick_bits.specs.Values.{Narrow, Wide, number_of, width_of, limit
 
 use std::marker::Model;
 
-/// How many bits a value has (Revised Manual, 3.1, after INTERCAL-72).
+/// The number of bits of a value (Revised Manual, 3.1, after INTERCAL-72).
 #[derive(Clone, Copy, Debug, PartialEq, Eq)]
 pub enum Width {
     /// 16 bits: a onespot, an element of a tail, a mesh.
@@ -39,7 +39,7 @@ impl Model for Value {
 }
 
 impl Value {
-    /// The value of 16 bits with this number.
+    /// Returns the value of 16 bits with this number.
     pub fn sixteen(number: u16) -> Value
         ensures { result ≡ Narrow number }
     {
@@ -49,7 +49,7 @@ impl Value {
         }
     }
 
-    /// The value of 32 bits with this number.
+    /// Returns the value of 32 bits with this number.
     pub fn thirty_two(number: u32) -> Value
         ensures { result ≡ Wide number }
     {
@@ -59,14 +59,14 @@ impl Value {
         }
     }
 
-    /// How many bits the value has.
+    /// Returns how many bits the value has.
     pub fn width(self) -> Width
         ensures { result ≡ width_of self }
     {
         self.width
     }
 
-    /// The value's number: at most 65535 where its width is 16 bits.
+    /// Returns the value's number, which is at most 65535 if its width is 16 bits.
     pub fn number(self) -> u32
         ensures value { result ≡ number_of self }
         ensures fits { result < limit_of (width_of self) }
