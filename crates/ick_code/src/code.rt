@@ -1,4 +1,4 @@
-//! A compiled program.
+//! Compiled programs.
 
 ghost use Rattle.std.specs.Prelude.{◌≡◌, ◌≤◌, ◌<◌, length};
 ghost use Rattle.std.proofs.Props.{props};
@@ -12,7 +12,8 @@ use crate::table::Table;
 use ick_source::{Kind, Name, Program};
 use std::snapshot::Snapshot;
 
-/// Where the operations of a statement stand, and what a run has to know of it beside them.
+/// The bounds of a statement's operations in the list of all operations, and its chance, its state
+/// at the start and its text.
 #[derive(Drop)]
 pub struct CompiledStatement<'a> {
     pub from: usize,
@@ -22,10 +23,10 @@ pub struct CompiledStatement<'a> {
     pub text: &'a [u8],
 }
 
-/// A compiled program: all operations in one list, and for each statement where its own stand. The
-/// kinds of statements are a list of their own, so that a gerund goes over few bytes.
+/// A compiled program: one list of all operations, and the bounds of each statement's operations in
+/// it. The kinds of statements are a list of their own, so that a gerund reads few bytes.
 ///
-/// It keeps, for contracts alone, the program that it was compiled from, and its type keeps that it
+/// For contracts alone, it keeps the program that it was compiled from, and its type says that it
 /// is the code of that program.
 #[derive(Drop)]
 pub struct Code<'a> {
@@ -51,7 +52,7 @@ impl<'a> Code<'a> {
     ghost use Rattle.ick_code.specs.Compiled.{compiled_at, code_ops, code_operands, Shows};
     ghost use Rattle.ick_code.specs.Compiled.{IsCompiled};
 
-    /// Puts together what was compiled from a program.
+    /// Returns the code of a program from its compiled parts.
     pub(crate) fn new(
         program: &Program<'a>,
         ops: Vec<Op>,
@@ -76,20 +77,20 @@ impl<'a> Code<'a> {
         }
     }
 
-    /// Its operations do what the statements do that it was compiled from.
+    /// States that the operations do what the statements of the program do.
     pub fn law(&self)
         ensures { IsCompiled (code_program self.now) self.now }
     {}
 
-    /// The number of statements.
+    /// Returns the number of statements.
     pub fn count(&self) -> u32
         ensures { result ≡ length (code_program self.now) }
     {
         self.statements.len() as u32
     }
 
-    /// The operations of statement `n`, from 1 to `count()`. Worked one after another, from an
-    /// empty operand stack on and up to the first fault, they do what the statement does.
+    /// Returns the operations of statement `n`, from 1 to `count()`. Executed in order from an
+    /// empty operand stack, up to the first fault, they do what the statement does.
     pub fn ops(&self, n: u32) -> &[Op]
         requires first { 1 ≤ n }
         requires last { n ≤ length (code_program self.now) }
@@ -102,8 +103,8 @@ impl<'a> Code<'a> {
         &self.ops[compiled.from..compiled.to]
     }
 
-    /// The chance of statement `n`, from 1 to `count()`, of being done each time that it is met, in
-    /// percent (Revised Manual, 4.3).
+    /// Returns the chance of statement `n`, from 1 to `count()`: the percentage with which it is
+    /// executed each time that the run reaches it (Revised Manual, 4.3).
     pub fn chance(&self, n: u32) -> u8
         requires first { 1 ≤ n }
         requires last { n ≤ length (code_program self.now) }
@@ -113,8 +114,8 @@ impl<'a> Code<'a> {
         self.statement(n).chance
     }
 
-    /// Whether statement `n`, from 1 to `count()`, is abstained from at the start (Revised Manual,
-    /// 4.3).
+    /// Returns whether statement `n`, from 1 to `count()`, is abstained from at the start (Revised
+    /// Manual, 4.3).
     pub fn abstained(&self, n: u32) -> bool
         requires first { 1 ≤ n }
         requires last { n ≤ length (code_program self.now) }
@@ -124,7 +125,7 @@ impl<'a> Code<'a> {
         self.statement(n).abstained
     }
 
-    /// The kind of statement `n`, from 1 to `count()`.
+    /// Returns the kind of statement `n`, from 1 to `count()`.
     pub fn kind(&self, n: u32) -> Kind
         requires first { 1 ≤ n }
         requires last { n ≤ length (code_program self.now) }
@@ -134,14 +135,14 @@ impl<'a> Code<'a> {
         self.kinds[n as usize - 1]
     }
 
-    /// The kinds of all statements, in order.
+    /// Returns the kinds of all statements, in order.
     pub fn kinds(&self) -> &[Kind]
         ensures { result.now ≡ kinds_of (code_program self.now) }
     {
         &self.kinds
     }
 
-    /// The text of statement `n`, from 1 to `count()`: its bytes in the source.
+    /// Returns the text of statement `n`, from 1 to `count()`: its bytes in the source.
     pub fn text(&self, n: u32) -> &'a [u8]
         requires first { 1 ≤ n }
         requires last { n ≤ length (code_program self.now) }
@@ -151,21 +152,21 @@ impl<'a> Code<'a> {
         self.statement(n).text
     }
 
-    /// The number of slots of scalars, which are counted from 0.
+    /// Returns the number of slots of scalars, which are counted from 0.
     pub fn scalars(&self) -> u32
         ensures { result ≡ length (code_slots self.now).scalars }
     {
         self.scalars.len() as u32
     }
 
-    /// The number of slots of arrays, which are counted from 0.
+    /// Returns the number of slots of arrays, which are counted from 0.
     pub fn arrays(&self) -> u32
         ensures { result ≡ length (code_slots self.now).arrays }
     {
         self.arrays.len() as u32
     }
 
-    /// The scalar of a slot below `scalars()`.
+    /// Returns the scalar of a slot below `scalars()`.
     pub fn scalar(&self, slot: u32) -> Name
         requires { slot < length (code_slots self.now).scalars }
         ensures { slice_get (code_slots self.now).scalars slot ≡ Some result }
@@ -173,7 +174,7 @@ impl<'a> Code<'a> {
         self.scalars[slot as usize]
     }
 
-    /// The array of a slot below `arrays()`.
+    /// Returns the array of a slot below `arrays()`.
     pub fn array(&self, slot: u32) -> Name
         requires { slot < length (code_slots self.now).arrays }
         ensures { slice_get (code_slots self.now).arrays slot ≡ Some result }
@@ -181,14 +182,14 @@ impl<'a> Code<'a> {
         self.arrays[slot as usize]
     }
 
-    /// The greatest number of operands that the operand stack holds in any statement.
+    /// Returns the greatest number of operands that the operand stack holds in any statement.
     pub fn operands(&self) -> usize
         ensures { result ≡ code_operands self.now }
     {
         self.operands
     }
 
-    /// What is kept of a statement.
+    /// Returns the compiled statement `n`.
     fn statement(&self, n: u32) -> &CompiledStatement<'a>
         requires first { 1 ≤ n }
         requires last { n ≤ length (code_program self.now) }

@@ -1,4 +1,4 @@
-//! From programs to code: all names get their slots first, then each statement its operations.
+//! Compiles programs: gives each name a slot first, and then each statement its operations.
 
 ghost use Rattle.std.specs.Prelude.{◌≡◌, ◌++◌, true, map, OnOk, IfOk};
 ghost use Rattle.ick_source.specs.NameKinds.{is_body_kinded};
@@ -22,12 +22,12 @@ use ick_bits::NoMemory;
 use ick_source::{Body, Kind, Program, Statement};
 use std::alloc::Global;
 
-/// The code of a program: for each statement a flat list of operations, names turned into slots and
-/// labels into numbers of statements.
+/// Compiles a program: each statement becomes a flat list of operations, with slots for names and
+/// statement numbers for labels.
 ///
-/// Slots are numbered from 0, scalars and arrays apart, by the first appearance of their names in
-/// the source: a target stands before its right side, an array before its subscripts, and bodies
-/// that aren't recognised have no names. `NoMemory` is answered where a growth was refused.
+/// Slots are numbered from 0, scalars and arrays apart, in the order in which their names first
+/// appear in the source. A target comes before its right side, and an array before its subscripts.
+/// Unrecognised statements have no names. Returns `NoMemory` if a list cannot grow.
 pub fn compile<'a>(alloc: Global, program: &Program<'a>) -> Result<Code<'a>, NoMemory>
     ensures { IfOk result (IsCompiled (trees_of program.now)) }
 {
@@ -46,7 +46,7 @@ pub fn compile<'a>(alloc: Global, program: &Program<'a>) -> Result<Code<'a>, NoM
     Ok(Code::new(program, ops, statements, kinds, table, operands))
 }
 
-/// The kinds of statements, in order.
+/// Returns the kinds of statements, in order.
 fn kinds(alloc: Global, statements: &[Statement]) -> Result<Vec<Kind>, NoMemory>
     ensures { IfOk result (λ kinds. kinds.items ≡ kinds_of (map statement_tree_of
         statements.now)) }
@@ -58,7 +58,7 @@ fn kinds(alloc: Global, statements: &[Statement]) -> Result<Vec<Kind>, NoMemory>
     Ok(kinds)
 }
 
-/// Appends the operations of a statement, and answers where they stand.
+/// Appends the operations of a statement, and returns the compiled statement.
 fn compile_statement<'a>(
     ops: &mut Vec<Op>,
     table: &Table,

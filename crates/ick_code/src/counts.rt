@@ -1,11 +1,12 @@
-//! How many operands operations pop, push and keep on the operand stack.
+//! Counts the operands that operations pop, push and keep on the operand stack.
 
 ghost use Rattle.std.specs.Prelude.{◌≡◌, ◌≤◌};
 ghost use Rattle.ick_code.specs.Counts.{popped_by, pushed_by, peak};
 
 use crate::op::Op;
 
-/// How many operands the stack holds at most, where operations begin with none.
+/// Returns the greatest number of operands on the stack while the operations are executed from an
+/// empty stack.
 pub fn most_operands(ops: &[Op]) -> usize
     ensures { result ≡ peak ops.now 0 }
 {
@@ -18,7 +19,7 @@ pub fn most_operands(ops: &[Op]) -> usize
     most
 }
 
-/// How many operands an operation pops.
+/// Returns how many operands an operation pops.
 fn popped(op: Op) -> usize
     ensures { result ≡ popped_by op }
 {
@@ -36,7 +37,7 @@ fn popped(op: Op) -> usize
     }
 }
 
-/// How many operands an operation pushes.
+/// Returns how many operands an operation pushes.
 fn pushed(op: Op) -> usize
     ensures count { result ≡ pushed_by op }
     ensures few { result ≤ 1 }

@@ -1,6 +1,7 @@
-//! From trees to operations: operands are pushed first, then comes what pops them.
+//! Turns trees into operations: operands are pushed first, and the operation that pops them
+//! follows.
 
-ghost use Rattle.std.specs.Prelude.{◌≡◌, ◌++◌, true, OnOk, IfOk};
+ghost use Rattle.std.specs.Prelude.{◌≡◌, ◌++◌, ◌∷◌, [], true, OnOk, IfOk};
 ghost use Rattle.std.specs.List.{flat_map, list_all};
 ghost use Rattle.ick_source.specs.Tree.{tree_of, trees_in};
 ghost use Rattle.ick_source.specs.NameKinds.{count_in, are_few, is_kinded, are_kinded};
@@ -20,7 +21,7 @@ use crate::table::Table;
 use ick_bits::NoMemory;
 use ick_source::{BinaryOp, Body, Element, Expr, Gerund, Item, Name, Place, Target, UnaryOp};
 
-/// What is done for each name of a list.
+/// The operation that a statement applies to each name of its list.
 #[derive(Clone, Copy)]
 pub enum NameForm {
     Save,
@@ -42,7 +43,7 @@ impl NameForm {
     }
 }
 
-/// What is done to statements.
+/// The operation that a statement applies to other statements.
 #[derive(Clone, Copy)]
 pub enum Switch {
     Abstain,
@@ -93,34 +94,41 @@ pub fn emit_body(
     match body {
         Body::Calculate(target, e) => {
             emit_expr(ops, table, e)?;
-            emit_store(ops, table, target)?;
+            emit_store(ops, table, target)
         }
         Body::Dimension(array, dimensions) => {
             let count = emit_exprs(ops, table, dimensions)?;
-            ops.push(Op::Resize(table.arrays.slot(*array), count))?;
+            push_op(ops, Op::Resize(table.arrays.slot(*array), count))
         }
-        Body::Next(label) => ops.push(Op::Call(labels.place(*label)))?,
+        Body::Next(label) => push_op(ops, Op::Call(labels.place(*label))),
         Body::Forget(e) => {
             emit_expr(ops, table, e)?;
-            ops.push(Op::Forget)?;
+            push_op(ops, Op::Forget)
         }
         Body::Resume(e) => {
             emit_expr(ops, table, e)?;
-            ops.push(Op::Resume)?;
+            push_op(ops, Op::Resume)
         }
-        Body::Stash(names) => emit_names(ops, table, NameForm::Save, names)?,
-        Body::Retrieve(names) => emit_names(ops, table, NameForm::Restore, names)?,
-        Body::Ignore(names) => emit_names(ops, table, NameForm::Hide, names)?,
-        Body::Remember(names) => emit_names(ops, table, NameForm::Show, names)?,
-        Body::AbstainLabel(label) => ops.push(Op::AbstainOne(labels.place(*label)))?,
-        Body::AbstainKinds(gerunds) => emit_gerunds(ops, Switch::Abstain, gerunds)?,
-        Body::ReinstateLabel(label) => ops.push(Op::ReinstateOne(labels.place(*label)))?,
-        Body::ReinstateKinds(gerunds) => emit_gerunds(ops, Switch::Reinstate, gerunds)?,
-        Body::GiveUp => ops.push(Op::Stop)?,
-        Body::WriteIn(places) => emit_places(ops, table, places)?,
-        Body::ReadOut(items) => emit_items(ops, table, items)?,
-        Body::Unrecognised => ops.push(Op::Fail)?,
+        Body::Stash(names) => emit_names(ops, table, NameForm::Save, names),
+        Body::Retrieve(names) => emit_names(ops, table, NameForm::Restore, names),
+        Body::Ignore(names) => emit_names(ops, table, NameForm::Hide, names),
+        Body::Remember(names) => emit_names(ops, table, NameForm::Show, names),
+        Body::AbstainLabel(label) => push_op(ops, Op::AbstainOne(labels.place(*label))),
+        Body::AbstainKinds(gerunds) => emit_gerunds(ops, Switch::Abstain, gerunds),
+        Body::ReinstateLabel(label) => push_op(ops, Op::ReinstateOne(labels.place(*label))),
+        Body::ReinstateKinds(gerunds) => emit_gerunds(ops, Switch::Reinstate, gerunds),
+        Body::GiveUp => push_op(ops, Op::Stop),
+        Body::WriteIn(places) => emit_places(ops, table, places),
+        Body::ReadOut(items) => emit_items(ops, table, items),
+        Body::Unrecognised => push_op(ops, Op::Fail),
     }
+}
+
+/// Appends one operation.
+fn push_op(ops: &mut Vec<Op>, op: Op) -> Result<(), NoMemory>
+    ensures { OnOk result (ops.new.items ≡ ops.old.items ++ op ∷ []) }
+{
+    ops.push(op)?;
     Ok(())
 }
 
@@ -182,13 +190,12 @@ fn emit_store(ops: &mut Vec<Op>, table: &Table, target: &Target) -> Result<(), N
         ops.old.items ++ store_ops (table_slots table.now) target.now) }
 {
     match target {
-        Target::Scalar(name) => ops.push(Op::Store(table.scalars.slot(*name)))?,
+        Target::Scalar(name) => push_op(ops, Op::Store(table.scalars.slot(*name))),
         Target::Element(element) => {
             let count = emit_exprs(ops, table, &element.subs)?;
-            ops.push(Op::StoreAt(table.arrays.slot(element.array), count))?;
+            push_op(ops, Op::StoreAt(table.arrays.slot(element.array), count))
         }
     }
-    Ok(())
 }
 
 /// Appends the operations that read input for a place.
@@ -198,14 +205,13 @@ fn emit_read(ops: &mut Vec<Op>, table: &Table, place: &Place) -> Result<(), NoMe
         ops.old.items ++ read_ops (table_slots table.now) place.now) }
 {
     match place {
-        Place::Scalar(name) => ops.push(Op::ReadTo(table.scalars.slot(*name)))?,
+        Place::Scalar(name) => push_op(ops, Op::ReadTo(table.scalars.slot(*name))),
         Place::Element(element) => {
             let count = emit_exprs(ops, table, &element.subs)?;
-            ops.push(Op::ReadAt(table.arrays.slot(element.array), count))?;
+            push_op(ops, Op::ReadAt(table.arrays.slot(element.array), count))
         }
-        Place::Array(name) => ops.push(Op::ReadArray(table.arrays.slot(*name)))?,
+        Place::Array(name) => push_op(ops, Op::ReadArray(table.arrays.slot(*name))),
     }
-    Ok(())
 }
 
 /// Appends the operations that print an item.
@@ -265,7 +271,7 @@ fn emit_expr(ops: &mut Vec<Op>, table: &Table, e: &Expr) -> Result<(), NoMemory>
     Ok(())
 }
 
-/// Appends the operations of expressions, one after another, and answers how many they are.
+/// Appends the operations of expressions in their order, and returns the number of expressions.
 #[cycle(expression)]
 fn emit_exprs(ops: &mut Vec<Op>, table: &Table, list: &Vec<Expr>) -> Result<u32, NoMemory>
     requires few { are_few (trees_in list.now.items) ≡ true }

@@ -1,4 +1,4 @@
-//! Which statement a label stands before.
+//! The statement numbers of labels.
 
 ghost use Rattle.std.specs.Prelude.{◌≡◌, ℕ, ◌≤◌, length, map, OnOk, IfOk};
 ghost use Rattle.std.specs.BTreeMap.{get};
@@ -17,12 +17,12 @@ use std::collections::BTreeMap;
 #[derive(Drop)]
 pub struct Labels {
     pub places: BTreeMap<u16, u32>,
-    /// One more than there are statements.
+    /// One more than the number of statements.
     pub past: u32,
 }
 
 impl Labels {
-    /// The labels of statements.
+    /// Returns the labels of statements, or `NoMemory` if the map cannot grow.
     pub fn new(alloc: Global, statements: &[Statement]) -> Result<Labels, NoMemory>
         requires { length statements.now ≤ most_statements }
         ensures { IfOk result (λ labels. (label : ℕ) → place_in labels label ≡
@@ -37,7 +37,8 @@ impl Labels {
         Ok(Labels { places, past })
     }
 
-    /// The number of the first statement with a label, or one more than there are statements.
+    /// Returns the number of the first statement with a label, or one more than the number of
+    /// statements if there is none.
     pub fn place(&self, label: u16) -> u32
         ensures { result ≡ place_in self.now label }
     {
@@ -45,7 +46,7 @@ impl Labels {
     }
 }
 
-/// Keeps the place of a label, unless it has one.
+/// Maps a label to a statement number, unless the map has the label.
 fn note(places: &mut BTreeMap<u16, u32>, label: Option<u16>, place: u32) -> Result<(), NoMemory>
     ensures { OnOk result ((q : ℕ) → get nat_cmp places.new q ≡
         with_place (get nat_cmp places.old q) (is_label q label) place) }

@@ -1,4 +1,5 @@
-//! Laws of what a state asks and of one step, for those who know neither by their definitions.
+//! Laws of what a state asks for and of one step, for readers who know neither by their
+//! definitions.
 
 ghost use Rattle.std.specs.Prelude.{◌≡◌, ◌<◌, ◌↔◌, ◌++◌, ℕ, Bool, true};
 ghost use Rattle.std.specs.Prelude.{false, List, Some, length};
@@ -8,9 +9,10 @@ ghost use Rattle.ick_code.specs.meaning.State.{State, Ending};
 ghost use Rattle.ick_code.specs.meaning.Move.{ask, plain, choice, ended, advance, first_state};
 ghost use Rattle.ick_code.specs.Laws.{after_output, kind_at, IsWithin};
 
-/// What a state asks for: a choice at a chance that is neither none nor sure, nothing where both
-/// choices lead to the same state, and an end exactly where the run has it. It rests on the place,
-/// the abstained statements and the end alone (Revised Manual, 4.3, and this profile).
+/// States what a state asks for. It asks for a choice only at a chance of 1 to 99 percent. It asks
+/// for nothing only if both choices lead to the same state. The answer is an end if and only if the
+/// state has that end. The answer depends only on the program counter, the abstained statements and
+/// the end (Revised Manual, 4.3, and this profile).
 pub fn law_of_asking()
     ensures chance { (program : List StatementTree) (s : State) (n : ℕ) →
         ask program s ≡ choice n → (0 < n) × (n < 100) }
@@ -23,8 +25,9 @@ pub fn law_of_asking()
         ask program t ≡ ask program s }
 {}
 
-/// A step neither reads nor changes what was written before it, and appends to it in READ OUT
-/// alone. It takes what it takes off the front of the input, in WRITE IN alone.
+/// States how a step changes the output and the input. It neither reads nor changes the earlier
+/// output, and only READ OUT appends to it. It removes bytes only from the front of the input, and
+/// only WRITE IN does so.
 pub fn law_of_output_and_input()
     ensures apart { (program : List StatementTree) (s : State) (chosen : Bool) (o : List ℕ) →
         advance program (after_output o s) chosen ≡ after_output o (advance program s chosen) }
@@ -40,8 +43,9 @@ pub fn law_of_output_and_input()
         (advance program s chosen).input ≡ s.input }
 {}
 
-/// A run stands at one of its statements or past the last one, and so do its returns, of which
-/// there are never more than 79 (Revised Manual, 4.4.2).
+/// States that the program counter and each return address are always the number of a statement or
+/// one more than the last, and that there are never more than 79 return addresses (Revised Manual,
+/// 4.4.2).
 pub fn law_of_places()
     ensures first { (program : List StatementTree) (input : List ℕ) →
         IsWithin (length program) (first_state program input) }

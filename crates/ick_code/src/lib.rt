@@ -1,13 +1,14 @@
-//! Code: the flat operations of a program's statements, which do what the statements do.
+//! Compiles programs: each statement becomes a flat list of operations that does what the statement
+//! does.
 //!
 //! - `op`: operations over an operand stack
 //! - `names`, `table`: slots for the names of variables
-//! - `labels`: which statement a label stands before
-//! - `emit`: from trees to operations
-//! - `counts`: how many operands they pop, push and keep
+//! - `labels`: the statement numbers of labels
+//! - `emit`: turns trees into operations
+//! - `counts`: counts the operands that operations pop, push and keep
 //! - `code`: a compiled program
-//! - `compiler`: from programs to code
-//! - `laws`: what is so of every step
+//! - `compiler`: turns programs into code
+//! - `laws`: laws of every step
 #![tactic(auto)]
 
 mod code;

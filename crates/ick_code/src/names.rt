@@ -1,4 +1,4 @@
-//! Names by their slots.
+//! Names and their slots.
 
 ghost use Rattle.std.specs.Prelude.{◌≡◌, ◌≤◌, true, List, [], length, OnOk};
 ghost use Rattle.std.specs.List.{list_all, IsDistinct};
@@ -15,7 +15,7 @@ use ick_source::{Name, NameKind};
 use std::alloc::Global;
 use std::collections::BTreeMap;
 
-/// Names in the order in which they came, each once, and where each of them stands.
+/// Distinct names in the order in which they were added. A name's slot is its index.
 #[derive(Drop)]
 pub struct Names {
     pub list: Vec<Name>,
@@ -26,7 +26,7 @@ pub struct Names {
 }
 
 impl Names {
-    /// No names.
+    /// Returns an empty list of names.
     pub fn new(alloc: Global) -> Names
         ensures { result.list.items ≡ [] }
     {
@@ -36,7 +36,7 @@ impl Names {
         }
     }
 
-    /// Gives the name a slot, where it has none.
+    /// Gives the name the next slot if it has none. Returns `NoMemory` if a list cannot grow.
     pub fn add(&mut self, name: Name) -> Result<(), NoMemory>
         ensures { OnOk result (self.new.list.items ≡ with_name self.old.list.items name) }
     {
@@ -53,7 +53,7 @@ impl Names {
         }
     }
 
-    /// The names by their slots.
+    /// Returns the names in the order of their slots.
     pub fn into_list(self) -> Vec<Name>
         ensures names { result.items ≡ self.list.items }
         ensures few { length result.items ≤ most_names }
@@ -62,7 +62,7 @@ impl Names {
         list
     }
 
-    /// The slot of a name, or 0 where it has none.
+    /// Returns the slot of a name, or 0 if it has none.
     pub fn slot(&self, name: Name) -> u32
         ensures { result ≡ slot_in self.now.list.items name }
     {
@@ -70,7 +70,8 @@ impl Names {
     }
 }
 
-/// Where a name stands among all names, number by number.
+/// Returns the index of a name in the order of all names: by their numbers, and then by their
+/// kinds.
 fn rank(name: Name) -> u32
     ensures { result ≡ rank_of name }
 {

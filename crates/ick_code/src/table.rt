@@ -1,5 +1,4 @@
-//! The slots of a program, and how its names get them: all names of the program come in the order
-//! of the source text.
+//! Gives slots to the names of a program, in the order of the source text.
 
 ghost use Rattle.std.specs.Prelude.{◌≡◌, [], ◌∷◌, map, OnOk, IfOk};
 ghost use Rattle.std.specs.List.{flat_map};
@@ -16,7 +15,7 @@ use ick_bits::NoMemory;
 use ick_source::{Body, Element, Expr, Item, Name, NameKind, Place, Statement, Target};
 use std::alloc::Global;
 
-/// The names of the slots, of scalars and of arrays.
+/// The names of scalars and of arrays, by their slots.
 #[derive(Drop)]
 pub struct Table {
     pub scalars: Names,
@@ -24,7 +23,7 @@ pub struct Table {
 }
 
 impl Table {
-    /// The slots of the names of statements.
+    /// Returns the slots of the names of statements, or `NoMemory` if a list cannot grow.
     #[tactic(auto, using(crate::proofs::TableLemmas::names_none))]
     pub fn new(alloc: Global, statements: &[Statement]) -> Result<Table, NoMemory>
         ensures { IfOk result (λ table. table_slots table ≡
@@ -40,7 +39,7 @@ impl Table {
         Ok(table)
     }
 
-    /// The slot of a name that has one.
+    /// Returns the slot of a name that has one.
     pub fn slot(&self, name: Name) -> SlotName
         ensures { result ≡ slot_name (table_slots self.now) name }
     {
@@ -50,7 +49,7 @@ impl Table {
         }
     }
 
-    /// Gives the name a slot, where it has none.
+    /// Gives the name a slot if it has none.
     #[tactic(auto, using(crate::proofs::TableLemmas::names_one))]
     fn add(&mut self, name: Name) -> Result<(), NoMemory>
         ensures { OnOk result (table_slots self.new ≡
@@ -96,7 +95,7 @@ impl Table {
         }
     }
 
-    /// Gives slots to the names of expressions, one after another.
+    /// Gives slots to the names of expressions, in their order.
     #[cycle(adding)]
     #[tactic(auto, using(crate::proofs::TableLemmas::names_steps))]
     fn add_exprs(&mut self, list: &Vec<Expr>) -> Result<(), NoMemory>
@@ -157,7 +156,7 @@ impl Table {
         }
     }
 
-    /// Gives slots to the names of places, one after another.
+    /// Gives slots to the names of places, in their order.
     #[tactic(auto, using(crate::proofs::TableLemmas::names_none))]
     fn add_places(&mut self, places: &[Place]) -> Result<(), NoMemory>
         ensures { OnOk result (table_slots self.new ≡ with_names
@@ -169,7 +168,7 @@ impl Table {
         Ok(())
     }
 
-    /// Gives slots to the names of items, one after another.
+    /// Gives slots to the names of items, in their order.
     #[tactic(auto, using(crate::proofs::TableLemmas::names_none))]
     fn add_items(&mut self, items: &[Item]) -> Result<(), NoMemory>
         ensures { OnOk result (table_slots self.new ≡

@@ -23,6 +23,7 @@ pub mod PartUnique
 pub mod PositionLemmas
 pub mod QualifierLemmas
 pub mod RefusalLemmas
+pub mod Rows
 pub mod SourceLemmas
 pub mod StatementLemmas
 pub mod SubscriptReadings

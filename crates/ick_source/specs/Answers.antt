@@ -1,4 +1,4 @@
--- What the reader of a part answers.
+-- The answers of a reader of a part.
 use Rattle.std.specs.Prelude.{ℕ, ◌≡◌, List, Option, Some, None}
 use Rattle.ick_source.specs.declared.faults.Faults.{Faults}
 use Rattle.ick_source.specs.declared.parsed.Parsed.{Parsed}
@@ -6,18 +6,18 @@ use Rattle.ick_source.specs.declared.position.Position.{Position}
 use Rattle.ick_source.specs.Position.{left_at}
 use Rattle.ick_source.specs.Nonterminal.{Nonterminal}
 
--- a value stands there: clamped, with its numbers out of range
+-- a value is there: the reader clamps it, and answers its faults
 pub record IsParsed (N : Nonterminal) (from to : List ℕ) (seen : N.Clamped) (faults : Faults) : Type 0 where
   pub value : N.Value
   pub stands : N.stands from to value
   pub is_clamped : seen ≡ N.clamped value
   pub are_faults : faults ≡ N.faults value
 
--- nothing stands there
+-- nothing is there
 pub record IsAbsent (N : Nonterminal) (from : List ℕ) : Type 0 where
   pub nothing : (to : List ℕ) (x : N.Value) → N.stands from to x → ⊥
 
--- what was found is seen as what its value stands for
+-- the answer, with its value seen as the tree that it stands for
 abbrev pub Answers : (N : Nonterminal) → {T : Type 0} → (T → N.Clamped) → List ℕ → List ℕ →
     Option (Parsed T Position) → Type 0
 Answers N seen text from None = IsAbsent N from

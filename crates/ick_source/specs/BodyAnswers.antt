@@ -1,4 +1,4 @@
--- What the reader of a body at a byte of a text answers.
+-- The answers of the reader of a body at a byte of a text.
 use Rattle.std.specs.Prelude.{ℕ, ◌≡◌, List, Option, Some, None}
 use Rattle.ick_source.specs.declared.body.Body.{Body}
 use Rattle.ick_source.specs.declared.parsed.Parsed.{Parsed}
@@ -6,8 +6,8 @@ use Rattle.ick_source.specs.Clamped.{no_faults}
 use Rattle.ick_source.specs.BodyTree.{BodyTree, body_tree_of, clamped_body, faults_of_body}
 use Rattle.ick_source.specs.BodyBytes.{IsBodyIn, HasNoBody}
 
--- a body stands there, up to the end of what was parsed: it is clamped, with its numbers out of range, and exact
--- without any
+-- a body is there, up to the end of what was parsed: the reader clamps it, and answers its faults; without faults it
+-- is exact
 pub record IsParsedBody (s : List ℕ) (i : ℕ) (body : Parsed Body ℕ) : Type 0 where
   pub tree : BodyTree
   pub stands : IsBodyIn s i body.to tree

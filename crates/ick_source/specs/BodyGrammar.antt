@@ -1,5 +1,5 @@
--- The grammar of bodies. As in the grammar of expressions, `from` and `to` are positions, each as the characters that
--- are left there.
+-- The grammar of bodies (Revised Manual, 4.4). As in the grammar of expressions, the positions `from` and `to` are the
+-- characters that are left there.
 use Rattle.std.specs.Prelude.{ℕ, ◌≡◌, ◌≤◌, List, [], ◌∷◌, Some, None, codes}
 use Rattle.ick_source.specs.declared.tree.NameKind.{NameKind}
 use Rattle.ick_source.specs.declared.tree.NameKind.TheVariants.{Tail}
@@ -25,7 +25,7 @@ use Rattle.ick_source.specs.BodyTree.{reinstate_kinds, give_up, write_in, read_o
 abbrev pub Part : Type 0 → Type 1
 Part A = List ℕ → List ℕ → A → Type 0
 
--- one or more parts, with the word between them; a further part is there exactly where the word stands
+-- one or more parts, separated by this word; a further part follows exactly if the word does
 pub data IsSeparated (A : Type 0) (part : Part A) (separator : List ℕ) : List ℕ → List ℕ → List A →
     Type 0 where
   only : {from to : List ℕ} {x : A} →
@@ -38,19 +38,19 @@ pub data IsSeparated (A : Type 0) (part : Part A) (separator : List ℕ) : List 
       IsSeparated A part separator later to xs →
       IsSeparated A part separator from to (x ∷ xs)
 
--- an expression outside groups, of at most the height 256
+-- an expression outside groups, whose height is at most 256
 pub record IsWhole (from to : List ℕ) (t : Tree) : Type 0 where
   pub height : ℕ
   pub is_expr : IsExpr None from to t height
   pub low : height ≤ 256
 
--- an element outside groups, of at most the height 256
+-- an element outside groups, whose height is at most 256
 pub record IsWholeElement (from to : List ℕ) (t : Tree) : Type 0 where
   pub height : ℕ
   pub is_element : IsElement None from to t height
   pub low : height ≤ 256
 
--- a sigil of this sort with its number
+-- a sigil of this sort and its number
 pub record IsNamed (leads : NameKind → Lead) (from to : List ℕ) (x : Name) : Type 0 where
   pub begins : next_lead from ≡ leads x.kind
   pub number : IsNumber (past_lead from) to x.number
@@ -72,13 +72,13 @@ pub data IsTarget : List ℕ → List ℕ → Tree → Type 0 where
       IsWholeElement from to t →
       IsTarget from to t
 
--- a whole array: the name of a tail with no SUB after it
+-- a whole array: the name of a tail without SUB after it
 pub record IsTail (from to : List ℕ) (x : Name) : Type 0 where
   pub array : IsNamed Array from to x
   pub tail : x.kind ≡ Tail
   pub no_sub : (later : List ℕ) → IsWord (codes "SUB") to later → ⊥
 
--- what WRITE IN stores into
+-- a place that WRITE IN stores into
 pub data IsPlace : List ℕ → List ℕ → ItemTree → Type 0 where
   to_target : {from to : List ℕ} {t : Tree} →
       IsTarget from to t →
@@ -87,7 +87,7 @@ pub data IsPlace : List ℕ → List ℕ → ItemTree → Type 0 where
       IsTail from to x →
       IsPlace from to (whole x)
 
--- what READ OUT prints
+-- an item that READ OUT prints
 pub data IsItem : List ℕ → List ℕ → ItemTree → Type 0 where
   of_place : {from to : List ℕ} {x : ItemTree} →
       IsPlace from to x →
@@ -131,7 +131,7 @@ AreItems = IsSeparated ItemTree IsItem (codes "+")
 abbrev pub AreDimensions : Part (List Tree)
 AreDimensions = IsSeparated Tree IsWhole (codes "BY")
 
--- what follows each verb
+-- the rest of a body after its verb
 pub data IsAfter : Verb → List ℕ → List ℕ → BodyTree → Type 0 where
   forgets : {from to : List ℕ} {e : Tree} →
       IsWhole from to e →
@@ -202,7 +202,7 @@ pub record IsBody (from to : List ℕ) (b : BodyTree) : Type 0 where
   pub form : Form
   pub stands : IsBodyOf form from to b
 
--- an array with SUB after its name: the beginning of an element
+-- a name with SUB after it: the prefix of an element
 pub record HasSubscripts (from : List ℕ) : Type 0 where
   pub name : Name
   pub mid : List ℕ

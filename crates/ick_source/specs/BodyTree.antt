@@ -1,4 +1,4 @@
--- Bodies over numbers of any size, the one that a body of the program stands for, and what the program keeps of one.
+-- Bodies as trees, whose numbers may be of any size; the tree of a body of the program; and clamped bodies.
 use Rattle.std.specs.Prelude.{ℕ, Option, Some, None, List, [], ◌∷◌, map}
 use Rattle.ick_source.specs.declared.tree.Name.{Name}
 use Rattle.ick_source.specs.declared.faults.Faults.{Faults}
@@ -20,13 +20,13 @@ use Rattle.ick_source.specs.Tree.{Tree, mesh, scalar, element, tree_of, trees_in
 use Rattle.ick_source.specs.Clamped.{clamped, clamped_name, clamped_tree, no_faults, both_faults, name_faults}
 use Rattle.ick_source.specs.Clamped.{label_faults, faults_of}
 
--- what WRITE IN stores into and READ OUT prints: a scalar, an element or, for READ OUT alone, a mesh, each as a tree;
--- or a whole array, by its name
+-- a place of WRITE IN or an item of READ OUT: the tree of a scalar or an element, of a mesh for READ OUT alone, or the
+-- name of a whole array
 pub data ItemTree : Type 0 where
   single : Tree → ItemTree
   whole : Name → ItemTree
 
--- targets are trees: a scalar or an element
+-- a body; targets are trees of scalars or elements
 pub data BodyTree : Type 0 where
   calculate : Tree → Tree → BodyTree
   dimension : Name → List Tree → BodyTree
@@ -60,7 +60,7 @@ item_tree (ItemElement e) = single (element e.array (trees_in e.subs.items))
 item_tree (ItemMesh n) = single (mesh n)
 item_tree (ItemArray x) = whole x
 
--- the tree of a body that was recognised
+-- the tree of a recognised body
 abbrev pub body_tree_of : Body → Option BodyTree
 body_tree_of (Calculate t e) = Some (calculate (target_tree t) (tree_of e))
 body_tree_of (Dimension x es) = Some (dimension x (map tree_of es.items))

@@ -1,4 +1,4 @@
--- What the program keeps of a tree whose numbers may be out of range, and which of them are.
+-- Trees with clamped numbers, and the faults of numbers out of range.
 use Rattle.std.specs.Prelude.{ℕ, Bool, false, ◌||◌, nat_lt, nat_eq, min}
 use Rattle.ick_source.specs.declared.tree.Name.{Name}
 use Rattle.ick_source.specs.declared.faults.Faults.{Faults}
@@ -8,7 +8,7 @@ use Rattle.ick_source.specs.Tree.{Tree, mesh, scalar, element, unary, binary, Tr
 abbrev pub greatest : ℕ
 greatest = 65535
 
--- the greatest number for each above it
+-- the number, or the greatest if it is greater
 abbrev pub clamped : ℕ → ℕ
 clamped n = min n greatest
 
@@ -33,11 +33,11 @@ no_faults = record { mesh = false; name = false; label = false }
 abbrev pub both_faults : Faults → Faults → Faults
 both_faults a b = record { mesh = a.mesh || b.mesh; name = a.name || b.name; label = a.label || b.label }
 
--- above the greatest number
+-- the number of a mesh is above the greatest
 abbrev pub mesh_faults : ℕ → Faults
 mesh_faults n = record no_faults { mesh = nat_lt greatest n }
 
--- outside 1 to the greatest number
+-- the number is 0 or above the greatest
 abbrev pub is_outside : ℕ → Bool
 is_outside n = nat_eq n 0 || nat_lt greatest n
 

@@ -1,5 +1,5 @@
--- The grammar of expressions. `m` is the delimiter of the innermost open group; `from` and `to` are positions,
--- each as the characters that are left there; the number is the height. Each token may have white bytes before it.
+-- The grammar of expressions (Revised Manual, 3.4). `m` is the delimiter of the innermost open group. The positions
+-- `from` and `to` are the characters that are left there. The number is the height. White bytes may precede a token.
 use Rattle.std.specs.Prelude.{ℕ, suc, ◌≡◌, ◌≢◌, max, Bool, true, false, List, Option, Some, None}
 use Rattle.std.specs.Prelude.{codes}
 use Rattle.ick_source.specs.declared.tree.NameKind.{NameKind}
@@ -12,8 +12,7 @@ use Rattle.ick_source.specs.Position.{next_lead, past_lead}
 use Rattle.ick_source.specs.Token.{IsNumber, IsWord, unary_at, past_unary}
 use Rattle.ick_source.specs.Tree.{Tree, mesh, scalar, element, binary, Trees, none, more, under}
 
--- whether the group of the delimiter q may open where a further subscript may stand and the innermost open group has
--- the delimiter m
+-- whether a group of delimiter q may open as a further subscript if the innermost open group has the delimiter m
 abbrev pub may_open : Option Delimiter → Delimiter → Bool
 may_open None q = true
 may_open (Some Spark) Spark = false
@@ -21,7 +20,7 @@ may_open (Some Spark) Ears = true
 may_open (Some Ears) Spark = true
 may_open (Some Ears) Ears = false
 
--- whether a further subscript begins with this
+-- whether a further subscript may begin so
 abbrev pub begins_sub : Option Delimiter → Lead → Bool
 begins_sub m (Spot k) = true
 begins_sub m (Array k) = true
@@ -52,7 +51,7 @@ mutual
         IsElement m from to t h →
         IsOperand m from to t h
 
-  -- a spot or a mesh with its number, or a group; each may have a unary operator after its first character
+  -- a spot or a mesh and its number, or a group; each may have a unary operator after its first character
   pub data IsSimple : List ℕ → List ℕ → Tree → ℕ → Type 0 where
     spot : {from to : List ℕ} {kind : NameKind} {n : ℕ} →
         next_lead from ≡ Spot kind →
@@ -77,7 +76,7 @@ mutual
         IsSubs m sub to ts h →
         IsElement m from to (element (record { kind = kind; number = n }) ts) (suc h)
 
-  -- an element, which takes all that follows; or a simple and the rest
+  -- an element, which takes all further subscripts; or a simple and the rest
   pub data IsSubs : Option Delimiter → List ℕ → List ℕ → Trees → ℕ → Type 0 where
     nested : {m : Option Delimiter} {from to : List ℕ} {t : Tree} {h : ℕ} →
         IsElement m from to t h →
@@ -87,7 +86,7 @@ mutual
         IsRest m mid to ts k →
         IsSubs m from to (more t ts) (max j k)
 
-  -- nothing, or an element, or a further simple that doesn't begin with the delimiter m, and the rest
+  -- nothing; or an element; or a further simple, which doesn't begin with the delimiter m, and the rest
   pub data IsRest : Option Delimiter → List ℕ → List ℕ → Trees → ℕ → Type 0 where
     nothing : {m : Option Delimiter} {from : List ℕ} →
         begins_sub m (next_lead from) ≡ false →
@@ -101,7 +100,7 @@ mutual
         IsRest m mid to ts k →
         IsRest m from to (more t ts) (max j k)
 
--- two readings from one position are one
+-- two readings from one position are the same
 pub record IsSame (A : Type 0) (e e' : List ℕ) (x x' : A) (h h' : ℕ) : Type 0 where
   pub to : e ≡ e'
   pub tree : x ≡ x'

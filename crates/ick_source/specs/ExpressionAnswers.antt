@@ -1,4 +1,4 @@
--- What the readers of expressions and of their parts answer.
+-- The answers of the readers of expressions and of their parts.
 use Rattle.std.specs.Prelude.{ℕ, suc, max, ◌≡◌, ◌≤◌, List, Option, Some, None}
 use Rattle.std.specs.Global.{Vec}
 use Rattle.ick_source.specs.declared.faults.Faults.{Faults}
@@ -12,11 +12,11 @@ use Rattle.ick_source.specs.Tree.{Tree, Trees, under, join, tree_of, trees_in}
 use Rattle.ick_source.specs.Clamped.{clamped_tree, clamped_trees, faults_of, faults_in}
 use Rattle.ick_source.specs.Expression.{IsExpr}
 
--- what stands at a position: where it ends, its tree and its height
+-- a reading at a position: its end, its tree and its height
 abbrev pub Reading : Type 1
 Reading = List ℕ → Tree → ℕ → Type 0
 
--- a tree stands there, no higher than the limit: clamped, with its height and its numbers out of range
+-- a tree is there, no higher than the limit: the reader clamps it, and answers its height and its faults
 pub record Stands (R : Reading) (limit : ℕ) (to : List ℕ) (seen : Tree) (height : ℕ)
     (faults : Faults) : Type 0 where
   pub tree : Tree
@@ -25,7 +25,7 @@ pub record Stands (R : Reading) (limit : ℕ) (to : List ℕ) (seen : Tree) (hei
   pub is_clamped : seen ≡ clamped_tree tree
   pub are_faults : faults ≡ faults_of tree
 
--- no tree stands there that is no higher than the limit
+-- no tree of at most this height is there
 pub record HasNoTree (R : Reading) (limit : ℕ) : Type 0 where
   pub no_tree : (to : List ℕ) (t : Tree) (h : ℕ) → R to t h → h ≤ limit → ⊥
 
@@ -33,7 +33,7 @@ abbrev pub AnswersTree : Reading → ℕ → List ℕ → Option (Measured Expr)
 AnswersTree R limit text None = HasNoTree R limit
 AnswersTree R limit text (Some s) = Stands R limit (left_at text s.to) (tree_of s.value) s.height s.faults
 
--- a number and what is made of it, after the sigil
+-- a number after the sigil, and the tree that it makes
 pub record IsNumbered (leaf : ℕ → Tree) (past to : List ℕ) (t : Tree) (h : ℕ) : Type 0 where
   pub number : ℕ
   pub is_number : IsNumber (past_unary past) to number
@@ -51,7 +51,7 @@ pub record IsGroup (q : Delimiter) (past to : List ℕ) (t : Tree) (h : ℕ) : T
   pub tree : t ≡ under (unary_at past) inner
   pub height : h ≡ suc below
 
--- the same of subscripts: their trees and the greatest height
+-- the same for subscripts: their trees and their greatest height
 abbrev pub Readings : Type 1
 Readings = List ℕ → Trees → ℕ → Type 0
 
@@ -70,12 +70,12 @@ abbrev pub AnswersTrees : Readings → ℕ → List ℕ → Option (Measured (Ve
 AnswersTrees R limit text None = HasNoTrees R limit
 AnswersTrees R limit text (Some s) = AllStand R limit (left_at text s.to) (trees_in s.value.items) s.height s.faults
 
--- these after others
+-- these subscripts after others
 pub data GoesAfter (R : Readings) (others : Trees) (below : ℕ) : List ℕ → Trees → ℕ → Type 0 where
   after : {to : List ℕ} {ts : Trees} {h : ℕ} → R to ts h →
       GoesAfter R others below to (join others ts) (max below h)
 
--- whatever the subscripts before are, what is answered goes on from them
+-- the answer continues any subscripts that come before
 abbrev pub AnswersFrom : Readings → ℕ → List ℕ → Measured (Vec Expr) → Option (Measured (Vec Expr)) →
     Type 0
 AnswersFrom R limit text before answer =

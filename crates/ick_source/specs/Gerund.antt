@@ -5,7 +5,7 @@ use Rattle.ick_source.specs.declared.body.Gerund.TheVariants.{Calculating, Nexti
 use Rattle.ick_source.specs.declared.body.Gerund.TheVariants.{Retrieving, Ignoring, Remembering, Abstaining}
 use Rattle.ick_source.specs.declared.body.Gerund.TheVariants.{Reinstating, WritingIn, ReadingOut}
 
--- the word of a gerund, or the first of two words
+-- the word of a gerund, or the first of its two words
 abbrev pub gerund_word : Gerund → List ℕ
 gerund_word Calculating = codes "CALCULATING"
 gerund_word Nexting = codes "NEXTING"
@@ -20,7 +20,7 @@ gerund_word Reinstating = codes "REINSTATING"
 gerund_word WritingIn = codes "WRITING"
 gerund_word ReadingOut = codes "READING"
 
--- the second of two words
+-- the second of its two words
 abbrev pub second_word : Gerund → Option (List ℕ)
 second_word WritingIn = Some (codes "IN")
 second_word ReadingOut = Some (codes "OUT")

@@ -1,4 +1,4 @@
--- The kinds of statements, by their bodies.
+-- The kinds of statements, which their bodies decide.
 use Rattle.std.specs.Prelude.{ℕ, List, Option, Some, None, codes}
 use Rattle.ick_source.specs.declared.kinds.Kind.{Kind}
 use Rattle.ick_source.specs.declared.kinds.Kind.TheVariants.{Calculate, Next, Forget, Resume, Stash, Retrieve, Ignore}
@@ -49,7 +49,7 @@ named_kind Reinstating = Reinstate
 named_kind WritingIn = WriteIn
 named_kind ReadingOut = ReadOut
 
--- the word for it in a listing
+-- the word for a kind in a listing
 abbrev pub kind_word : Kind → List ℕ
 kind_word Calculate = codes "CALCULATE"
 kind_word Next = codes "NEXT"

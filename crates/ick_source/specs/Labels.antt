@@ -1,4 +1,4 @@
--- The labels that statements have, as a set.
+-- The set of the labels that statements have.
 use Rattle.std.specs.Prelude.{ℕ, ◌≤◌, List, IsTrue}
 use Rattle.std.specs.BTreeSet.{BTreeSet, contains}
 use Rattle.std.specs.Ordering.{nat_cmp}
@@ -9,7 +9,7 @@ use Rattle.ick_source.specs.declared.labels.LabelUse.TheVariants.{Next, Abstain}
 use Rattle.ick_source.specs.StatementTree.{StatementTree}
 use Rattle.ick_source.specs.Refusals.{HoldsAt, HasLabel}
 
--- the set has exactly the labels of the first so many statements
+-- the set has exactly the labels of the first `count` statements
 pub record HasLabels (trees : List StatementTree) (count : ℕ) (labels : BTreeSet ℕ) : Type 0 where
   pub only : (label : ℕ) → IsTrue (contains nat_cmp labels label) →
       (m : ℕ) × (m ≤ count) × HoldsAt (HasLabel label) trees m

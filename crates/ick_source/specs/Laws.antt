@@ -1,4 +1,4 @@
--- What holds of each text.
+-- Laws of every text.
 use Rattle.std.specs.Prelude.{◌≡◌, ℕ, ◌≤◌, List, length, Option}
 use Rattle.ick_bits.specs.declared.faults.FaultKind.{FaultKind}
 use Rattle.ick_source.specs.declared.lead.Delimiter.{Delimiter}
@@ -10,12 +10,12 @@ use Rattle.ick_source.specs.StatementTree.{StatementTree}
 use Rattle.ick_source.specs.Cut.{IsCut}
 use Rattle.ick_source.specs.Refusals.{Compiles, IsRefused, longest}
 
--- from one position, under one delimiter, at most one expression stands: one end, one tree, one height
+-- at most one expression begins at a position, under one delimiter: one end, one tree, one height
 abbrev pub OneReading : Type 0
 OneReading = (m : Option Delimiter) (from to to' : List ℕ) (t t' : Tree) (h h' : ℕ) →
     IsExpr m from to t h → IsExpr m from to' t' h' → IsSame Tree to to' t t' h h'
 
--- from one byte at most one body stands: one end, one tree
+-- at most one body begins at a byte: one end, one tree
 abbrev pub OneBody : Type 0
 OneBody = (text : List ℕ) (from to end : ℕ) (body other : BodyTree) →
     IsBodyIn text from to body → IsBodyIn text from end other → (to ≡ end) × (body ≡ other)
@@ -27,8 +27,8 @@ OneCut = (text : List ℕ) →
     × IsCut text trees
     × ((others : List StatementTree) → IsCut text others → others ≡ trees)
 
--- two programs of a text are the same, two refusals are the same, there is no program beside a refusal, and a text
--- that is not too long is not without both: it compiles or is refused
+-- any two programs of a text are the same, any two refusals are the same, and no text has both; a text that is not too
+-- long has one of the two
 pub record HasOneAnswer (text : List ℕ) : Type 0 where
   pub compiles : (trees others : List StatementTree) →
       Compiles text trees → Compiles text others → others ≡ trees

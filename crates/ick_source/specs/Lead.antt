@@ -1,4 +1,4 @@
--- What a byte begins.
+-- The part of an expression that a byte begins.
 use Rattle.std.specs.Prelude.{ℕ, nat_eq, if◌then◌else◌}
 use Rattle.ick_source.specs.declared.tree.NameKind.TheVariants.{Onespot, Twospot, Tail, Hybrid}
 use Rattle.ick_source.specs.declared.tree.UnaryOp.TheVariants.{And, Or, Xor}

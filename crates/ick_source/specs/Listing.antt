@@ -1,4 +1,4 @@
--- The lines of a program's statements.
+-- The listing of the statements of a program: a line for each (this profile).
 use Rattle.std.specs.Prelude.{ℕ, List, ◌++◌, Option, Some, None, codes, decimal, if◌then◌else◌}
 use Rattle.std.specs.List.{flat_map, enumerate_from}
 use Rattle.ick_bits.specs.Quoted.{quoted}
@@ -9,17 +9,21 @@ abbrev pub label_text : Option ℕ → List ℕ
 label_text None = codes "-"
 label_text (Some n) = codes "(" ++ decimal n ++ codes ")"
 
--- number, label, politeness, whether it is abstained from, chance, kind and text
-unfoldable pub line_of : ℕ → StatementTree → List ℕ
-line_of number t =
+-- number, label, PLEASE or DO, and NOT if the statement is abstained from
+abbrev pub front_of : ℕ → StatementTree → List ℕ
+front_of number t =
     decimal number
     ++ codes " " ++ label_text t.label
     ++ (if t.polite then codes " PLEASE" else codes " DO")
     ++ (if t.abstained then codes " NOT " else codes " - ")
-    ++ decimal t.chance
-    ++ codes " " ++ kind_word (kind_of t.body)
-    ++ codes " " ++ quoted t.text
-    ++ codes "\n"
+
+-- chance and kind
+abbrev pub chance_and_kind_of : StatementTree → List ℕ
+chance_and_kind_of t = decimal t.chance ++ codes " " ++ kind_word (kind_of t.body) ++ codes " "
+
+-- both of these, and the text in quotes
+unfoldable pub line_of : ℕ → StatementTree → List ℕ
+line_of number t = front_of number t ++ chance_and_kind_of t ++ quoted t.text ++ codes "\n"
 
 -- a line for each statement, numbered from 1
 unfoldable pub listing : List StatementTree → List ℕ

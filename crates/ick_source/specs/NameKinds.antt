@@ -1,6 +1,6 @@
--- What holds of the trees of each program: a scalar's name is a spot's, the name of an element and of a dimensioned
--- array is an array's, the name of an array that is read in or printed whole is a tail's, and a number of 32 bits
--- counts the subscripts or the dimensions of each list.
+-- Names of the right kinds in the trees of a program: scalars have names of spots, elements and dimensioned arrays have
+-- names of arrays, and whole arrays have names of tails. A number of 32 bits counts the subscripts or the dimensions of
+-- each list.
 use Rattle.std.specs.Prelude.{ℕ, suc, nat_lt, length, Bool, true, false, not, ◌&&◌, Option, Some, None}
 use Rattle.std.specs.List.{list_all}
 use Rattle.ick_source.specs.declared.tree.NameKind.{NameKind}
@@ -23,7 +23,7 @@ abbrev pub count_in : Trees → ℕ
 count_in none = 0
 count_in (more t ts) = suc (count_in ts)
 
--- fewer than numbers of 32 bits
+-- fewer than there are numbers of 32 bits
 abbrev pub are_few : Trees → Bool
 are_few ts = nat_lt (count_in ts) 4294967296
 
@@ -49,7 +49,7 @@ abbrev pub is_item_kinded : ItemTree → Bool
 is_item_kinded (single t) = is_kinded t
 is_item_kinded (whole name) = is_tail name.kind
 
--- a statement that is not recognised has no body
+-- an unrecognised statement has no body
 abbrev pub is_body_kinded : Option BodyTree → Bool
 is_body_kinded None = true
 is_body_kinded (Some (calculate target e)) = is_kinded target && is_kinded e

@@ -1,5 +1,4 @@
--- The parts of bodies as nonterminals: what stands for each, how it is clamped, and which of its numbers are out of
--- range.
+-- The parts of bodies as nonterminals of the grammar: the relation of each, its clamped value, and its faults.
 use Rattle.std.specs.Prelude.{ℕ, ◌≡◌, ◌<◌, List, Option, Some, length, map}
 use Rattle.ick_source.specs.declared.tree.Name.{Name}
 use Rattle.ick_source.specs.declared.faults.Faults.{Faults}
@@ -25,7 +24,7 @@ pub record Nonterminal : Type 1 where
   pub clamped : Value → Clamped
   pub faults : Value → Faults
 
--- one or more of these, with the word between them
+-- one or more of these, separated by this word
 abbrev pub listed : Nonterminal → List ℕ → Nonterminal
 listed N word = record {
   Value = List N.Value;
@@ -135,7 +134,7 @@ labels = record {
   faults = label_faults;
 }
 
--- what follows a verb
+-- the rest of a body after a verb
 abbrev pub after : Verb → Nonterminal
 after v = record {
   Value = BodyTree;
@@ -163,7 +162,7 @@ bodies = record {
   faults = faults_of_body;
 }
 
--- from one position at most one value, and one end
+-- at most one value at a position, with one end
 pub record IsSameEnd (A : Type 0) (e e' : List ℕ) (x x' : A) : Type 0 where
   pub to : e ≡ e'
   pub value : x ≡ x'

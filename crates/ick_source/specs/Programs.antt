@@ -1,4 +1,4 @@
--- The statements of a program, and what they say.
+-- The statements of a program, and their trees.
 use Rattle.std.specs.Prelude.{List}
 use Rattle.ick_source.specs.declared.programs.Program.{Program}
 use Rattle.ick_source.specs.declared.statements.Statement.{Statement}

@@ -1,11 +1,11 @@
--- The first statements whose numbers are out of range.
+-- The first statements that have numbers out of range.
 use Rattle.std.specs.Prelude.{◌≡◌, ℕ, ◌<◌, List, Option, Some, None}
 use Rattle.ick_bits.specs.declared.faults.FaultKind.TheVariants.{MeshTooLarge, NameRange, LabelRange}
 use Rattle.ick_source.specs.declared.ranges.OutOfRange.{OutOfRange}
 use Rattle.ick_source.specs.StatementTree.{StatementTree}
 use Rattle.ick_source.specs.Refusals.{IsFaultAt}
 
--- the least number of which this holds, or none where it holds of none
+-- the least number of which this holds, or None if it holds of none
 abbrev pub IsFirst : (ℕ → Type 0) → Option ℕ → Type 0
 IsFirst P None = (m : ℕ) → P m → ⊥
 IsFirst P (Some n) = P n × ((m : ℕ) → m < n → P m → ⊥)

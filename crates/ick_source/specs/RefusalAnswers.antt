@@ -1,4 +1,4 @@
--- What a refusal says of a text, and of its statements.
+-- The meaning of a refusal, for a text and for its statements.
 use Rattle.std.specs.Prelude.{◌≡◌, ℕ, ◌<◌, List, length}
 use Rattle.ick_bits.specs.declared.faults.FaultKind.{FaultKind}
 use Rattle.ick_source.specs.declared.refusals.Refusal.{Refusal}
@@ -6,7 +6,7 @@ use Rattle.ick_source.specs.declared.refusals.Refusal.TheVariants.{Fault, TooLon
 use Rattle.ick_source.specs.StatementTree.{StatementTree}
 use Rattle.ick_source.specs.Refusals.{Compiles, IsRefused, IsFirstFault, longest}
 
--- the text is refused with this fault and with no other, and compiles to nothing
+-- this fault is the only refusal of the text, which compiles to nothing
 pub record IsOnlyRefused (text : List ℕ) (kind : FaultKind) (n : ℕ) : Type 0 where
   pub refused : IsRefused text kind n
   pub only : (other : FaultKind) (m : ℕ) → IsRefused text other m → (other ≡ kind) × (m ≡ n)
@@ -17,13 +17,13 @@ Refuses text (Fault kind n) = IsOnlyRefused text kind n
 Refuses text TooLong = longest < length text
 Refuses text NoMemory = Unit {0}
 
--- what a refusal says of the statements that a text is cut into
+-- the meaning of a refusal for the statements of a text
 abbrev pub RefusesTrees : List StatementTree → Refusal → Type 0
 RefusesTrees trees (Fault kind n) = IsFirstFault trees kind n
 RefusesTrees trees TooLong = ⊥
 RefusesTrees trees NoMemory = Unit {0}
 
--- what a refusal says of a text that is not too long
+-- the meaning of a refusal for a text that is not too long
 abbrev pub RefusesFitting : List ℕ → Refusal → Type 0
 RefusesFitting text (Fault kind n) = IsRefused text kind n
 RefusesFitting text TooLong = ⊥

@@ -1,4 +1,4 @@
--- Which texts compile, to which statements, and which are refused.
+-- The texts that compile, their statements, and the texts that are refused.
 use Rattle.std.specs.Prelude.{◌≡◌, ℕ, zero, suc, ◌/◌, ◌<◌, ◌≤◌, List, length, slice_get, Option}
 use Rattle.std.specs.Prelude.{Some, None, option_and_then, IsSomeAnd, IsTrue}
 use Rattle.ick_bits.specs.declared.faults.FaultKind.{FaultKind}
@@ -11,7 +11,7 @@ use Rattle.ick_source.specs.BodyTree.{BodyTree, next, abstain_label, reinstate_l
 use Rattle.ick_source.specs.StatementFaults.{faults_of_statement}
 use Rattle.ick_source.specs.Cut.{IsCut}
 
--- the statement with this number, counted from 1, is such
+-- this holds of the statement with this number, counted from 1
 abbrev pub HoldsAt : (StatementTree → Type 0) → List StatementTree → ℕ → Type 0
 HoldsAt P trees zero = ⊥
 HoldsAt P trees (suc k) = IsSomeAnd (slice_get trees k) P
@@ -27,7 +27,7 @@ pub record IsSameLabelAt (trees : List StatementTree) (n : ℕ) : Type 0 where
   pub first : HoldsAt (HasLabel label) trees earlier
   pub again : HoldsAt (HasLabel label) trees n
 
--- the label of a statement that a body goes on to, or that it abstains from or reinstates
+-- the label that a body jumps to, or that it abstains from or reinstates
 abbrev pub used_label : LabelUse → BodyTree → Option ℕ
 used_label Next (next n) = Some n
 used_label Abstain (abstain_label n) = Some n
@@ -40,19 +40,19 @@ pub record IsLostAt (how : LabelUse) (trees : List StatementTree) (n : ℕ) : Ty
   pub uses : HoldsAt (λ t. option_and_then (used_label how) t.body ≡ Some label) trees n
   pub nowhere : (m : ℕ) → HoldsAt (HasLabel label) trees m → ⊥
 
--- this is the number of the last of at least three statements, and too few of them are polite
+-- the number is that of the last of at least three statements, of which too few are polite
 pub record IsImpoliteAt (trees : List StatementTree) (n : ℕ) : Type 0 where
   pub last : n ≡ length trees
   pub enough : 3 ≤ n
   pub few : polite_in trees < n / 5
 
--- this is the number of the last of at least three statements, and too many of them are polite
+-- the number is that of the last of at least three statements, of which too many are polite
 pub record IsFawningAt (trees : List StatementTree) (n : ℕ) : Type 0 where
   pub last : n ≡ length trees
   pub enough : 3 ≤ n
   pub many : n / 3 < polite_in trees
 
--- the statement with this number has a fault of this kind, of those that refuse a source
+-- the statement with this number has a fault of this kind, which refuses a source
 abbrev pub IsFaultAt : FaultKind → List StatementTree → ℕ → Type 0
 IsFaultAt MeshTooLarge trees n = HoldsAt (λ t. IsTrue (faults_of_statement t).mesh) trees n
 IsFaultAt NameRange trees n = HoldsAt (λ t. IsTrue (faults_of_statement t).name) trees n
@@ -64,7 +64,7 @@ IsFaultAt Impolite trees n = IsImpoliteAt trees n
 IsFaultAt Fawning trees n = IsFawningAt trees n
 IsFaultAt _ trees n = ⊥
 
--- the order in which faults are looked for: a kind with a lower rank comes first
+-- the order in which the reader seeks faults: a kind with a lower rank comes first
 abbrev pub rank : FaultKind → ℕ
 rank MeshTooLarge = 0
 rank NameRange = 1
@@ -76,25 +76,25 @@ rank Impolite = 6
 rank Fawning = 7
 rank _ = 8
 
--- no fault of a kind of lower rank stands in these statements
+-- these statements have no fault of a kind whose rank is below the limit
 pub record IsSoundBelow (limit : ℕ) (trees : List StatementTree) : Type 0 where
   pub none : (kind : FaultKind) (n : ℕ) → rank kind < limit → IsFaultAt kind trees n → ⊥
 
--- no fault that refuses a source stands in these statements
+-- these statements have no fault that refuses a source
 abbrev pub IsSound : List StatementTree → Type 0
 IsSound trees = (kind : FaultKind) (n : ℕ) → IsFaultAt kind trees n → ⊥
 
--- this is the first kind of fault that any of these statements has, at the first that has it
+-- the kind is the first that any of these statements has, and the number is that of the first statement that has it
 pub record IsFirstFault (trees : List StatementTree) (kind : FaultKind) (n : ℕ) : Type 0 where
   pub fault : IsFaultAt kind trees n
   pub first : (m : ℕ) → m < n → IsFaultAt kind trees m → ⊥
   pub least : IsSoundBelow (rank kind) trees
 
--- a source may have this many bytes
+-- the greatest length of a source, in bytes
 abbrev pub longest : ℕ
 longest = 1048576
 
--- a program has at most this many statements: each takes two bytes of its source at least
+-- the greatest number of statements of a program, each of which takes at least two bytes of the source
 abbrev pub most_statements : ℕ
 most_statements = 524288
 
@@ -104,7 +104,7 @@ pub record Compiles (text : List ℕ) (trees : List StatementTree) : Type 0 wher
   pub fits : length text ≤ longest
   pub sound : IsSound trees
 
--- the text is refused with this kind of fault, of the statement with this number
+-- the text is refused with this kind of fault, at the statement with this number
 pub record IsRefused (text : List ℕ) (kind : FaultKind) (n : ℕ) : Type 0 where
   pub trees : List StatementTree
   pub cut : IsCut text trees

@@ -1,4 +1,4 @@
--- What the reader of a source has read.
+-- The state of the reader of a source.
 use Rattle.std.specs.Prelude.{◌≡◌, ℕ, List, ◌++◌, length}
 use Rattle.ick_source.specs.declared.source.Reader.{Reader}
 use Rattle.ick_source.specs.Boundaries.{IsBoundary}
@@ -6,7 +6,7 @@ use Rattle.ick_source.specs.StatementTree.{StatementTree, statement_trees, AreNu
 use Rattle.ick_source.specs.Cut.{AreStatements, IsCut}
 use Rattle.ick_source.specs.Ranges.{AreFirst, IsEmpty}
 
--- what the reader has after it read these statements
+-- the state of the reader after these statements
 pub record HasRead (x : Reader) (trees : List StatementTree) : Type 0 where
   pub count : x.count ≡ length trees
   pub out_of_range : AreFirst x.out_of_range trees
@@ -15,7 +15,7 @@ pub record HasRead (x : Reader) (trees : List StatementTree) : Type 0 where
   pub numbers : AreNumbered x.statements.items
   pub same : IsEmpty x.out_of_range → statement_trees x.statements.items ≡ trees
 
--- the text up to a boundary is read: whatever the rest is cut into, the text is cut into these statements and the
+-- the reader has read the text up to a boundary: however the rest is cut, the text is cut into these statements and the
 -- rest
 pub record HasReadUpTo (text : List ℕ) (at : ℕ) (x : Reader) : Type 0 where
   pub front : List StatementTree
@@ -23,7 +23,7 @@ pub record HasReadUpTo (text : List ℕ) (at : ℕ) (x : Reader) : Type 0 where
   pub boundary : IsBoundary text at
   pub cut : (rest : List StatementTree) → AreStatements text at rest → IsCut text (front ++ rest)
 
--- the whole text is read
+-- the reader has read the whole text
 pub record HasReadAll (text : List ℕ) (x : Reader) : Type 0 where
   pub trees : List StatementTree
   pub reads : HasRead x trees

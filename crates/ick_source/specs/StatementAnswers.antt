@@ -1,4 +1,4 @@
--- What the reader of a statement answers.
+-- The answers of the reader of a statement.
 use Rattle.std.specs.Prelude.{◌≡◌, ℕ, List, Option, Some, None}
 use Rattle.ick_source.specs.declared.body.Body.{Body}
 use Rattle.ick_source.specs.declared.faults.Faults.{Faults}
@@ -16,7 +16,7 @@ pub record ReadsBody (body : Body) (found : Faults) (tree : Option BodyTree) : T
   pub faults : found ≡ faults_of_recognised tree
   pub same : found ≡ no_faults → body_tree_of body ≡ tree
 
--- a body that goes up to a boundary, which is the end of what was parsed
+-- a body that goes up to a boundary, which is the end that the reader answers
 pub record ReadsRecognised (text : List ℕ) (from : ℕ) (x : Parsed Body ℕ) : Type 0 where
   pub tree : BodyTree
   pub recognised : IsRecognised text from x.to tree
@@ -26,7 +26,7 @@ abbrev pub AnswersRecognised : List ℕ → ℕ → Option (Parsed Body ℕ) →
 AnswersRecognised text from None = (to : ℕ) (tree : BodyTree) → IsRecognised text from to tree → ⊥
 AnswersRecognised text from (Some x) = ReadsRecognised text from x
 
--- what stands after a head, up to the end of what was parsed
+-- the rest of a statement after its head, up to the end that the reader answers
 pub record EndsAt (text : List ℕ) (head : ℕ) (x : Parsed Body ℕ) : Type 0 where
   pub begin : ℕ
   pub body : Option BodyTree

@@ -1,9 +1,9 @@
--- What a statement says, with numbers of any size, and what the program's own values say.
+-- Statements as trees, whose numbers may be of any size, and the tree of a statement of the program.
 use Rattle.std.specs.Prelude.{◌≡◌, ℕ, ◌+◌, Bool, List, map, slice_get, count_by, Option, Some}
 use Rattle.ick_source.specs.declared.statements.Statement.{Statement}
 use Rattle.ick_source.specs.BodyTree.{BodyTree, body_tree_of}
 
--- a statement; its body is None where it is not recognised
+-- a statement; its body is None if it is unrecognised
 pub record StatementTree : Type 0 where
   pub label : Option ℕ
   pub polite : Bool

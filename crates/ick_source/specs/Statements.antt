@@ -16,16 +16,16 @@ pub record IsHead (text : List ℕ) (from to : ℕ) (tree : StatementTree) : Typ
   pub qualifiers : AreQualifiers text after to tree.abstained percentage
   pub chance : tree.chance ≡ unwrap_or percentage 100
 
--- a body and white bytes, up to a boundary; the body is one of its own bytes too: what follows a part of a body only
--- says that the part goes no further, and at the end of the bytes none does
+-- a body and white bytes, up to a boundary; the bytes after a part of a body only say that the part ends there, so the
+-- body alone is a body too
 pub record IsRecognised (text : List ℕ) (from to : ℕ) (tree : BodyTree) : Type 0 where
   pub last : ℕ
   pub body : IsBodyIn text from last tree
   pub gap : IsGap text last to
   pub boundary : IsBoundary text to
 
--- where a statement ends whose head ends at `head` and whose body begins at `from`: with its body and white bytes,
--- where it is recognised; else at the first boundary at or after the end of its head
+-- the end of a statement whose head ends at `head` and whose body begins at `from`: the end of its body and white bytes
+-- if the body is recognised, else the first boundary at or after the end of its head
 pub data Ends (text : List ℕ) (head from : ℕ) : ℕ → Option BodyTree → Type 0 where
   recognised : {to : ℕ} {tree : BodyTree} → IsRecognised text from to tree → Ends text head from to (Some tree)
   unrecognised : {to : ℕ} → ((end : ℕ) (tree : BodyTree) → IsRecognised text from end tree → ⊥) →
@@ -40,7 +40,7 @@ pub record IsTrimmed (text : List ℕ) (from to : ℕ) (bytes : List ℕ) : Type
   pub white : (at : ℕ) → last < at → at < to → IsWhite (byte text at)
   pub bytes_are : bytes ≡ slice_range text from (last + 1)
 
--- a statement: its head, white bytes, and a body that is recognised or not
+-- a statement: its head, white bytes, and a recognised or unrecognised body
 pub record IsStatement (text : List ℕ) (from to : ℕ) (tree : StatementTree) : Type 0 where
   pub head : ℕ
   pub begin : ℕ

@@ -1,7 +1,6 @@
--- Numbers, words and the sign of a unary operator, each after any white bytes, in the characters that are left at a
--- position. The cut has numbers and words of its own, between bytes of the whole text (Bytes): there their facts end in
--- `In`, and white bytes before them are a gap. Bodies need these, since one may go on between the two characters of a
--- `!`.
+-- Numbers, words and signs of unary operators, each after any white bytes, in the characters left at a position.
+-- The cut has numbers and words between byte positions (Bytes): the names of those facts end in `In`, and white bytes
+-- before them are a gap. Bodies need the facts here, because a part may end between the two characters of a `!`.
 use Rattle.std.specs.Prelude.{ℕ, min, ◌≡◌, ◌+◌, ◌-◌, ◌*◌, ◌^◌, ◌<◌, Bool, true, false}
 use Rattle.std.specs.Prelude.{◌&&◌, nat_le, List, [], ◌∷◌, ◌++◌, length, Option, Some, None}
 use Rattle.std.specs.List.{list_all}
@@ -22,7 +21,7 @@ unfoldable pub value_of_digits : List ℕ → ℕ
 value_of_digits [] = 0
 value_of_digits (d ∷ ds) = (d - 48) * 10 ^ length ds + value_of_digits ds
 
--- a number: one or more digits without white bytes between them, and all that stand there
+-- a number: all digits that follow, one or more, without white bytes between them
 pub data IsNumber (from : List ℕ) : List ℕ → ℕ → Type 0 where
   digits : {to : List ℕ} (ds : List ℕ) →
       past_white from ≡ ds ++ to →
@@ -39,7 +38,7 @@ abbrev pub unary_of : Lead → Option UnaryOp
 unary_of (Unary o) = Some o
 unary_of _ = None
 
--- the unary operator that stands there, if one does, and what is left after it
+-- the unary operator that comes next, if there is one, and the characters left after it
 abbrev pub unary_at : List ℕ → Option UnaryOp
 unary_at from = unary_of (next_lead from)
 
@@ -50,7 +49,7 @@ past_operator (Some o) from = past_lead from
 abbrev pub past_unary : List ℕ → List ℕ
 past_unary from = past_operator (unary_at from) from
 
--- numbers are read up to this one, which stands for every greater one
+-- the cap of numbers that are read, which replaces every greater number
 abbrev pub cap : ℕ
 cap = 65536
 

@@ -1,4 +1,4 @@
--- Expressions as trees over numbers of any size, and the tree of an expression of the program.
+-- Expressions as trees, whose numbers may be of any size, and the tree of an expression of the program.
 use Rattle.std.specs.Prelude.{ℕ, Option, Some, None, List, [], ◌∷◌}
 use Rattle.ick_source.specs.declared.tree.Name.{Name}
 use Rattle.ick_source.specs.declared.tree.UnaryOp.{UnaryOp}
@@ -18,7 +18,7 @@ mutual
     none : Trees
     more : Tree → Trees → Trees
 
--- the operator applied to the tree, where there is one
+-- the operator applied to the tree, if there is an operator
 abbrev pub under : Option UnaryOp → Tree → Tree
 under None t = t
 under (Some o) t = unary o t

@@ -5,25 +5,25 @@ ghost use Rattle.ick_source.specs.Gerund.{gerund_word, second_word};
 
 use crate::tree::{Element, Expr, Name};
 
-/// What a calculation stores into: a variable or an element of an array (Revised Manual, 4.4.1).
-#[derive(Debug, PartialEq, Eq, Drop)]
+/// The target of a calculation: a variable or an element of an array (Revised Manual, 4.4.1).
+#[derive(Debug, Drop)]
 pub enum Target {
     Scalar(Name),
     Element(Element),
 }
 
-/// What WRITE IN stores into: a variable, an element of an array (Revised Manual, 4.4.12), or a
-/// whole array, whose name is a tail's (5.2).
-#[derive(Debug, PartialEq, Eq, Drop)]
+/// A place that WRITE IN stores into: a variable, an element of an array (Revised Manual, 4.4.12),
+/// or a whole array, whose name is a tail's (5.2).
+#[derive(Debug, Drop)]
 pub enum Place {
     Scalar(Name),
     Element(Element),
     Array(Name),
 }
 
-/// What READ OUT prints: a variable, an element of an array, a mesh (Revised Manual, 4.4.13), or a
-/// whole array, whose name is a tail's (5.2).
-#[derive(Debug, PartialEq, Eq, Drop)]
+/// An item that READ OUT prints: a variable, an element of an array, a mesh (Revised Manual,
+/// 4.4.13), or a whole array, whose name is a tail's (5.2).
+#[derive(Debug, Drop)]
 pub enum Item {
     Scalar(Name),
     Element(Element),
@@ -31,10 +31,10 @@ pub enum Item {
     Array(Name),
 }
 
-/// The statements that an ABSTAIN or a REINSTATE by gerunds is for (Revised Manual, 4.4.9).
+/// A gerund, by which ABSTAIN and REINSTATE name statements of one kind (Revised Manual, 4.4.9).
 #[derive(Clone, Copy, Debug, PartialEq, Eq)]
 pub enum Gerund {
-    /// Calculate and dimension.
+    /// Names calculations and dimensionings.
     Calculating,
     Nexting,
     Forgetting,
@@ -43,16 +43,16 @@ pub enum Gerund {
     Retrieving,
     Ignoring,
     Remembering,
-    /// ABSTAIN of labels and of gerunds.
+    /// Names ABSTAIN from labels and from gerunds.
     Abstaining,
-    /// REINSTATE of labels and of gerunds.
+    /// Names REINSTATE of labels and of gerunds.
     Reinstating,
     WritingIn,
     ReadingOut,
 }
 
 impl Gerund {
-    /// All gerunds.
+    /// Lists all gerunds, each once.
     pub const ALL: [Gerund; 12] = [
         Gerund::Calculating,
         Gerund::Nexting,
@@ -68,7 +68,7 @@ impl Gerund {
         Gerund::ReadingOut,
     ];
 
-    /// Its word, or the first of its two words.
+    /// Returns the gerund's word, or the first of its two words, in capitals.
     pub fn word(self) -> &'static [u8]
         ensures { result.now ≡ gerund_word self }
     {
@@ -88,7 +88,7 @@ impl Gerund {
         }
     }
 
-    /// The second of its two words, where it has two.
+    /// Returns the second of the gerund's two words, or `None` if it has one word.
     pub fn second_word(self) -> Option<&'static [u8]>
         ensures { MatchOption result
             (second_word self ≡ None) (λ word. second_word self ≡ Some word.now) }
@@ -101,41 +101,43 @@ impl Gerund {
     }
 }
 
-/// What a statement does (Revised Manual, the sections named below, after INTERCAL-72).
-#[derive(Debug, PartialEq, Eq, Drop)]
+/// The body of a statement (Revised Manual, the sections named below, after INTERCAL-72).
+#[derive(Debug, Drop)]
 pub enum Body {
-    /// A value is stored (4.4.1).
+    /// Stores the value of an expression in a target (4.4.1).
     Calculate(Target, Expr),
-    /// An array gets its dimensions (4.4.1).
+    /// Gives an array its dimensions (4.4.1).
     Dimension(Name, Vec<Expr>),
-    /// The run goes on at the statement with this label, and may come back (4.4.2).
+    /// Pushes the return address and jumps to the statement with this label (4.4.2).
     Next(u16),
-    /// So many entries of the NEXT stack are dropped (4.4.3).
+    /// Drops as many entries of the NEXT stack as the expression says (4.4.3).
     Forget(Expr),
-    /// So many entries of the NEXT stack are taken off, and the run goes on at the last (4.4.4).
+    /// Pops as many entries of the NEXT stack as the expression says, and jumps to the last one
+    /// popped (4.4.4).
     Resume(Expr),
-    /// Values are put aside (4.4.5).
+    /// Pushes the values of these variables on their stashes (4.4.5).
     Stash(Vec<Name>),
-    /// Values that were put aside come back (4.4.6).
+    /// Pops the values of these variables off their stashes (4.4.6).
     Retrieve(Vec<Name>),
-    /// Variables keep their values from now on (4.4.7).
+    /// Makes these variables read-only (4.4.7).
     Ignore(Vec<Name>),
-    /// Variables may change again (4.4.8).
+    /// Makes these variables writable again (4.4.8).
     Remember(Vec<Name>),
-    /// The statement with this label is abstained from (4.4.9).
+    /// Abstains from the statement with this label (4.4.9).
     AbstainLabel(u16),
-    /// Statements of these kinds are abstained from (4.4.9).
+    /// Abstains from all statements of these kinds (4.4.9).
     AbstainKinds(Vec<Gerund>),
-    /// The statement with this label is done again (4.4.10).
+    /// Reinstates the statement with this label (4.4.10).
     ReinstateLabel(u16),
-    /// Statements of these kinds are done again (4.4.10).
+    /// Reinstates all statements of these kinds (4.4.10).
     ReinstateKinds(Vec<Gerund>),
-    /// The run ends (4.4.11).
+    /// Ends the run (4.4.11).
     GiveUp,
-    /// Values are read (4.4.12, 5.2).
+    /// Reads a value for each of these places (4.4.12, 5.2).
     WriteIn(Vec<Place>),
-    /// Values are printed (4.4.13, 5.2).
+    /// Prints each of these items (4.4.13, 5.2).
     ReadOut(Vec<Item>),
-    /// A body of no other form. The statement is kept, and is a fault only when it is done (4.5).
+    /// Has none of the other forms. The reader keeps the statement, which is a fault only when it
+    /// is executed (4.5).
     Unrecognised,
 }

@@ -1,4 +1,4 @@
-//! The body at a byte of a text.
+//! Reads the body that begins at a byte of a text.
 
 ghost use Rattle.std.specs.Prelude.{◌≡◌, ◌≤◌, ℕ, drop, length, IfOk, MatchOption};
 ghost use Rattle.ick_source.specs.BodyAnswers.{AnswersBody};
@@ -10,10 +10,10 @@ use crate::parsed::Parsed;
 use crate::position::Position;
 use std::alloc::{AllocError, Global};
 
-/// The body that begins at the byte `at`, of which there is at most one (Revised Manual, 4.4).
+/// Reads the one body that begins at the byte `at`, and the byte after it (Revised Manual, 4.4).
 ///
-/// `None` where no body stands there, or none that ends at a byte: a `!` is two characters, and
-/// what ends between them is no body (this profile).
+/// Returns `None` if no body begins there, or if the body ends between the two characters of a `!`
+/// (this profile). The error is a refused allocation.
 pub fn body_in(
     alloc: Global,
     text: &[u8],
@@ -35,7 +35,8 @@ pub fn body_in(
     }))
 }
 
-/// The byte from which on the same characters are left as at the position, if there is one.
+/// Returns the byte after which the text has the same characters left as after the position, or
+/// `None` if no byte is such.
 fn byte_position(text: &[u8], position: Position) -> Option<usize>
     ensures { MatchOption result
         ((j : ℕ) → j ≤ length text.now →
@@ -47,8 +48,8 @@ fn byte_position(text: &[u8], position: Position) -> Option<usize>
     if !position.between {
         return Some(at);
     }
-    // A `.` is left before the byte: it is a byte of its own unless it is the second character of a
-    // `!`.
+    // The position is before the second character of a `!`, a `.`. A byte `.` just before `at`
+    // leaves the same characters.
     if at > 0 && text[at - 1] == b'.' {
         return Some(at - 1);
     }

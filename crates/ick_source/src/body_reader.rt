@@ -1,4 +1,4 @@
-//! The readers of bodies: each by what it begins with, and none where no form of body stands.
+//! Readers of bodies. Each body has one form, which its first characters decide.
 
 ghost use Rattle.std.specs.Prelude.{IfOk};
 ghost use Rattle.ick_source.specs.Answers.{Answers};
@@ -19,7 +19,7 @@ use crate::token::word_at;
 use crate::verb::{Verb, verb_at};
 use std::alloc::{AllocError, Global};
 
-/// The body made of what was found, if something was.
+/// Makes a body of a part that was read, and returns `None` if no part was read.
 fn made<T: Drop, F: FnOnce(T) -> Body + Drop>(
     part: Option<Parsed<T, Position>>,
     make: F,
@@ -37,7 +37,7 @@ fn made<T: Drop, F: FnOnce(T) -> Body + Drop>(
     }
 }
 
-/// What follows ABSTAIN (Revised Manual, 4.4.9).
+/// Reads the rest of an ABSTAIN statement, after that word (Revised Manual, 4.4.9).
 fn abstain_at(
     alloc: Global,
     text: &[u8],
@@ -56,7 +56,7 @@ fn abstain_at(
     Ok(made(kinds, Body::AbstainKinds))
 }
 
-/// What follows REINSTATE (Revised Manual, 4.4.10).
+/// Reads the rest of a REINSTATE statement, after that word (Revised Manual, 4.4.10).
 fn reinstate_at(
     alloc: Global,
     text: &[u8],
@@ -72,7 +72,7 @@ fn reinstate_at(
     Ok(made(kinds, Body::ReinstateKinds))
 }
 
-/// What follows GIVE (Revised Manual, 4.4.11).
+/// Reads the rest of a GIVE UP statement, after `GIVE` (Revised Manual, 4.4.11).
 fn give_up_at(text: &[u8], from: Position) -> Option<Parsed<Body, Position>>
     ensures { Answers (after Verb.Give) body_tree_of text.now (left_at text.now from) result }
 {
@@ -84,7 +84,7 @@ fn give_up_at(text: &[u8], from: Position) -> Option<Parsed<Body, Position>>
     })
 }
 
-/// What follows WRITE (Revised Manual, 4.4.12 and 5.2).
+/// Reads the rest of a WRITE IN statement, after `WRITE` (Revised Manual, 4.4.12 and 5.2).
 fn write_in_at(
     alloc: Global,
     text: &[u8],
@@ -100,7 +100,7 @@ fn write_in_at(
     Ok(made(places, Body::WriteIn))
 }
 
-/// What follows READ (Revised Manual, 4.4.13 and 5.2).
+/// Reads the rest of a READ OUT statement, after `READ` (Revised Manual, 4.4.13 and 5.2).
 fn read_out_at(
     alloc: Global,
     text: &[u8],
@@ -116,7 +116,7 @@ fn read_out_at(
     Ok(made(items, Body::ReadOut))
 }
 
-/// What follows the verb.
+/// Reads the rest of a body after its verb.
 fn after_verb_at(
     alloc: Global,
     text: &[u8],
@@ -140,7 +140,7 @@ fn after_verb_at(
     }
 }
 
-/// A calculation: a target, `<-` and an expression (Revised Manual, 4.4.1).
+/// Reads a calculation: a target, `<-` and an expression (Revised Manual, 4.4.1).
 fn calculation_at(
     alloc: Global,
     text: &[u8],
@@ -165,7 +165,7 @@ fn calculation_at(
     }))
 }
 
-/// A dimensioning: an array, `<-` and its dimensions with `BY` between them (Revised Manual,
+/// Reads a dimensioning: an array, `<-` and its dimensions, separated by `BY` (Revised Manual,
 /// 4.4.1).
 fn dimensioning_at(
     alloc: Global,
@@ -194,7 +194,7 @@ fn dimensioning_at(
     }))
 }
 
-/// A label and NEXT (Revised Manual, 4.4.2).
+/// Reads a label and NEXT (Revised Manual, 4.4.2).
 fn call_at(text: &[u8], from: Position) -> Option<Parsed<Body, Position>>
     ensures { Answers (formed Form.Call) body_tree_of text.now (left_at text.now from) result }
 {
@@ -211,7 +211,7 @@ fn call_at(text: &[u8], from: Position) -> Option<Parsed<Body, Position>>
     })
 }
 
-/// A verb and what follows it.
+/// Reads a verb and the rest of its body.
 fn action_at(
     alloc: Global,
     text: &[u8],
@@ -226,8 +226,10 @@ fn action_at(
     after_verb_at(alloc, text, verb.value, verb.to)
 }
 
-/// The body at the position (Revised Manual, 4.4). The character after the part that was read last
-/// decides what is read next.
+/// Reads the body at the position, and the position after it (Revised Manual, 4.4).
+///
+/// The next character decides which part is read, so nothing is read twice. Returns `None` if no
+/// body begins there. The error is a refused allocation.
 pub fn body_at(
     alloc: Global,
     text: &[u8],

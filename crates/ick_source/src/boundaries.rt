@@ -1,4 +1,4 @@
-//! Where statements start and end.
+//! Finds the positions at which statements start and end (Revised Manual, 4.1 and 4.2).
 
 ghost use Rattle.std.specs.Prelude.{◌≡◌, ◌≤◌, ◌↔◌, length, IsTrue, IfSome};
 ghost use Rattle.ick_source.specs.Boundaries.{IsIdentifier, IsLabelIn, IsOpening, IsBoundary};
@@ -8,14 +8,15 @@ ghost use Rattle.ick_source.specs.HeadAnswers.{IsCapped, Scans, ReadsOpening};
 use crate::bytes::{after_white, byte_at, is_word_in, number_in};
 use crate::parsed::Scanned;
 
-/// What a statement begins with.
+/// The opening of a statement: its label, if it has one, and whether it says PLEASE.
 #[derive(Clone, Copy)]
 pub struct Start {
     pub label: Option<u32>,
     pub polite: bool,
 }
 
-/// The identifier here, whether it is polite, and the position after it.
+/// Reads `PLEASE DO`, `PLEASE` or `DO` at `at`: returns whether it is polite, and the position
+/// after it.
 fn identifier_at(text: &[u8], at: usize) -> Option<Scanned<bool, usize>>
     requires { at ≤ length text.now }
     ensures identifier { Scans (IsIdentifier text.now at) (λ x p. x ≡ p) result }
@@ -44,7 +45,7 @@ fn identifier_at(text: &[u8], at: usize) -> Option<Scanned<bool, usize>>
     }
 }
 
-/// The label here, and the position after it.
+/// Reads a label in parentheses at `at`: returns its number, capped, and the position after it.
 fn label_in(text: &[u8], at: usize) -> Option<Scanned<u32, usize>>
     requires { at ≤ length text.now }
     ensures label { Scans (IsLabelIn text.now at) IsCapped result }
@@ -64,7 +65,8 @@ fn label_in(text: &[u8], at: usize) -> Option<Scanned<u32, usize>>
     })
 }
 
-/// The opening of a statement here, and the position after it.
+/// Reads the opening of a statement at `at`, and the position after it. Returns `None` if no
+/// statement starts there.
 pub fn opening_at(text: &[u8], at: usize) -> Option<Scanned<Start, usize>>
     requires { at ≤ length text.now }
     ensures opening { Scans (λ to a. IsOpening text.now at to a.0 a.1) ReadsOpening result }
@@ -92,7 +94,7 @@ pub fn opening_at(text: &[u8], at: usize) -> Option<Scanned<Start, usize>>
     })
 }
 
-/// Whether a statement starts here, or the text ends.
+/// Returns whether a statement starts at `at`, or the text ends there.
 pub fn is_boundary(text: &[u8], at: usize) -> bool
     requires { at ≤ length text.now }
     ensures { IsTrue result ↔ IsBoundary text.now at }
@@ -100,7 +102,7 @@ pub fn is_boundary(text: &[u8], at: usize) -> bool
     at == text.len() || opening_at(text, at).is_some()
 }
 
-/// The first boundary from here on.
+/// Returns the first boundary at or after `from`.
 pub fn next_boundary(text: &[u8], from: usize) -> usize
     requires { from ≤ length text.now }
     ensures { IsNextBoundary text.now from result }

@@ -1,5 +1,5 @@
-//! The reader of expressions. What the next character begins decides each step: no part is tried in
-//! two ways.
+//! Readers of expressions (Revised Manual, 3.4). The next character decides each step, so no part
+//! is read in two ways.
 
 ghost use Rattle.std.specs.Prelude.{◌≡◌, ◌<◌, suc, max, IfOk, OnOk, IsTrue, ◌↔◌};
 ghost use Rattle.ick_source.specs.Position.{left_at};
@@ -19,7 +19,7 @@ use crate::token::{number_at, prefix_at, word_at};
 use crate::tree::{BinaryOp, Element, Expr, Name, NameKind, UnaryOp};
 use std::alloc::{AllocError, Global};
 
-/// The operator applied to the expression, where there is one.
+/// Applies the operator to the expression, if there is an operator.
 fn applied(alloc: Global, op: Option<UnaryOp>, expr: Expr) -> Result<Expr, AllocError>
     ensures { IfOk result (λ e. tree_of e ≡ under op (tree_of expr)) }
 {
@@ -29,14 +29,14 @@ fn applied(alloc: Global, op: Option<UnaryOp>, expr: Expr) -> Result<Expr, Alloc
     }
 }
 
-/// The element of the array at these subscripts.
+/// Makes the element of the array at these subscripts.
 fn indexed(array: Name, subs: Vec<Expr>) -> Expr
     ensures { tree_of result ≡ element array (trees_in subs.items) }
 {
     Expr::Element(Element { array, subs })
 }
 
-/// A spot after its sigil.
+/// Reads a variable of 16 or 32 bits after its sigil.
 fn spot_at(
     alloc: Global,
     text: &[u8],
@@ -63,7 +63,7 @@ fn spot_at(
     }))
 }
 
-/// A mesh after its sigil.
+/// Reads a mesh after its sigil.
 fn constant_at(
     alloc: Global,
     text: &[u8],
@@ -84,7 +84,7 @@ fn constant_at(
     }))
 }
 
-/// A group after its opening delimiter: an expression, and the delimiter that closes it.
+/// Reads a group after its opening delimiter: an expression, and the delimiter that closes it.
 #[cycle(reader)]
 fn group_at(
     alloc: Global,
@@ -112,7 +112,7 @@ fn group_at(
     }))
 }
 
-/// A spot, a mesh or a group.
+/// Reads a variable, a mesh or a group.
 #[cycle(reader)]
 fn simple_at(
     alloc: Global,
@@ -134,7 +134,7 @@ fn simple_at(
     }
 }
 
-/// An array, `SUB` and its subscripts.
+/// Reads an element: an array, `SUB` and its subscripts (Revised Manual, 3.3).
 #[cycle(reader)]
 pub fn element_at(
     alloc: Global,
@@ -174,7 +174,7 @@ pub fn element_at(
     }))
 }
 
-/// The subscripts of an element.
+/// Reads the subscripts of an element.
 #[cycle(reader)]
 fn subs_at(
     alloc: Global,
@@ -197,7 +197,7 @@ fn subs_at(
     rest_at(alloc, text, delimiter, limit, started(alloc, begun)?)
 }
 
-/// Goes on with further subscripts.
+/// Reads further subscripts, and appends them.
 #[cycle(reader)]
 fn rest_at(
     alloc: Global,
@@ -228,7 +228,7 @@ fn rest_at(
     }
 }
 
-/// An operand.
+/// Reads an operand: an element, a variable, a mesh or a group.
 #[cycle(reader)]
 fn operand_at(
     alloc: Global,
@@ -246,8 +246,10 @@ fn operand_at(
     }
 }
 
-/// The expression at the position: `delimiter` is the one of the innermost open group, `limit` the
-/// greatest height.
+/// Reads the expression at the position.
+///
+/// `delimiter` is that of the innermost open group, and `limit` the greatest height. Returns `None`
+/// if no expression of at most that height begins there. The error is a refused allocation.
 #[cycle(reader)]
 pub fn expr_at(
     alloc: Global,
@@ -274,7 +276,7 @@ pub fn expr_at(
     Ok(Some(joined(alloc, op, left, right)?))
 }
 
-/// Two sides and the operator between them.
+/// Joins two sides by the operator between them.
 fn joined(
     alloc: Global,
     op: BinaryOp,
@@ -299,7 +301,7 @@ fn joined(
     })
 }
 
-/// The list of one subscript.
+/// Makes the list of one subscript.
 fn started(alloc: Global, only: Measured<Expr>) -> Result<Measured<Vec<Expr>>, AllocError>
     ensures subs { IfOk result (λ s. trees_in s.value.items ≡ more (tree_of only.value) none) }
     ensures height { IfOk result (λ s. s.height ≡ only.height) }
@@ -316,7 +318,7 @@ fn started(alloc: Global, only: Measured<Expr>) -> Result<Measured<Vec<Expr>>, A
     })
 }
 
-/// Puts one more subscript at the end.
+/// Appends one more subscript.
 fn extend(all: &mut Measured<Vec<Expr>>, one: Measured<Expr>) -> Result<(), AllocError>
     ensures subs { OnOk result
         (trees_in all.new.value.items ≡
@@ -332,14 +334,14 @@ fn extend(all: &mut Measured<Vec<Expr>>, one: Measured<Expr>) -> Result<(), Allo
     Ok(())
 }
 
-/// Whether this is the delimiter.
+/// Returns whether a character closes the group of this delimiter.
 fn closes(delimiter: Delimiter, begins: Lead) -> bool
     ensures { IsTrue result ↔ (begins ≡ Lead.Group delimiter) }
 {
     begins == Lead::Group(delimiter)
 }
 
-/// Whether a further subscript begins so.
+/// Returns whether a further subscript may begin with such a character.
 fn may_begin_sub(delimiter: Option<Delimiter>, begins: Lead) -> bool
     ensures { result ≡ begins_sub delimiter begins }
 {

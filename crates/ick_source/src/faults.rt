@@ -1,14 +1,14 @@
-//! Numbers out of range, which are noted while a text is read.
+//! Numbers out of range, which the readers note while they read a text.
 
 ghost use Rattle.std.specs.Prelude.{◌≡◌};
 ghost use Rattle.ick_source.specs.Clamped.{clamped};
 
-/// The greatest number of a mesh, a variable and a label (Revised Manual, 3.1, 3.2 and 4.2).
+/// Bounds the number of a mesh, a variable and a label (Revised Manual, 3.1, 3.2 and 4.2).
 const GREATEST: u32 = 65_535;
 
-/// Which numbers out of range were read: a mesh above the greatest number, a variable's number or a
-/// label outside 1 to the greatest.
-#[derive(Clone, Copy, Debug, PartialEq, Eq)]
+/// The kinds of numbers out of range that a part has: a mesh above 65,535, a variable's number
+/// outside 1 to 65,535, or a label outside 1 to 65,535.
+#[derive(Clone, Copy)]
 pub struct Faults {
     pub mesh: bool,
     pub name: bool,
@@ -18,14 +18,14 @@ pub struct Faults {
 impl Faults {
     ghost use Rattle.ick_source.specs.Clamped.{both_faults, mesh_faults, name_faults, label_faults};
 
-    /// No number out of range.
+    /// Has no number out of range.
     pub const NONE: Faults = Faults {
         mesh: false,
         name: false,
         label: false,
     };
 
-    /// What stands in either of two parts.
+    /// Returns the faults that either of two parts has.
     pub fn union(self, other: Faults) -> Faults
         ensures { result ≡ both_faults self other }
     {
@@ -36,7 +36,7 @@ impl Faults {
         }
     }
 
-    /// Of a mesh with this number, capped.
+    /// Returns the faults of a mesh with this number, capped.
     pub fn of_mesh(number: u32) -> Faults
         ensures { result ≡ mesh_faults number }
     {
@@ -46,7 +46,7 @@ impl Faults {
         }
     }
 
-    /// Of a variable with this number, capped.
+    /// Returns the faults of a variable with this number, capped.
     pub fn of_name(number: u32) -> Faults
         ensures { result ≡ name_faults number }
     {
@@ -56,7 +56,7 @@ impl Faults {
         }
     }
 
-    /// Of a label with this number, capped.
+    /// Returns the faults of a label with this number, capped.
     pub fn of_label(number: u32) -> Faults
         ensures { result ≡ label_faults number }
     {
@@ -67,7 +67,7 @@ impl Faults {
     }
 }
 
-/// The number, and the greatest for each above it.
+/// Returns the number, or 65,535 if it is greater.
 pub fn clamped_number(number: u32) -> u16
     ensures { result ≡ clamped number }
 {

@@ -1,4 +1,4 @@
-//! The forms of bodies, told by what stands at their front.
+//! The forms of bodies, which their first characters decide.
 
 ghost use Rattle.std.specs.Prelude.{◌≡◌, ◌↔◌, ℕ, List, IsTrue};
 ghost use Rattle.ick_source.specs.BodyGrammar.{HasSubscripts, IsBodyOf};
@@ -11,19 +11,19 @@ use crate::position::{Position, lead_at};
 use crate::token::word_at;
 
 /// The form of a body.
-#[derive(Clone, Copy, Debug, PartialEq, Eq)]
+#[derive(Clone, Copy)]
 pub enum Form {
-    /// A value for a variable or an element.
+    /// Stores a value in a variable or an element.
     Calculation,
-    /// Dimensions for an array.
+    /// Gives an array its dimensions.
     Dimensioning,
-    /// A label and NEXT.
+    /// Has a label and NEXT.
     Call,
-    /// A verb and what follows it.
+    /// Begins with a verb.
     Action,
 }
 
-/// The only form that a body at the position can have.
+/// Returns the only form that a body at the position can have.
 pub fn form_at(text: &[u8], from: Position) -> Form
     ensures { (form : Form) (to : List ℕ) (b : BodyTree) →
         IsBodyOf form (left_at text.now from) to b → form ≡ result }
@@ -47,7 +47,7 @@ pub fn form_at(text: &[u8], from: Position) -> Form
     }
 }
 
-/// Whether a name with SUB stands at the position.
+/// Returns whether the text has a name and SUB at the position.
 fn has_subscripts(text: &[u8], from: Position) -> bool
     ensures { IsTrue result ↔ HasSubscripts (left_at text.now from) }
 {

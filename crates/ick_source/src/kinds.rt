@@ -1,4 +1,4 @@
-//! The kinds of statements.
+//! The kinds of statements, which their bodies decide.
 
 ghost use Rattle.std.specs.Prelude.{◌≡◌};
 ghost use Rattle.ick_source.specs.BodyTree.{body_tree_of};
@@ -6,10 +6,10 @@ ghost use Rattle.ick_source.specs.Kinds.{kind_of, kind_word, named_kind};
 
 use crate::body::{Body, Gerund};
 
-/// The kind of a statement, by its body.
+/// The kind of a statement (Revised Manual, 4.4).
 #[derive(Clone, Copy, Debug, PartialEq, Eq)]
 pub enum Kind {
-    /// Dimensions too.
+    /// Stores a value, or gives an array its dimensions.
     Calculate,
     Next,
     Forget,
@@ -27,7 +27,7 @@ pub enum Kind {
 }
 
 impl Kind {
-    /// The word for it in a listing.
+    /// Returns the word for the kind in a listing of statements (this profile).
     pub fn word(self) -> &'static [u8]
         ensures { result.now ≡ kind_word self }
     {
@@ -51,7 +51,7 @@ impl Kind {
 }
 
 impl Body {
-    /// Its kind.
+    /// Returns the kind of a statement with this body.
     pub fn kind(&self) -> Kind
         ensures { result ≡ kind_of (body_tree_of self.now) }
     {
@@ -78,7 +78,7 @@ impl Body {
 }
 
 impl Gerund {
-    /// The kind of the statements that it names.
+    /// Returns the kind of the statements that the gerund names (Revised Manual, 4.4.9).
     pub fn kind(self) -> Kind
         ensures { result ≡ named_kind self }
     {

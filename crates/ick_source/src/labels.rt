@@ -1,4 +1,4 @@
-//! The labels of statements: each of one statement only, and each one that is used there.
+//! Checks that no two statements have one label, and that every label in use is a statement's.
 
 ghost use Rattle.std.specs.Prelude.{◌≡◌, ◌+◌, length, Option, option_and_then, IfOk};
 ghost use Rattle.std.specs.Prelude.{IfErr, OnOk};
@@ -15,17 +15,17 @@ use ick_bits::FaultKind;
 use std::alloc::Global;
 use std::collections::BTreeSet;
 
-/// What a body uses a label for.
+/// The use that a body makes of a label.
 #[derive(Clone, Copy)]
 pub enum LabelUse {
-    /// The run goes on there.
+    /// Jumps to the statement.
     Next,
-    /// The statement is abstained from or reinstated.
+    /// Abstains from the statement, or reinstates it.
     Abstain,
 }
 
 impl LabelUse {
-    /// The fault of a label that no statement has.
+    /// Returns the fault of such a use if no statement has the label.
     fn fault(self) -> FaultKind
         ensures { result ≡ fault_of_use self }
     {
@@ -35,7 +35,7 @@ impl LabelUse {
         }
     }
 
-    /// The label that a body uses so.
+    /// Returns the label that a body uses in this way.
     fn label(self, body: &Body) -> Option<u16>
         ensures { result ≡ option_and_then (used_label self) (body_tree_of body.now) }
     {
@@ -48,7 +48,8 @@ impl LabelUse {
     }
 }
 
-/// The labels of the statements. Refuses the first statement with a label that an earlier one has.
+/// Collects the labels of the statements. Refuses the first statement whose label an earlier one
+/// has.
 pub fn labels_of(alloc: Global, statements: &[Statement<'_>]) -> Result<BTreeSet<u16>, Refusal>
     requires numbered { AreNumbered statements.now }
     requires earlier { IsSoundBelow (rank FaultKind.SameLabel) (statement_trees statements.now) }
@@ -70,7 +71,7 @@ pub fn labels_of(alloc: Global, statements: &[Statement<'_>]) -> Result<BTreeSet
     Ok(labels)
 }
 
-/// Refuses the first statement that uses a label which no statement has.
+/// Refuses the first statement that uses a label in this way if no statement has that label.
 pub fn check_use(
     how: LabelUse,
     statements: &[Statement<'_>],

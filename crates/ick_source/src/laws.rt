@@ -1,24 +1,25 @@
-//! What holds of each text: each function does nothing, and its contract is the law.
+//! Laws of every text. Each function does nothing, and its contract states the law.
 
 ghost use Rattle.ick_source.specs.Laws.{OneBody, OneCut, OneReading, OneRefusal};
 
-/// From one position, under one delimiter, at most one expression stands.
+/// States that at most one expression begins at a position, under one innermost delimiter, with one
+/// end, one tree and one height (Revised Manual, 3.4; this profile).
 pub fn one_reading()
     ensures { OneReading }
 {}
 
-/// From one byte at most one body stands.
+/// States that at most one body begins at a byte, with one end and one tree (Revised Manual, 4.4).
 pub fn one_body()
     ensures { OneBody }
 {}
 
-/// Each text has exactly one cut.
+/// States that every text has exactly one cut into statements (this profile).
 pub fn one_cut()
     ensures { OneCut }
 {}
 
-/// Each text compiles to one list of statements at most, is refused with one kind of fault at one
-/// statement at most, and never both; one that is not too long compiles or is refused.
+/// States that a text compiles to at most one list of statements, has at most one refusal, and
+/// never has both. A text of at most 1,048,576 bytes has one of the two.
 pub fn one_refusal()
     ensures { OneRefusal }
 {}

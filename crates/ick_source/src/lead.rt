@@ -1,12 +1,12 @@
-//! What a byte begins.
+//! The part of an expression that a byte begins.
 
 ghost use Rattle.std.specs.Prelude.{◌≡◌};
 ghost use Rattle.ick_source.specs.Lead.{lead_of};
 
 use crate::tree::{BinaryOp, NameKind, UnaryOp};
 
-/// What opens and closes a group.
-#[derive(Clone, Copy, Debug, PartialEq, Eq)]
+/// The delimiter of a group (Revised Manual, 3.4.3).
+#[derive(Clone, Copy, PartialEq, Eq)]
 pub enum Delimiter {
     /// `'`
     Spark,
@@ -14,24 +14,24 @@ pub enum Delimiter {
     Ears,
 }
 
-/// What a byte begins in an expression.
-#[derive(Clone, Copy, Debug, PartialEq, Eq)]
+/// The part of an expression that a byte begins.
+#[derive(Clone, Copy, PartialEq, Eq)]
 pub enum Lead {
-    /// A variable of this kind: `.` or `:`.
+    /// Begins a variable of this kind: `.` or `:`.
     Spot(NameKind),
-    /// An array of this kind: `,` or `;`.
+    /// Begins an array of this kind: `,` or `;`.
     Array(NameKind),
-    /// A mesh: `#`.
+    /// Begins a mesh: `#`.
     Hash,
-    /// A group of this delimiter, or its end.
+    /// Opens or closes a group of this delimiter.
     Group(Delimiter),
     Unary(UnaryOp),
     Binary(BinaryOp),
-    /// Nothing of an expression.
+    /// Is no part of an expression.
     Other,
 }
 
-/// What the byte begins.
+/// Returns the part of an expression that the byte begins.
 #[tactic(auto, unfolding(crate::specs::Lead::lead_of))]
 pub fn begun_by(byte: u8) -> Lead
     ensures { result ≡ lead_of byte }

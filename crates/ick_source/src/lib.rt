@@ -1,28 +1,27 @@
-//! The reader of a source text: which statements it is cut into, or why it is refused.
+//! Reads a source text: cuts it into statements and recognises their bodies, or refuses it.
 //!
-//! What a program is:
+//! Programs:
 //!
-//! - `tree`, `body`: expressions, and what a statement does
+//! - `tree`, `body`: expressions and bodies
 //! - `statements`, `programs`: a statement, and the statements of a source in their order
-//! - `kinds`, `listing`: the kinds of statements, and their lines
+//! - `kinds`, `listing`: the kinds of statements, and the lines of a listing
 //!
-//! What stands at a position of a text:
+//! Readers at a position of a text:
 //!
-//! - `bytes`, `boundaries`, `qualifiers`: bytes, where statements may start and end, and their
-//!   heads
+//! - `bytes`, `boundaries`, `qualifiers`: bytes, starts and ends of statements, and their heads
 //! - `lead`, `position`, `token`: characters, numbers and words, with `!` as two characters
 //! - `expression`: expressions and elements
-//! - `parsed`, `part`, `list`: what readers answer, the parts of bodies, and lists of them
+//! - `parsed`, `part`, `list`: answers of readers, the parts of bodies, and lists of parts
 //! - `verb`, `form`, `body_reader`, `body_bytes`: bodies
 //! - `statement_reader`: a statement
 //! - `source`: the whole of a text
 //!
-//! What refuses a text:
+//! Refusals:
 //!
-//! - `refusals`: the answers
-//! - `faults`, `ranges`, `labels`, `politeness`: numbers out of range, labels, and good manners
+//! - `refusals`: the reasons
+//! - `faults`, `ranges`, `labels`, `politeness`: numbers out of range, labels, and politeness
 //!
-//! `laws` says what holds of each text.
+//! `laws` states laws of every text.
 #![tactic(auto)]
 
 mod body;

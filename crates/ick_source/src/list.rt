@@ -1,4 +1,4 @@
-//! The readers of the lists in bodies.
+//! Readers of the lists in bodies.
 
 ghost use Rattle.std.specs.Prelude.{IfOk, codes, map};
 ghost use Rattle.ick_source.specs.Answers.{Answers};
@@ -17,7 +17,7 @@ use crate::token::word_at;
 use crate::tree::{Expr, Name};
 use std::alloc::{AllocError, Global};
 
-/// The parts at the position, with the word between them.
+/// Reads one or more parts, separated by this word.
 fn list_at<P: Part>(
     alloc: Global,
     text: &[u8],
@@ -50,7 +50,7 @@ fn list_at<P: Part>(
     }
 }
 
-/// The names at the position, with `+` between them.
+/// Reads one or more names, separated by `+`.
 pub fn names_at(
     alloc: Global,
     text: &[u8],
@@ -63,7 +63,7 @@ pub fn names_at(
     list_at(alloc, text, b"+", from)
 }
 
-/// The gerunds at the position, with `+` between them.
+/// Reads one or more gerunds, separated by `+`.
 pub fn gerunds_at(
     alloc: Global,
     text: &[u8],
@@ -76,7 +76,7 @@ pub fn gerunds_at(
     list_at(alloc, text, b"+", from)
 }
 
-/// What WRITE IN stores into, from the position on, with `+` between them.
+/// Reads one or more places of WRITE IN, separated by `+`.
 pub fn places_at(
     alloc: Global,
     text: &[u8],
@@ -89,7 +89,7 @@ pub fn places_at(
     list_at(alloc, text, b"+", from)
 }
 
-/// The items at the position, with `+` between them.
+/// Reads one or more items of READ OUT, separated by `+`.
 pub fn items_at(
     alloc: Global,
     text: &[u8],
@@ -102,7 +102,7 @@ pub fn items_at(
     list_at(alloc, text, b"+", from)
 }
 
-/// The dimensions at the position, with `BY` between them.
+/// Reads one or more dimensions, separated by `BY`.
 pub fn dimensions_at(
     alloc: Global,
     text: &[u8],

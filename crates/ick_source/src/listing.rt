@@ -1,21 +1,22 @@
-//! The lines of a program's statements.
+//! Appends a line for each statement of a program.
 
 ghost use Rattle.std.specs.Prelude.{◌≡◌, ◌+◌, ◌<◌, ◌≤◌, ◌++◌, length, take};
 ghost use Rattle.std.specs.Prelude.{codes, if◌then◌else◌, OnOk, OnErr, vec_len, vec_capacity};
 ghost use Rattle.ick_source.specs.StatementTree.{statement_tree_of, statement_trees, AreNumbered};
 ghost use Rattle.ick_source.specs.Programs.{trees_of};
-ghost use Rattle.ick_source.specs.Listing.{label_text, line_of, listing};
+ghost use Rattle.ick_source.specs.Listing.{label_text, front_of, chance_and_kind_of, line_of};
+ghost use Rattle.ick_source.specs.Listing.{listing};
 
 use crate::programs::Program;
 use crate::statements::Statement;
 use ick_bits::{NoMemory, append_decimal, append_quoted};
 
-/// Appends a line for each statement (this profile): its number, its label in parentheses or `-`,
-/// `PLEASE` or `DO`, `NOT` where it is abstained from at the start or `-`, its chance, its kind,
-/// and its text in quotes.
+/// Appends a line for each statement of the program, in the order of the source (this profile).
 ///
-/// The answer is `NoMemory` only where `out` had no room for all lines and could not grow; `out` is
-/// then unchanged.
+/// A line has the statement's number, its label in parentheses or `-`, `PLEASE` or `DO`, `NOT` or
+/// `-`, its chance, its kind, and its text in quotes. `NOT` says that the statement is abstained
+/// from at the start. Refuses with `NoMemory` only if `out` has no room for all lines and can't
+/// grow. The bytes of `out` are then unchanged.
 pub fn append_listing(out: &mut Vec<u8>, program: &Program<'_>) -> Result<(), NoMemory>
     ensures ok { OnOk result (out.new.items ≡ out.old.items ++ listing (trees_of program.now)) }
     ensures err { OnErr result (out.new.items ≡ out.old.items) }
@@ -31,7 +32,7 @@ pub fn append_listing(out: &mut Vec<u8>, program: &Program<'_>) -> Result<(), No
     appended
 }
 
-/// Appends the lines, or a beginning of them where memory is refused.
+/// Appends the lines, or a prefix of them when out of memory.
 fn push_lines(out: &mut Vec<u8>, statements: &[Statement<'_>]) -> Result<(), NoMemory>
     requires { AreNumbered statements.now }
     ensures ok { let text = listing (statement_trees statements.now) in
@@ -47,7 +48,7 @@ fn push_lines(out: &mut Vec<u8>, statements: &[Statement<'_>]) -> Result<(), NoM
     Ok(())
 }
 
-/// Appends the line of a statement, or a beginning of it where memory is refused.
+/// Appends the line of a statement, or a prefix of it when out of memory.
 #[tactic(auto, unfolding(crate::specs::Listing::line_of))]
 fn push_line(out: &mut Vec<u8>, statement: &Statement<'_>) -> Result<(), NoMemory>
     ensures ok { let line = line_of statement.now.number (statement_tree_of statement.now) in
@@ -57,35 +58,61 @@ fn push_line(out: &mut Vec<u8>, statement: &Statement<'_>) -> Result<(), NoMemor
         OnErr result (vec_capacity out.old < vec_len out.old + length line) }
     ensures capacity { vec_capacity out.old ≤ vec_capacity out.new }
 {
-    append_decimal(out, u64::from(statement.number))?;
-    out.extend_from_slice(b" ")?;
-    push_label(out, statement.label)?;
-    out.extend_from_slice(polite_word(statement.polite))?;
-    out.extend_from_slice(abstained_word(statement.abstained))?;
-    append_decimal(out, u64::from(statement.chance))?;
-    out.extend_from_slice(b" ")?;
-    out.extend_from_slice(statement.body.kind().word())?;
-    out.extend_from_slice(b" ")?;
+    push_front(out, statement)?;
+    push_chance_and_kind(out, statement)?;
     append_quoted(out, statement.text)?;
     out.extend_from_slice(b"\n")?;
     Ok(())
 }
 
-/// How polite a statement is, after a space.
+/// Appends a statement's number, its label, `PLEASE` or `DO`, and `NOT` or `-`.
+fn push_front(out: &mut Vec<u8>, statement: &Statement<'_>) -> Result<(), NoMemory>
+    ensures ok { let text = front_of statement.now.number (statement_tree_of statement.now) in
+        OnOk result (out.new.items ≡ out.old.items ++ text) }
+    ensures err { OnErr result (take (vec_len out.old) out.new.items ≡ out.old.items) }
+    ensures full { let text = front_of statement.now.number (statement_tree_of statement.now) in
+        OnErr result (vec_capacity out.old < vec_len out.old + length text) }
+    ensures capacity { vec_capacity out.old ≤ vec_capacity out.new }
+{
+    append_decimal(out, u64::from(statement.number))?;
+    out.extend_from_slice(b" ")?;
+    push_label(out, statement.label)?;
+    out.extend_from_slice(polite_word(statement.polite))?;
+    out.extend_from_slice(abstained_word(statement.abstained))?;
+    Ok(())
+}
+
+/// Appends a statement's chance and its kind, each with a space after it.
+fn push_chance_and_kind(out: &mut Vec<u8>, statement: &Statement<'_>) -> Result<(), NoMemory>
+    ensures ok { let text = chance_and_kind_of (statement_tree_of statement.now) in
+        OnOk result (out.new.items ≡ out.old.items ++ text) }
+    ensures err { OnErr result (take (vec_len out.old) out.new.items ≡ out.old.items) }
+    ensures full { let text = chance_and_kind_of (statement_tree_of statement.now) in
+        OnErr result (vec_capacity out.old < vec_len out.old + length text) }
+    ensures capacity { vec_capacity out.old ≤ vec_capacity out.new }
+{
+    append_decimal(out, u64::from(statement.chance))?;
+    out.extend_from_slice(b" ")?;
+    out.extend_from_slice(statement.body.kind().word())?;
+    out.extend_from_slice(b" ")?;
+    Ok(())
+}
+
+/// Returns `PLEASE` or `DO`, after a space.
 fn polite_word(polite: bool) -> &'static [u8]
     ensures { result.now ≡ (if polite then codes " PLEASE" else codes " DO") }
 {
     if polite { b" PLEASE" } else { b" DO" }
 }
 
-/// Whether a statement is abstained from, between spaces.
+/// Returns `NOT` or `-`, between spaces.
 fn abstained_word(abstained: bool) -> &'static [u8]
     ensures { result.now ≡ (if abstained then codes " NOT " else codes " - ") }
 {
     if abstained { b" NOT " } else { b" - " }
 }
 
-/// Appends a label in parentheses, or `-` where there is none.
+/// Appends a label in parentheses, or `-` if there is none.
 fn push_label(out: &mut Vec<u8>, label: Option<u16>) -> Result<(), NoMemory>
     ensures ok { OnOk result (out.new.items ≡ out.old.items ++ label_text label) }
     ensures err { OnErr result (take (vec_len out.old) out.new.items ≡ out.old.items) }

@@ -1,20 +1,20 @@
-//! What a reader answers: what it read, and the position after it.
+//! Answers of readers: a value, and the position after it.
 //!
-//! Positions are of two kinds: the cut counts bytes, by a `usize`, and the grammar characters, by a
-//! `Position`.
+//! The cut has byte positions, of type `usize`. The grammar has positions between characters, of
+//! type `Position`.
 
 use crate::faults::Faults;
 use crate::position::Position;
 
-/// What was read of the text itself, and the position after it.
+/// A value that the text itself spells, and the position after it.
 #[derive(Drop)]
 pub struct Scanned<T, P> {
     pub value: T,
     pub to: P,
 }
 
-/// What was made of it, the position after it, and which of its numbers are out of range. Where one
-/// is, the value is not the text's.
+/// A value, the position after it, and the faults of its numbers. A number out of range is clamped
+/// in the value.
 #[derive(Drop)]
 pub struct Parsed<T, P> {
     pub value: T,
@@ -22,7 +22,7 @@ pub struct Parsed<T, P> {
     pub faults: Faults,
 }
 
-/// A part of an expression, with its height.
+/// A part of an expression: its value, its height, the position after it, and its faults.
 #[derive(Drop)]
 pub struct Measured<T> {
     pub value: T,

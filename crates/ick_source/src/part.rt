@@ -1,5 +1,5 @@
-//! The readers of the parts of bodies: names, targets, places, items, gerunds, labels, and
-//! expressions outside groups.
+//! Readers of the parts of bodies: names, targets, places, items, gerunds, labels, and expressions
+//! outside groups.
 
 ghost use Rattle.std.specs.Prelude.{◌≡◌, ℕ, List, IfOk, MatchOption};
 ghost use Rattle.ick_source.specs.Answers.{Answers};
@@ -21,16 +21,16 @@ use crate::token::{number_at, word_at};
 use crate::tree::{Expr, Name, NameKind};
 use std::alloc::{AllocError, Global};
 
-/// The greatest height of an expression, and of an element (this profile).
+/// Bounds the height of an expression and of an element (this profile).
 pub const MAX_HEIGHT: u16 = 256;
 
-/// A part of a body, of which there may be a list.
+/// A part of a body that may stand in a list.
 pub trait Part: Drop {
     ghost nonterminal: { Nonterminal };
 
     ghost seen: { Self → nonterminal.Clamped };
 
-    /// The part at the position.
+    /// Reads the part at the position, and the position after it.
     fn read_at(
         alloc: Global,
         text: &[u8],
@@ -39,7 +39,7 @@ pub trait Part: Drop {
         ensures { IfOk result (Answers nonterminal seen text.now (left_at text.now from)) };
 }
 
-/// The expression at the position, outside groups (Revised Manual, 3.4).
+/// Reads the expression at the position, outside groups (Revised Manual, 3.4).
 pub fn whole_at(
     alloc: Global,
     text: &[u8],
@@ -57,7 +57,7 @@ pub fn whole_at(
     }))
 }
 
-/// The element at the position, outside groups (Revised Manual, 3.3).
+/// Reads the element at the position, outside groups (Revised Manual, 3.3).
 pub fn whole_element_at(
     alloc: Global,
     text: &[u8],
@@ -78,7 +78,7 @@ pub fn whole_element_at(
     }))
 }
 
-/// The name at the position, of a variable or of an array (Revised Manual, 3.1 and 3.3).
+/// Reads the name of a variable or an array at the position (Revised Manual, 3.1 and 3.3).
 pub fn name_at(text: &[u8], from: Position) -> Option<Parsed<Name, Position>>
     ensures { Answers names (λ name. name) text.now (left_at text.now from) result }
 {
@@ -99,7 +99,7 @@ pub fn name_at(text: &[u8], from: Position) -> Option<Parsed<Name, Position>>
     })
 }
 
-/// The target at the position: a variable or an element.
+/// Reads the target at the position: a variable or an element (Revised Manual, 4.4.1).
 pub fn target_at(
     alloc: Global,
     text: &[u8],
@@ -120,7 +120,7 @@ pub fn target_at(
     }))
 }
 
-/// The whole array at the position: a tail's name with no SUB after it (Revised Manual, 5.2).
+/// Reads the whole array at the position: a tail's name without SUB after it (Revised Manual, 5.2).
 fn tail_at(text: &[u8], from: Position) -> Option<Parsed<Name, Position>>
     ensures { Answers tails (λ name. name) text.now (left_at text.now from) result }
 {
@@ -136,7 +136,8 @@ fn tail_at(text: &[u8], from: Position) -> Option<Parsed<Name, Position>>
     }
 }
 
-/// What WRITE IN stores into, at the position: a variable, an element or a whole array.
+/// Reads the place at the position: a variable, an element or a whole array (Revised Manual, 4.4.12
+/// and 5.2).
 pub fn place_at(
     alloc: Global,
     text: &[u8],
@@ -161,7 +162,7 @@ pub fn place_at(
     }))
 }
 
-/// The target, as WRITE IN stores into it.
+/// Returns the target as a place of WRITE IN.
 fn stored(target: Target) -> Place
     ensures { place_tree result ≡ single (target_tree target) }
 {
@@ -171,7 +172,8 @@ fn stored(target: Target) -> Place
     }
 }
 
-/// The item at the position: a variable, an element, a whole array or a mesh.
+/// Reads the item at the position: a variable, an element, a whole array or a mesh (Revised Manual,
+/// 4.4.13 and 5.2).
 pub fn item_at(
     alloc: Global,
     text: &[u8],
@@ -193,7 +195,7 @@ pub fn item_at(
     }))
 }
 
-/// A mesh after its sigil, as an item.
+/// Reads a mesh after its sigil, as an item.
 fn mesh_item_at(text: &[u8], past: Position) -> Option<Parsed<Item, Position>>
     ensures { Answers numbers item_tree text.now (left_at text.now past) result }
 {
@@ -205,7 +207,7 @@ fn mesh_item_at(text: &[u8], past: Position) -> Option<Parsed<Item, Position>>
     })
 }
 
-/// What WRITE IN stores into, as READ OUT prints it.
+/// Returns the place as an item of READ OUT.
 fn printed(place: Place) -> Item
     ensures { item_tree result ≡ place_tree place }
 {
@@ -216,7 +218,7 @@ fn printed(place: Place) -> Item
     }
 }
 
-/// The first word of a gerund at the position, and the position after it.
+/// Reads the first word of a gerund at the position, and the position after it.
 fn gerund_word_at(text: &[u8], from: Position) -> Option<Scanned<Gerund, Position>>
     ensures { MatchOption result
         ((g : Gerund) (to : List ℕ) → IsWord (gerund_word g) (left_at text.now from) to → ⊥)
@@ -230,8 +232,8 @@ fn gerund_word_at(text: &[u8], from: Position) -> Option<Scanned<Gerund, Positio
     None
 }
 
-/// The gerund at the position (Revised Manual, 4.4.9). White bytes may stand between its two words,
-/// or none.
+/// Reads the gerund at the position (Revised Manual, 4.4.9). Any white bytes may stand between its
+/// two words.
 pub fn gerund_at(text: &[u8], from: Position) -> Option<Parsed<Gerund, Position>>
     ensures { Answers gerunds (λ gerund. gerund) text.now (left_at text.now from) result }
 {
@@ -247,7 +249,7 @@ pub fn gerund_at(text: &[u8], from: Position) -> Option<Parsed<Gerund, Position>
     })
 }
 
-/// The label at the position, in its parentheses (Revised Manual, 4.2).
+/// Reads the label at the position, in its parentheses (Revised Manual, 4.2).
 pub fn label_at(text: &[u8], from: Position) -> Option<Parsed<u16, Position>>
     ensures { Answers labels (λ label. label) text.now (left_at text.now from) result }
 {

@@ -1,4 +1,4 @@
-//! How polite a program has to be, and may be.
+//! Checks that a program is polite enough, and not too polite (Revised Manual, 10.2).
 
 ghost use Rattle.std.specs.Prelude.{◌≡◌, ◌≤◌, length, IfErr, OnOk};
 ghost use Rattle.ick_source.specs.StatementTree.{statement_trees, polite_in};
@@ -9,8 +9,8 @@ use crate::refusals::Refusal;
 use crate::statements::Statement;
 use ick_bits::FaultKind;
 
-/// Refuses three or more statements of which less than a fifth are polite, or more than a third, by
-/// whole division.
+/// Refuses three or more statements if less than a fifth of them are polite, or more than a third,
+/// by whole division.
 #[tactic(auto, using(crate::proofs::RefusalLemmas::judged))]
 pub fn check_politeness(statements: &[Statement<'_>], polite: u32) -> Result<(), Refusal>
     requires size { length statements.now ≤ most_statements }

@@ -1,4 +1,4 @@
-//! The statements of a source, in their order.
+//! The statements of a source, in the order of the source.
 
 ghost use Rattle.std.specs.Prelude.{◌≡◌, ◌≤◌, length, true, IfOk, IfErr};
 ghost use Rattle.std.specs.List.{list_all};
@@ -14,14 +14,14 @@ use crate::statements::Statement;
 use ick_bits::FaultKind;
 use std::alloc::Global;
 
-/// The statements of a source text, as `read_source` alone makes them.
+/// The statements of a source text. Only `read_source` makes a program.
 ///
-/// No fault for which a source is refused stands in a program. Its statements are numbered from 1,
-/// and there are at most 524,288 of them: each takes two bytes of the source at least. Each scalar
-/// is a onespot or a twospot, each array with subscripts or dimensions a tail or a hybrid, and a
-/// `u32` counts these subscripts or dimensions (Revised Manual, 3.1 and 3.3). Each array that is
-/// read in or printed whole is a tail (5.2).
-#[derive(Debug, PartialEq, Eq, Drop)]
+/// A program has none of the faults that `read_source` refuses. Its statements are numbered from 1,
+/// and there are at most 524,288 of them, because each takes at least two bytes of the source. Each
+/// scalar is a onespot or a twospot (Revised Manual, 3.1). Each array with subscripts or dimensions
+/// is a tail or a hybrid, and a `u32` counts these subscripts or dimensions (3.3). Each array that
+/// WRITE IN or READ OUT takes whole is a tail (5.2).
+#[derive(Debug, Drop)]
 pub struct Program<'a> {
     statements: Vec<Statement<'a>>,
     polite: u32,
@@ -35,8 +35,7 @@ pub struct Program<'a> {
 impl<'a> Program<'a> {
     ghost use Rattle.ick_source.specs.Programs.{statements_of, trees_of};
 
-    /// The program of these statements, whose numbers are within their ranges, unless they are
-    /// refused.
+    /// Makes a program of these statements, whose numbers are in range, or refuses them.
     pub(crate) fn checked(
         alloc: Global,
         statements: Vec<Statement<'a>>,
@@ -58,14 +57,14 @@ impl<'a> Program<'a> {
         Ok(Program { statements, polite })
     }
 
-    /// The statements, in the order of the source.
+    /// Returns the statements, in the order of the source.
     pub fn statements(&self) -> &[Statement<'a>]
         ensures { result.now ≡ statements_of self.now }
     {
         &self.statements
     }
 
-    /// The number of statements that say PLEASE.
+    /// Returns the number of statements that say PLEASE (Revised Manual, 4.3).
     pub fn polite(&self) -> u32
         ensures { result ≡ polite_in (trees_of self.now) }
     {

@@ -1,4 +1,5 @@
-//! What stands between the opening and the body of a statement.
+//! Readers of the qualifiers between the opening and the body of a statement: NOT and the chance
+//! (Revised Manual, 4.1).
 
 ghost use Rattle.std.specs.Prelude.{◌≡◌, ◌+◌, ◌≤◌, ◌↔◌, length, IfSome};
 ghost use Rattle.std.specs.Prelude.{IsTrue};
@@ -8,14 +9,15 @@ ghost use Rattle.ick_source.specs.HeadAnswers.{Scans, ReadsQualifiers};
 use crate::bytes::{after_white, byte_at, is_word_in, number_in};
 use crate::parsed::Scanned;
 
-/// Whether a statement is abstained from at the start, and its chance of being done.
+/// The qualifiers of a statement: whether it is abstained from at the start, and its chance in
+/// percent.
 #[derive(Clone, Copy)]
 pub struct Qualifiers {
     pub abstained: bool,
     pub chance: u8,
 }
 
-/// Whether NOT or N'T stands here.
+/// Returns whether the text has NOT or N'T at `at`.
 fn is_negation(text: &[u8], at: usize) -> bool
     requires { at ≤ length text.now }
     ensures negation { IsTrue result ↔ IsNegation text.now at }
@@ -24,8 +26,8 @@ fn is_negation(text: &[u8], at: usize) -> bool
     is_word_in(text, at, b"NOT") || is_word_in(text, at, b"N'T")
 }
 
-/// Whether NOT or N'T stands here after white bytes, and the position after it, or else this
-/// position.
+/// Reads NOT or N'T after any white bytes: returns whether it is there, and the position after it.
+/// That position is `at` if it is not there.
 fn negated_at(text: &[u8], at: usize) -> Scanned<bool, usize>
     requires { at ≤ length text.now }
     ensures negated { IsNegated text.now at result.to result.value }
@@ -45,7 +47,7 @@ fn negated_at(text: &[u8], at: usize) -> Scanned<bool, usize>
     }
 }
 
-/// The percentage here, and the position after it.
+/// Reads a percentage of at most 100 at `at`, and the position after it.
 fn percentage_at(text: &[u8], at: usize) -> Option<Scanned<u8, usize>>
     requires { at ≤ length text.now }
     ensures percentage { Scans (IsPercentage text.now at) (λ x n. x ≡ n) result }
@@ -65,8 +67,8 @@ fn percentage_at(text: &[u8], at: usize) -> Option<Scanned<u8, usize>>
     })
 }
 
-/// The percentage that stands here after white bytes, and the position after it, or else this
-/// position.
+/// Reads a percentage after any white bytes, and the position after it. That position is `at` if
+/// there is no percentage.
 fn chance_at(text: &[u8], at: usize) -> Scanned<Option<u8>, usize>
     requires { at ≤ length text.now }
     ensures chance { IsChance text.now at result.to result.value }
@@ -85,7 +87,7 @@ fn chance_at(text: &[u8], at: usize) -> Scanned<Option<u8>, usize>
     }
 }
 
-/// The qualifiers here, and the position after them.
+/// Reads the qualifiers at `at`, and the position after them. The chance is 100 if none is given.
 pub fn qualifiers_at(text: &[u8], at: usize) -> Scanned<Qualifiers, usize>
     requires { at ≤ length text.now }
     ensures qualifiers { ReadsQualifiers text.now at result.to result.value }

@@ -1,4 +1,4 @@
-//! The first statements whose numbers are out of range.
+//! Notes the first statements that have numbers out of range.
 
 ghost use Rattle.std.specs.Prelude.{◌≡◌, ◌+◌, ◌++◌, ◌∷◌, [], List, Bool};
 ghost use Rattle.std.specs.Prelude.{length, OnOk, IfErr, IfNone, IsTrue, false};
@@ -10,7 +10,8 @@ use crate::faults::Faults;
 use crate::refusals::Refusal;
 use ick_bits::FaultKind;
 
-/// The numbers of the first statements with a mesh, a variable's number and a label out of range.
+/// The numbers of the first statements that have a mesh, a variable's number and a label out of
+/// range.
 #[derive(Clone, Copy)]
 pub struct OutOfRange {
     mesh: Option<u32>,
@@ -24,7 +25,7 @@ impl OutOfRange {
     ghost use Rattle.ick_source.specs.RefusalAnswers.{RefusesTrees};
     ghost use Rattle.ick_source.specs.Ranges.{AreFirst, IsEmpty};
 
-    /// Of no statement.
+    /// Notes no statement.
     pub fn new() -> OutOfRange
         ensures { AreFirst result [] }
     {
@@ -35,7 +36,7 @@ impl OutOfRange {
         }
     }
 
-    /// With one more statement, which has this number.
+    /// Notes the faults of the next statement, which has this number.
     pub fn noting(self, number: u32, faults: Faults) -> OutOfRange
         ensures first { (trees : List StatementTree) (t : StatementTree) →
             number ≡ length trees + 1 → AreFirst self trees →
@@ -49,7 +50,8 @@ impl OutOfRange {
         }
     }
 
-    /// Refuses the first statement with the first of these faults.
+    /// Refuses the first statement that has a mesh out of range, else the first that has a
+    /// variable's number out of range, else the first that has a label out of range.
     pub fn check(self) -> Result<(), Refusal>
         ensures ok { OnOk result (IsEmpty self) }
         ensures err { (trees : List StatementTree) →
@@ -68,8 +70,8 @@ impl OutOfRange {
     }
 }
 
-/// The number of the first statement that has a fault: the earlier one, or else this one where it
-/// has the fault.
+/// Returns the number of the first statement that has a fault: the earlier statement, or else this
+/// one if it has the fault.
 fn first_of(earlier: Option<u32>, number: u32, has: bool) -> Option<u32>
     ensures first { (p : StatementTree → Bool) (trees : List StatementTree) (t : StatementTree)
         → number ≡ length trees + 1 → has ≡ p t →

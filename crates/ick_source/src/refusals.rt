@@ -1,4 +1,4 @@
-//! Why a source is refused.
+//! The refusals of a source text.
 
 ghost use Rattle.std.specs.Prelude.{◌≡◌};
 ghost use Rattle.ick_source.specs.declared.refusals.Refusal.TheVariants.{NoMemory};
@@ -7,18 +7,18 @@ use ick_bits::FaultKind;
 use std::alloc::{AllocError, AllocFailed};
 use thiserror::Error;
 
-/// Why a source is refused.
+/// The reason why `read_source` refuses a source text.
 #[derive(Clone, Copy, Debug, PartialEq, Eq, Error)]
 pub enum Refusal {
-    /// The first kind of fault, in the order in which they are looked for, that any statement has,
+    /// Gives the first kind of fault that any statement has, in the order that `read_source` lists,
     /// and the number of the first statement that has it.
     #[error("fault {number} of statement {1}", number = .0.number())]
     Fault(FaultKind, u32),
-    /// The source has more than 1,048,576 bytes, this profile's limit. Nothing is looked for before
-    /// it.
+    /// Says that the source has more than 1,048,576 bytes, the limit of this profile. No fault is
+    /// sought in such a source.
     #[error("the source is too long")]
     TooLong,
-    /// A growth was refused. It may be answered for a source that has a fault.
+    /// Says that the reader ran out of memory. The source may have a fault too.
     #[error("out of memory")]
     NoMemory,
 }

@@ -1,4 +1,4 @@
-//! A source text as a program.
+//! Reads a source text as a program.
 
 ghost use Rattle.std.specs.Prelude.{◌≡◌, ℕ, ◌+◌, ◌-◌, ◌*◌, ◌^◌, ◌<◌};
 ghost use Rattle.std.specs.Prelude.{◌≤◌, List, [], ◌∷◌, ◌++◌, ◌↔◌};
@@ -26,7 +26,7 @@ use std::alloc::{AllocError, Global};
 
 const MOST_BYTES: usize = 1_048_576;
 
-/// The statements read so far, with the first whose numbers are out of range.
+/// The statements read so far, and the first of them that have numbers out of range.
 #[derive(Drop)]
 struct Reader<'a> {
     statements: Vec<Statement<'a>>,
@@ -65,8 +65,8 @@ impl<'a> Reader<'a> {
     }
 }
 
-/// A reader that has read the bytes before the first start, and the position of that start or of
-/// the end of the text.
+/// Reads the bytes before the first start as a statement of their own, unless all are white.
+/// Returns the reader, and the position of that start or of the end of the text.
 fn front_of(alloc: Global, text: &[u8]) -> Result<Scanned<Reader<'_>, usize>, AllocError>
     ensures read { IfOk result (λ r. HasReadUpTo text.now r.to r.value) }
     ensures count { IfOk result (λ r. 2 * r.value.count ≤ r.to + 1) }
@@ -96,7 +96,7 @@ fn front_of(alloc: Global, text: &[u8]) -> Result<Scanned<Reader<'_>, usize>, Al
     })
 }
 
-/// A reader that has read the whole text.
+/// Reads the whole text into statements.
 fn whole_of(alloc: Global, text: &[u8]) -> Result<Reader<'_>, AllocError>
     requires { length text.now ≤ longest }
     ensures read { IfOk result (HasReadAll text.now) }
@@ -112,7 +112,7 @@ fn whole_of(alloc: Global, text: &[u8]) -> Result<Reader<'_>, AllocError>
     Ok(reader)
 }
 
-/// The program of a source that is not too long, unless a fault stands in it.
+/// Reads a source of at most 1,048,576 bytes, and refuses it if it has a fault.
 fn program_of(alloc: Global, text: &[u8]) -> Result<Program<'_>, Refusal>
     requires { length text.now ≤ longest }
     ensures ok { IfOk result (λ p. IsCut text.now (trees_of p)) }
@@ -128,13 +128,16 @@ fn program_of(alloc: Global, text: &[u8]) -> Result<Program<'_>, Refusal>
     Program::checked(alloc, statements, polite)
 }
 
-/// The one program of a source text, or why it is refused.
+/// Reads a source text as a program, or refuses it.
 ///
-/// The text is cut at its labels and identifiers into statements, of which some may be unrecognised
-/// (Revised Manual, 4.1, 4.3 and 4.5, after INTERCAL-72). It is refused as `TooLong` exactly where
-/// it has more than 1,048,576 bytes, before anything else is looked for (this profile). It is
-/// refused as `Fault` where one of these stands in it, with the number of the first statement that
-/// has it; they are looked for in this order, each in the whole text:
+/// The reader cuts the text at its labels and identifiers into statements. Some of them may be
+/// unrecognised (Revised Manual, 4.1, 4.3 and 4.5, after INTERCAL-72). The program borrows the
+/// text.
+///
+/// Refuses with `TooLong` exactly if the text has more than 1,048,576 bytes (this profile). The
+/// reader checks that first. Refuses with `Fault` if the text has one of the faults below. The
+/// reader seeks them in this order, each in the whole text, and gives the number of the first
+/// statement that has the fault:
 ///
 /// - a mesh above 65,535 (Revised Manual, 3.2), a variable's number outside 1 to 65,535 (3.1), a
 ///   label outside 1 to 65,535 (4.2), in a recognised body or, for a label, before a statement;
@@ -142,10 +145,10 @@ fn program_of(alloc: Global, text: &[u8]) -> Result<Program<'_>, Refusal>
 /// - a NEXT to a label that no statement has (4.4.2), an ABSTAIN or REINSTATE of one (4.4.9,
 ///   4.4.10);
 /// - of three statements or more, less than a fifth polite, or more than a third, by whole division
-///   (10.2); the number is then that of the last statement.
+///   (10.2). The number is then that of the last statement.
 ///
-/// It is refused as `NoMemory` where a growth was refused, which may be found before a fault. The
-/// work grows with the length of the text alone, but for the order of the labels.
+/// Refuses with `NoMemory` if the reader runs out of memory, also when the text has a fault. The
+/// work is linear in the length of the text, except for the search of labels in a sorted set.
 pub fn read_source<'a>(alloc: Global, text: &'a [u8]) -> Result<Program<'a>, Refusal>
     ensures compiles { IfOk result (λ p. Compiles text.now (trees_of p)) }
     ensures only { IfOk result (λ p.
@@ -153,7 +156,7 @@ pub fn read_source<'a>(alloc: Global, text: &'a [u8]) -> Result<Program<'a>, Ref
     ensures not_refused { IfOk result (λ p.
         (kind : FaultKind) (n : ℕ) → IsRefused text.now kind n → ⊥) }
 
-    // A fault is the only one of the text, and is found at the first statement that has it.
+    // A text has at most one refusal, so the fault is the only one to answer.
     ensures refused { IfErr result (λ e. Refuses text.now e) }
     ensures too_long { IsErrOf result Refusal.TooLong ↔ (longest < length text.now) }
 {

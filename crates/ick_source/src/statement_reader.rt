@@ -1,4 +1,4 @@
-//! One statement of a text.
+//! Reads one statement of a text.
 
 ghost use Rattle.std.specs.Prelude.{◌≡◌, ℕ, ◌<◌, ◌≤◌, length, Option, Some, IfOk};
 ghost use Rattle.std.specs.Prelude.{MatchOption};
@@ -21,14 +21,14 @@ use crate::statements::Statement;
 use ick_bits::is_white;
 use std::alloc::{AllocError, Global};
 
-/// The label of a statement, clamped, and whether it is out of range.
+/// The label of a statement, clamped, and its faults.
 #[derive(Clone, Copy)]
 struct ClampedLabel {
     label: Option<u16>,
     faults: Faults,
 }
 
-/// The label that was read, clamped.
+/// Clamps a label that was read.
 fn clamped_label(label: Option<u32>) -> ClampedLabel
     ensures { (read : Option ℕ) → ReadsLabel label read → ClampsLabel result read }
 {
@@ -44,7 +44,7 @@ fn clamped_label(label: Option<u32>) -> ClampedLabel
     }
 }
 
-/// The text from a position up to another, without white bytes at its end.
+/// Returns the text from `from` up to `to`, without white bytes at its end.
 pub fn trimmed(text: &[u8], from: usize, to: usize) -> &[u8]
     requires some { from < to }
     requires within { to ≤ length text.now }
@@ -58,7 +58,8 @@ pub fn trimmed(text: &[u8], from: usize, to: usize) -> &[u8]
     &text[from..last + 1]
 }
 
-/// The body here, where it goes up to a boundary, with that boundary as its end.
+/// Reads the body at `at`, if it and any white bytes after it end at a boundary. Returns that
+/// boundary as its end.
 fn recognised_at(
     alloc: Global,
     text: &[u8],
@@ -77,7 +78,7 @@ fn recognised_at(
     Ok(Some(body))
 }
 
-/// What stands after a head, up to the end of its statement.
+/// Reads the rest of a statement after its head. An unrecognised body ends at the next boundary.
 fn ending_at(alloc: Global, text: &[u8], head: usize) -> Result<Parsed<Body, usize>, AllocError>
     requires { head ≤ length text.now }
     ensures { IfOk result (EndsAt text.now head) }
@@ -93,7 +94,8 @@ fn ending_at(alloc: Global, text: &[u8], head: usize) -> Result<Parsed<Body, usi
     }
 }
 
-/// The statement that starts here, and the position after it.
+/// Reads the statement that starts at `at`, and the position after it. Returns `None` if no
+/// statement starts there.
 pub fn statement_at<'a>(
     alloc: Global,
     text: &'a [u8],

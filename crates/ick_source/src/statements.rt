@@ -1,25 +1,26 @@
-//! What a statement of a program is.
+//! A statement of a program.
 
 ghost use Rattle.std.specs.Prelude.{◌≤◌};
 
 use crate::body::Body;
 
 /// A statement of a program (Revised Manual, 4.1 and 4.3, after INTERCAL-72).
-#[derive(Debug, PartialEq, Eq, Drop)]
+#[derive(Debug, Drop)]
 pub struct Statement<'a> {
-    /// Its label, from 1 to 65,535 (Revised Manual, 4.2).
+    /// The label, from 1 to 65,535, or `None` (Revised Manual, 4.2).
     pub label: Option<u16>,
-    /// Whether it says PLEASE.
+    /// Whether the statement says PLEASE (4.3).
     pub polite: bool,
-    /// Whether it is abstained from at the start.
+    /// Whether the statement is abstained from when a run starts (4.4.9).
     pub abstained: bool,
-    /// The chance of being done each time that it is met, from 0 to 100 percent.
+    /// The chance, from 0 to 100 percent, that the statement is executed each time it is reached
+    /// (this profile).
     pub chance: u8,
-    /// What it does when it is done.
+    /// The body, which says what executing the statement does.
     pub body: Body,
-    /// Its bytes, a part of the source without white bytes at its ends.
+    /// The bytes of the statement, a slice of the source without white bytes at its ends.
     pub text: &'a [u8],
-    /// Its number, counted from 1.
+    /// The number of the statement, counted from 1.
     pub number: u32,
     pub ghost percentage: { chance ≤ 100 },
 }

@@ -1,5 +1,8 @@
-//! Numbers, words and unary operators between characters of a text, each after any white bytes. The
-//! cut reads words and numbers between bytes (`bytes`), since statements begin and end there.
+//! Readers of numbers, words and unary operators by positions between characters. Each skips any
+//! white bytes first.
+//!
+//! The cut reads words and numbers by byte positions instead (`bytes`), because statements begin
+//! and end at bytes.
 
 ghost use Rattle.std.specs.Prelude.{◌≡◌, ℕ, List, MatchOption};
 ghost use Rattle.ick_source.specs.Position.{left_at};
@@ -11,7 +14,7 @@ use crate::parsed::Scanned;
 use crate::position::{Position, character_at, lead_at, skip_white};
 use crate::tree::UnaryOp;
 
-/// The number at the position, after any white bytes.
+/// Reads all digits at the position as a number, capped. Returns `None` if there is no digit.
 pub fn number_at(text: &[u8], from: Position) -> Option<Scanned<u32, Position>>
     ensures { MatchOption result
         ((to : List ℕ) (n : ℕ) → IsNumber (left_at text.now from) to n → ⊥)
@@ -35,7 +38,8 @@ pub fn number_at(text: &[u8], from: Position) -> Option<Scanned<u32, Position>>
     Some(Scanned { value, to })
 }
 
-/// The word at the position, after any white bytes.
+/// Reads this word at the position, and returns the position after it. Returns `None` if the text
+/// has another character.
 pub fn word_at(text: &[u8], from: Position, word: &[u8]) -> Option<Position>
     ensures { MatchOption result
         ((to : List ℕ) → IsWord word.now (left_at text.now from) to → ⊥)
@@ -54,7 +58,7 @@ pub fn word_at(text: &[u8], from: Position, word: &[u8]) -> Option<Position>
     Some(to)
 }
 
-/// The unary operator at the position, if there is one.
+/// Reads the unary operator at the position, if there is one. The position stays if there is none.
 pub fn prefix_at(text: &[u8], from: Position) -> Scanned<Option<UnaryOp>, Position>
     ensures op { result.value ≡ unary_at (left_at text.now from) }
     ensures to { left_at text.now result.to ≡ past_unary (left_at text.now from) }

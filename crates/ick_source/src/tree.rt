@@ -5,9 +5,9 @@ ghost use Rattle.std.specs.Prelude.{◌≡◌, MatchOption};
 /// The four kinds of variables (Revised Manual, 3.1 and 3.3).
 #[derive(Clone, Copy, Debug, PartialEq, Eq)]
 pub enum NameKind {
-    /// `.n`, of 16 bits.
+    /// `.n`, a variable of 16 bits.
     Onespot,
-    /// `:n`, of 32 bits.
+    /// `:n`, a variable of 32 bits.
     Twospot,
     /// `,n`, an array of 16-bit values.
     Tail,
@@ -15,8 +15,8 @@ pub enum NameKind {
     Hybrid,
 }
 
-/// A variable: its kind, and its number from 1 to 65535 (Revised Manual, 3.1 and 3.3, after
-/// INTERCAL-72).
+/// A variable or an array: its kind, and its number from 1 to 65,535 (Revised Manual, 3.1 and 3.3,
+/// after INTERCAL-72).
 #[derive(Clone, Copy, Debug, PartialEq, Eq)]
 pub struct Name {
     pub kind: NameKind,
@@ -43,12 +43,12 @@ pub enum BinaryOp {
     Select,
 }
 
-/// An expression. Groups leave no node of their own, and a chain of operators groups from the right
-/// (Revised Manual, 3.4.3).
+/// An expression (Revised Manual, 3.4). Groups have no node of their own, and a chain of operators
+/// groups from the right (3.4.3).
 #[cycle(ast)]
-#[derive(Debug, PartialEq, Eq, Drop)]
+#[derive(Debug, Drop)]
 pub enum Expr {
-    /// A constant from 0 to 65535 (Revised Manual, 3.2).
+    /// A constant from 0 to 65,535 (3.2).
     Mesh(u16),
     Scalar(Name),
     Element(Element),
@@ -56,9 +56,9 @@ pub enum Expr {
     Binary(BinaryOp, Box<Expr>, Box<Expr>),
 }
 
-/// An element of an array, by its subscripts (Revised Manual, 3.3).
+/// An element of an array: its name and its subscripts (Revised Manual, 3.3).
 #[cycle(ast)]
-#[derive(Debug, PartialEq, Eq, Drop)]
+#[derive(Debug, Drop)]
 pub struct Element {
     pub array: Name,
     pub subs: Vec<Expr>,
@@ -67,7 +67,7 @@ pub struct Element {
 impl Expr {
     ghost use Rattle.ick_source.specs.Tree.{Trees, element, tree_of, trees_in};
 
-    /// The element that the expression is, if it is one.
+    /// Returns the element that the expression consists of, or `None` if it is no element.
     pub fn into_element(self) -> Option<Element>
         ensures { MatchOption result
             ((x : Name) (ts : Trees) → tree_of self ≡ element x ts → ⊥)

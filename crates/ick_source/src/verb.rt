@@ -1,4 +1,4 @@
-//! The words that bodies begin with.
+//! The verbs with which bodies begin.
 
 ghost use Rattle.std.specs.Prelude.{◌≡◌, List, ℕ, MatchOption};
 ghost use Rattle.ick_source.specs.Position.{left_at};
@@ -9,8 +9,8 @@ use crate::parsed::Scanned;
 use crate::position::Position;
 use crate::token::word_at;
 
-/// The first word of a body.
-#[derive(Clone, Copy, Debug, PartialEq, Eq)]
+/// The verb of a body, its first word.
+#[derive(Clone, Copy)]
 pub enum Verb {
     Forget,
     Resume,
@@ -26,7 +26,7 @@ pub enum Verb {
 }
 
 impl Verb {
-    /// All verbs.
+    /// Lists all verbs, each once.
     pub const ALL: [Verb; 11] = [
         Verb::Forget,
         Verb::Resume,
@@ -41,7 +41,7 @@ impl Verb {
         Verb::Read,
     ];
 
-    /// The word itself.
+    /// Returns the verb's word, in capitals.
     pub fn word(self) -> &'static [u8]
         ensures { result.now ≡ verb_word self }
     {
@@ -61,7 +61,7 @@ impl Verb {
     }
 }
 
-/// The verb at the position, and the position after it.
+/// Reads the verb at the position, and the position after it.
 pub fn verb_at(text: &[u8], from: Position) -> Option<Scanned<Verb, Position>>
     ensures { MatchOption result
         ((v : Verb) (to : List ℕ) → IsWord (verb_word v) (left_at text.now from) to → ⊥)
