@@ -1,6 +1,6 @@
 -- The answers of runs that were made.
 use Rattle.std.proofs.Common.{◌≡◌, ◌∙◌, ◌≤◌, ◌++◌, ℕ, Bool, true, List, [], Option, ap, arith}
-use Rattle.std.proofs.Common.{length, refl, subst, sym}
+use Rattle.std.proofs.Common.{◌⊎◌, inl, inr, length, refl, subst, sym, take}
 use Rattle.std.proofs.Math.Seq.{take-length}
 use Rattle.std.proofs.lemmas.List.{append-nil}
 use Rattle.std.specs.Prelude.{unwrap_or}
@@ -11,8 +11,11 @@ use Rattle.ick_machine.specs.Machine.{Program}
 use Rattle.ick_runs.specs.Draws.{IsDrawn, word_of}
 use Rattle.ick_runs.specs.Runs.{Execution, Stop, ends, run, wants}
 use Rattle.ick_runs.specs.Streams.{HasStreamed, stop_kind, stop_message}
+use Rattle.ick_runs.specs.declared.errors.RunsError.{RunsError}
+use Rattle.ick_runs.specs.declared.errors.RunsError.TheVariants.{NoMemory as NoMemory_error, NoSuchRun, WorkFull}
+use Rattle.ick_runs.specs.declared.errors.RunsError.TheVariants.{Failed, BadCursor, Read, Write}
 use Rattle.ick_runs.specs.declared.streamed.Streamed.{Streamed}
-use Rattle.ick_cli.specs.Ending.{Answers, EndsBy}
+use Rattle.ick_cli.specs.Ending.{Answers, EndsBy, refused_ending}
 use Rattle.ick_cli.specs.Input.{EndsUnread}
 use Rattle.ick_cli.specs.Stopped.{kind_status, kind_text}
 use Rattle.ick_cli.specs.Tool.{Answer, IsExecuted, IsRunsAnswer, run_answer, stop_status, stop_text}
@@ -53,6 +56,28 @@ answers_streamed told x c before after left s InputTooLong is_told has h = absur
 answers_streamed told x c before after left s FileNotRead is_told has h = absurd h
 answers_streamed told x c before after left s ReadFailed is_told has h = absurd h
 answers_streamed told x c before after left s WriteFailed is_told has h = absurd h
+
+-- a run that was refused has its answer cut
+refused_so : (answer : Answer) (e : RunsError) (before after : List ℕ)
+    → (e ≡ NoMemory_error) ⊎ ((e ≡ Read) ⊎ (e ≡ Write)) → (n : ℕ) × (after ≡ before ++ take n answer.output)
+    → Answers answer (refused_ending e) before after
+refused_so answer NoMemory_error before after one cut = (tt, cut)
+refused_so answer WorkFull before after one cut = (tt, cut)
+refused_so answer Failed before after one cut = (tt, cut)
+refused_so answer Read before after one cut = (tt, cut)
+refused_so answer Write before after one cut = (tt, cut)
+refused_so answer NoSuchRun before after (inl e) cut = cc
+refused_so answer NoSuchRun before after (inr (inl e)) cut = cc
+refused_so answer NoSuchRun before after (inr (inr e)) cut = cc
+refused_so answer BadCursor before after (inl e) cut = cc
+refused_so answer BadCursor before after (inr (inl e)) cut = cc
+refused_so answer BadCursor before after (inr (inr e)) cut = cc
+
+pub answers_refused : (answer : Answer) (e : RunsError) (ending : Ending) (before after : List ℕ)
+    → ending ≡ refused_ending e → (e ≡ NoMemory_error) ⊎ ((e ≡ Read) ⊎ (e ≡ Write))
+    → (n : ℕ) × (after ≡ before ++ take n answer.output) → Answers answer ending before after
+answers_refused answer e ending before after so one cut =
+    subst (λ (x : Ending). Answers answer x before after) (sym so) (refused_so answer e before after one cut)
 
 -- the answer of runs, by what they are
 pub answers_given : (p : Program) (input : List ℕ) (choices : Option (List Bool)) (limit : ℕ) (answer : Answer)

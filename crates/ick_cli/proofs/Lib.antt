@@ -3,6 +3,7 @@ pub mod Beginnings
 pub mod Builders
 pub mod Executed
 pub mod FirstFault
+pub mod Left
 pub mod Lines
 pub mod Listed
 pub mod Numbers
@@ -11,3 +12,4 @@ pub mod Planned
 pub mod Rows
 pub mod Served
 pub mod TextsRead
+pub mod Unread

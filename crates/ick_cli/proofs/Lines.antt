@@ -1,10 +1,10 @@
 -- An ending by a line.
-use Rattle.std.proofs.Common.{◌≡◌, ℕ, List, Option, ap, inr, refl, sym, subst, arith}
+use Rattle.std.proofs.Common.{◌≡◌, ℕ, List, Option, ap, ap₂, inr, refl, sym, subst, arith}
 use Rattle.std.proofs.lemmas.List.{append-nil}
 use Rattle.ick_cli.specs.Ending.{Answers, Leaves}
 use Rattle.ick_cli.specs.Job.{Task}
 use Rattle.ick_cli.specs.Notice.{notice_text}
-use Rattle.ick_cli.specs.Plan.{EndsByLine, IsPlanned, IsUnplanned}
+use Rattle.ick_cli.specs.Plan.{EndsByLine, HasPlan, IsPlanned, IsUnplanned}
 use Rattle.ick_cli.specs.Tool.{Answer, IsReadAnswer, IsToolAnswer, planned, refusal, unplanned}
 use Rattle.ick_cli.specs.declared.ending.Ending.{Ending}
 use Rattle.ick_cli.specs.declared.ending.Ending.TheVariants.{Answered, NoMemory, InputTooLong, FileNotRead, ReadFailed}
@@ -59,6 +59,20 @@ answers_by_line IsLine InputTooLong before answer h is = absurd h
 answers_by_line IsLine FileNotRead before answer h is = absurd h
 answers_by_line IsLine ReadFailed before answer h is = absurd h
 answers_by_line IsLine WriteFailed before answer h is = absurd h
+
+-- a task that has no plan ends by its line
+pub refused_by_line : (task : Task) (ending : Ending) (line : Notice) → EndsByLine (IsUnplanned task) ending
+    → (ending ≡ NoMemory → HasPlan task) → IsUnplanned task line → ending ≡ Answered 64 (message.Notice line)
+refused_by_line task (Answered status (message.Notice other)) line h memory is =
+    ap₂ (λ s l. Answered s (message.Notice l)) h.0 (line_unique task line other is h.1)
+refused_by_line task (Answered status message.Nothing) line h memory is = absurd h
+refused_by_line task (Answered status (message.Text text)) line h memory is = absurd h
+refused_by_line task NoMemory line h memory is =
+    let found = memory refl in absurd (planned_not_unplanned task found.0 line found.1 is)
+refused_by_line task InputTooLong line h memory is = absurd h
+refused_by_line task FileNotRead line h memory is = absurd h
+refused_by_line task ReadFailed line h memory is = absurd h
+refused_by_line task WriteFailed line h memory is = absurd h
 
 -- the answer to a task that has no plan, and to one that has one
 pub unplanned_answer : (task : Task) (source : Option (List ℕ)) (input : List ℕ) (answer : Answer)

@@ -2,6 +2,7 @@
 use Rattle.std.proofs.Common.{◌⊎◌, inl, inr, ◌≡◌, ◌∙◌, ◌+◌, ◌*◌, ◌^◌, ◌<◌, ◌≤◌}
 use Rattle.std.proofs.Common.{◌++◌, ℕ, Bool, true, List, Option, Some, None, Ok, Err, ap, arith, refl, subst, sym}
 use Rattle.std.proofs.Common.{take}
+use Rattle.std.proofs.lemmas.List.{append-nil}
 use Rattle.std.proofs.lemmas.Nat.{mul-le}
 use Rattle.ick_code.specs.meaning.State.{State}
 use Rattle.ick_machine.specs.Machine.{Machine, Program}
@@ -15,11 +16,11 @@ use Rattle.ick_runs.specs.declared.errors.RunsError.TheVariants.{NoMemory, NoSuc
 use Rattle.ick_runs.specs.declared.errors.RunsError.TheVariants.{Write}
 use Rattle.ick_runs.specs.declared.listing.Listed2.{Listed2}
 use Rattle.ick_cli.specs.Ending.{Answers, LeavesWriter, refused_ending}
-use Rattle.ick_cli.specs.Placed.{IsNoRun, IsPlaced, IsRunsAnswerAt}
+use Rattle.ick_cli.specs.Placed.{IsPlaced, IsRunsAnswerAt, IsUnplaced}
 use Rattle.ick_cli.specs.Tool.{Answer, IsRunsAnswer, listed, no_such_run, refusal, shown}
 use Rattle.ick_cli.specs.Notice.{notice_text}
+use Rattle.ick_cli.specs.declared.ending.Ending.{Ending}
 use Rattle.ick_cli.specs.declared.ending.Ending.TheVariants.{Answered, NoMemory as WithoutMemory, WriteFailed}
-use Rattle.ick_cli.specs.declared.notice.Notice.{Notice}
 use Rattle.ick_cli.specs.declared.notice.Notice.TheVariants.{NoSuchRun as NoSuchRun_line}
 use Rattle.ick_cli.specs.declared.notice.Message.TheVariants.{Nothing}
 use Rattle.ick_cli.proofs.Beginnings.{IsBeginning, lines_begin, part_begins}
@@ -107,10 +108,10 @@ pub leaves_listing : (e : RunsError) (writes writes' : ℕ)
     → (e ≡ NoMemory) ⊎ ((e ≡ WorkFull) ⊎ ((e ≡ Write) ⊎ (e ≡ Failed)))
     → writes' ≡ writes + write_failures {T = Listed2} (Err e) → LeavesWriter (refused_ending e) writes writes'
 leaves_listing NoMemory writes writes' one h = record { proper = tt; opened = refl; read = refl; wrote = h }
-leaves_listing NoSuchRun writes writes' one h = record { proper = tt; opened = refl; read = refl; wrote = h }
+leaves_listing NoSuchRun writes writes' one h = record { proper = inr refl; opened = refl; read = refl; wrote = h }
 leaves_listing WorkFull writes writes' one h = record { proper = tt; opened = refl; read = refl; wrote = h }
 leaves_listing Failed writes writes' one h = record { proper = tt; opened = refl; read = refl; wrote = h }
-leaves_listing BadCursor writes writes' one h = record { proper = tt; opened = refl; read = refl; wrote = h }
+leaves_listing BadCursor writes writes' one h = record { proper = inr refl; opened = refl; read = refl; wrote = h }
 leaves_listing Write writes writes' one h = record { proper = tt; opened = refl; read = refl; wrote = h }
 leaves_listing Read writes writes' (inl e) h = cc
 leaves_listing Read writes writes' (inr (inl e)) h = cc
@@ -136,12 +137,59 @@ unplaced_by p s l count (Some d) c answer same not_whole (listed f cs place is) 
     let one : d ≡ c = cc in absurd (not_whole (subst (λ (x : List Bool). IsWhole p s l x) one place))
 unplaced_by p s l count from c answer same not_whole (no_such_run d other) = refl
 
-pub answer_unplaced : (m : Machine) (limit count : ℕ) (from : Option (List Bool)) (line : Notice) (answer : Answer)
-    → IsNoRun m limit from line
-    → IsRunsAnswer m.program m.state limit count from answer → answer ≡ refusal 64 (notice_text line)
-answer_unplaced m limit count from line answer none is =
-    unplaced_by m.program m.state limit count from none.choices answer none.from_is none.not_whole is
-    ∙ ap (λ x. refusal 64 (notice_text x)) (sym none.line_is)
+-- the answer where there is no explorer, by the ending of its refusal
+pub answers_unplaced : (m : Machine) (limit count : ℕ) (from : Option (List Bool)) (e : RunsError) (ending : Ending)
+    (before : List ℕ) (answer : Answer) → ending ≡ refused_ending e → IsUnplaced m limit from e
+    → IsRunsAnswer m.program m.state limit count from answer → Answers answer ending before before
+answers_unplaced m limit count from NoMemory ending before answer so h is =
+    subst (λ (x : Ending). Answers answer x before before) (sym so) (tt, (0, sym (append-nil before)))
+answers_unplaced m limit count from NoSuchRun ending before answer so h is =
+    subst (λ (x : Ending). Answers answer x before before) (sym so)
+    (subst (λ (a : Answer). Answers a (refused_ending NoSuchRun) before before)
+    (sym (unplaced_by m.program m.state limit count from h.0 answer h.1 h.2 is))
+    ((refl, refl), sym (append-nil before)))
+answers_unplaced m limit count from WorkFull ending before answer so h is =
+    subst (λ (x : Ending). Answers answer x before before) (sym so) (tt, (0, sym (append-nil before)))
+answers_unplaced m limit count from Failed ending before answer so h is = absurd h
+answers_unplaced m limit count from BadCursor ending before answer so h is = absurd h
+answers_unplaced m limit count from Read ending before answer so h is = absurd h
+answers_unplaced m limit count from Write ending before answer so h is = absurd h
+
+pub leaves_unplaced : (m : Machine) (limit : ℕ) (from : Option (List Bool)) (e : RunsError) (ending : Ending)
+    (writes : ℕ) → ending ≡ refused_ending e → IsUnplaced m limit from e → LeavesWriter ending writes writes
+leaves_unplaced m limit from NoMemory ending writes so h =
+    subst (λ (x : Ending). LeavesWriter x writes writes) (sym so)
+    (record { proper = tt; opened = refl; read = refl; wrote = omega arith })
+leaves_unplaced m limit from NoSuchRun ending writes so h =
+    subst (λ (x : Ending). LeavesWriter x writes writes) (sym so)
+    (record { proper = inr refl; opened = refl; read = refl; wrote = omega arith })
+leaves_unplaced m limit from WorkFull ending writes so h =
+    subst (λ (x : Ending). LeavesWriter x writes writes) (sym so)
+    (record { proper = tt; opened = refl; read = refl; wrote = omega arith })
+leaves_unplaced m limit from Failed ending writes so h = absurd h
+leaves_unplaced m limit from BadCursor ending writes so h = absurd h
+leaves_unplaced m limit from Read ending writes so h = absurd h
+leaves_unplaced m limit from Write ending writes so h = absurd h
+
+-- why a cursor has no explorer
+pub is_unplaced : (m : Machine) (limit : ℕ) (from : Option (List Bool)) (c : List Bool) (e : RunsError) → from ≡ Some c
+    → (e ≡ NoSuchRun → ¬ IsWhole m.program m.state limit c)
+    → (e ≡ NoMemory) ⊎ ((e ≡ NoSuchRun) ⊎ (e ≡ WorkFull)) → IsUnplaced m limit from e
+is_unplaced m limit from c NoMemory is none one = tt
+is_unplaced m limit from c NoSuchRun is none one = (c, is, none refl)
+is_unplaced m limit from c WorkFull is none one = tt
+is_unplaced m limit from c Failed is none (inl e) = cc
+is_unplaced m limit from c Failed is none (inr (inl e)) = cc
+is_unplaced m limit from c Failed is none (inr (inr e)) = cc
+is_unplaced m limit from c BadCursor is none (inl e) = cc
+is_unplaced m limit from c BadCursor is none (inr (inl e)) = cc
+is_unplaced m limit from c BadCursor is none (inr (inr e)) = cc
+is_unplaced m limit from c Read is none (inl e) = cc
+is_unplaced m limit from c Read is none (inr (inl e)) = cc
+is_unplaced m limit from c Read is none (inr (inr e)) = cc
+is_unplaced m limit from c Write is none (inl e) = cc
+is_unplaced m limit from c Write is none (inr (inl e)) = cc
+is_unplaced m limit from c Write is none (inr (inr e)) = cc
 
 -- the answer of a machine that was made is the one from the state that it stands in
 pub answer_from : (m made : Machine) (limit count : ℕ) (from : Option (List Bool)) (answer : Answer) → m ≡ made

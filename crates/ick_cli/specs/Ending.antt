@@ -88,6 +88,11 @@ Sends output _ before after = (n : ℕ) × (after ≡ before ++ take n output)
 abbrev pub Answers : Answer → Ending → List ℕ → List ℕ → Type 0
 Answers answer ending before after = HasAnswer answer ending × Sends answer.output ending before after
 
+-- a fact that holds if the work ended with an answer
+abbrev pub WhereAnswered : Ending → Type 0 → Type 0
+WhereAnswered (Answered status message) Fact = Fact
+WhereAnswered _ Fact = Unit {0}
+
 -- the source that a job is given: none exactly where the count of the files' failures rose
 abbrev pub source_of : Option (List ℕ) → (List ℕ → List ℕ) → ℕ → ℕ → List ℕ → Option (List ℕ)
 source_of None named before after left = Some left
@@ -97,8 +102,12 @@ source_of (Some name) named before after left = if before == after then Some (na
 abbrev pub input_of : Option (List ℕ) → List ℕ → List ℕ
 input_of file left = if is_some file then left else []
 
--- how the work ends whose runs were refused, where no count of work can be full
+-- How work ends that a call of ick_runs refused. A count of work is never full here, and no explorer has failed.
 abbrev pub refused_ending : RunsError → Ending
+refused_ending error.NoMemory = NoMemory
+refused_ending error.NoSuchRun = Answered 64 (message.Notice notice.NoSuchRun)
+refused_ending error.WorkFull = NoMemory
+refused_ending error.Failed = NoMemory
+refused_ending error.BadCursor = Answered 64 (message.Notice notice.BadCursor)
 refused_ending error.Read = ReadFailed
 refused_ending error.Write = WriteFailed
-refused_ending _ = NoMemory

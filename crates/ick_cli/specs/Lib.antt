@@ -3,6 +3,7 @@ pub mod Ending
 pub mod Input
 pub mod Job
 pub mod Laws
+pub mod Left
 pub mod Notice
 pub mod Placed
 pub mod Plan

@@ -4,9 +4,9 @@ use Rattle.ick_code.specs.meaning.State.{State}
 use Rattle.ick_machine.specs.Machine.{Machine}
 use Rattle.ick_runs.specs.Runs.{IsWhole}
 use Rattle.ick_runs.specs.Standing.{Explored, Stands}
+use Rattle.ick_runs.specs.declared.errors.RunsError.{RunsError}
+use Rattle.ick_runs.specs.declared.errors.RunsError.TheVariants.{NoMemory, NoSuchRun, WorkFull}
 use Rattle.ick_cli.specs.Tool.{Answer, IsRunsAnswer}
-use Rattle.ick_cli.specs.declared.notice.Notice.{Notice}
-use Rattle.ick_cli.specs.declared.notice.Notice.TheVariants.{NoSuchRun}
 
 -- the explorer stands at a place in the runs from the machine's state, and its count is the limit at most
 pub record IsPlaced (m : Machine) (limit : ℕ) (from : Option (List Bool)) (e : Explored) : Type 0 where
@@ -16,12 +16,12 @@ pub record IsPlaced (m : Machine) (limit : ℕ) (from : Option (List Bool)) (e :
   pub limit_is : e.limit ≡ limit
   pub work : e.work ≤ limit
 
--- the line of a list that isn't whole
-pub record IsNoRun (m : Machine) (limit : ℕ) (from : Option (List Bool)) (line : Notice) : Type 0 where
-  pub line_is : line ≡ NoSuchRun
-  pub choices : List Bool
-  pub from_is : from ≡ Some choices
-  pub not_whole : ¬ IsWhole m.program m.state limit choices
+-- Why there is no explorer: memory ran out, or the list isn't whole. A count of work that begins at 0 is never full.
+abbrev pub IsUnplaced : Machine → ℕ → Option (List Bool) → RunsError → Type 0
+IsUnplaced m limit from NoMemory = Unit {0}
+IsUnplaced m limit from NoSuchRun = (c : List Bool) × (from ≡ Some c) × ¬ IsWhole m.program m.state limit c
+IsUnplaced m limit from WorkFull = Unit {0}
+IsUnplaced m limit from _ = ⊥
 
 -- the answer of the listing after the place of an explorer
 abbrev pub IsRunsAnswerAt : State → ℕ → Explored → Answer → Type 0

@@ -18,6 +18,10 @@ AreChoices None most choices = choices ≡ None
 AreChoices (Some text) most None = ⊥
 AreChoices (Some text) most (Some choices) = IsTextOf text choices × (length choices ≤ most)
 
+-- it has such choices
+abbrev pub HasChoices : Option Text → ℕ → Type 0
+HasChoices text most = (choices : Option (List Bool)) × AreChoices text most choices
+
 -- the line of a text that has none: it is no cursor's text, or has more choices
 pub data IsUnread (most : ℕ) : Option Text → Notice → Type 0 where
   bad : (text : Text) → ((choices : List Bool) → ¬ IsTextOf text choices) → IsUnread most (Some text) BadCursor
@@ -37,6 +41,10 @@ pub data IsPlanned : Task → Plan → Type 0 where
   seed_planned : (seed limit : ℕ) → IsPlanned (to_run None (Some seed) limit) (Execute (Drawn seed limit))
   runs_planned : (text : Option Text) (count limit : ℕ) (from : Option (List Bool)) → AreChoices text limit from
       → IsPlanned (to_list_runs text count limit) (Execute (Listed from count limit))
+
+-- it has a plan
+abbrev pub HasPlan : Task → Type 0
+HasPlan task = (plan : Plan) × IsPlanned task plan
 
 -- the line of a task that has no plan
 pub data IsUnplanned : Task → Notice → Type 0 where

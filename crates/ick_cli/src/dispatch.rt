@@ -1,12 +1,15 @@
 //! From a job to its command: the plan, the file, the source, the program, and what is done with
 //! them.
 ghost use Rattle.std.specs.Prelude.{◌≡◌, ◌+◌, ◌<◌, ◌≤◌, ◌^◌, Some, []};
-ghost use Rattle.std.specs.Prelude.{false, length, true};
+ghost use Rattle.std.specs.Prelude.{drop, false, length, true};
 ghost use Rattle.ick_bits.specs.Faults.{message_of};
 ghost use Rattle.ick_source.specs.Programs.{trees_of};
+ghost use Rattle.ick_source.specs.Refusals.{longest};
 ghost use Rattle.ick_code.specs.Compiled.{code_program};
-ghost use Rattle.ick_cli.specs.Ending.{Answers, EndsBy, Leaves, LeavesStreams, input_of, source_of};
+ghost use Rattle.ick_cli.specs.Ending.{Answers, EndsBy, Leaves, LeavesStreams, WhereAnswered};
+ghost use Rattle.ick_cli.specs.Ending.{input_of, source_of};
 ghost use Rattle.ick_cli.specs.Job.{asked, has_file, takes_input};
+ghost use Rattle.ick_cli.specs.Left.{IsLeft, IsLeftByProgram, IsLeftByRuns, IsLeftBySource};
 ghost use Rattle.ick_cli.specs.Plan.{IsUnplanned, reads_input};
 ghost use Rattle.ick_cli.specs.Tool.{Answer, IsExecuted, IsProgramAnswer, IsReadAnswer};
 ghost use Rattle.ick_cli.specs.Tool.{IsSourceAnswer, IsToolAnswer};
@@ -25,7 +28,7 @@ use ick_runs::{ByteSink, ByteSource, ReadFault, SliceSource, read_first};
 use ick_source::{Program, Refusal, read_source};
 use std::alloc::Global;
 
-/// As many bytes of a source as show whether it is too long.
+/// How many bytes of a source are read: enough to see whether it is too long.
 const MOST_READ: usize = 1_048_577;
 
 /// Does a job up to its error text.
@@ -45,7 +48,12 @@ pub fn perform<F: Files, R: ByteSource, W: ByteSink>(
         → takes_input (asked job.now).task ≡ false → reader.new ≡ reader.old }
     ensures files_kept { has_file (asked job.now) ≡ false → files.new ≡ files.old }
     ensures unplanned { (line : Notice) → IsUnplanned (asked job.now).task line
-        → (files.new ≡ files.old) × (reader.new ≡ reader.old) }
+        → (files.new ≡ files.old) × (reader.new ≡ reader.old)
+        × (result ≡ Ending.Answered 64 (Message.Notice line)) }
+    ensures source_first { has_file (asked job.now) ≡ false
+        → R.failed reader.old < R.failed reader.new → writer.new ≡ writer.old }
+    ensures left { F.told ≡ true → R.told ≡ true → WhereAnswered result
+        (IsLeft (asked job.now) (F.named files.old) (R.left reader.old) (R.left reader.new)) }
     ensures answer { F.told ≡ true → R.told ≡ true → W.told ≡ true → (answer : Answer)
         → IsToolAnswer (asked job.now).task
         (source_of (asked job.now).file (F.named files.old)
@@ -63,7 +71,7 @@ pub fn perform<F: Files, R: ByteSource, W: ByteSink>(
     }
 }
 
-/// The plan over a source in a file, and over the input that the reader has.
+/// Does a plan over the source in a file, with the reader's bytes as the input.
 fn perform_on_file<F: Files, R: ByteSource, W: ByteSink>(
     alloc: Global,
     plan: &Plan,
@@ -78,6 +86,9 @@ fn perform_on_file<F: Files, R: ByteSource, W: ByteSink>(
     ensures leaves { Leaves result (F.failed files.old) (F.failed files.new)
         (R.failed reader.old) (R.failed reader.new) (W.failed writer.old) (W.failed writer.new) }
     ensures reader_kept { reads_input plan.now ≡ false → reader.new ≡ reader.old }
+    ensures left { F.told ≡ true → R.told ≡ true → WhereAnswered result
+        (IsLeftBySource plan.now (F.named files.old name.now)
+        (R.left reader.old) (R.left reader.new)) }
     ensures answer { F.told ≡ true → R.told ≡ true → W.told ≡ true → (answer : Answer)
         → IsReadAnswer plan.now (R.left reader.old) (source_of (Some name.now) (F.named files.old)
         (F.failed files.old) (F.failed files.new) []) answer
@@ -93,7 +104,8 @@ fn perform_on_file<F: Files, R: ByteSource, W: ByteSink>(
     }
 }
 
-/// The plan over a source in the reader, and over no input.
+/// Does a plan over the source in the reader, with an empty input. The reader is read before
+/// anything is written, and not afterwards.
 fn perform_on_reader<R: ByteSource, W: ByteSink>(
     alloc: Global,
     plan: &Plan,
@@ -104,6 +116,9 @@ fn perform_on_reader<R: ByteSource, W: ByteSink>(
     requires writer_sound { W.failed writer.old + 1 < 2 ^ 64 }
     ensures leaves { LeavesStreams result (R.failed reader.old) (R.failed reader.new)
         (W.failed writer.old) (W.failed writer.new) }
+    ensures source_first { R.failed reader.old < R.failed reader.new → writer.new ≡ writer.old }
+    ensures left { R.told ≡ true → WhereAnswered result
+        (R.left reader.new ≡ drop (longest + 1) (R.left reader.old)) }
     ensures answer { R.told ≡ true → W.told ≡ true → (answer : Answer)
         → IsSourceAnswer plan.now (R.left reader.old) [] answer
         → Answers answer result (W.written writer.old) (W.written writer.new) }
@@ -131,6 +146,9 @@ fn answer_source<R: ByteSource, W: ByteSink>(
     ensures leaves { LeavesStreams result (R.failed reader.old) (R.failed reader.new)
         (W.failed writer.old) (W.failed writer.new) }
     ensures reader_kept { reads_input plan.now ≡ false → reader.new ≡ reader.old }
+    ensures left { R.told ≡ true → WhereAnswered result
+        (IsLeftBySource plan.now source.now
+        (R.left reader.old) (R.left reader.new)) }
     ensures answer { R.told ≡ true → W.told ≡ true → (answer : Answer)
         → IsSourceAnswer plan.now source.now (R.left reader.old) answer
         → Answers answer result (W.written writer.old) (W.written writer.new) }
@@ -146,7 +164,7 @@ fn answer_source<R: ByteSource, W: ByteSink>(
     }
 }
 
-/// The ending of a source that is refused for a fault.
+/// Returns the ending of a source that is refused for a fault.
 fn refuse(alloc: Global, kind: FaultKind, statement: u32) -> Ending
     ensures { EndsBy 2 (message_of kind statement []) result }
 {
@@ -174,6 +192,9 @@ fn answer_program<R: ByteSource, W: ByteSink>(
     ensures leaves { LeavesStreams result (R.failed reader.old) (R.failed reader.new)
         (W.failed writer.old) (W.failed writer.new) }
     ensures reader_kept { reads_input plan.now ≡ false → reader.new ≡ reader.old }
+    ensures left { R.told ≡ true → WhereAnswered result
+        (IsLeftByProgram (trees_of program.now) (R.left reader.old) plan.now
+        (R.left reader.new)) }
     ensures answer { R.told ≡ true → W.told ≡ true → (answer : Answer)
         → IsProgramAnswer (trees_of program.now) (R.left reader.old) plan.now answer
         → Answers answer result (W.written writer.old) (W.written writer.new) }
@@ -185,7 +206,7 @@ fn answer_program<R: ByteSource, W: ByteSink>(
     }
 }
 
-/// Answers a program by its runs, once it is compiled.
+/// Compiles a program, and answers by its runs.
 fn execute<R: ByteSource, W: ByteSink>(
     alloc: Global,
     runs: &Runs,
@@ -197,6 +218,9 @@ fn execute<R: ByteSource, W: ByteSink>(
     requires writer_sound { W.failed writer.old + 1 < 2 ^ 64 }
     ensures leaves { LeavesStreams result (R.failed reader.old) (R.failed reader.new)
         (W.failed writer.old) (W.failed writer.new) }
+    ensures left { R.told ≡ true → WhereAnswered result
+        (IsLeftByRuns (trees_of program.now) (R.left reader.old) runs.now
+        (R.left reader.new)) }
     ensures answer { R.told ≡ true → W.told ≡ true → (answer : Answer)
         → IsProgramAnswer (trees_of program.now) (R.left reader.old)
         (Plan.Execute runs.now) answer
@@ -220,6 +244,9 @@ fn answer_code<R: ByteSource, W: ByteSink>(
     requires writer_sound { W.failed writer.old + 1 < 2 ^ 64 }
     ensures leaves { LeavesStreams result (R.failed reader.old) (R.failed reader.new)
         (W.failed writer.old) (W.failed writer.new) }
+    ensures left { R.told ≡ true → WhereAnswered result
+        (IsLeftByRuns (code_program code.now) (R.left reader.old) runs.now
+        (R.left reader.new)) }
     ensures answer { R.told ≡ true → W.told ≡ true → (answer : Answer)
         → IsExecuted (code_program code.now) (R.left reader.old) runs.now answer
         → Answers answer result (W.written writer.old) (W.written writer.new) }

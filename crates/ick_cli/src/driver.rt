@@ -6,6 +6,7 @@ ghost use Rattle.clap.specs.Words.{fault_of};
 ghost use Rattle.ick_cli.specs.Words.{ick_app};
 ghost use Rattle.ick_cli.specs.Ending.{input_of, source_of};
 ghost use Rattle.ick_cli.specs.Job.{HasJob, has_file, job_of, takes_input};
+ghost use Rattle.ick_cli.specs.Left.{IsLeft};
 ghost use Rattle.ick_cli.specs.Notice.{notice_text};
 ghost use Rattle.ick_cli.specs.Plan.{IsUnplanned};
 ghost use Rattle.ick_cli.specs.declared.notice.Notice.{Notice};
@@ -24,13 +25,15 @@ use crate::words::read_job;
 use ick_runs::{ByteSink, ByteSource};
 use std::alloc::Global;
 
-/// Does the job that the words ask for, and says with which status the program ends.
+/// Does the job that the arguments ask for, and returns the exit status.
 ///
-/// The words are without the program's own name. The source is the file that they name, which
-/// `files` opens, and the input of a run is then what `reader` has; without a file the source is
-/// what `reader` has, and the input is empty. The output goes to `writer`, and what is to be said
-/// of a refusal, a fault or a failure to `errors`, after the output up to there. The words, the
-/// statuses and the texts are this profile's.
+/// The arguments are without the program's own name. If they name a file, `files` opens it, its
+/// bytes are the source, and the input of a run comes from `reader`. A run leaves in `reader`
+/// exactly the input that it has not read, and a listing of runs reads the input whole. Without a
+/// file the source comes from `reader`, which is read to its end before anything is written, and
+/// the input is empty. The output goes to `writer`. The text of a refusal, a fault or a failure
+/// goes to `errors`, after the output. The arguments, the statuses and the texts are this
+/// profile's.
 pub fn serve<F: Files, R: ByteSource, W: ByteSink, E: ByteSink>(
     alloc: Global,
     words: &[&str],
@@ -62,6 +65,12 @@ pub fn serve<F: Files, R: ByteSource, W: ByteSink, E: ByteSink>(
         → has_file (job_of (texts words.entry.now)) ≡ true
         → takes_input (job_of (texts words.entry.now)).task ≡ false
         → reader.new ≡ reader.old }
+    ensures left { HasJob (texts words.entry.now) → F.told ≡ true → R.told ≡ true → result ≢ 4
+        → IsLeft (job_of (texts words.entry.now)) (F.named files.old)
+        (R.left reader.old) (R.left reader.new) }
+    ensures source_first { HasJob (texts words.entry.now)
+        → has_file (job_of (texts words.entry.now)) ≡ false
+        → R.failed reader.old < R.failed reader.new → writer.new ≡ writer.old }
     ensures files_kept { HasJob (texts words.entry.now)
         → has_file (job_of (texts words.entry.now)) ≡ false → files.new ≡ files.old }
     ensures unplanned { HasJob (texts words.entry.now) → (line : Notice)
@@ -102,16 +111,16 @@ pub fn serve<F: Files, R: ByteSource, W: ByteSink, E: ByteSink>(
     }
 }
 
-/// Why the words can't be had.
+/// Why the arguments can't be read.
 #[derive(Clone, Copy, Debug, PartialEq, Eq)]
 pub enum WordsFault {
     /// Memory ran out.
     NoMemory,
-    /// A word is no text.
+    /// An argument is no text.
     NotText,
 }
 
-/// Answers in place of `serve` where the words can't be had: 4 for want of memory, and else 64,
+/// Answers instead of `serve` if the arguments can't be read: 4 if memory ran out, and else 64,
 /// with its line on `errors` (this profile).
 pub fn refuse_words<E: ByteSink>(fault: WordsFault, errors: &mut E) -> Status
     requires { E.failed errors.old + 1 < 2 ^ 64 }

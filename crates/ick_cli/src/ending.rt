@@ -5,7 +5,7 @@ ghost use Rattle.ick_cli.specs.Ending.{ending_status, ending_text, refused_endin
 use crate::notice::{Message, Notice};
 use ick_runs::RunsError;
 
-/// How the work ends: with an answer, or since memory or a device was wanting.
+/// How the work ends: with an answer, or because memory or a device failed.
 #[derive(Debug, Drop)]
 pub enum Ending {
     Answered { status: u8, message: Message },
@@ -17,7 +17,7 @@ pub enum Ending {
 }
 
 impl Ending {
-    /// The ending by a line, with the status of usage.
+    /// Returns the ending by a line, with the status of usage.
     pub fn usage(line: Notice) -> Ending
         ensures { result ≡ Ending.Answered 64 (Message.Notice line) }
     {
@@ -27,19 +27,24 @@ impl Ending {
         }
     }
 
-    /// The ending of work whose runs were refused. No count of work can be full here, nor is a
-    /// cursor at fault any more: so memory was wanting where no device failed.
+    /// Returns the ending of work that a call of `ick_runs` refused. Only here does an error become
+    /// a line and a status. `WorkFull` and `Failed` never come: each count of work begins at 0, and
+    /// a failed explorer is never used again.
     pub fn refused(error: RunsError) -> Ending
         ensures { result ≡ refused_ending error }
     {
         match error {
+            RunsError::NoMemory => Ending::NoMemory,
+            RunsError::NoSuchRun => Ending::usage(Notice::NoSuchRun),
+            RunsError::WorkFull => Ending::NoMemory,
+            RunsError::Failed => Ending::NoMemory,
+            RunsError::BadCursor => Ending::usage(Notice::BadCursor),
             RunsError::Read => Ending::ReadFailed,
             RunsError::Write => Ending::WriteFailed,
-            _ => Ending::NoMemory,
         }
     }
 
-    /// The exit status.
+    /// Returns the exit status.
     pub fn status(&self) -> u8
         ensures { result ≡ ending_status self.now }
     {
@@ -49,7 +54,7 @@ impl Ending {
         }
     }
 
-    /// The error text.
+    /// Returns the error text.
     pub fn text(&self) -> &[u8]
         ensures { result.now ≡ ending_text self.now }
     {

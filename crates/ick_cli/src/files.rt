@@ -9,8 +9,8 @@ pub trait Files: ByteSource {
     /// The bytes of the file of a name.
     ghost named: { Self → List ℕ → List ℕ };
 
-    /// Opens a file: after `Ok`, `read` reads it from its front. An `Err`, for want of memory too,
-    /// raises the count of failures by one; an `Ok` leaves it.
+    /// Opens a file. After `Ok`, `read` reads it from its front. An `Err` raises the count of
+    /// failures by one, also if memory ran out; an `Ok` leaves it.
     fn open_named(&mut self, name: &str) -> Result<(), DeviceFault>
         requires { Self.failed self.old + 1 < 2 ^ 64 }
         ensures count { Self.failed self.new

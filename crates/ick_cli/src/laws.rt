@@ -2,8 +2,8 @@
 
 ghost use Rattle.ick_cli.specs.Laws.{OneAnswer};
 
-/// Each task has exactly one answer to a file that was not read, and to each source, with each
-/// input.
+/// States that each task has exactly one answer to a file that was not read, and to each source
+/// with each input.
 pub fn one_answer()
     ensures { OneAnswer }
 {}

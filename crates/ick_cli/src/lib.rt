@@ -1,10 +1,9 @@
-//! The command line: `serve` does the job that words ask for, over devices that the caller hands
-//! in.
+//! The command line. `serve` does the job that arguments ask for, over devices of the caller.
 //!
 //! - `files`: files that are opened by name
-//! - `words`: the commands and arguments, and the job that words ask for
-//! - `plan`: what is done with a program, once texts of choices were read
-//! - `notice`: what is said on the error stream
+//! - `words`: commands and options, and the job that arguments ask for
+//! - `plan`: what is done with a program, after texts of choices are read
+//! - `notice`: error texts
 //! - `ending`: how the work of a job ends
 //! - `output`: the output of an answer
 //! - `input`: the input of a run
@@ -13,8 +12,8 @@
 //! - `dispatch`: from a job to its command
 //! - `status`: the exit status
 //! - `report`: the error text and the status at the end of a call
-//! - `usage`: the answer to words that ask for no job
-//! - `driver`: the whole, from the words to the status
+//! - `usage`: the answer to arguments that ask for no job
+//! - `driver`: the whole, from the arguments to the status
 //! - `laws`: what holds of each task
 #![tactic(auto)]
 

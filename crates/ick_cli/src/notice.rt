@@ -1,9 +1,9 @@
-//! What is said on the error stream.
+//! Error texts.
 ghost use Rattle.std.specs.Prelude.{◌≡◌};
 ghost use Rattle.ick_cli.specs.Ending.{message_text};
 ghost use Rattle.ick_cli.specs.Notice.{notice_text};
 
-/// A line that stands in the program, so that it takes no memory.
+/// A line that the program has itself, so that it takes no memory.
 #[derive(Clone, Copy, Debug, PartialEq, Eq)]
 pub enum Notice {
     ChoicesAndSeed,
@@ -19,7 +19,7 @@ pub enum Notice {
 }
 
 impl Notice {
-    /// The line, with its line end.
+    /// Returns the line, with its line end.
     pub fn text(self) -> &'static [u8]
         ensures { result.now ≡ notice_text self }
     {
@@ -47,7 +47,7 @@ pub enum Message {
 }
 
 impl Message {
-    /// The bytes of the text.
+    /// Returns the bytes of the text.
     pub fn bytes(&self) -> &[u8]
         ensures { result.now ≡ message_text self.now }
     {

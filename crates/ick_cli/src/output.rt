@@ -6,7 +6,7 @@ use crate::ending::Ending;
 use crate::notice::Message;
 use ick_runs::{ByteSink, write_whole};
 
-/// Writes an output, and ends with this status and error text where all of it went out.
+/// Writes an output. If all of it was written, the work ends with this status and error text.
 pub fn send<W: ByteSink>(output: &[u8], status: u8, message: Message, writer: &mut W) -> Ending
     requires sound { W.failed writer.old + 1 < 2 ^ 64 }
     requires known { status ≤ 3 }

@@ -1,17 +1,17 @@
-//! What a command comes to once its text of choices was read, before anything else is.
+//! What a command becomes after its text of choices is read, and before anything else is.
 ghost use Rattle.std.specs.Prelude.{◌≡◌, ◌≤◌, IfErr, IfOk, Some, length, option_map};
 ghost use Rattle.ick_runs.specs.ChoiceTexts.{IsTextOf};
 ghost use Rattle.ick_cli.specs.Job.{task_of};
-ghost use Rattle.ick_cli.specs.Plan.{AreChoices, EndsByLine, IsPlanned, IsUnplanned, IsUnread};
-ghost use Rattle.ick_cli.specs.Plan.{most_choices};
+ghost use Rattle.ick_cli.specs.Plan.{AreChoices, EndsByLine, HasChoices, HasPlan, IsPlanned};
+ghost use Rattle.ick_cli.specs.Plan.{IsUnplanned, IsUnread, most_choices};
 
 use crate::ending::Ending;
 use crate::notice::Notice;
 use crate::words::Subcommand;
-use ick_runs::{Cursor, RunsError};
+use ick_runs::Cursor;
 use std::alloc::Global;
 
-/// The most choices of a run that are read.
+/// How many choices of a run are read at most.
 const MOST_CHOICES: u32 = 1_000_000;
 
 /// What is done with a program.
@@ -28,17 +28,17 @@ pub enum Plan {
 /// Which runs of a program are made.
 #[derive(Drop)]
 pub enum Runs {
-    /// The one with these choices: none, where there is no cursor.
+    /// The run with these choices, which are none if there is no cursor.
     Given {
         choices: Option<Cursor>,
         limit: u32,
     },
-    /// The one with the choices that a seed draws.
+    /// The run with the choices that a seed draws.
     Drawn {
         seed: u64,
         limit: u32,
     },
-    /// All that there are, or those after a cursor's.
+    /// All runs, or those after the run of a cursor.
     Listed {
         from: Option<Cursor>,
         count: u32,
@@ -46,10 +46,13 @@ pub enum Runs {
     },
 }
 
-/// The plan of a command, or the ending of one that has none.
+/// Returns the plan of a command. A command without a plan ends by its line, and memory is said to
+/// be out only if the command has a plan.
 pub fn plan_of(alloc: Global, subcommand: &Subcommand<'_>) -> Result<Plan, Ending>
     ensures ok { IfOk result (IsPlanned (task_of subcommand.now)) }
     ensures err { IfErr result (EndsByLine (IsUnplanned (task_of subcommand.now))) }
+    ensures memory { IfErr result (λ ending. ending ≡ Ending.NoMemory
+        → HasPlan (task_of subcommand.now)) }
 {
     match *subcommand {
         Subcommand::Check => Ok(Plan::Check),
@@ -66,7 +69,7 @@ pub fn plan_of(alloc: Global, subcommand: &Subcommand<'_>) -> Result<Plan, Endin
     }
 }
 
-/// The plan of a run, which has choices or a seed, not both.
+/// Returns the plan of a run, which has choices or a seed, and not both.
 fn plan_run(
     alloc: Global,
     choices: Option<&str>,
@@ -76,6 +79,8 @@ fn plan_run(
     ensures ok { IfOk result (IsPlanned (task_of (Subcommand.Run choices.entry seed limit))) }
     ensures err { IfErr result
         (EndsByLine (IsUnplanned (task_of (Subcommand.Run choices.entry seed limit)))) }
+    ensures memory { IfErr result (λ ending. ending ≡ Ending.NoMemory
+        → HasPlan (task_of (Subcommand.Run choices.entry seed limit))) }
 {
     match seed {
         None => match choices_of(alloc, choices, MOST_CHOICES) {
@@ -89,18 +94,19 @@ fn plan_run(
     }
 }
 
-/// The choices that a text has, at most so many; none where there is no text.
+/// Returns the choices that a text has, at most `most`, or nothing if there is no text. Memory is
+/// said to be out only if the text has such choices.
 fn choices_of(alloc: Global, text: Option<&str>, most: u32) -> Result<Option<Cursor>, Ending>
     ensures ok { IfOk result (AreChoices (option_map (λ s. s.now) text.entry) most) }
     ensures err { IfErr result (EndsByLine (IsUnread most (option_map (λ s. s.now) text.entry))) }
+    ensures memory { IfErr result (λ ending. ending ≡ Ending.NoMemory
+        → HasChoices (option_map (λ s. s.now) text.entry) most) }
 {
     let Some(text) = text else {
         return Ok(None);
     };
     match Cursor::from_text(alloc, text.as_bytes(), most) {
         Ok(cursor) => Ok(Some(cursor)),
-        Err(RunsError::BadCursor) => Err(Ending::usage(Notice::BadCursor)),
-        Err(RunsError::NoSuchRun) => Err(Ending::usage(Notice::NoSuchRun)),
-        Err(_) => Err(Ending::NoMemory),
+        Err(error) => Err(Ending::refused(error)),
     }
 }

@@ -7,7 +7,7 @@ use crate::ending::Ending;
 use crate::status::Status;
 use ick_runs::{ByteSink, write_whole};
 
-/// Writes the error text of an ending, and answers its status.
+/// Writes the error text of an ending, and returns its status.
 pub fn report<E: ByteSink>(ending: &Ending, errors: &mut E) -> Status
     requires { E.failed errors.old + 1 < 2 ^ 64 }
     ensures { Finishes E.told (ending_status ending.now) (ending_text ending.now)
@@ -17,7 +17,7 @@ pub fn report<E: ByteSink>(ending: &Ending, errors: &mut E) -> Status
     finish(ending.status(), ending.text(), errors)
 }
 
-/// Writes an error text, and answers the status, or 4 where the text wasn't written.
+/// Writes an error text, and returns the status, or 4 if the text could not be written.
 pub fn finish<E: ByteSink>(status: u8, text: &[u8], errors: &mut E) -> Status
     requires { E.failed errors.old + 1 < 2 ^ 64 }
     ensures { Finishes E.told status text.now

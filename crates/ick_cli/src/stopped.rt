@@ -10,7 +10,7 @@ use ick_machine::EndKind;
 use ick_runs::Streamed;
 use std::alloc::Global;
 
-/// The exit status.
+/// Returns the exit status.
 pub fn stop_status(end: EndKind) -> u8
     ensures { result ≡ kind_status end }
 {
@@ -22,7 +22,7 @@ pub fn stop_status(end: EndKind) -> u8
     }
 }
 
-/// The error text.
+/// Returns the error text.
 pub fn stop_message(alloc: Global, streamed: Streamed) -> Result<Message, NoMemory>
     ensures { IfOk result (λ message. message_text message
         ≡ kind_text streamed.end streamed.message.items streamed.steps) }
@@ -35,7 +35,7 @@ pub fn stop_message(alloc: Global, streamed: Streamed) -> Result<Message, NoMemo
     }
 }
 
-/// The message of a fault.
+/// Returns the message of a fault.
 pub fn fault_message(alloc: Global, fault: &Fault<'_>) -> Result<Message, NoMemory>
     ensures { IfOk result (λ message. message_text message
         ≡ message_of fault.now.kind fault.now.statement fault.now.subject.now) }
@@ -45,7 +45,7 @@ pub fn fault_message(alloc: Global, fault: &Fault<'_>) -> Result<Message, NoMemo
     Ok(Message::Text(text))
 }
 
-/// A line of words and a number of steps.
+/// Returns a line of words and a number of steps.
 fn line(alloc: Global, words: &[u8], steps: u32) -> Result<Message, NoMemory>
     ensures { IfOk result (λ message. message_text message
         ≡ words.now ++ decimal steps ++ codes " STEPS\n") }

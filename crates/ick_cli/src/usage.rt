@@ -1,4 +1,4 @@
-//! The answer to words that ask for no job.
+//! The answer to arguments that ask for no job.
 ghost use Rattle.std.specs.Prelude.{◌≡◌, ◌+◌, ◌<◌, ◌^◌, ℕ};
 ghost use Rattle.clap.specs.Words.{kind_of};
 ghost use Rattle.ick_cli.specs.Notice.{notice_text};
@@ -14,8 +14,8 @@ use clap::error::ErrorKind;
 use ick_runs::{ByteSink, write_whole};
 use std::alloc::Global;
 
-/// Answers words that ask for no job: a mistake in them has its text among the errors, and a
-/// request for help has its text on the writer.
+/// Answers arguments that ask for no job. The text of a mistake goes to the errors, and the text
+/// of help goes to the writer.
 pub fn answer_words<W: ByteSink, E: ByteSink>(
     alloc: Global,
     error: &Error,

@@ -1,4 +1,4 @@
-//! The command line: its commands and arguments, and the job that words ask for.
+//! The command line: its commands and options, and the job that arguments ask for.
 
 mod arguments;
 mod command;

@@ -1,4 +1,4 @@
--- The texts of lists of choices.
+-- Defines the texts of lists of choices.
 use Rattle.std.specs.Prelude.{◌≡◌, ◌⊎◌, ◌==◌, ◌||◌, ◌<◌, ℕ, ◌+◌, nat_lt}
 use Rattle.std.specs.Prelude.{if◌then◌else◌, not, Bool, true, false, List, [], ◌∷◌, ◌++◌, map, length}
 use Rattle.std.specs.Prelude.{get_or, decimal, codes, Option, Some, None, replicate}
@@ -18,7 +18,7 @@ plain_text (b ∷ c) = map digit_of (b ∷ c)
 abbrev pub is_digit : ℕ → Bool
 is_digit b = b == 48 || b == 49
 
--- a group of a text: a choice, and the digits of how often it stands there
+-- a group of a text: a choice, and the digits of the length of its stretch
 pub record Group : Type 0 where
   pub choice : Bool
   pub digits : List ℕ
@@ -40,12 +40,12 @@ abbrev pub groups_text : List Group → List ℕ
 groups_text [] = []
 groups_text (g ∷ gs) = group_text g ++ later_text gs
 
--- another choice than the one before, if there is one
+-- differs from the choice before, if there is a choice before
 abbrev pub Differs : Option Bool → Bool → Type 0
 Differs None b = Unit {0}
 Differs (Some a) b = a ≡ b → ⊥
 
--- groups after a choice: lengths without leading zeros, and neighbours have different choices
+-- groups after a choice: lengths have no leading zeros, and neighbours have different choices
 abbrev pub AreGroups : Option Bool → List Group → Type 0
 AreGroups last [] = Unit {0}
 AreGroups last (g ∷ gs) = Differs last g.choice × IsLength g.digits × AreGroups (Some g.choice) gs
@@ -53,12 +53,12 @@ AreGroups last (g ∷ gs) = Differs last g.choice × IsLength g.digits × AreGro
 abbrev pub stretch_of : Group → List Bool
 stretch_of g = replicate (digits_value 10 g.digits) g.choice
 
--- the choices that groups stand for
+-- the choices of a list of groups
 abbrev pub spread : List Group → List Bool
 spread [] = []
 spread (g ∷ gs) = stretch_of g ++ spread gs
 
--- a text of one group or more after a choice, and the choices that it stands for
+-- a text of one or more groups after a choice, and the choices of these groups
 pub record IsGrouped (last : Option Bool) (text : List ℕ) (c : List Bool) : Type 0 where
   pub groups : List Group
   pub some : 0 < length groups
@@ -101,6 +101,6 @@ group_of s = record { choice = s.choice; digits = decimal s.size }
 abbrev pub grouped_text : List Bool → List ℕ
 grouped_text c = groups_text (map group_of (stretches c))
 
--- the text of a list of choices as it is printed: in groups where there are more than 64
+-- the printed text of a list of choices: in groups if there are more than 64
 unfoldable pub choices_text : List Bool → List ℕ
 choices_text c = if nat_lt 64 (length c) then grouped_text c else plain_text c

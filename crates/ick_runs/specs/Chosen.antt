@@ -1,4 +1,4 @@
--- The choices that a list or a seed gives to a run.
+-- Defines the choices that a list or a seed gives to a run.
 use Rattle.std.specs.Prelude.{◌≡◌, ℕ, Bool, List, slice_get, Option, Some}
 use Rattle.ick_code.specs.meaning.State.{State}
 use Rattle.ick_machine.specs.Machine.{Program}
@@ -21,12 +21,12 @@ abbrev pub IsChosen : Program → State → ℕ → Chosen → List Bool → Typ
 IsChosen p s limit (listed choices) c = c ≡ choices
 IsChosen p s limit (seeded seed) c = IsDrawn p s limit (word_of seed) c
 
--- words of private contracts: the choice that is given where k were asked before, at a chance
+-- for private contracts: the choice given at a chance, after k earlier choices
 abbrev pub answer_of : Chosen → ℕ → ℕ → Option Bool
 answer_of (listed choices) k chance = slice_get choices k
 answer_of (seeded seed) k chance = Some (means_done (word_of seed k) chance)
 
--- and a picker of these choices that was asked k times
+-- a picker of these choices after k choices
 abbrev pub Picks : Chosen → ℕ → Picker → Type 0
 Picks (listed choices) k (Giving given) = given.now ≡ choices
 Picks (listed choices) k (Drawing generator) = ⊥

@@ -1,4 +1,4 @@
--- The choices that a seed draws.
+-- Defines the choices that a seed draws.
 use Rattle.std.specs.Prelude.{◌≡◌, ℕ, zero, suc, ◌*◌, ◌/◌, ◌^◌, ◌<◌, nat_lt, Bool, false, List}
 use Rattle.std.specs.Prelude.{length, take, get_or}
 use Rattle.rand_core.specs.Pcg32Seed.{pcg32_seed}
@@ -10,7 +10,7 @@ use Rattle.ick_machine.specs.Machine.{Program, Machine}
 use Rattle.ick_runs.specs.Runs.{run, IsWhole}
 use Rattle.ick_runs.specs.Paths.{RunsTo}
 
--- the generator PCG32 of a seed, whose 16 bytes the seed spreads into
+-- the generator PCG32 of a seed, which is spread into its 16 bytes
 abbrev pub generator_of : ℕ → Lcg
 generator_of seed = pcg32_of_seed (pcg32_seed 16 seed)
 
@@ -27,7 +27,7 @@ word_of seed k = (pcg32 (generator_after k (generator_of seed))).0
 unfoldable pub means_done : ℕ → ℕ → Bool
 means_done word chance = nat_lt (word * 100 / 2 ^ 32) chance
 
--- each of these choices is what the word of its number means at the chance at which the run asks it
+-- each of these choices has the meaning of the word of its number at the chance at which the run asks it
 abbrev pub AreDrawn : Program → State → ℕ → (ℕ → ℕ) → List Bool → Type 0
 AreDrawn p s limit word c = (k chance : ℕ) → k < length c →
     ask p (run p s limit (take k c)).last ≡ choice chance → get_or c k false ≡ means_done (word k) chance
@@ -37,7 +37,7 @@ pub record IsDrawn (p : Program) (s : State) (limit : ℕ) (word : ℕ → ℕ) 
   pub whole : IsWhole p s limit c
   pub drawn : AreDrawn p s limit word c
 
--- a word of private contracts: from old the machine has come n steps along the run whose choices the generator drew
+-- for private contracts: the machine has made n steps from old along the run whose choices the generator drew
 pub record Draws (limit seed : ℕ) (old : Machine) (c : List Bool) (generator : Lcg) (new : Machine) (n : ℕ)
     : Type 0 where
   pub generator_is : generator ≡ generator_after (length c) (generator_of seed)

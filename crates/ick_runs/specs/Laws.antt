@@ -1,4 +1,4 @@
--- What holds of all runs, listings, texts and draws.
+-- States the laws of all runs, listings, texts and draws.
 use Rattle.std.specs.Prelude.{◌≡◌, ◌⊎◌, ◌<◌, ◌≤◌, ◌^◌, ℕ, Bool, List, Option, length}
 use Rattle.ick_code.specs.meaning.State.{State}
 use Rattle.ick_machine.specs.Machine.{Program}
@@ -12,27 +12,27 @@ pub record AreLimited (p : Program) (s : State) (limit : ℕ) : Type 0 where
   pub steps : (c : List Bool) → (run p s limit c).steps ≤ limit
   pub choices : (c : List Bool) → IsWhole p s limit c → length c ≤ limit
 
--- two whole lists are one, or one is below the other
+-- two whole lists are equal, or one is below the other
 abbrev pub AreOrdered : Program → State → ℕ → Type 0
 AreOrdered p s limit = (c d : List Bool) → IsWhole p s limit c → IsWhole p s limit d →
     (c ≡ d) ⊎ (IsBelow c d ⊎ IsBelow d c)
 
--- no list is below itself, and what is below a lower one is below
+-- no list is below itself, and the order is transitive
 pub record IsOrder (IsLess : List Bool → List Bool → Type 0) : Type 0 where
   pub strict : (c : List Bool) → ¬ IsLess c c
   pub transitive : (c d e : List Bool) → IsLess c d → IsLess d e → IsLess c e
 
--- a place has a listing, and any other is the same
+-- a position has a listing, and any other listing is equal
 pub record HasOneListing (p : Program) (s : State) (limit : ℕ) (from : Option (List Bool)) : Type 0 where
   pub some : (cs : List (List Bool)) × IsListing p s limit from cs
   pub unique : (cs ds : List (List Bool)) → IsListing p s limit from cs → IsListing p s limit from ds → cs ≡ ds
 
--- words draw a list of choices, and any other that they draw is the same
+-- words draw a list of choices, and any other list that they draw is equal
 pub record HasOneDrawing (p : Program) (s : State) (limit : ℕ) (word : ℕ → ℕ) : Type 0 where
   pub some : (c : List Bool) × IsDrawn p s limit word c
   pub unique : (c d : List Bool) → IsDrawn p s limit word c → IsDrawn p s limit word d → c ≡ d
 
--- what is printed for a list that a memory can hold reads as that list, and a text reads as one list at most
+-- the printed text of a list that a memory can hold reads as that list, and a text reads as at most one list
 pub record ReadsBack : Type 0 where
   pub printed : (c : List Bool) → length c < 2 ^ 64 → IsTextOf (choices_text c) c
   pub unique : (text : List ℕ) (c d : List Bool) → IsTextOf text c → IsTextOf text d → c ≡ d

@@ -1,4 +1,4 @@
--- The lines of a listing.
+-- Defines the lines of a listing.
 use Rattle.std.specs.Prelude.{ℕ, Bool, nat_lt, if◌then◌else◌, List, [], ◌∷◌, ◌++◌, length, take, drop}
 use Rattle.std.specs.Prelude.{codes, decimal}
 use Rattle.std.specs.List.{flat_map}
@@ -12,7 +12,7 @@ use Rattle.ick_runs.specs.Runs.{Stop, ends, wants, run}
 use Rattle.ick_runs.specs.declared.listing.Listed2.{Listed2}
 use Rattle.ick_runs.specs.declared.listing.Listed2.TheVariants.{More, Done}
 
--- the word of an end; a fault's has the number of its kind, and that of the statement itself
+-- the text of an end: a fault's text has the number of its kind, and the number of the statement
 abbrev pub end_text : Finish → List ℕ
 end_text (finished gave_up) = codes "GIVE-UP"
 end_text (finished (faulted kind statement subject)) =

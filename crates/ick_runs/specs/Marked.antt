@@ -1,4 +1,4 @@
--- How an explorer's marks and points fit the choices that it keeps, whatever state its runs start from.
+-- States how an explorer's marks and points fit the choices that it keeps, for every start state of its runs.
 use Rattle.std.specs.Prelude.{◌≡◌, ◌≢◌, ℕ, nat_lt, Bool, true, false, List, [], length}
 use Rattle.std.specs.List.{list_all}
 use Rattle.ick_code.specs.meaning.Move.{Asking, plain, choice, ended, ask}
@@ -13,7 +13,7 @@ is_choice plain = false
 is_choice (choice _) = true
 is_choice (ended _) = false
 
--- there is a mark for each zero, in a state that asks a choice, and for each a number of steps below the limit
+-- each zero has a mark in a state that asks a choice, and a number of steps below the limit
 pub record IsMarked (limit : ℕ) (m : Machine) (c : List Bool) (points : List ℕ) : Type 0 where
   pub marked : length m.marks ≡ zeros_in c
   pub counted : length points ≡ zeros_in c
@@ -23,6 +23,6 @@ pub record IsMarked (limit : ℕ) (m : Machine) (c : List Bool) (points : List �
 abbrev pub HasMarks : ℕ → Machine → Path → Type 0
 HasMarks limit m path = IsMarked limit m path.choices.items path.points.items
 
--- where no run was given, no choices are kept
+-- an explorer that has given no run keeps no choices
 pub record IsPlaced (progress : Progress) (c : List Bool) : Type 0 where
   pub none : progress ≢ Given → c ≡ []

@@ -1,4 +1,4 @@
--- Words of the contracts of reading grouped texts.
+-- Defines predicates for the contracts of reading texts of groups.
 use Rattle.std.specs.Prelude.{◌≡◌, ◌⊎◌, ◌<◌, ◌≤◌, ◌^◌, ℕ, ◌+◌, Bool, List, []}
 use Rattle.std.specs.Prelude.{◌∷◌, ◌++◌, length, take, drop, Option, None}
 use Rattle.std.specs.Char.{digit_value}
@@ -6,12 +6,12 @@ use Rattle.std.specs.Str.Parse.{digits_value}
 use Rattle.ick_runs.specs.ChoiceTexts.{Group, IsLength, Differs, IsGrouped, group_text}
 use Rattle.ick_runs.specs.declared.groups.Front.{Front}
 
--- no digit stands at the front
+-- the text has no digit at its front
 abbrev pub HasNoDigit : List ℕ → Type 0
 HasNoDigit [] = Unit {0}
 HasNoDigit (b ∷ bs) = digit_value b < 10 → ⊥
 
--- a number, or 2 ^ 32 where it is greater
+-- a number, or 2 ^ 32 if the number is greater
 abbrev pub IsCapped : ℕ → ℕ → Type 0
 IsCapped value number = ((number < 2 ^ 32) × (value ≡ number)) ⊎ ((2 ^ 32 ≤ number) × (value ≡ 2 ^ 32))
 
@@ -27,7 +27,7 @@ pub record IsFront (last : Option Bool) (text : List ℕ) (f : Front) : Type 0 w
   pub text_is : text ≡ group_text (front_group f text) ++ drop (f.count + 2) text
   pub stops : HasNoDigit (drop (f.count + 2) text)
 
--- a text is read up to a place, with these choices: what may follow, and what must
+-- the readings of the text are exactly front, each followed by a reading of the text from the index `at`
 pub record IsRead (text : List ℕ) (last : Option Bool) (at : ℕ) (front : List Bool) : Type 0 where
   pub on : (rest : List Bool) → IsGrouped last (drop at text) rest → IsGrouped None text (front ++ rest)
   pub back : (c : List Bool) → IsGrouped None text c →

@@ -1,4 +1,4 @@
--- Where an explorer stands, and what its calls answer.
+-- Describes the position of an explorer, and the answers of its calls.
 use Rattle.std.specs.Prelude.{◌≡◌, ℕ, ◌+◌, ◌^◌, ◌≤◌, Bool, true, false, List, [], map, Option}
 use Rattle.std.specs.Prelude.{Some, None}
 use Rattle.ick_code.specs.meaning.State.{State}
@@ -11,7 +11,7 @@ use Rattle.ick_runs.specs.declared.path.Path.{Path}
 use Rattle.ick_runs.specs.declared.path.Progress.{Progress}
 use Rattle.ick_runs.specs.declared.path.Progress.TheVariants.{Fresh, Given, Spent}
 
--- what contracts see of an explorer: the place is the choices of the run last given, else those of the cursor
+-- the view of an explorer in contracts: `from` is the choices of the run last given, else of the cursor
 pub record Explored : Type 0 where
   pub program : Program
   pub limit : ℕ
@@ -22,7 +22,7 @@ pub record Explored : Type 0 where
   pub work : ℕ
   pub failed : Bool
 
--- the place, by how far the explorer is
+-- the choices at the position, by the explorer's progress
 abbrev pub place_of : Progress → List Bool → Option (List Bool)
 place_of Fresh c = None
 place_of Given c = Some c
@@ -45,19 +45,19 @@ explored_at m limit path progress = record {
   failed = has_failed progress;
 }
 
--- for each zero of c, the state that the run from s has there, and the steps made up to it
+-- each zero of c has the state of the run from s at that zero, and the number of steps before it
 pub record Keeps (p : Program) (s : State) (limit : ℕ) (c : List Bool) (marks : List State) (points : List ℕ)
     : Type 0 where
   pub states : marks ≡ map (λ before. (run p s limit before).last) (before_zeros c)
   pub steps : points ≡ map (λ before. (run p s limit before).steps) (before_zeros c)
 
--- after the run of a whole list, with the marks of its zeros
+-- the position is after the run of a whole list, with the marks of its zeros
 pub record StandsAfter (p : Program) (s : State) (limit : ℕ) (c : List Bool) (marks : List State) (points : List ℕ)
     : Type 0 where
   pub whole : IsWhole p s limit c
   pub keeps : Keeps p s limit c marks points
 
--- before all runs: at their start, without marks
+-- the position is before all runs, at the start state, without marks
 pub record StandsFirst (s present : State) (marks : List State) (points : List ℕ) : Type 0 where
   pub at_start : present ≡ s
   pub no_marks : marks ≡ []
@@ -68,24 +68,24 @@ abbrev pub StandsFrom : Program → State → ℕ → Option (List Bool) → Sta
 StandsFrom p s limit None present marks points = StandsFirst s present marks points
 StandsFrom p s limit (Some c) present marks points = StandsAfter p s limit c marks points
 
--- the explorer has not failed, and stands at its place in the runs from s
+-- the explorer has not failed, and has its position in the runs from s
 pub record Stands (s : State) (e : Explored) : Type 0 where
   pub sound : e.failed ≡ false
   pub at_place : StandsFrom e.program s e.limit e.from e.present e.marks e.points
 
--- cs is the listing from its place on, of the runs from s
+-- cs is the listing from the explorer's position, of the runs from s
 abbrev pub IsListingAt : State → Explored → List (List Bool) → Type 0
 IsListingAt s e cs = IsListing e.program s e.limit e.from cs
 
--- of the runs from s one comes after its place
+-- a run from s comes after the position
 abbrev pub HasMore : State → Explored → Type 0
 HasMore s e = (d : List Bool) × IsWhole e.program s e.limit d × IsAfter e.from d
 
--- .. or none does
+-- no run from s comes after the position
 abbrev pub IsAtLast : State → Explored → Type 0
 IsAtLast s e = IsLast e.program s e.limit e.from
 
--- a failed explorer keeps nothing
+-- a failed explorer keeps no position, no marks and no points
 pub record HasFailed (e : Explored) : Type 0 where
   pub failed : e.failed ≡ true
   pub no_place : e.from ≡ None
@@ -98,12 +98,12 @@ pub record IsRunOf (p : Program) (s : State) (limit : ℕ) (r : Run) : Type 0 wh
   pub stop : (run p s limit r.choices.items).stop ≡ ends (finish_of r.end)
   pub steps : r.steps ≡ (run p s limit r.choices.items).steps
 
--- the steps that the run of d shares with the run at the place
+-- the steps that the run of d shares with the run at the position
 abbrev pub shared_from : Program → State → ℕ → Option (List Bool) → List Bool → ℕ
 shared_from p s limit None d = 0
 shared_from p s limit (Some c) d = shared p s limit c d
 
--- from old the least run after its place is given, and nothing is done twice
+-- the call gives the least run after the position of old, and makes no shared step again
 pub record Gives (s : State) (old : Explored) (r : Run) (new : Explored) : Type 0 where
   pub least : IsLeastAfter old.program s old.limit old.from r.choices.items
   pub is_run : IsRunOf old.program s old.limit r
@@ -111,20 +111,20 @@ pub record Gives (s : State) (old : Explored) (r : Run) (new : Explored) : Type 
   pub stands : Stands s new
   pub work : new.work + shared_from old.program s old.limit old.from r.choices.items ≡ old.work + r.steps
 
--- the count has less than the limit left
+-- the count of work has less than the limit left
 abbrev pub IsFull : Explored → Type 0
 IsFull e = 2 ^ 64 ≤ e.work + e.limit
 
--- the number of zeros in the choices of the place
+-- the number of zeros in the choices at the position
 abbrev pub zeros_of : Option (List Bool) → ℕ
 zeros_of None = 0
 zeros_of (Some c) = zeros_in c
 
--- the machine's count has less than the limit left
+-- the machine's count of work has less than the limit left
 abbrev pub IsMachineFull : Machine → ℕ → Type 0
 IsMachineFull m limit = 2 ^ 64 ≤ m.work + limit
 
--- a machine without marks was led along the run of c: the explorer stands after it in the runs from the machine's state
+-- the explorer has led a machine without marks along the run of c, and its position is after this run
 pub record Resumes (m : Machine) (limit : ℕ) (c : List Bool) (e : Explored) : Type 0 where
   pub place : e.from ≡ Some c
   pub stands : Stands m.state e

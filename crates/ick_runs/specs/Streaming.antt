@@ -1,4 +1,4 @@
--- How a streamed run goes: words of private contracts.
+-- Describes the progress of a streamed run, for private contracts.
 use Rattle.std.specs.Prelude.{◌≡◌, ◌==◌, ℕ, ◌<◌, ◌≤◌, Bool, true, false, List, ◌++◌, length}
 use Rattle.std.specs.Prelude.{take, get_or, Result, Ok, Err, IfOk}
 use Rattle.ick_code.specs.meaning.State.{State}
@@ -12,23 +12,23 @@ use Rattle.ick_machine.specs.declared.feed.FeedFault.TheVariants.{NoMemory as Fe
 use Rattle.ick_runs.specs.declared.errors.RunsError.{RunsError}
 use Rattle.ick_runs.specs.declared.errors.RunsError.TheVariants.{NoMemory, Read}
 
--- no byte of these ends a line
+-- none of these bytes ends a line
 abbrev pub HasNoEnd : List ℕ → Type 0
 HasNoEnd bytes = (k : ℕ) → k < length bytes → (get_or bytes k 0 == 10) ≡ false
 
--- why a call refuses whose feed had this fault
+-- the refusal of a call whose feed had this fault
 abbrev pub error_of : FeedFault → RunsError
 error_of FeedOutOfMemory = NoMemory
 error_of ReadFailed = Read
 
--- a step, or many, came to the state u, and then its output left
+-- the machine came to the state u by one or more steps, and then wrote its output, or a prefix at a refusal
 abbrev pub Turns : {T : Type 0} → Bool → State → State → List ℕ → List ℕ → Result T RunsError → Type 0
 Turns told u now written written' (Ok done) =
     (now ≡ cleared u) × (told ≡ true → written' ≡ written ++ u.output)
 Turns told u now written written' (Err error) =
     (n : ℕ) × (n ≤ length u.output) × (told ≡ true → written' ≡ written ++ take n u.output)
 
--- from s the run went on by itself for as many steps as are answered, and then its output left
+-- the run made the answered number of steps from s without a choice, and then wrote its output, as Turns says
 pub record Strides (told : Bool) (p : Program) (s : State) (limit : ℕ) (now : State)
     (written written' : List ℕ) (answer : Result ℕ RunsError) : Type 0 where
   pub steps : ℕ
@@ -38,14 +38,14 @@ pub record Strides (told : Bool) (p : Program) (s : State) (limit : ℕ) (now : 
   pub runs : RunsOn IsQuiet p s steps state
   pub turns : Turns told state now written written' answer
 
--- n steps into the run of c, with all its output written but for what the machine holds
+-- n steps of the run of c are made, and all its output is written but the output that the machine holds
 pub record IsAlong (told : Bool) (p : Program) (s : State) (limit : ℕ) (c : List Bool) (now : State)
     (written written' : List ℕ) (n : ℕ) : Type 0 where
   pub sent : List ℕ
   pub leads : Leads p s limit c (after_output sent now) n
   pub text : told ≡ true → written' ≡ written ++ sent
 
--- the choices taken so far are a beginning of c
+-- the choices taken so far are a prefix of c
 pub record AreTaken (c taken : List Bool) : Type 0 where
   pub within : length taken ≤ length c
   pub same : taken ≡ take (length taken) c

@@ -1,4 +1,4 @@
--- What a streamed run answers, what it wrote and what it took.
+-- Describes the answer, the output and the input of a streamed run.
 use Rattle.std.specs.Prelude.{◌≡◌, ℕ, Bool, true, List, [], ◌++◌, take, Result, Ok, Err}
 use Rattle.ick_machine.specs.Asked.{Finish, finished, at_limit}
 use Rattle.ick_machine.specs.LiveAsk.{end_kind_of}
@@ -20,7 +20,7 @@ abbrev pub stop_kind : Stop → EndKind
 stop_kind (ends finish) = finish_kind finish
 stop_kind wants = Wants
 
--- the message of the fault that it has ended by, or nothing
+-- the message of the fault that ended the run, or no bytes
 abbrev pub finish_message : Finish → List ℕ
 finish_message (finished ending) = end_message ending
 finish_message at_limit = []
@@ -29,7 +29,7 @@ abbrev pub stop_message : Stop → List ℕ
 stop_message (ends finish) = finish_message finish
 stop_message wants = []
 
--- the answer is the run x with the choices c: all its output was written, and just its input was taken
+-- the answer is the run x with the choices c: all its output is written, and exactly its input is taken
 pub record HasStreamed (told : Bool) (x : Execution) (c : List Bool) (written written' left : List ℕ)
     (answer : Streamed) : Type 0 where
   pub end : answer.end ≡ stop_kind x.stop
@@ -39,14 +39,14 @@ pub record HasStreamed (told : Bool) (x : Execution) (c : List Bool) (written wr
   pub input : left ≡ x.last.input
   pub output : told ≡ true → written' ≡ written ++ x.last.output
 
--- and after each refusal what was written is a beginning of its output
+-- an answered run has streamed; after each refusal the written bytes are a prefix of the run's output
 abbrev pub Streams : Bool → Execution → List Bool → List ℕ → List ℕ → List ℕ →
     Result Streamed RunsError → Type 0
 Streams told x c written written' left (Ok answer) = HasStreamed told x c written written' left answer
 Streams told x c written written' left (Err error) =
     (n : ℕ) × (told ≡ true → written' ≡ written ++ take n x.last.output)
 
--- by how much a call raises the source's count of failures
+-- the amount by which a call raises the source's count of failures
 abbrev pub source_failures : {T : Type 0} → Result T RunsError → ℕ
 source_failures (Ok _) = 0
 source_failures (Err Read) = 1

@@ -1,4 +1,4 @@
--- How an explorer leads its machine along runs: words of its private contracts.
+-- Describes how an explorer leads its machine along runs, for its private contracts.
 use Rattle.std.specs.Prelude.{◌≡◌, ℕ, ◌+◌, ◌-◌, ◌<◌, ◌≤◌, Bool, true, List, [], ◌∷◌}
 use Rattle.std.specs.Prelude.{◌++◌, Option}
 use Rattle.ick_code.specs.meaning.State.{State}
@@ -12,7 +12,7 @@ use Rattle.ick_runs.specs.Marked.{is_choice, IsMarked}
 use Rattle.ick_runs.specs.Standing.{Keeps, StandsAfter, IsRunOf, shared_from}
 use Rattle.ick_runs.specs.declared.run.Run.{Run}
 
--- the machine stands n steps into the run from s with these choices, with the marks of their zeros
+-- the machine has made n steps of the run from s with these choices, and has the marks of their zeros
 pub record Walks (s : State) (limit : ℕ) (m : Machine) (c : List Bool) (points : List ℕ) (n : ℕ) : Type 0 where
   pub leads : Leads m.program s limit c m.state n
   pub keeps : Keeps m.program s limit c m.marks points
@@ -21,11 +21,11 @@ pub record Walks (s : State) (limit : ℕ) (m : Machine) (c : List Bool) (points
 abbrev pub IsChoosing : Machine → Type 0
 IsChoosing m = is_choice (ask m.program m.state) ≡ true
 
--- n steps into its run the machine stands where the run ends, whatever choices are left
+-- the machine has made n steps and its run ends here, for every list of choices left
 pub record EndsHere (limit : ℕ) (m : Machine) (n : ℕ) (finish : Finish) : Type 0 where
   pub stays_here : (c : List Bool) → run m.program m.state (limit - n) c ≡ stays m.state (ends finish) c
 
--- from one place of a run, n steps in, to a later one
+-- the machine moves from one position of a run, after n steps, to a later position
 pub record Moves (limit : ℕ) (old : Machine) (c : List Bool) (points : List ℕ) (n : ℕ)
     (new : Machine) (c' : List Bool) (points' : List ℕ) (n' : ℕ) : Type 0 where
   pub program : new.program ≡ old.program
@@ -34,13 +34,13 @@ pub record Moves (limit : ℕ) (old : Machine) (c : List Bool) (points : List �
   pub marked : IsMarked limit old c points → IsMarked limit new c' points'
   pub walks : (s : State) → Walks s limit old c points n → Walks s limit new c' points' n'
 
--- the same by zeros alone
+-- the machine moves by zeros alone
 pub record GoesDown (limit : ℕ) (old : Machine) (c : List Bool) (points : List ℕ) (n : ℕ)
     (new : Machine) (c' : List Bool) (points' : List ℕ) (n' : ℕ) : Type 0 where
   pub moves : Moves limit old c points n new c' points' n'
   pub zeros : (z : List Bool) × AllZeros z × (c' ≡ c ++ z)
 
--- back at the last zero of c, which is now a one, n steps in
+-- the machine is back at the last zero of c, which is now a one, after n steps
 pub record TurnsBack (limit : ℕ) (old : Machine) (c : List Bool) (points : List ℕ)
     (new : Machine) (c' : List Bool) (points' : List ℕ) (n : ℕ) : Type 0 where
   pub program : new.program ≡ old.program
@@ -52,7 +52,7 @@ pub record TurnsBack (limit : ℕ) (old : Machine) (c : List Bool) (points : Lis
       × ((s : State) → StandsAfter old.program s limit c old.marks points →
       Walks s limit new c' points' n × (n ≡ (run old.program s limit pre).steps + 1))
 
--- the machine was led to the end of the run r, the least one after a place in the runs from s
+-- the machine is at the end of r, the least run after a position in the runs from s
 pub record Finds (s : State) (limit : ℕ) (from : Option (List Bool)) (old : Machine) (r : Run)
     (new : Machine) (points : List ℕ) : Type 0 where
   pub least : IsLeastAfter old.program s limit from r.choices.items
@@ -60,7 +60,7 @@ pub record Finds (s : State) (limit : ℕ) (from : Option (List Bool)) (old : Ma
   pub stands : StandsAfter old.program s limit r.choices.items new.marks points
   pub work : new.work + shared_from old.program s limit from r.choices.items ≡ old.work + r.steps
 
--- the machine was led from the start of the run of c to its end
+-- the machine was led along the run of c to its end
 pub record Follows (limit : ℕ) (old : Machine) (c : List Bool) (new : Machine) (points : List ℕ) : Type 0 where
   pub program : new.program ≡ old.program
   pub stands : StandsAfter old.program old.state limit c new.marks points

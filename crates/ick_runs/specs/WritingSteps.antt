@@ -1,4 +1,4 @@
--- How a listing is written line by line: words of private contracts.
+-- Describes how a listing is written line by line, for private contracts.
 use Rattle.std.specs.Prelude.{◌≡◌, ℕ, ◌+◌, ◌^◌, ◌<◌, ◌≤◌, Bool, true, false, List, []}
 use Rattle.std.specs.Prelude.{◌++◌, length, take, drop, Result, Ok, Err}
 use Rattle.ick_code.specs.meaning.State.{State}
@@ -10,7 +10,7 @@ use Rattle.ick_runs.specs.Standing.{Explored, HasFailed, IsFull}
 use Rattle.ick_runs.specs.Lines.{run_lines}
 use Rattle.ick_runs.specs.Writes.{Gave}
 
--- one more line: the listing from the explorer's place is xs
+-- one more line is written, and xs is the listing from the position of old
 pub record WritesOne (told : Bool) (s : State) (xs : List (List Bool)) (old new : Explored)
     (w w' : List ℕ) : Type 0 where
   pub some : 0 < length xs
@@ -18,20 +18,20 @@ pub record WritesOne (told : Bool) (s : State) (xs : List (List Bool)) (old new 
   pub rest : IsListing new.program s new.limit new.from (drop 1 xs)
   pub text : told ≡ true → w' ≡ w ++ run_lines old.program s old.limit (take 1 xs)
 
--- no line: the listing is at its end
+-- no line is written, because the listing is at its end
 pub record WritesNone (told : Bool) (xs : List (List Bool)) (old new : Explored) (w w' : List ℕ) : Type 0 where
   pub none : xs ≡ []
   pub same : new ≡ old
   pub text : told ≡ true → w' ≡ w
 
--- the count was full where a run was due
+-- the count was full when a run was expected
 pub record FindsFull (told : Bool) (xs : List (List Bool)) (old new : Explored) (w w' : List ℕ) : Type 0 where
   pub due : 0 < length xs
   pub same : new ≡ old
   pub full : IsFull old
   pub text : told ≡ true → w' ≡ w
 
--- memory ran out where a run was due, and begun with the limit left
+-- the call ran out of memory in an expected run that began with the limit left
 pub record FailsToWrite (told : Bool) (xs : List (List Bool)) (old new : Explored) (w w' : List ℕ) : Type 0 where
   pub due : 0 < length xs
   pub begun : old.work + old.limit < 2 ^ 64
@@ -45,7 +45,7 @@ pub record WritesPart (told : Bool) (s : State) (xs : List (List Bool)) (old new
   pub gave : Gave s old (take 1 xs) new
   pub text : told ≡ true → w' ≡ w ++ take n (run_lines old.program s old.limit (take 1 xs))
 
--- what is known after each answer
+-- the facts that hold after each answer
 abbrev pub WritesNext : Bool → State → List (List Bool) → Explored → Explored → List ℕ → List ℕ →
     Result Bool RunsError → Type 0
 WritesNext told s xs old new w w' (Ok true) = WritesOne told s xs old new w w'

@@ -1,7 +1,7 @@
--- What a sink over memory holds.
+-- Describes the contents of a sink over memory.
 use Rattle.std.specs.Prelude.{ℕ, List}
 
--- the bytes that it took, and how many writes failed
+-- the bytes that the sink took, and the number of writes that failed
 pub record Written : Type 0 where
   pub bytes : List ℕ
   pub failures : ℕ

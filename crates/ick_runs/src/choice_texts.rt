@@ -1,4 +1,4 @@
-//! The texts of lists of choices, as they are printed.
+//! Prints lists of choices as texts.
 
 ghost use Rattle.std.specs.Prelude.{◌≡◌, ◌+◌, ◌<◌, ◌≤◌, ◌++◌, OnOk, OnErr};
 ghost use Rattle.std.specs.Prelude.{false, length, take};
@@ -9,17 +9,17 @@ ghost use Rattle.ick_runs.specs.Printing.{StartsOther};
 
 use ick_bits::{NoMemory, append_decimal};
 
-/// The greatest number of choices that are printed one digit each.
+/// Limits the choices of a plain text, which has one digit a choice.
 const MOST_PLAIN: usize = 64;
 
-/// The digit of a choice.
+/// Returns the digit of a choice.
 fn digit(choice: bool) -> u8
     ensures { result ≡ digit_of choice }
 {
     if choice { b'1' } else { b'0' }
 }
 
-/// Appends a digit for each choice, or some of them where memory is refused.
+/// Appends a digit for each choice. If `out` can't grow, only a prefix of the digits is appended.
 fn push_digits(out: &mut Vec<u8>, choices: &[bool]) -> Result<(), NoMemory>
     ensures ok { OnOk result (out.new.items ≡ out.old.items ++ map digit_of choices.now) }
     ensures err { OnErr result (take (vec_len out.old) out.new.items ≡ out.old.items) }
@@ -32,7 +32,8 @@ fn push_digits(out: &mut Vec<u8>, choices: &[bool]) -> Result<(), NoMemory>
     Ok(())
 }
 
-/// How many of the choices at the front are equal to the first.
+/// Returns the length of the front stretch of choices that are equal to the first. The list must
+/// not be empty.
 fn stretch(choices: &[bool]) -> usize
     requires { 0 < length choices.now }
     ensures within { result ≤ length choices.now }
@@ -51,7 +52,7 @@ fn stretch(choices: &[bool]) -> usize
     size
 }
 
-/// Appends a group, or a part of it where memory is refused.
+/// Appends a group. If `out` can't grow, only a prefix of the group is appended.
 fn push_group(out: &mut Vec<u8>, choice: bool, size: usize) -> Result<(), NoMemory>
     ensures ok { let group = group_of (record { choice = choice; size = size }) in
         OnOk result (out.new.items ≡ out.old.items ++ group_text group) }
@@ -65,7 +66,8 @@ fn push_group(out: &mut Vec<u8>, choice: bool, size: usize) -> Result<(), NoMemo
     append_decimal(out, size as u64)
 }
 
-/// Appends the groups of a list of choices, or some of them where memory is refused.
+/// Appends the groups of a list of choices, which must not be empty. If `out` can't grow, only a
+/// prefix of the groups is appended.
 fn push_groups(out: &mut Vec<u8>, choices: &[bool]) -> Result<(), NoMemory>
     requires { 0 < length choices.now }
     ensures ok { OnOk result (out.new.items ≡ out.old.items ++ grouped_text choices.now) }
@@ -87,8 +89,8 @@ fn push_groups(out: &mut Vec<u8>, choices: &[bool]) -> Result<(), NoMemory>
     }
 }
 
-/// Appends the text of a list of choices, which has one or more, or a part of it where memory is
-/// refused.
+/// Appends the text of a list of choices, which must not be empty. If `out` can't grow, only a
+/// prefix of the text is appended.
 #[tactic(auto, unfolding(crate::specs::ChoiceTexts::choices_text))]
 fn push_choices(out: &mut Vec<u8>, choices: &[bool]) -> Result<(), NoMemory>
     requires { 0 < length choices.now }
@@ -105,7 +107,8 @@ fn push_choices(out: &mut Vec<u8>, choices: &[bool]) -> Result<(), NoMemory>
     }
 }
 
-/// Appends the text of a list of choices, or nothing where memory is refused.
+/// Appends the text of a list of choices. The answer is `NoMemory` if `out` can't grow, and `out`
+/// is then unchanged.
 #[tactic(auto, unfolding(crate::specs::ChoiceTexts::choices_text))]
 pub(crate) fn append_choices(out: &mut Vec<u8>, choices: &[bool]) -> Result<(), NoMemory>
     ensures ok { OnOk result (out.new.items ≡ out.old.items ++ choices_text choices.now) }

@@ -1,4 +1,4 @@
-//! Where the choices of a streamed run come from.
+//! Supplies the choices of a streamed run.
 
 ghost use Rattle.std.specs.Prelude.{◌≡◌, ◌+◌, ◌<◌};
 ghost use Rattle.ick_runs.specs.Chosen.{Chosen, Picks, answer_of, chosen_of};
@@ -7,16 +7,16 @@ use crate::draws::{drawn, generator};
 use rand_core::utils::NextWord;
 use rand_pcg::Pcg32;
 
-/// A list of choices, or a seed that draws them (this profile).
+/// Names a list of choices, or a seed that draws choices (this profile).
 #[derive(Clone, Copy, Debug)]
 pub enum Chooser<'a> {
-    /// These choices, the first of the run first.
+    /// Lists the choices. The first choice of the run comes first.
     Listed(&'a [bool]),
-    /// One word of the generator PCG32 of the seed a choice asked.
+    /// Holds a seed. Each choice asked takes one word of the generator PCG32 of this seed.
     Seeded(u64),
 }
 
-/// Gives one choice after another.
+/// Gives the choices one after another.
 #[derive(Drop)]
 pub(crate) enum Picker<'a> {
     Listed(&'a [bool]),
@@ -24,7 +24,7 @@ pub(crate) enum Picker<'a> {
 }
 
 impl<'a> Picker<'a> {
-    /// A picker of these choices.
+    /// Returns a picker before the first choice of `chooser`.
     pub(crate) fn new(chooser: Chooser<'a>) -> Picker<'a>
         ensures { Picks (chosen_of chooser.entry) 0 result }
     {
@@ -34,7 +34,8 @@ impl<'a> Picker<'a> {
         }
     }
 
-    /// The choice at a chance, where `asked` were asked before, or nothing where none is left.
+    /// Returns the choice at a chance, after `asked` earlier choices. The chance is in hundredths,
+    /// from 1 to 99. Returns `None` if no choice is left.
     pub(crate) fn pick(&mut self, asked: usize, chance: u8) -> Option<bool>
         requires low { 0 < chance }
         requires high { chance < 100 }

@@ -1,4 +1,4 @@
-//! A place in a listing: the choices of one of its runs.
+//! Names a position in a listing by the choices of one of its runs.
 
 ghost use Rattle.std.specs.Prelude.{◌≡◌, ◌+◌, ◌++◌, ◌<◌, ◌≤◌, ◌⊎◌};
 ghost use Rattle.std.specs.Prelude.{List, Bool, length, Err, IfOk};
@@ -12,8 +12,8 @@ use ick_bits::NoMemory;
 use std::alloc::Global;
 use std::marker::Model;
 
-/// The choices of a run, whose text stands in the line of the run and names it. Contracts see it as
-/// the list of choices. It doesn't know its program.
+/// Holds the choices of a run. The line of the run shows them as text, and they name the run.
+/// Contracts see a cursor as the list of its choices. A cursor doesn't know its program.
 #[derive(Drop)]
 pub struct Cursor {
     choices: Vec<bool>,
@@ -30,14 +30,18 @@ impl Model for Cursor {
 impl Cursor {
     /// Reads the text of a cursor, which may have at most `limit` choices (this profile).
     ///
-    /// A plain text has one digit a choice, or is `-` for none. A text of groups, as `0*70,1*2`,
-    /// has for each stretch of equal choices the digit, `*` and how often it stands there: a number
-    /// from 1 on without leading zeros. Groups are separated by commas, and two neighbours have
-    /// different digits. What was printed is read back.
+    /// A plain text has one digit a choice, or is `-` for no choices. A text of groups, as
+    /// `0*70,1*2`, has one group for each stretch of equal choices. A group is the digit, `*` and
+    /// the length of the stretch. The length is a number from 1 on without leading zeros. Commas
+    /// separate the groups, and two neighbours have different digits. This call reads every printed
+    /// text back.
     ///
-    /// The answer is `BadCursor` for any other text; else `NoSuchRun` where it has more choices
-    /// than the limit, which is found without taking memory, however long a number is; else
-    /// `NoMemory` where memory is refused.
+    /// The refusals are, in this order:
+    ///
+    /// - `BadCursor` for any other text.
+    /// - `NoSuchRun` if the text has more choices than `limit`. This check takes no memory, however
+    ///   long a number is.
+    /// - `NoMemory` if this call runs out of memory.
     pub fn from_text(alloc: Global, text: &[u8], limit: u32) -> Result<Cursor, RunsError>
         ensures ok { IfOk result
             (λ cursor. IsTextOf text.now cursor × (length cursor ≤ limit)) }
@@ -56,16 +60,17 @@ impl Cursor {
         Ok(Cursor { choices })
     }
 
-    /// The choices, the first of the run first.
+    /// Returns the choices. The first choice of the run comes first.
     pub fn choices(&self) -> &[bool]
         ensures { result.now ≡ self.now }
     {
         self.choices.as_slice()
     }
 
-    /// Appends the text (this profile): plain for at most 64 choices, in groups for more.
+    /// Appends the text of the choices (this profile): plain for at most 64 choices, in groups for
+    /// more.
     ///
-    /// The answer is `NoMemory` only where `out` had no room for it and could not grow; `out` is
+    /// The answer is `NoMemory` only if `out` has no room for the text and can't grow. `out` is
     /// then unchanged.
     pub fn append_text(&self, out: &mut Vec<u8>) -> Result<(), NoMemory>
         ensures ok { OnOk result (out.new.items ≡ out.old.items ++ choices_text self.now) }

@@ -1,4 +1,4 @@
-//! Why the calls of this crate refuse.
+//! Lists the refusals of this crate's calls.
 
 ghost use Rattle.std.specs.Prelude.{◌≡◌};
 ghost use Rattle.ick_runs.specs.Streaming.{error_of};
@@ -9,28 +9,29 @@ use ick_machine::FeedFault;
 use std::alloc::{AllocError, AllocFailed};
 use thiserror::Error;
 
-/// Why a call was refused. Each reason has a number, from 1.
+/// Tells why a call was refused. Each reason has a number, from 1 on.
 #[derive(Clone, Copy, Debug, PartialEq, Eq, Error)]
 pub enum RunsError {
-    /// A growth was refused.
+    /// Tells that the call ran out of memory.
     #[error("out of memory")]
     NoMemory = 1,
-    /// The choices are not those of a run: they end before it does, or are left over at its end.
+    /// Tells that the choices are not the choices of a run. Either the choices end before the run
+    /// ends, or choices are left over at its end.
     #[error("no such run")]
     NoSuchRun = 2,
-    /// The count of work has less than the limit on steps left.
+    /// Tells that the count of work has less than the limit on steps left.
     #[error("the count of work is full")]
     WorkFull = 3,
-    /// An earlier call on this explorer answered `NoMemory`.
+    /// Tells that an earlier call on this explorer answered `NoMemory`.
     #[error("the explorer has failed")]
     Failed = 4,
-    /// A text is not that of a list of choices.
+    /// Tells that a text is not the text of a list of choices.
     #[error("bad cursor")]
     BadCursor = 5,
-    /// A source of bytes failed.
+    /// Tells that a source of bytes failed.
     #[error("a read failed")]
     Read = 6,
-    /// A sink of bytes failed.
+    /// Tells that a sink of bytes failed.
     #[error("a write failed")]
     Write = 7,
 }

@@ -15,15 +15,17 @@ use ick_bits::NoMemory;
 use ick_machine::{Asks, Backtrack};
 use std::alloc::Global;
 
-/// Lists the runs of a machine's program from the machine's state, each once, in the order of their
-/// choices, where 0 comes before 1 (this profile).
+/// Lists the runs of a machine's program from the machine's state. Each run is listed once, in the
+/// order of their choices. In this order 0 comes before 1 (this profile).
 ///
-/// It stands after the run last given, or after that of the cursor, or before all runs. It keeps a
-/// mark for each zero in the choices of the run that it stands after, and to go on it sets the
-/// machine back to the last of them: so no step that two neighbouring runs share is made twice.
+/// The explorer's position is before all runs, after the run last returned, or after the run of the
+/// cursor. The explorer keeps a mark for each zero in the choices of the run before its position.
+/// To find the next run it sets the machine back to the last mark. So the explorer makes a step
+/// that two neighbouring runs share only once.
 ///
-/// Once a call of `next` or `write_runs` has answered `NoMemory` it has failed: it keeps no mark,
-/// `more` is false, and each further call answers `Failed`.
+/// The explorer has failed if a call of `next` or `write_runs` has answered `NoMemory`. A failed
+/// explorer keeps no mark, and `more` is false. Each further call of `next` or `write_runs` answers
+/// `Failed`.
 #[derive(Drop)]
 pub struct Explorer<M: Backtrack> {
     machine: M,
@@ -42,8 +44,8 @@ impl<M: Backtrack> Explorer<M> {
     ghost use Rattle.ick_runs.specs.Standing.{Stands, HasMore, IsAtLast, HasFailed, Gives, IsFull};
     ghost use Rattle.ick_runs.specs.Standing.{IsMachineFull, Resumes, zeros_of};
 
-    /// An explorer before the first of the runs from the machine's state, each of at most `limit`
-    /// steps. The machine must have no marks. No step is made.
+    /// Returns an explorer before the first run from the machine's state. Each run has at most
+    /// `limit` steps. The machine must have no marks. This call makes no step.
     pub fn start(alloc: Global, machine: M, limit: u32) -> Self
         requires { (M.seen machine).marks ≡ [] }
         ensures start { explored result ≡ record {
@@ -70,13 +72,16 @@ impl<M: Backtrack> Explorer<M> {
         }
     }
 
-    /// An explorer after the run of a cursor, among the runs from the machine's state. The machine,
-    /// which must have no marks, is led along that run once, with a mark at each of its zeros.
+    /// Returns an explorer after the run of `cursor`, among the runs from the machine's state. Each
+    /// run has at most `limit` steps. The machine must have no marks. This call leads the machine
+    /// along the cursor's run once, and sets a mark at each zero.
     ///
-    /// The answer is `WorkFull` exactly where the machine's count has less than the limit left;
-    /// else `NoSuchRun` where the cursor's choices are not those of a run: they end before it does,
-    /// or are left over at its end; else `NoMemory` where memory is refused. A refused machine is
-    /// dropped.
+    /// Each refusal drops the machine. `WorkFull` comes before the others. The refusals are:
+    ///
+    /// - `WorkFull` exactly if the machine's count of work has less than `limit` left.
+    /// - `NoSuchRun` if the cursor's choices are not the choices of a run. Either the choices end
+    ///   before the run ends, or choices are left over at its end.
+    /// - `NoMemory` if this call runs out of memory.
     pub fn after<'c>(
         alloc: Global,
         machine: M,
@@ -114,15 +119,16 @@ impl<M: Backtrack> Explorer<M> {
         })
     }
 
-    /// The machine's count of work: what it began at, and the steps made since.
+    /// Returns the machine's count of work: its first value plus the steps made since.
     pub fn work(&self) -> u64
         ensures { result ≡ (explored self.now).work }
     {
         self.machine.work()
     }
 
-    /// The number of marks kept: one for each zero in the choices of the run that the explorer
-    /// stands after; none before all runs, after the last, and once it has failed.
+    /// Returns the number of marks kept: one for each zero in the choices of the run before the
+    /// explorer's position. The number is 0 before all runs, after the last run, and after a
+    /// failure.
     pub fn points(&self) -> usize
         ensures zeros { result ≡ zeros_of (explored self.now).from }
         ensures few { (s : State) → Stands s (explored self.now) →
@@ -132,14 +138,15 @@ impl<M: Backtrack> Explorer<M> {
         self.path.points.len()
     }
 
-    /// Whether a call that grows has been refused memory.
+    /// Returns whether the explorer has failed, because it ran out of memory.
     pub(crate) fn has_failed(&self) -> bool
         ensures { result ≡ (explored self.now).failed }
     {
         matches!(self.progress, Progress::Spent)
     }
 
-    /// Fails: nothing is kept from here on.
+    /// Fails the explorer and drops all marks and choices. The program and the limit stay
+    /// unchanged.
     pub(crate) fn fail(&mut self)
         ensures failed { HasFailed (explored self.new) }
         ensures program { (explored self.new).program ≡ (explored self.old).program }
@@ -149,7 +156,7 @@ impl<M: Backtrack> Explorer<M> {
         self.progress = Progress::Spent;
     }
 
-    /// Whether a further run exists. Not so once the explorer has failed.
+    /// Returns whether a further run exists. The answer is false if the explorer has failed.
     pub fn more(&self) -> bool
         ensures failed { (explored self.now).failed ≡ true → result ≡ false }
         ensures further { (s : State) → Stands s (explored self.now) →
@@ -164,13 +171,15 @@ impl<M: Backtrack> Explorer<M> {
         }
     }
 
-    /// The next run: the least one after the place where the explorer stands; `None` where there is
-    /// none. The count of work rises by the steps of the run without those that it shares with the
-    /// run before.
+    /// Returns the next run: the least run after the explorer's position. Returns `None` if no run
+    /// is left. The count of work rises by the steps of the run that the run before doesn't share.
     ///
-    /// The answer is `Failed` where the explorer has failed; else `WorkFull` where the count has
-    /// less than the limit left, also where no run is left, and nothing has changed; `NoMemory`
-    /// where memory was refused, and the explorer has failed.
+    /// The refusals are, in this order:
+    ///
+    /// - `Failed` if the explorer has failed. Nothing changes.
+    /// - `WorkFull` if the count of work has less than the limit left, even if no run is left.
+    ///   Nothing changes.
+    /// - `NoMemory` if this call runs out of memory. The explorer has then failed.
     pub fn next<'c>(&mut self) -> Result<Option<Run<'c>>, RunsError>
     where
         M: Asks<'c>,

@@ -1,18 +1,18 @@
-//! A source of bytes as the input of a machine.
+//! Feeds a machine's input from a source of bytes.
 
 ghost use Rattle.std.specs.Prelude.{◌≡◌};
 
 use crate::devices::ByteSource;
 use ick_machine::{Feed, FeedFault};
 
-/// Lines and bytes that are read from a source byte by byte, and no byte more.
+/// Reads lines and bytes from a source byte by byte, and no further byte.
 #[derive(Drop)]
 pub(crate) struct SourceFeed<'r, R: ByteSource> {
     source: &'r mut R,
 }
 
 impl<'r, R: ByteSource> SourceFeed<'r, R> {
-    /// The lines and bytes of a source.
+    /// Returns a feed of the lines and bytes of `source`.
     pub(crate) fn new(source: &'r mut R) -> SourceFeed<'r, R>
         ensures held { result.source.ghost_name ≡ source.entry.ghost_name }
         ensures now { result.source.now ≡ source.old }

@@ -11,11 +11,11 @@ ghost use Rattle.ick_runs.specs.Readings.{HasNoDigit, IsCapped, IsFront};
 use crate::errors::RunsError;
 use std::alloc::Global;
 
-/// Numbers are counted up to this, which is above every limit on steps.
+/// Caps the numbers that are read. The cap is above every limit on steps.
 const CAP: u64 = 4_294_967_296;
 
-/// The group at the front of a text: its choice, how often it stands there, up to the cap, and the
-/// number of its digits.
+/// Describes the group at the front of a text. `choice` is its choice, `size` is the length of its
+/// stretch up to the cap, and `count` is the number of digits of that length.
 #[derive(Clone, Copy, Debug)]
 pub(crate) struct Front {
     pub(crate) choice: bool,
@@ -23,21 +23,21 @@ pub(crate) struct Front {
     pub(crate) count: usize,
 }
 
-/// The digits at the front of a text.
+/// Describes the digits at the front of a text: their count, and their value up to the cap.
 #[derive(Clone, Copy, Debug)]
 struct Digits {
     count: usize,
     value: u64,
 }
 
-/// A number, or the cap where it is greater.
+/// Returns `number`, or the cap if `number` is greater.
 fn capped(number: u64) -> u64
     ensures { IsCapped result number }
 {
     if number < CAP { number } else { CAP }
 }
 
-/// The digits at the front of a text, and their value.
+/// Reads the digits at the front of a text. Returns their count, and their value up to the cap.
 fn read_digits(text: &[u8]) -> Digits
     ensures within { result.count ≤ length text.now }
     ensures digits { AllDigits 10 (take result.count text.now) }
@@ -60,7 +60,7 @@ fn read_digits(text: &[u8]) -> Digits
     Digits { count, value }
 }
 
-/// The choice of a digit.
+/// Returns the choice of a digit, or `None` for any other byte.
 fn choice_of(byte: u8) -> Option<bool>
     ensures some { IfSome result (λ choice. byte ≡ digit_of choice) }
     ensures none { result ≡ None → (choice : Bool) → byte ≡ digit_of choice → ⊥ }
@@ -72,7 +72,7 @@ fn choice_of(byte: u8) -> Option<bool>
     }
 }
 
-/// Whether a choice is the one before.
+/// Returns whether a choice is equal to the choice before it.
 fn repeats(last: Option<bool>, choice: bool) -> bool
     ensures same { result ≡ true → last ≡ Some choice }
     ensures other { result ≡ false → Differs last choice }
@@ -83,7 +83,8 @@ fn repeats(last: Option<bool>, choice: bool) -> bool
     }
 }
 
-/// The group at the front of a text, after a choice.
+/// Reads the group at the front of a text, after the choice `last`. Returns `None` if no such group
+/// is there.
 fn read_front(text: &[u8], last: Option<bool>) -> Option<Front>
     ensures some { IfSome result (λ f. IsFront last text.now f) }
     ensures none { result ≡ None → (g : Group) (tail : List ℕ) → Differs last g.choice →
@@ -113,7 +114,8 @@ fn read_front(text: &[u8], last: Option<bool>) -> Option<Front>
     })
 }
 
-/// How many choices a text of groups stands for, up to the cap. It takes no memory.
+/// Returns the number of choices in a text of groups, up to the cap. Returns `None` for any other
+/// text. This call takes no memory.
 pub(crate) fn measure(text: &[u8]) -> Option<u64>
     ensures some { IfSome result (λ n.
         (c : List Bool) × IsGrouped None text.now c × IsCapped n (length c)) }
@@ -137,7 +139,7 @@ pub(crate) fn measure(text: &[u8]) -> Option<u64>
     }
 }
 
-/// Adds a choice so many times.
+/// Appends `choice` to `choices` `size` times. The answer is `NoMemory` if `choices` can't grow.
 fn push_stretch(choices: &mut Vec<bool>, choice: bool, size: u64) -> Result<(), RunsError>
     ensures ok { OnOk result (choices.new.items ≡ choices.old.items ++ replicate size choice) }
     ensures err { IfErr result (λ e. e ≡ RunsError.NoMemory) }
@@ -148,7 +150,8 @@ fn push_stretch(choices: &mut Vec<bool>, choice: bool, size: u64) -> Result<(), 
     Ok(())
 }
 
-/// The choices of a text of groups that stands for fewer than the cap.
+/// Returns the choices of a text of groups, which must have fewer choices than the cap. The answer
+/// is `NoMemory` if the list can't grow.
 fn fill(alloc: Global, text: &[u8]) -> Result<Vec<bool>, RunsError>
     requires valid { (c : List Bool) × IsGrouped None text.now c × (length c < 2 ^ 32) }
     ensures ok { IfOk result (λ choices. IsGrouped None text.now choices.items) }
@@ -171,7 +174,9 @@ fn fill(alloc: Global, text: &[u8]) -> Result<Vec<bool>, RunsError>
     }
 }
 
-/// Reads a text of groups, which may stand for at most `limit` choices.
+/// Reads a text of groups of at most `limit` choices. The answer is `BadCursor` for any other text,
+/// else `NoSuchRun` if the text has more choices than `limit`. The answer is `NoMemory` if the list
+/// can't grow.
 pub(crate) fn read_groups(alloc: Global, text: &[u8], limit: u32) -> Result<Vec<bool>, RunsError>
     ensures ok { IfOk result (λ choices.
         IsGrouped None text.now choices.items × (length choices.items ≤ limit)) }

@@ -1,23 +1,23 @@
-//! Runs of a program: one with given choices, one whose choices a seed draws, one whose input and
-//! output are streams, and the listing of all, each once, in the order of their choices.
+//! Runs a program in four ways. The choices of a run are given or drawn by a seed. The input and
+//! output may be streams. A listing has every run exactly once, in the order of their choices.
 //!
-//! | Module | What it has |
+//! | Module | Contents |
 //! |---|---|
 //! | `devices` | sources and sinks of bytes |
-//! | `errors` | why calls refuse |
+//! | `errors` | the refusals of calls |
 //! | `ordinary` | one run with given choices |
 //! | `draws`, `seeded` | one run whose choices a seed draws |
-//! | `chooser` | where the choices of a streamed run come from |
+//! | `chooser` | the choices of a streamed run, from a list or a seed |
 //! | `feeds` | a source of bytes as the input of a machine |
 //! | `turn`, `streamed` | one run whose input and output are streams |
-//! | `choice_texts` | lists of choices as text |
-//! | `reading`, `groups` | such a text read |
-//! | `cursor` | a place in a listing |
-//! | `run`, `path` | a run, and what an explorer keeps beside its machine |
-//! | `walk` | how a machine is led from one run to the next |
+//! | `choice_texts` | the printing of lists of choices |
+//! | `reading`, `groups` | the reading of lists of choices |
+//! | `cursor` | a position in a listing |
+//! | `run`, `path` | a run, and the position of an explorer |
+//! | `walk` | the machine's way from one run to the next |
 //! | `explorer` | the explorer |
-//! | `lines`, `listing`, `writing` | a listing as text on a writer |
-//! | `laws` | what holds of all runs, listings, texts and draws |
+//! | `lines`, `listing`, `writing` | a listing as text |
+//! | `laws` | laws of all runs, listings, texts and draws |
 #![tactic(auto)]
 
 mod choice_texts;

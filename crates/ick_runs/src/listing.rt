@@ -1,10 +1,10 @@
-//! Whether a listing goes on.
+//! Tells whether a listing goes on.
 
-/// What the last line of a listing says.
+/// Tells the last line of a listing.
 #[derive(Clone, Copy, Debug, PartialEq, Eq)]
 pub enum Listed2 {
-    /// `MORE`: a further run exists.
+    /// Tells, by the line `MORE`, that a further run exists.
     More,
-    /// `DONE`: all runs were listed.
+    /// Tells, by the line `DONE`, that all runs were listed.
     Done,
 }

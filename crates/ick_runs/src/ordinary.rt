@@ -1,4 +1,4 @@
-//! One run with given choices.
+//! Runs a program once with given choices.
 
 ghost use Rattle.std.specs.Prelude.{◌≡◌, ◌+◌, ◌<◌, ◌^◌, IfOk};
 ghost use Rattle.ick_code.specs.meaning.Move.{first_state};
@@ -12,24 +12,24 @@ use ick_code::Code;
 use ick_machine::{Ask, Asks, Backtrack, End, Trailed};
 use std::alloc::Global;
 
-/// How a run with given choices came out.
+/// Holds the result of a run with given choices.
 #[derive(Drop)]
 pub enum Ran<'c> {
-    /// It ended, after using the first `used` choices.
+    /// Tells that the run ended after it used the first `used` choices.
     Ended {
         output: Vec<u8>,
         end: End<'c>,
         used: usize,
         steps: u32,
     },
-    /// It asked a choice when none was left.
+    /// Tells that the run asked a choice when no choice was left.
     Wants {
         output: Vec<u8>,
         steps: u32,
     },
 }
 
-/// The run that the machine has come to the end of.
+/// Returns the result of the run that has ended in the machine's state.
 pub(crate) fn ended<'c, M: Backtrack>(
     alloc: Global,
     machine: &M,
@@ -49,7 +49,7 @@ pub(crate) fn ended<'c, M: Backtrack>(
     })
 }
 
-/// The run that wants a choice where the machine stands.
+/// Returns the result of the run that wants a choice in the machine's state.
 fn wanting<'c, M: Backtrack>(alloc: Global, machine: &M, steps: u32) -> Result<Ran<'c>, NoMemory>
     ensures { IfOk result (λ r. IsWanting (M.seen machine.now).state.output steps r) }
 {
@@ -58,10 +58,10 @@ fn wanting<'c, M: Backtrack>(alloc: Global, machine: &M, steps: u32) -> Result<R
 }
 
 /// Runs a machine from its state with given choices, for at most `limit` steps (this profile).
-/// Choices that aren't used change nothing.
+/// Unused choices change nothing.
 ///
-/// The machine's count of work must have the limit left. The answer is `NoMemory` where the machine
-/// or the answer's own texts could not grow.
+/// The machine's count of work must have `limit` left. The answer is `NoMemory` if the machine or
+/// the texts of the answer can't grow.
 pub fn run_from<'c, M: Asks<'c>>(
     alloc: Global,
     machine: M,
@@ -100,9 +100,9 @@ pub fn run_from<'c, M: Asks<'c>>(
 }
 
 /// Runs a program over an input with given choices, for at most `limit` steps (this profile).
-/// Choices that aren't used change nothing.
+/// Unused choices change nothing.
 ///
-/// The answer is `NoMemory` where the run or the answer's own texts could not grow.
+/// The answer is `NoMemory` if the run or the texts of the answer can't grow.
 pub fn run_with<'c, 'a>(
     alloc: Global,
     code: &'c Code<'a>,

@@ -9,7 +9,7 @@ use crate::errors::RunsError;
 use crate::groups::read_groups;
 use std::alloc::Global;
 
-/// Whether each byte is a digit of a choice.
+/// Returns whether each byte is the digit of a choice.
 fn all_digits(text: &[u8]) -> bool
     ensures { result ≡ list_all is_digit text.now }
 {
@@ -21,7 +21,7 @@ fn all_digits(text: &[u8]) -> bool
     true
 }
 
-/// The choices of digits.
+/// Returns the choices of a text of digits. The answer is `NoMemory` if the list can't grow.
 fn choices_of(alloc: Global, text: &[u8]) -> Result<Vec<bool>, RunsError>
     ensures ok { IfOk result (λ choices. choices.items ≡ map (λ b. b == 49) text.now) }
     ensures err { IfErr result (λ e. e ≡ RunsError.NoMemory) }
@@ -33,7 +33,9 @@ fn choices_of(alloc: Global, text: &[u8]) -> Result<Vec<bool>, RunsError>
     Ok(choices)
 }
 
-/// Reads a plain text of choices, which may have at most `limit` of them.
+/// Reads a plain text of at most `limit` choices. The answer is `BadCursor` for any other text,
+/// else `NoSuchRun` if the text has more choices than `limit`. The answer is `NoMemory` if the list
+/// can't grow.
 fn read_plain(alloc: Global, text: &[u8], limit: u32) -> Result<Vec<bool>, RunsError>
     ensures ok { IfOk result (λ choices.
         IsPlain text.now choices.items × (length choices.items ≤ limit)) }
@@ -61,8 +63,14 @@ fn read_plain(alloc: Global, text: &[u8], limit: u32) -> Result<Vec<bool>, RunsE
     choices_of(alloc, text)
 }
 
-/// Reads the text of a list of choices, which may have at most `limit` of them. The whole text is
-/// looked at before any memory is taken.
+/// Reads the text of a list of at most `limit` choices. This call checks the whole text before it
+/// takes memory.
+///
+/// The refusals are, in this order:
+///
+/// - `BadCursor` if the text is not the text of a list of choices.
+/// - `NoSuchRun` if the list has more choices than `limit`.
+/// - `NoMemory` if this call runs out of memory.
 pub(crate) fn read_choices(alloc: Global, text: &[u8], limit: u32) -> Result<Vec<bool>, RunsError>
     ensures ok { IfOk result (λ choices.
         IsTextOf text.now choices.items × (length choices.items ≤ limit)) }

@@ -1,4 +1,4 @@
-//! One run whose choices a seed draws.
+//! Runs a program once with choices that a seed draws.
 
 ghost use Rattle.std.specs.Prelude.{◌≡◌, ◌+◌, ◌<◌, ◌^◌, length, IfOk};
 ghost use Rattle.ick_code.specs.meaning.Move.{first_state};
@@ -16,14 +16,16 @@ use ick_machine::{Ask, Asks, Backtrack, End, Trailed};
 use rand_core::utils::NextWord;
 use std::alloc::Global;
 
-/// A run, and the choices that a seed drew for it. It ended, and used all of them.
+/// Holds a run that ended, and the choices that a seed drew for it. The run used all of these
+/// choices.
 #[derive(Drop)]
 pub struct Drawn<'c> {
     pub choices: Vec<bool>,
     pub ran: Ran<'c>,
 }
 
-/// The run that the machine has come to the end of, with all choices that were drawn.
+/// Returns the result of the run that has ended in the machine's state, with all choices that were
+/// drawn.
 fn drawn_run<'c, M: Backtrack>(
     alloc: Global,
     machine: &M,
@@ -40,11 +42,12 @@ fn drawn_run<'c, M: Backtrack>(
     Ok(Drawn { choices, ran })
 }
 
-/// Runs a machine from its state with the choices that a seed draws, one word a choice asked, for
-/// at most `limit` steps (this profile). The words are those of the generator PCG32 of the seed.
+/// Runs a machine from its state with the choices that a seed draws, for at most `limit` steps
+/// (this profile). Each choice asked takes one word. The words come from the generator PCG32 of the
+/// seed.
 ///
-/// The machine's count of work must have the limit left. The answer is `NoMemory` where the
-/// machine, the choices or the answer's own texts could not grow.
+/// The machine's count of work must have `limit` left. The answer is `NoMemory` if the machine, the
+/// choices or the texts of the answer can't grow.
 pub fn run_seeded_from<'c, M: Asks<'c>>(
     alloc: Global,
     machine: M,
@@ -82,10 +85,10 @@ pub fn run_seeded_from<'c, M: Asks<'c>>(
     }
 }
 
-/// Runs a program over an input with the choices that a seed draws, one word a choice asked, for at
-/// most `limit` steps (this profile). The words are those of the generator PCG32 of the seed.
+/// Runs a program over an input with the choices that a seed draws, for at most `limit` steps (this
+/// profile). Each choice asked takes one word. The words come from the generator PCG32 of the seed.
 ///
-/// The answer is `NoMemory` where the run, the choices or the answer's own texts could not grow.
+/// The answer is `NoMemory` if the run, the choices or the texts of the answer can't grow.
 pub fn run_seeded<'c, 'a>(
     alloc: Global,
     code: &'c Code<'a>,

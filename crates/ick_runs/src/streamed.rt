@@ -1,4 +1,4 @@
-//! A run whose input is read while it runs, and whose output is written while it runs.
+//! Runs a program whose input and output are streams.
 
 ghost use Rattle.std.specs.Prelude.{◌≡◌, ◌+◌, ◌<◌, ◌^◌, ◌⊎◌, List, Bool};
 ghost use Rattle.std.specs.Prelude.{[], true, false, IfOk, IfErr};
@@ -18,20 +18,21 @@ use ick_code::Code;
 use ick_machine::{EndKind, Live, LiveAsk};
 use std::alloc::Global;
 
-/// How a streamed run came out.
+/// Holds the result of a streamed run.
 #[derive(Drop)]
 pub struct Streamed {
-    /// How it ended, or that it asked a choice when none was left.
+    /// Tells how the run ended, or that it asked a choice when no choice was left.
     pub end: EndKind,
-    /// The message of the fault that it ended by, or nothing.
+    /// Holds the message of the fault that ended the run, or no bytes.
     pub message: Vec<u8>,
-    /// The choices that it used.
+    /// Lists the choices that the run used.
     pub choices: Vec<bool>,
-    /// The steps that it made.
+    /// Counts the steps that the run made.
     pub steps: u32,
 }
 
-/// The run that the machine has come to the end of.
+/// Returns the result of the run that has ended in the machine's state. Refuses with `NoMemory` if
+/// the message can't grow.
 fn finish(
     alloc: Global,
     machine: &Live<'_, '_>,
@@ -55,7 +56,7 @@ fn finish(
     })
 }
 
-/// The run that stops without a fault.
+/// Returns the result of a run that stops without a fault.
 fn stop(alloc: Global, end: EndKind, choices: Vec<bool>, steps: u32) -> Streamed
     ensures end { result.end ≡ end }
     ensures message { result.message.items ≡ [] }
@@ -70,7 +71,8 @@ fn stop(alloc: Global, end: EndKind, choices: Vec<bool>, steps: u32) -> Streamed
     }
 }
 
-/// Runs a machine from its state.
+/// Runs a machine from its state for at most `limit` steps. The machine must hold no output and
+/// must not have failed. The answer is `NoMemory`, `Read` or `Write` if that part fails.
 fn stream_from<R: ByteSource, W: ByteSink>(
     alloc: Global,
     machine: Live<'_, '_>,
@@ -119,14 +121,18 @@ fn stream_from<R: ByteSource, W: ByteSink>(
     }
 }
 
-/// Runs a program for at most `limit` steps (this profile), with given choices or those that a seed
-/// draws. A line or a byte of the input is read when it is needed, and no byte more; the output of
-/// each READ OUT is written when the statement was done, one that ended by a fault too (Revised
-/// Manual, 4.4.12, 4.4.13). Choices that aren't used change nothing.
+/// Runs a program for at most `limit` steps (this profile), with given choices or with choices that
+/// a seed draws. The run reads a line or a byte of input only when a statement needs it, and no
+/// further byte. The output of each READ OUT is written as soon as the statement is done. This
+/// includes a statement that ends by a fault (Revised Manual, 4.4.12, 4.4.13). Unused choices
+/// change nothing.
 ///
-/// The counts of failures of both devices must be below their greatest values. The answer is
-/// `NoMemory` where the run, its choices or its message could not grow, `Read` or `Write` where
-/// that device failed, once. What was written is then a beginning of the run's output.
+/// The counts of failures of both devices must be below their greatest values. What was written at
+/// a refusal is a prefix of the run's output. The refusals are:
+///
+/// - `NoMemory` if the run, its choices or its message can't grow.
+/// - `Read` if the reader fails. It fails once.
+/// - `Write` if the writer fails. It fails once.
 pub fn run_stream<R: ByteSource, W: ByteSink>(
     alloc: Global,
     code: &Code<'_>,

@@ -1,4 +1,4 @@
-//! Steps of a run whose input and output are streams.
+//! Makes steps of a run whose input and output are streams.
 
 ghost use Rattle.std.specs.Prelude.{◌≡◌, ◌+◌, ◌<◌, ◌≤◌, ◌^◌, ◌⊎◌};
 ghost use Rattle.std.specs.Prelude.{◌++◌, ℕ, [], true, false};
@@ -16,7 +16,8 @@ use crate::errors::RunsError;
 use crate::feeds::SourceFeed;
 use ick_machine::Live;
 
-/// Makes a step, which takes its input from a source.
+/// Makes a step, which takes its input from `reader`. The answer is `NoMemory` or `Read` if the
+/// step fails.
 fn step_from<R: ByteSource>(
     machine: &mut Live<'_, '_>,
     reader: &mut R,
@@ -38,8 +39,9 @@ fn step_from<R: ByteSource>(
     Ok(())
 }
 
-/// Makes steps, as many as the limit allows, while the run goes on by itself. They take their input
-/// from a source.
+/// Makes at most `limit` steps, and returns their number. Before each step the run asks no choice
+/// and the machine holds no output. The steps take their input from `reader`. The answer is
+/// `NoMemory` or `Read` if a step fails.
 fn run_from<R: ByteSource>(
     machine: &mut Live<'_, '_>,
     reader: &mut R,
@@ -63,7 +65,8 @@ fn run_from<R: ByteSource>(
     Ok(made)
 }
 
-/// Writes the output that the machine holds, which is then empty.
+/// Writes and clears the output that the machine holds. If the writer fails, the answer is `Write`,
+/// and a prefix of the output is written.
 fn leave<W: ByteSink>(machine: &mut Live<'_, '_>, writer: &mut W) -> Result<(), RunsError>
     requires writes { W.failed writer.old + 1 < 2 ^ 64 }
     ensures clears { OnOk result (seen machine.new
@@ -86,7 +89,8 @@ fn leave<W: ByteSink>(machine: &mut Live<'_, '_>, writer: &mut W) -> Result<(), 
     }
 }
 
-/// Makes a step, after which its output leaves: so it has left before the next line is read.
+/// Makes a step and writes its output. So the output is written before the next line is read. The
+/// answer is `NoMemory`, `Read` or `Write` if that part fails.
 pub(crate) fn turn<R: ByteSource, W: ByteSink>(
     machine: &mut Live<'_, '_>,
     reader: &mut R,
@@ -113,8 +117,9 @@ pub(crate) fn turn<R: ByteSource, W: ByteSink>(
     leave(machine, writer)
 }
 
-/// Makes steps, as many as the limit allows, while the run goes on by itself, after which their
-/// output leaves. Answers their number. There is a step to make, and no output is held yet.
+/// Makes at most `limit` steps, writes their output and returns their number. Before each step the
+/// run asks no choice. `limit` must be above 0, the first step must ask no choice, and the machine
+/// must hold no output. The answer is `NoMemory`, `Read` or `Write` if that part fails.
 pub(crate) fn stride<R: ByteSource, W: ByteSink>(
     machine: &mut Live<'_, '_>,
     reader: &mut R,

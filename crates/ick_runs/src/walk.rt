@@ -1,4 +1,4 @@
-//! How a machine is led from one run to the next.
+//! Leads a machine from one run to the next.
 
 ghost use Rattle.std.specs.Prelude.{◌≡◌, false, true, ℕ, ◌+◌, ◌-◌, ◌<◌};
 ghost use Rattle.std.specs.Prelude.{◌≤◌, ◌^◌, [], ◌∷◌, ◌++◌};
@@ -20,8 +20,9 @@ use ick_bits::NoMemory;
 use ick_machine::{Ask, Asks, Backtrack, End};
 use std::alloc::Global;
 
-/// One step by a choice, which is added to the path. Where it is a zero, the state before it is
-/// marked.
+/// Makes step `steps + 1` by the choice `done`, and adds the choice to the path. If the choice is a
+/// zero, this call first marks the state before the step. The machine must ask a choice, and
+/// `steps` must be below `limit`.
 #[inline(always)]
 fn choose<M: Backtrack>(
     machine: &mut M,
@@ -51,7 +52,7 @@ fn choose<M: Backtrack>(
     Ok(())
 }
 
-/// Takes off the last zero and the ones after it.
+/// Drops the last zero and the ones after it. The list must have a zero.
 fn drop_last_zero(choices: &mut Vec<bool>)
     requires { 0 < zeros_in choices.old.items }
     ensures { TurnsAt choices.old.items choices.new.items }
@@ -63,7 +64,8 @@ fn drop_last_zero(choices: &mut Vec<bool>)
     }
 }
 
-/// Goes back to the last zero and does its statement. Answers the steps made then.
+/// Sets the machine back to the last zero and does its statement. Returns the number of steps made
+/// from the start of the run. The path must have a zero.
 fn turn_back<M: Backtrack>(machine: &mut M, path: &mut Path, limit: u32) -> Result<u32, NoMemory>
     requires marked { IsMarked limit
         (M.seen machine.old) path.old.choices.items path.old.points.items }
@@ -81,7 +83,9 @@ fn turn_back<M: Backtrack>(machine: &mut M, path: &mut Path, limit: u32) -> Resu
     Ok(steps + 1)
 }
 
-/// Goes on with a zero at each choice until the run ends. Answers the steps made then, and the end.
+/// Goes on with a zero at each choice until the run ends. `start` counts the steps made before this
+/// call, and must be at most `limit`. Returns the number of steps made from the start of the run,
+/// and the end.
 fn go_down<'c, M: Asks<'c>>(
     machine: &mut M,
     path: &mut Path,
@@ -115,7 +119,9 @@ fn go_down<'c, M: Asks<'c>>(
     }
 }
 
-/// Leads the machine from the start of a run along these choices. Answers whether they are whole.
+/// Leads the machine from the start of a run along `choices`. The path must be empty. Returns
+/// whether these are exactly the choices of a run. The answer is `NoMemory` if this call runs out
+/// of memory.
 pub(crate) fn follow<'c, M: Asks<'c>>(
     machine: &mut M,
     path: &mut Path,
@@ -159,7 +165,8 @@ pub(crate) fn follow<'c, M: Asks<'c>>(
     }
 }
 
-/// The run that the machine has come to the end of.
+/// Returns the run that has ended in the machine's state. The answer is `NoMemory` if this call
+/// runs out of memory.
 fn make_run<'c, M: Backtrack>(
     alloc: Global,
     machine: &M,
@@ -192,7 +199,7 @@ fn drop_marks<M: Backtrack>(machine: &mut M)
     }
 }
 
-/// Drops all marks, and forgets the path.
+/// Drops all marks and clears the path.
 pub(crate) fn forget<M: Backtrack>(machine: &mut M, path: &mut Path)
     ensures marks { (M.seen machine.new).marks ≡ [] }
     ensures choices { path.new.choices.items ≡ [] }
@@ -204,7 +211,8 @@ pub(crate) fn forget<M: Backtrack>(machine: &mut M, path: &mut Path)
     path.points.clear();
 }
 
-/// Finds the first run.
+/// Finds the first run. The path must be empty. The answer is `NoMemory` if this call runs out of
+/// memory.
 fn find_first<'c, M: Asks<'c>>(
     alloc: Global,
     machine: &mut M,
@@ -229,7 +237,8 @@ fn find_first<'c, M: Asks<'c>>(
     Ok(run)
 }
 
-/// Finds the run after the one that the path names.
+/// Finds the run after the run that the path names. The path must have a zero. The answer is
+/// `NoMemory` if this call runs out of memory.
 fn find_next<'c, M: Asks<'c>>(
     alloc: Global,
     machine: &mut M,
@@ -258,7 +267,8 @@ fn find_next<'c, M: Asks<'c>>(
     Ok(run)
 }
 
-/// Finds the run after the place.
+/// Finds the run after the explorer's position. The explorer must not have failed, and a further
+/// run must exist. The answer is `NoMemory` if this call runs out of memory.
 pub(crate) fn find<'c, M: Asks<'c>>(
     alloc: Global,
     machine: &mut M,

@@ -1,4 +1,4 @@
-//! A listing as text on a writer.
+//! Writes a listing as text.
 
 ghost use Rattle.std.specs.Prelude.{◌≡◌, ◌↔◌, ◌+◌, ◌*◌, ◌<◌, ◌≤◌};
 ghost use Rattle.std.specs.Prelude.{◌^◌, ◌⊎◌, ℕ, List, Bool, true};
@@ -18,7 +18,9 @@ use crate::listing::Listed2;
 use ick_machine::Asks;
 use std::alloc::Global;
 
-/// Writes the line of the next run, where there is one. Answers whether there was.
+/// Writes the line of the next run if there is a next run. Returns whether there was a next run.
+/// The answer is `WorkFull`, `NoMemory` or `Write` if that part fails. The explorer must not have
+/// failed.
 fn write_next<'c, M: Asks<'c>, W: ByteSink>(
     alloc: Global,
     explorer: &mut Explorer<M>,
@@ -57,7 +59,8 @@ fn write_next<'c, M: Asks<'c>, W: ByteSink>(
     }
 }
 
-/// Writes the last line of a listing.
+/// Writes the last line of a listing. Returns `listed`. The answer is `Write` if the writer fails,
+/// and a prefix of the line is then written.
 fn write_last<W: ByteSink>(writer: &mut W, listed: Listed2) -> Result<Listed2, RunsError>
     requires room { W.failed writer.old + 1 < 2 ^ 64 }
     ensures listed { IfOk result (λ r. r ≡ listed) }
@@ -78,21 +81,22 @@ fn write_last<W: ByteSink>(writer: &mut W, listed: Listed2) -> Result<Listed2, R
     }
 }
 
-/// Writes the listing from the place where the explorer stands (this profile): a line for each of
-/// the next `count` runs, or for all where there are fewer, and then `MORE` where a further run
-/// exists, else `DONE`. Each line leaves as soon as its run is found.
+/// Writes the listing from the explorer's position (this profile). The listing has a line for each
+/// of the next `count` runs, or for all runs if fewer are left. Its last line is `MORE` if a
+/// further run exists, else `DONE`. Each line is written as soon as its run is found.
 ///
-/// A line has the run's choices, its end and its output in double quotes. The end is `GIVE-UP`,
-/// `LIMIT` or `Ennn@j` with the number of the fault and that of its statement.
+/// A line holds the run's choices, its end and its output in double quotes. The end is `GIVE-UP`,
+/// `LIMIT` or `Ennn@j`. In `Ennn@j`, `nnn` is the number of the fault and `j` the number of its
+/// statement.
 ///
-/// Each refusal leaves the lines before it written, whole:
+/// Each refusal leaves the earlier lines written whole:
 ///
-/// - `Failed` where the explorer had failed: nothing was written and nothing has changed.
-/// - `WorkFull` where a further run was due and the count of work had less than the limit left: the
-///   explorer stands after the last run written.
-/// - `NoMemory` where memory was refused: the explorer has failed.
-/// - `Write` where the writer failed: some bytes of the line may have been written, and the
-///   explorer stands after the run of that line.
+/// - `Failed` if the explorer had failed. Nothing is written and nothing changes.
+/// - `WorkFull` if a further run is expected and the count of work has less than the limit left.
+///   The explorer's position is after the last run written.
+/// - `NoMemory` if this call runs out of memory. The explorer has then failed.
+/// - `Write` if the writer fails. Some bytes of the line may be written. The explorer's position is
+///   after the run of that line.
 pub fn write_runs<'c, M: Asks<'c>, W: ByteSink>(
     alloc: Global,
     explorer: &mut Explorer<M>,

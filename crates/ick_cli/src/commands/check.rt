@@ -26,7 +26,7 @@ pub fn answer_check<W: ByteSink>(alloc: Global, program: &Program<'_>, writer: &
     }
 }
 
-/// How many statements a program has, and how many of them are polite.
+/// Returns the line that says how many statements a program has, and how many are polite.
 fn summary(alloc: Global, program: &Program<'_>) -> Result<Vec<u8>, NoMemory>
     ensures { IfOk result (λ text. text.items ≡ summary (trees_of program.now)) }
 {

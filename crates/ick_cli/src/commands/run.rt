@@ -5,7 +5,8 @@ ghost use Rattle.ick_code.specs.Compiled.{code_program};
 ghost use Rattle.ick_code.specs.meaning.Move.{first_state};
 ghost use Rattle.ick_runs.specs.Chosen.{IsChosen, chosen_of};
 ghost use Rattle.ick_runs.specs.Runs.{run};
-ghost use Rattle.ick_cli.specs.Ending.{Answers, EndsBy, LeavesStreams};
+ghost use Rattle.ick_cli.specs.Ending.{Answers, EndsBy, LeavesStreams, WhereAnswered};
+ghost use Rattle.ick_cli.specs.Left.{IsLeftByRuns};
 ghost use Rattle.ick_cli.specs.Stopped.{kind_status, kind_text};
 ghost use Rattle.ick_cli.specs.Tool.{Answer, IsExecuted, run_answer};
 
@@ -17,7 +18,7 @@ use ick_code::Code;
 use ick_runs::{ByteSink, ByteSource, Chooser, Cursor, Streamed, run_stream};
 use std::alloc::Global;
 
-/// Answers code by its run over an input with given choices: none, where there is no cursor.
+/// Answers code by its run over an input with given choices, which are none without a cursor.
 pub fn answer_run<R: ByteSource, W: ByteSink>(
     alloc: Global,
     code: &Code<'_>,
@@ -30,6 +31,9 @@ pub fn answer_run<R: ByteSource, W: ByteSink>(
     requires writer_sound { W.failed writer.old + 1 < 2 ^ 64 }
     ensures leaves { LeavesStreams result (R.failed reader.old) (R.failed reader.new)
         (W.failed writer.old) (W.failed writer.new) }
+    ensures left { R.told ≡ true → WhereAnswered result
+        (IsLeftByRuns (code_program code.now) (R.left reader.old)
+        (Runs.Given choices.now limit) (R.left reader.new)) }
     ensures answer { R.told ≡ true → W.told ≡ true → (answer : Answer)
         → IsExecuted (code_program code.now) (R.left reader.old) (Runs.Given choices.now limit)
         answer → Answers answer result (W.written writer.old) (W.written writer.new) }
@@ -38,7 +42,7 @@ pub fn answer_run<R: ByteSource, W: ByteSink>(
     stream(alloc, code, chooser, limit, reader, writer)
 }
 
-/// The choices of a cursor: none, where there is none.
+/// Returns the choices of a cursor, which are none without a cursor.
 fn choices_in(cursor: &Option<Cursor>) -> &[bool]
     ensures { result.now ≡ unwrap_or cursor.now [] }
 {
@@ -61,6 +65,9 @@ pub fn answer_drawn<R: ByteSource, W: ByteSink>(
     requires writer_sound { W.failed writer.old + 1 < 2 ^ 64 }
     ensures leaves { LeavesStreams result (R.failed reader.old) (R.failed reader.new)
         (W.failed writer.old) (W.failed writer.new) }
+    ensures left { R.told ≡ true → WhereAnswered result
+        (IsLeftByRuns (code_program code.now) (R.left reader.old)
+        (Runs.Drawn seed limit) (R.left reader.new)) }
     ensures answer { R.told ≡ true → W.told ≡ true → (answer : Answer)
         → IsExecuted (code_program code.now) (R.left reader.old) (Runs.Drawn seed limit) answer
         → Answers answer result (W.written writer.old) (W.written writer.new) }
@@ -81,6 +88,10 @@ fn stream<R: ByteSource, W: ByteSink>(
     requires writer_sound { W.failed writer.old + 1 < 2 ^ 64 }
     ensures leaves { LeavesStreams result (R.failed reader.old) (R.failed reader.new)
         (W.failed writer.old) (W.failed writer.new) }
+    ensures left { R.told ≡ true → let program = code_program code.now in
+        let first = first_state program (R.left reader.old) in
+        (c : List Bool) → IsChosen program first limit (chosen_of chooser.entry) c
+        → WhereAnswered result (R.left reader.new ≡ (run program first limit c).last.input) }
     ensures answer { R.told ≡ true → W.told ≡ true → let program = code_program code.now in
         let first = first_state program (R.left reader.old) in
         (c : List Bool) → IsChosen program first limit (chosen_of chooser.entry) c
@@ -93,7 +104,7 @@ fn stream<R: ByteSource, W: ByteSink>(
     }
 }
 
-/// The ending of a run that has stopped, and whose output is written.
+/// Returns the ending of a run that has stopped, and whose output is written.
 fn stopped(alloc: Global, streamed: Streamed) -> Ending
     ensures { EndsBy (kind_status streamed.end)
         (kind_text streamed.end streamed.message.items streamed.steps) result }

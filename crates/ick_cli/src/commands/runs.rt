@@ -6,22 +6,22 @@ ghost use Rattle.ick_code.specs.meaning.Move.{first_state};
 ghost use Rattle.ick_code.specs.meaning.State.{State};
 ghost use Rattle.ick_runs.specs.Explorers.{explored};
 ghost use Rattle.ick_runs.specs.Standing.{Stands};
-ghost use Rattle.ick_cli.specs.Ending.{Answers, LeavesStreams, LeavesWriter};
-ghost use Rattle.ick_cli.specs.Placed.{IsNoRun, IsPlaced, IsRunsAnswerAt};
-ghost use Rattle.ick_cli.specs.Plan.{EndsByLine};
+ghost use Rattle.ick_cli.specs.Ending.{Answers, LeavesStreams, LeavesWriter, WhereAnswered};
+ghost use Rattle.ick_cli.specs.Left.{IsLeftByRuns};
+ghost use Rattle.ick_cli.specs.Placed.{IsPlaced, IsRunsAnswerAt, IsUnplaced};
 ghost use Rattle.ick_cli.specs.Tool.{Answer, IsExecuted, IsRunsAnswer};
 
 use crate::ending::Ending;
 use crate::input::read_input;
-use crate::notice::{Message, Notice};
+use crate::notice::Message;
 use crate::plan::Runs;
 use ick_code::Code;
 use ick_machine::{Asks, Trailed};
 use ick_runs::{ByteSink, ByteSource, Cursor, Explorer, RunsError, write_runs};
 use std::alloc::Global;
 
-/// Answers code by the listing of its runs over an input, which is read whole: all of them, or
-/// those after a cursor's.
+/// Answers code by the listing of its runs over an input, which is read whole. It lists all runs,
+/// or those after the run of a cursor.
 pub fn answer_runs<R: ByteSource, W: ByteSink>(
     alloc: Global,
     code: &Code<'_>,
@@ -35,6 +35,9 @@ pub fn answer_runs<R: ByteSource, W: ByteSink>(
     requires writer_sound { W.failed writer.old + 1 < 2 ^ 64 }
     ensures leaves { LeavesStreams result (R.failed reader.old) (R.failed reader.new)
         (W.failed writer.old) (W.failed writer.new) }
+    ensures left { R.told ≡ true → WhereAnswered result
+        (IsLeftByRuns (code_program code.now) (R.left reader.old)
+        (Runs.Listed from.now count limit) (R.left reader.new)) }
     ensures answer { R.told ≡ true → W.told ≡ true → (answer : Answer)
         → IsExecuted (code_program code.now) (R.left reader.old)
         (Runs.Listed from.now count limit) answer
@@ -88,30 +91,28 @@ fn list_runs<'c, M: Asks<'c>, W: ByteSink>(
 {
     match explorer_from(alloc, machine, from, limit) {
         Ok(explorer) => list_from(alloc, explorer, count, writer),
-        Err(ending) => ending,
+        Err(error) => Ending::refused(error),
     }
 }
 
-/// An explorer that stands before all runs, or after the one of a cursor, or the ending of work
-/// whose cursor isn't a run's.
+/// Returns an explorer before all runs, or after the run of a cursor.
 fn explorer_from<'c, M: Asks<'c>>(
     alloc: Global,
     machine: M,
     from: &Option<Cursor>,
     limit: u32,
-) -> Result<Explorer<M>, Ending>
+) -> Result<Explorer<M>, RunsError>
     requires unmarked { (M.seen machine).marks ≡ [] }
     requires unworn { (M.seen machine).work ≡ 0 }
     ensures ok { IfOk result (λ e. IsPlaced (M.seen machine) limit from.now (explored e)) }
-    ensures err { IfErr result (EndsByLine (IsNoRun (M.seen machine) limit from.now)) }
+    ensures err { IfErr result (IsUnplaced (M.seen machine) limit from.now) }
 {
     let Some(cursor) = from else {
         return Ok(Explorer::start(alloc, machine, limit));
     };
     match Explorer::after(alloc, machine, limit, cursor) {
         Ok(explorer) => Ok(explorer),
-        Err(RunsError::NoSuchRun) => Err(Ending::usage(Notice::NoSuchRun)),
-        Err(_) => Err(Ending::NoMemory),
+        Err(error) => Err(error),
     }
 }
 

@@ -7,7 +7,7 @@ ghost use Rattle.ick_cli.specs.Words.{from_rule, limit_rule, seed_rule};
 use clap::{Arg, ArgAction, value_parser};
 use std::alloc::Global;
 
-/// The file of the source.
+/// Returns the argument FILE, which names the source.
 pub fn file_argument<'a>(alloc: Global) -> Arg<'a>
     ensures rule { rule_of result ≡ file_rule }
     ensures local { result.global ≡ false }
@@ -17,7 +17,7 @@ pub fn file_argument<'a>(alloc: Global) -> Arg<'a>
         .help("The source; standard input where none is named")
 }
 
-/// The option that changes nothing.
+/// Returns the option `-b`, which changes nothing.
 pub fn bug_argument<'a>(alloc: Global) -> Arg<'a>
     ensures rule { rule_of result ≡ bug_rule }
     ensures local { result.global ≡ false }
@@ -28,7 +28,7 @@ pub fn bug_argument<'a>(alloc: Global) -> Arg<'a>
         .help("Changes nothing: there is no random compiler bug to switch off")
 }
 
-/// The choices of a run.
+/// Returns the option for the choices of a run.
 pub fn choices_argument<'a>(alloc: Global) -> Arg<'a>
     ensures rule { rule_of result ≡ choices_rule }
     ensures local { result.global ≡ false }
@@ -39,7 +39,7 @@ pub fn choices_argument<'a>(alloc: Global) -> Arg<'a>
         .help("The choices of the run, as in a listing: --choices=- for none")
 }
 
-/// The run after which a listing begins.
+/// Returns the option for the run after which a listing begins.
 pub fn from_argument<'a>(alloc: Global) -> Arg<'a>
     ensures rule { rule_of result ≡ from_rule }
     ensures local { result.global ≡ false }
@@ -49,7 +49,7 @@ pub fn from_argument<'a>(alloc: Global) -> Arg<'a>
     )
 }
 
-/// The seed that draws the choices of a run.
+/// Returns the option for the seed that draws the choices of a run.
 pub fn seed_argument<'a>(alloc: Global) -> Arg<'a>
     ensures rule { rule_of result ≡ seed_rule }
     ensures local { result.global ≡ false }
@@ -61,7 +61,7 @@ pub fn seed_argument<'a>(alloc: Global) -> Arg<'a>
         .help("Draws the choices of the run by this seed")
 }
 
-/// The limit on the steps of a run.
+/// Returns the option for the limit on the steps of a run.
 pub fn limit_argument<'a>(alloc: Global) -> Arg<'a>
     ensures rule { rule_of result ≡ limit_rule }
     ensures local { result.global ≡ false }
@@ -73,7 +73,7 @@ pub fn limit_argument<'a>(alloc: Global) -> Arg<'a>
         .help("The steps after which a run is cut short")
 }
 
-/// How many runs a listing shows.
+/// Returns the option for how many runs a listing shows.
 pub fn count_argument<'a>(alloc: Global) -> Arg<'a>
     ensures rule { rule_of result ≡ count_rule }
     ensures local { result.global ≡ false }

@@ -7,7 +7,7 @@ use crate::words::{arguments, help};
 use clap::Command;
 use std::alloc::{AllocError, Global};
 
-/// The command `check`.
+/// Returns the command `check`.
 fn check_command<'a>(alloc: Global) -> Result<Command<'a>, AllocError>
     ensures { IfOk result (λ c. Reads c check_app) }
 {
@@ -17,7 +17,7 @@ fn check_command<'a>(alloc: Global) -> Result<Command<'a>, AllocError>
         .arg(arguments::file_argument(alloc))
 }
 
-/// The command `list`.
+/// Returns the command `list`.
 fn list_command<'a>(alloc: Global) -> Result<Command<'a>, AllocError>
     ensures { IfOk result (λ c. Reads c list_app) }
 {
@@ -27,7 +27,7 @@ fn list_command<'a>(alloc: Global) -> Result<Command<'a>, AllocError>
         .arg(arguments::file_argument(alloc))
 }
 
-/// The command `run`.
+/// Returns the command `run`.
 fn run_command<'a>(alloc: Global) -> Result<Command<'a>, AllocError>
     ensures { IfOk result (λ c. Reads c run_app) }
 {
@@ -41,7 +41,7 @@ fn run_command<'a>(alloc: Global) -> Result<Command<'a>, AllocError>
         .arg(arguments::file_argument(alloc))
 }
 
-/// The command `runs`.
+/// Returns the command `runs`.
 fn runs_command<'a>(alloc: Global) -> Result<Command<'a>, AllocError>
     ensures { IfOk result (λ c. Reads c runs_app) }
 {
@@ -55,7 +55,7 @@ fn runs_command<'a>(alloc: Global) -> Result<Command<'a>, AllocError>
         .arg(arguments::file_argument(alloc))
 }
 
-/// The command `ick`, whose words have no name of the program before them.
+/// Returns the command `ick`, whose arguments come without the program's own name.
 pub fn ick_command<'a>(alloc: Global) -> Result<Command<'a>, AllocError>
     ensures { IfOk result (λ c. Reads c ick_app) }
 {

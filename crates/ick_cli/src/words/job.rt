@@ -1,4 +1,4 @@
-//! The job that words ask for.
+//! The job that arguments ask for.
 ghost use Rattle.std.specs.Prelude.{◌≡◌, IfOk, option_map};
 ghost use Rattle.clap.specs.Words.{fault_of, found_of, rows_of, subcommand_rows_of};
 ghost use Rattle.clap.specs.Kinds.{FailsBy};
@@ -32,15 +32,15 @@ pub enum Subcommand<'a> {
     },
 }
 
-/// What the words ask for: what is to be done with the source in a file, or in what is read where
-/// none is named.
+/// What the arguments ask for: what is to be done with the source in a file, or with the source
+/// that the reader has if no file is named.
 #[derive(Clone, Copy, Debug)]
 pub struct Job<'a> {
     pub subcommand: Subcommand<'a>,
     pub file: Option<&'a str>,
 }
 
-/// Reads the words. Where they ask for a job, only want of memory keeps them from giving it.
+/// Reads the arguments. If they ask for a job, only running out of memory can refuse it.
 pub fn read_job<'a>(alloc: Global, words: &'a [&'a str]) -> Result<Job<'a>, Error>
     ensures job { IfOk result (λ job. asked job ≡ job_of (texts words.entry.now)) }
     ensures law { FailsBy (fault_of ick_app (texts words.entry.now)) result }
@@ -52,7 +52,7 @@ pub fn read_job<'a>(alloc: Global, words: &'a [&'a str]) -> Result<Job<'a>, Erro
     }
 }
 
-/// The job of matches: a run without a file where they name no command.
+/// Returns the job of matches, which is a run without a file if they name no command.
 fn job_in<'a>(matches: &ArgMatches<'a>) -> Job<'a>
     ensures { asked result ≡ asked_in (subcommand_rows_of matches.now) }
 {
@@ -69,7 +69,7 @@ fn job_in<'a>(matches: &ArgMatches<'a>) -> Job<'a>
     }
 }
 
-/// The job of the matches of a command.
+/// Returns the job of the matches of a command.
 fn job_by<'a>(name: &str, matches: &ArgMatches<'a>) -> Job<'a>
     ensures { asked result ≡ asked_of name.now (rows_of (found_of matches.now)) }
 {
@@ -79,7 +79,7 @@ fn job_by<'a>(name: &str, matches: &ArgMatches<'a>) -> Job<'a>
     }
 }
 
-/// The command of a name, with its options.
+/// Returns the command of a name, with its options.
 fn subcommand_named<'a>(name: &str, matches: &ArgMatches<'a>) -> Subcommand<'a>
     ensures { task_of result ≡ task_named name.now (rows_of (found_of matches.now)) }
 {
@@ -94,7 +94,7 @@ fn subcommand_named<'a>(name: &str, matches: &ArgMatches<'a>) -> Subcommand<'a>
     }
 }
 
-/// A run, by its options.
+/// Returns a run, by its options.
 fn run_in<'a>(matches: &ArgMatches<'a>) -> Subcommand<'a>
     ensures { task_of result ≡ run_in (rows_of (found_of matches.now)) }
 {
@@ -105,7 +105,7 @@ fn run_in<'a>(matches: &ArgMatches<'a>) -> Subcommand<'a>
     }
 }
 
-/// A listing of runs, by its options.
+/// Returns a listing of runs, by its options.
 fn runs_in<'a>(matches: &ArgMatches<'a>) -> Subcommand<'a>
     ensures { task_of result ≡ runs_in (rows_of (found_of matches.now)) }
 {
@@ -116,21 +116,21 @@ fn runs_in<'a>(matches: &ArgMatches<'a>) -> Subcommand<'a>
     }
 }
 
-/// The text that an argument was given.
+/// Returns the text that an option was given.
 fn text<'a>(matches: &ArgMatches<'a>, id: &str) -> Option<&'a str>
     ensures { option_map (λ s. s.now) result ≡ text_in id.now (rows_of (found_of matches.now)) }
 {
     matches.get_str(id)
 }
 
-/// The number that an argument was given.
+/// Returns the number that an option was given.
 fn number(matches: &ArgMatches<'_>, id: &str) -> Option<u32>
     ensures { result ≡ number_in 32 id.now (rows_of (found_of matches.now)) }
 {
     matches.get_one::<u32>(id)
 }
 
-/// The number of up to 64 bits that an argument was given.
+/// Returns the number of up to 64 bits that an option was given.
 fn long_number(matches: &ArgMatches<'_>, id: &str) -> Option<u64>
     ensures { result ≡ number_in 64 id.now (rows_of (found_of matches.now)) }
 {

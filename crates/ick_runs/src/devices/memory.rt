@@ -1,11 +1,11 @@
-//! Devices over memory, whose bytes are told.
+//! Defines devices over memory, whose bytes contracts know.
 ghost use Rattle.std.specs.Prelude.{◌≡◌, ◌+◌, ◌≤◌, ◌<◌, [], true};
 
 use crate::devices::{ByteSink, ByteSource, DeviceFault};
 use std::alloc::Global;
 use std::marker::Model;
 
-/// A source over a slice, which never fails and takes no memory. Contracts see it as the bytes
+/// Reads from a slice. This source never fails and takes no memory. Contracts see it as the bytes
 /// still to come.
 #[derive(Debug, Drop)]
 pub struct SliceSource<'a> {
@@ -21,14 +21,14 @@ impl<'a> Model for SliceSource<'a> {
 }
 
 impl<'a> SliceSource<'a> {
-    /// A source of these bytes.
+    /// Returns a source of `bytes`.
     pub fn new(bytes: &'a [u8]) -> SliceSource<'a>
         ensures { result ≡ bytes.entry.now }
     {
         SliceSource { rest: bytes }
     }
 
-    /// The bytes still to come.
+    /// Returns the bytes still to come.
     pub fn left(&self) -> &'a [u8]
         ensures { result.now ≡ self.now }
     {
@@ -56,7 +56,7 @@ impl ByteSource for SliceSource<'_> {
     }
 }
 
-/// A sink that keeps what is written. It has failed where it couldn't grow.
+/// Keeps the bytes that are written. A write fails if the sink can't grow.
 #[derive(Drop)]
 pub struct VecSink {
     written: Vec<u8>,
@@ -72,7 +72,8 @@ impl Model for VecSink {
 }
 
 impl VecSink {
-    /// A sink that has taken nothing and has not failed. It takes no memory until it is written.
+    /// Returns a sink that holds no bytes and has not failed. The sink takes no memory until the
+    /// first write.
     pub fn new(alloc: Global) -> VecSink
         ensures { result ≡ record { bytes = []; failures = 0 } }
     {
@@ -82,7 +83,7 @@ impl VecSink {
         }
     }
 
-    /// The bytes that were written.
+    /// Returns the bytes that were written.
     pub fn bytes(&self) -> &[u8]
         ensures { result.now ≡ self.now.bytes }
     {

@@ -1,28 +1,28 @@
-//! Where bytes go.
+//! Defines sinks of bytes.
 ghost use Rattle.std.specs.Prelude.{◌≡◌, ◌+◌, ◌≤◌, ◌<◌, ◌^◌, ◌++◌};
 ghost use Rattle.std.specs.Prelude.{if◌then◌else◌, ℕ, List, Bool, true, IfOk, OnErr, is_ok};
 ghost use Rattle.std.specs.Prelude.{length, take};
 
 use crate::devices::DeviceFault;
 
-/// Bytes that go out.
+/// Takes bytes of output.
 pub trait ByteSink {
-    /// Whether `written` speaks of what really went out.
+    /// Tells whether `written` describes the bytes that really went out.
     ghost told: { Bool };
 
-    /// The bytes that were written.
+    /// Lists the bytes that were written.
     ghost written: { Self → List ℕ };
 
-    /// How many calls have failed.
+    /// Counts the calls that have failed.
     ghost failed: { Self → ℕ };
 
-    /// How many calls have failed.
+    /// Returns the number of calls that have failed.
     fn failures(&self) -> u64
         ensures { result ≡ failed self.now };
 
-    /// Writes some bytes of the front of the text, and answers how many: at least one of a text
-    /// that isn't empty. An `Err` raises the count of failures by one and writes no byte; an `Ok`
-    /// leaves the count.
+    /// Writes some bytes of the front of `text`, and returns their number. The number is at least 1
+    /// if `text` isn't empty. An `Err` raises the count of failures by one and writes no byte. An
+    /// `Ok` leaves the count unchanged.
     fn write(&mut self, text: &[u8]) -> Result<usize, DeviceFault>
         requires { failed self.old + 1 < 2 ^ 64 }
         ensures count { failed self.new ≡ failed self.old + (if is_ok result then 0 else 1) }

@@ -1,31 +1,31 @@
-//! Where bytes come from.
+//! Defines sources of bytes.
 ghost use Rattle.std.specs.Prelude.{◌≡◌, ◌+◌, ◌≤◌, ◌<◌, ◌^◌, ◌++◌};
 ghost use Rattle.std.specs.Prelude.{if◌then◌else◌, ℕ, List, Bool, [], true, IfOk, OnErr};
 ghost use Rattle.std.specs.Prelude.{is_ok, length, take};
 
-/// A device didn't do what it was asked for.
+/// Tells that a call of a device failed.
 #[derive(Clone, Copy, Debug, PartialEq, Eq)]
 pub struct DeviceFault;
 
-/// Bytes that come in.
+/// Supplies bytes of input.
 pub trait ByteSource {
-    /// Whether `left` speaks of what really comes: so over memory, and never for a file, a pipe or
-    /// a terminal.
+    /// Tells whether `left` describes the bytes that really come. It is true over memory. It is
+    /// never true for a file, a pipe or a terminal.
     ghost told: { Bool };
 
-    /// The bytes still to come.
+    /// Lists the bytes still to come.
     ghost left: { Self → List ℕ };
 
-    /// How many calls have failed.
+    /// Counts the calls that have failed.
     ghost failed: { Self → ℕ };
 
-    /// How many calls have failed.
+    /// Returns the number of calls that have failed.
     fn failures(&self) -> u64
         ensures { result ≡ failed self.now };
 
-    /// Reads some bytes into the front of the target, and answers how many. No byte for a target
-    /// that isn't empty is the end. An `Err` raises the count of failures by one and takes no byte;
-    /// an `Ok` leaves the count.
+    /// Reads some bytes into the front of `target`, and returns their number. The answer 0 for a
+    /// target that isn't empty means the end of the input. An `Err` raises the count of failures by
+    /// one and takes no byte. An `Ok` leaves the count unchanged.
     fn read(&mut self, target: &mut [u8]) -> Result<usize, DeviceFault>
         requires { failed self.old + 1 < 2 ^ 64 }
         ensures count { failed self.new ≡ failed self.old + (if is_ok result then 0 else 1) }

@@ -1,4 +1,4 @@
-//! The front of a source that is read, and a text that is written whole.
+//! Reads the first bytes of a source, and writes a whole text.
 ghost use Rattle.std.specs.Prelude.{◌≡◌, ◌+◌, ◌≤◌, ◌<◌, ◌^◌, ◌++◌, ℕ};
 ghost use Rattle.std.specs.Prelude.{true, if◌then◌else◌};
 ghost use Rattle.std.specs.Prelude.{IfOk, OnOk, is_ok, length, take, drop};
@@ -7,19 +7,19 @@ ghost use Rattle.ick_runs.specs.Whole.{read_failures};
 use crate::devices::{ByteSink, ByteSource, DeviceFault};
 use std::alloc::Global;
 
-/// How many bytes are asked for at once.
+/// Limits the bytes of one read.
 const BLOCK: usize = 4096;
 
-/// Why a source wasn't read.
+/// Tells why a source was not read.
 #[derive(Clone, Copy, Debug, PartialEq, Eq)]
 pub enum ReadFault {
     NoMemory,
     Failed,
 }
 
-/// Reads the first `most` bytes of a source, or all that it has where they are fewer. The answer is
-/// `Failed` where a read failed, once, and `NoMemory` where the text could not grow. Each turn
-/// gains a byte or is the last.
+/// Reads the first `most` bytes of a source, or all its bytes if it has fewer. The answer is
+/// `Failed` if a read fails, and then exactly one read has failed. The answer is `NoMemory` if the
+/// text can't grow. Each turn of the loop gains a byte or is the last.
 pub fn read_first<R: ByteSource>(
     alloc: Global,
     source: &mut R,
@@ -50,8 +50,8 @@ pub fn read_first<R: ByteSource>(
     Ok(text)
 }
 
-/// Writes a text. What was written is a beginning of it, and all of it where no write failed. Each
-/// turn gains a byte or is the last.
+/// Writes a text whole. If a write fails, the answer is `DeviceFault`, and a prefix of the text is
+/// written. Each turn of the loop gains a byte or is the last.
 pub fn write_whole<W: ByteSink>(sink: &mut W, text: &[u8]) -> Result<(), DeviceFault>
     requires { W.failed sink.old + 1 < 2 ^ 64 }
     ensures count { W.failed sink.new ≡ W.failed sink.old + (if is_ok result then 0 else 1) }

@@ -1,15 +1,18 @@
-use Rattle.std.proofs.Common.{◌≡◌, ◌∙◌, inl, inr, [], ◌∷◌, ap, subst, sym}
+use Rattle.std.proofs.Common.{◌≡◌, ◌∙◌, inl, inr, [], ◌∷◌, ap, arith, false, subst, sym}
 use Rattle.clap.specs.Kinds.{HasKind, IsAmong}
 use Rattle.clap.specs.Words.{Kinds, kind_of}
 use Rattle.clap.specs.declared.error.ErrorKind.{ErrorKind}
 use Rattle.clap.specs.declared.error.ErrorKind.TheVariants as kind
 use Rattle.clap.specs.declared.error.Error.{Error}
 use Rattle.ick_cli.specs.Ending.{input_of, source_of}
-use Rattle.ick_cli.specs.Job.{Asked}
+use Rattle.ick_cli.specs.Job.{Asked, asked, has_file}
 use Rattle.std.proofs.lemmas.List.{append-nil}
 use Rattle.ick_cli.specs.Serve.{counts, cut_by_memory}
 use Rattle.ick_cli.specs.Tool.{IsToolAnswer}
 use Rattle.ick_cli.specs.Usage.{EachIs, IsMistake, IsRequest, help_without_memory}
+use Rattle.ick_cli.specs.Left.{IsLeft}
+use Rattle.ick_cli.specs.Plan.{IsUnplanned}
+use Rattle.ick_cli.proofs.Left.{was_answered, without_memory}
 use Rattle.ick_cli.proofs.OneAnswer.{tool_answer}
 use Rattle.ick_cli.proofs.Served.{due, failed_due, finished_status, served}
 use Rattle.ick_cli.proofs.driver.serve.Goals as goal
@@ -97,3 +100,30 @@ returns-in-Err-clause-help g c = λ requests.
           (_, _, help_without_memory (ap g.W.ByteSink.failed memory.0) (ap g.W.ByteSink.written memory.0), memory.1)
       | inr h ↦ c.answer_words.ensures.help (among IsRequest (kind_of c.in-Err.error) _ requests.1 h)
     ]
+
+pub returns-in-Ok-clause-left : goal.returns-in-Ok-clause-left
+returns-in-Ok-clause-left g c = λ has_job files_told reader_told other.
+    let named = g.F.Files.named c.args.files.now in
+    let before = g.R.ByteSource.left c.args.reader.now in
+    let after = g.R.ByteSource.left c.perform-ending.new.reader in
+    subst (λ (job : Asked). IsLeft job named before after) c.in-Ok.ensures.job
+    (was_answered g.E.ByteSink.told c.perform-ending.result _ _ _ _ _ (IsLeft (asked c.in-Ok.job) named before after)
+    c.report.ensures other (c.perform-ending.ensures.left files_told reader_told))
+
+pub returns-in-Ok-clause-source_first : goal.returns-in-Ok-clause-source_first
+returns-in-Ok-clause-source_first g c = λ has_job none more.
+    c.perform-ending.ensures.source_first
+    (subst (λ (job : Asked). has_file job ≡ false) (sym c.in-Ok.ensures.job) none) more
+
+pub returns-in-Ok-clause-unplanned : goal.returns-in-Ok-clause-unplanned
+returns-in-Ok-clause-unplanned g c = λ has_job line h.
+    let kept = c.perform-ending.ensures.unplanned line
+    (subst (λ (job : Asked). IsUnplanned job.task line) (sym c.in-Ok.ensures.job) h) in (kept.0, kept.1)
+
+pub returns-in-Err-clause-source_first : goal.returns-in-Err-clause-source_first
+returns-in-Err-clause-source_first g c = λ has_job none more. absurd (omega arith)
+
+pub returns-in-Err-clause-left : goal.returns-in-Err-clause-left
+returns-in-Err-clause-left g c = λ has_job files_told reader_told other.
+    let memory = c.answer_words.ensures.memory (memory_ran_out c.in-Err.error _ has_job c.in-Err.ensures.law) in
+    without_memory g.E.ByteSink.told _ _ _ _ _ _ _ memory.1 other

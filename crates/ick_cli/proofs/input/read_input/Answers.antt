@@ -27,3 +27,7 @@ pub returns-in-Ok-2-clause-unread : goal.returns-in-Ok-2-clause-unread
 unfolding longest_input
 returns-in-Ok-2-clause-unread g c = λ told.
     more_behind 1048576 _ _ (c.in-Ok.ensures.front told) (omega (arith, c.len.ensures, c.if-len-le-LONGEST.false))
+
+pub returns-in-Ok-clause-rest : goal.returns-in-Ok-clause-rest
+unfolding longest_input
+returns-in-Ok-clause-rest g c = λ told. c.in-Ok.ensures.rest told

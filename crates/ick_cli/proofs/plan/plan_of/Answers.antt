@@ -1,6 +1,6 @@
 use Rattle.std.proofs.Common.{subst, sym}
 use Rattle.ick_cli.specs.Job.{task_of}
-use Rattle.ick_cli.specs.Plan.{EndsByLine, IsPlanned, IsUnplanned, check_planned, from_unread, list_planned}
+use Rattle.ick_cli.specs.Plan.{EndsByLine, HasPlan, IsPlanned, IsUnplanned, check_planned, from_unread, list_planned}
 use Rattle.ick_cli.specs.Plan.{runs_planned}
 use Rattle.ick_cli.specs.declared.plan.Plan.TheVariants.{Check, List as ListStatements, Execute}
 use Rattle.ick_cli.specs.declared.plan.Runs.TheVariants.{Listed}
@@ -26,3 +26,9 @@ pub returns-in-Err-clause-err : goal.returns-in-Err-clause-err
 returns-in-Err-clause-err c =
     subst (λ (s : Subcommand). EndsByLine (IsUnplanned (task_of s)) c.in-Err.ending) (sym c.in-Runs.is)
     (by_other_line _ _ _ (λ line h. from_unread _ c.in-Runs.count c.in-Runs.limit line h) c.in-Err.ensures.err)
+
+pub returns-in-Err-clause-memory : goal.returns-in-Err-clause-memory
+returns-in-Err-clause-memory c = λ memory.
+    let found = c.in-Err.ensures.memory memory in
+    subst (λ (s : Subcommand). HasPlan (task_of s)) (sym c.in-Runs.is)
+    (_, runs_planned _ c.in-Runs.count c.in-Runs.limit found.0 found.1)

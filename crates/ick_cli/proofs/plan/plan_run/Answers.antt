@@ -9,6 +9,10 @@ pub returns-in-Err-clause-err : goal.returns-in-Err-clause-err
 returns-in-Err-clause-err c =
     by_other_line _ _ _ (λ line h. unread_given _ _ _ line c.in-None.is h) c.in-Err.ensures.err
 
+pub returns-in-Err-clause-memory : goal.returns-in-Err-clause-memory
+returns-in-Err-clause-memory c = λ memory.
+    let found = c.in-Err.ensures.memory memory in (_, plan_given _ _ _ _ c.in-None.is found.1)
+
 pub returns-in-None-choices-clause-ok : goal.returns-in-None-choices-clause-ok
 returns-in-None-choices-clause-ok c = plan_drawn _ _ _ _ (given_none _ _ c.in-None-choices.is) c.in-Some.is
 

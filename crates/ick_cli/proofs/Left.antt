@@ -1,0 +1,199 @@
+-- What work leaves in the reader.
+use Rattle.std.proofs.Common.{◌≡◌, ◌<◌, ◌+◌, ◌⊎◌, inl, inr, ℕ, Bool, true, false, List, [], Option, Some, None, ap}
+use Rattle.std.proofs.Common.{arith, drop}
+use Rattle.std.proofs.Common.{length, refl, subst, sym, take}
+use Rattle.std.proofs.lemmas.Bool.{cases_order}
+use Rattle.std.proofs.lemmas.List.{length-take, take_all}
+use Rattle.std.specs.Prelude.{is_some, unwrap_or}
+use Rattle.ick_bits.specs.declared.faults.FaultKind.{FaultKind}
+use Rattle.ick_source.specs.RefusalAnswers.{IsOnlyRefused}
+use Rattle.ick_source.specs.Refusals.{Compiles, longest}
+use Rattle.ick_source.specs.StatementTree.{StatementTree}
+use Rattle.ick_code.specs.meaning.Move.{first_state}
+use Rattle.ick_machine.specs.Machine.{Program}
+use Rattle.ick_runs.specs.Draws.{IsDrawn, word_of}
+use Rattle.ick_runs.specs.Runs.{Execution, run}
+use Rattle.ick_runs.specs.Streams.{HasStreamed}
+use Rattle.ick_runs.specs.declared.errors.RunsError.{RunsError}
+use Rattle.ick_runs.specs.declared.errors.RunsError.TheVariants.{NoMemory, NoSuchRun, WorkFull, Failed, BadCursor, Read}
+use Rattle.ick_runs.specs.declared.errors.RunsError.TheVariants.{Write}
+use Rattle.ick_runs.specs.declared.streamed.Streamed.{Streamed}
+use Rattle.ick_cli.specs.Ending.{WhereAnswered, ending_status, ending_text, refused_ending}
+use Rattle.ick_cli.specs.Input.{EndsUnread}
+use Rattle.ick_cli.specs.Left.{IsLeftByProgram, IsLeftByRuns, IsLeftBySource, left_alone, left_by_drawn, left_by_given}
+use Rattle.ick_cli.specs.Left.{left_by_listed, left_by_runs, left_compiled, left_refused}
+use Rattle.ick_cli.specs.Job.{Asked}
+use Rattle.ick_cli.specs.Left.{IsLeft, left_unplanned, left_without_file}
+use Rattle.ick_cli.specs.Plan.{EndsByLine, IsPlanned, IsUnplanned, reads_input}
+use Rattle.ick_cli.specs.declared.notice.Message.TheVariants as message
+use Rattle.ick_cli.specs.Serve.{Finishes}
+use Rattle.ick_cli.specs.Tool.{longest_input}
+use Rattle.ick_cli.specs.declared.ending.Ending.{Ending}
+use Rattle.ick_cli.specs.declared.ending.Ending.TheVariants.{Answered, InputTooLong, FileNotRead, ReadFailed}
+use Rattle.ick_cli.specs.declared.ending.Ending.TheVariants.{WriteFailed}
+use Rattle.ick_cli.specs.declared.ending.Ending.TheVariants.{NoMemory as WithoutMemory}
+use Rattle.ick_cli.specs.declared.plan.Plan.{Plan}
+use Rattle.ick_cli.specs.declared.plan.Plan.TheVariants.{Execute}
+use Rattle.ick_cli.specs.declared.plan.Runs.{Runs}
+use Rattle.ick_cli.specs.declared.plan.Runs.TheVariants.{Given, Drawn, Listed}
+
+-- a fact holds where work ended with an answer, if it holds anyway, or another does
+pub where_answered : (ending : Ending) (Fact : Type 0) → Fact → WhereAnswered ending Fact
+where_answered (Answered status message) Fact h = h
+where_answered WithoutMemory Fact h = tt
+where_answered InputTooLong Fact h = tt
+where_answered FileNotRead Fact h = tt
+where_answered ReadFailed Fact h = tt
+where_answered WriteFailed Fact h = tt
+
+pub where_other : (ending : Ending) (Fact Other : Type 0) → (Fact → Other) → WhereAnswered ending Fact
+    → WhereAnswered ending Other
+where_other (Answered status message) Fact Other so h = so h
+where_other WithoutMemory Fact Other so h = tt
+where_other InputTooLong Fact Other so h = tt
+where_other FileNotRead Fact Other so h = tt
+where_other ReadFailed Fact Other so h = tt
+where_other WriteFailed Fact Other so h = tt
+
+-- a run that was refused, and an input that wasn't read, end without an answer
+refused_by : (e : RunsError) (Fact : Type 0) → (e ≡ NoMemory) ⊎ ((e ≡ Read) ⊎ (e ≡ Write))
+    → WhereAnswered (refused_ending e) Fact
+refused_by NoMemory Fact one = tt
+refused_by WorkFull Fact one = tt
+refused_by Failed Fact one = tt
+refused_by Read Fact one = tt
+refused_by Write Fact one = tt
+refused_by NoSuchRun Fact (inl e) = cc
+refused_by NoSuchRun Fact (inr (inl e)) = cc
+refused_by NoSuchRun Fact (inr (inr e)) = cc
+refused_by BadCursor Fact (inl e) = cc
+refused_by BadCursor Fact (inr (inl e)) = cc
+refused_by BadCursor Fact (inr (inr e)) = cc
+
+pub where_refused : (e : RunsError) (ending : Ending) (Fact : Type 0) → ending ≡ refused_ending e
+    → (e ≡ NoMemory) ⊎ ((e ≡ Read) ⊎ (e ≡ Write)) → WhereAnswered ending Fact
+where_refused e ending Fact so one =
+    subst (λ (x : Ending). WhereAnswered x Fact) (sym so) (refused_by e Fact one)
+
+pub where_unread : (input : List ℕ) (ending : Ending) (Fact : Type 0) → EndsUnread input ending
+    → WhereAnswered ending Fact
+where_unread input (Answered status message) Fact h = absurd h
+where_unread input WithoutMemory Fact h = tt
+where_unread input InputTooLong Fact h = tt
+where_unread input FileNotRead Fact h = tt
+where_unread input ReadFailed Fact h = tt
+where_unread input WriteFailed Fact h = tt
+
+-- what runs leave
+pub streamed_left : (told : Bool) (x : Execution) (c : List Bool) (before after left : List ℕ) (s : Streamed)
+    (ending : Ending) → HasStreamed told x c before after left s → WhereAnswered ending (left ≡ x.last.input)
+streamed_left told x c before after left s ending has = where_answered ending (left ≡ x.last.input) has.input
+
+pub given_left : (p : Program) (input : List ℕ) (choices : Option (List Bool)) (limit : ℕ) (left : List ℕ)
+    → left ≡ (run p (first_state p input) limit (unwrap_or choices [])).last.input
+    → IsLeftByRuns p input (Given choices limit) left
+given_left p input choices limit left is =
+    subst (λ (l : List ℕ). IsLeftByRuns p input (Given choices limit) l) (sym is) (left_by_given choices limit)
+
+pub drawn_left : (p : Program) (input : List ℕ) (seed limit : ℕ) (c : List Bool) (left : List ℕ)
+    → IsDrawn p (first_state p input) limit (word_of seed) c
+    → left ≡ (run p (first_state p input) limit c).last.input → IsLeftByRuns p input (Drawn seed limit) left
+drawn_left p input seed limit c left draws is =
+    subst (λ (l : List ℕ). IsLeftByRuns p input (Drawn seed limit) l) (sym is) (left_by_drawn seed limit c draws)
+
+pub listed_left : (p : Program) (input : List ℕ) (from : Option (List Bool)) (count limit : ℕ) (left : List ℕ)
+    → left ≡ drop (longest_input + 1) input → IsLeftByRuns p input (Listed from count limit) left
+listed_left p input from count limit left is =
+    subst (λ (l : List ℕ). IsLeftByRuns p input (Listed from count limit) l) (sym is) (left_by_listed from count limit)
+
+-- what a program leaves
+pub executed_left : (trees program : List StatementTree) (input : List ℕ) (runs : Runs) (left : List ℕ)
+    → program ≡ trees → IsLeftByRuns program input runs left → IsLeftByRuns trees input runs left
+executed_left trees program input runs left same h =
+    subst (λ (p : List StatementTree). IsLeftByRuns p input runs left) same h
+
+pub alone_left : (trees : List StatementTree) (input : List ℕ) (plan other : Plan) (ending : Ending) → plan ≡ other
+    → reads_input other ≡ false → WhereAnswered ending (IsLeftByProgram trees input plan input)
+alone_left trees input plan other ending is none =
+    where_answered ending _ (subst (λ (p : Plan). IsLeftByProgram trees input p input) (sym is) (left_alone other none))
+
+pub runs_left : (trees : List StatementTree) (input : List ℕ) (plan : Plan) (runs : Runs) (left : List ℕ)
+    → plan ≡ Execute runs → IsLeftByRuns trees input runs left → IsLeftByProgram trees input plan left
+runs_left trees input plan runs left is h =
+    subst (λ (p : Plan). IsLeftByProgram trees input p left) (sym is) (left_by_runs runs left h)
+
+-- what a source leaves
+pub refused_left : (plan : Plan) (source input : List ℕ) (kind : FaultKind) (n : ℕ) → IsOnlyRefused source kind n
+    → IsLeftBySource plan source input input
+refused_left plan source input kind n is = left_refused is.no_program
+
+pub long_left : (plan : Plan) (source input : List ℕ) → longest < length source → IsLeftBySource plan source input input
+long_left plan source input long = left_refused (λ trees h. let fits = h.fits in absurd (omega arith))
+
+-- .. a front of it that shows what is too long, and the whole
+front_whole : (most : ℕ) (source : List ℕ) (trees : List StatementTree) → longest < most
+    → Compiles (take most source) trees → take most source ≡ source
+front_whole most source trees long h =
+    let fits = h.fits in let size = length-take most source in take_all most source (omega arith)
+
+front_compiles : (most : ℕ) (source : List ℕ) (trees : List StatementTree) → longest < most → Compiles source trees
+    → Compiles (take most source) trees
+front_compiles most source trees long h =
+    let fits = h.fits in
+    subst (λ (t : List ℕ). Compiles t trees) (sym (take_all most source (omega arith))) h
+
+pub left_of_front : (plan : Plan) (most : ℕ) (source input left : List ℕ) → longest < most
+    → IsLeftBySource plan (take most source) input left → IsLeftBySource plan source input left
+left_of_front plan most source input left long (left_refused none) =
+    left_refused (λ trees h. none trees (front_compiles most source trees long h))
+left_of_front plan most source input left long (left_compiled trees l h is) =
+    left_compiled trees l
+    (subst (λ (t : List ℕ). Compiles t trees) (front_whole most source trees long h) h) is
+
+-- a status that isn't 4 is that of an answer
+answered_by : (ending : Ending) (Fact : Type 0) → (ending_status ending ≡ 4 → ⊥) → WhereAnswered ending Fact → Fact
+answered_by (Answered status message) Fact other h = h
+answered_by WithoutMemory Fact other h = absurd (other refl)
+answered_by InputTooLong Fact other h = absurd (other refl)
+answered_by FileNotRead Fact other h = absurd (other refl)
+answered_by ReadFailed Fact other h = absurd (other refl)
+answered_by WriteFailed Fact other h = absurd (other refl)
+
+four_by : (told : Bool) (status : ℕ) (text : List ℕ) (e e' : ℕ) (errs errs' : List ℕ) (code : ℕ)
+    → Finishes told status text e e' errs errs' code → status ≡ 4 → code ≡ 4
+four_by told status text e e' errs errs' code done four = elim (cases_order e' e) [
+  | inl same ↦ let given = (done.whole same).0 in omega arith
+  | inr (inl less) ↦ let grows = done.grows in absurd (omega arith)
+  | inr (inr more) ↦ done.fault more
+]
+
+pub was_answered : (told : Bool) (ending : Ending) (e e' : ℕ) (errs errs' : List ℕ) (code : ℕ) (Fact : Type 0)
+    → Finishes told (ending_status ending) (ending_text ending) e e' errs errs' code → (code ≡ 4 → ⊥)
+    → WhereAnswered ending Fact → Fact
+was_answered told ending e e' errs errs' code Fact done other h =
+    answered_by ending Fact (λ four. other (four_by told _ _ e e' errs errs' code done four)) h
+
+pub without_memory : (told : Bool) (text : List ℕ) (e e' : ℕ) (errs errs' : List ℕ) (code : ℕ) (Fact : Type 0)
+    → Finishes told 4 text e e' errs errs' code → (code ≡ 4 → ⊥) → Fact
+without_memory told text e e' errs errs' code Fact done other =
+    absurd (other (four_by told 4 text e e' errs errs' code done refl))
+
+-- what a job leaves that has no plan, and one that names no file
+pub where_unplanned : (a : Asked) (named : List ℕ → List ℕ) (before : List ℕ) (ending : Ending)
+    → EndsByLine (IsUnplanned a.task) ending → WhereAnswered ending (IsLeft a named before before)
+where_unplanned a named before (Answered status (message.Notice line)) h = left_unplanned line h.1
+where_unplanned a named before (Answered status message.Nothing) h = absurd h
+where_unplanned a named before (Answered status (message.Text text)) h = absurd h
+where_unplanned a named before WithoutMemory h = tt
+where_unplanned a named before InputTooLong h = tt
+where_unplanned a named before FileNotRead h = tt
+where_unplanned a named before ReadFailed h = tt
+where_unplanned a named before WriteFailed h = tt
+
+pub without_file : (a : Asked) (named : List ℕ → List ℕ) (before left : List ℕ) (plan : Plan) → a.file ≡ None
+    → IsPlanned a.task plan → left ≡ drop (longest + 1) before → IsLeft a named before left
+without_file a named before left plan none is same =
+    subst (λ (l : List ℕ). IsLeft a named before l) (sym same) (left_without_file plan none is)
+
+pub no_file : (file : Option (List ℕ)) (name : List ℕ) → file ≡ Some name → is_some file ≡ false → ⊥
+no_file file name is none = let some : is_some file ≡ true = ap is_some is in cc
