@@ -7,7 +7,7 @@ ghost use Rattle.std.specs.Io.KnownBytes.{Consumes, IsAtEnd, Keeps, ReadConsumes
 use ick_runs::DeviceFault;
 use std::io::{BufRead, Read, Write};
 
-/// Reads some bytes. No byte for a target that isn't empty is the end of the stream.
+/// Reads some bytes. If the target isn't empty and no byte comes, the stream has ended.
 pub fn read_from<R: Read>(
     stream: &mut R,
     failures: &mut u64,
@@ -28,8 +28,8 @@ pub fn read_from<R: Read>(
     }
 }
 
-/// Reads some bytes of those that a stream has read ahead, which then reads ahead where none is
-/// left. No byte for a target that isn't empty is the end of the stream.
+/// Reads some of the bytes that a stream has read ahead, and lets it read ahead if none is left.
+/// If the target isn't empty and no byte comes, the stream has ended.
 pub fn read_ahead_from<R: BufRead>(
     stream: &mut R,
     failures: &mut u64,
@@ -54,8 +54,8 @@ pub fn read_ahead_from<R: BufRead>(
     Ok(count)
 }
 
-/// Writes some bytes of the front of a text. A write that takes no byte of a text that isn't empty
-/// has failed.
+/// Writes some bytes of the front of a text. A write of no byte is a failure if the text isn't
+/// empty.
 pub fn write_to<W: Write>(
     stream: &mut W,
     failures: &mut u64,

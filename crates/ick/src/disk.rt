@@ -1,5 +1,7 @@
-//! The files of the system. Nothing is told of their bytes.
-ghost use Rattle.std.specs.Prelude.{◌≡◌, None, Some, [], false, if◌then◌else◌, is_some};
+//! The files of the system. `Files` promises nothing of their bytes, because std promises nothing of
+//! the bytes of a file.
+ghost use Rattle.std.specs.Prelude.{◌≡◌, Some, [], false};
+ghost use Rattle.std.specs.Option.{option_map_or};
 
 use crate::counted::read_from;
 use ick_cli::Files;
@@ -7,14 +9,14 @@ use ick_runs::{ByteSource, DeviceFault};
 use std::fs::{self, File};
 use std::io::{self, Read};
 
-/// The file that was opened last. Where none was, there is no byte to read.
+/// Reads the file that was opened last. If no file was opened, there is no byte to read.
 #[derive(Drop)]
-struct OpenFile {
-    file: Option<File>,
+struct OpenFile<F> {
+    file: Option<F>,
 }
 
-impl Read for OpenFile {
-    ghost remaining = { λ s. if is_some s.file then None else Some [] };
+impl<F: Read> Read for OpenFile<F> {
+    ghost remaining = { λ s. option_map_or F.remaining s.file (Some []) };
 
     fn read(&mut self, target: &mut [u8]) -> io::Result<usize> {
         match &mut self.file {
@@ -24,16 +26,16 @@ impl Read for OpenFile {
     }
 }
 
-/// The files of the system, and the one that was opened last.
+/// Opens files of the system, and reads the file that was opened last.
 #[derive(Drop)]
 pub struct DiskFiles<'r> {
     runtime: &'r HostRuntime,
-    open: OpenFile,
+    open: OpenFile<File>,
     failures: u64,
 }
 
 impl<'r> DiskFiles<'r> {
-    /// The files, of which none is open and no call has failed.
+    /// Returns the files of the system. No file is open, and no call has failed.
     pub fn new(runtime: &'r HostRuntime) -> DiskFiles<'r>
         ensures { result.failures ≡ 0 }
     {

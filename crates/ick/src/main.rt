@@ -1,6 +1,6 @@
 //! The program `ick`: the command line over the files and the streams of the system.
 //!
-//! - `words`: the words that the system hands over
+//! - `words`: the arguments that the system hands over
 //! - `counted`: reads and writes that count their failures
 //! - `streams`: sources and sinks over streams
 //! - `disk`: the files of the system
@@ -31,7 +31,7 @@ fn main(rt: HostRuntime) -> ExitCode {
     exit_code(status)
 }
 
-/// Serves the words among the arguments, over the files and the streams of the system.
+/// Serves the arguments over the files and the streams of the system.
 fn answer<E: ByteSink>(rt: &HostRuntime, arguments: &[String], errors: &mut E) -> Status
     requires { E.failed errors.old + 1 < 2 ^ 64 }
 {
@@ -51,7 +51,7 @@ fn answer<E: ByteSink>(rt: &HostRuntime, arguments: &[String], errors: &mut E) -
     )
 }
 
-/// The status, as the system takes it.
+/// Returns the status in the system's form.
 fn exit_code(status: Status) -> ExitCode
     ensures { exit_status result ≡ status }
 {

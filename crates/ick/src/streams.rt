@@ -1,12 +1,16 @@
-//! Devices over the streams of the system. Nothing is told of their bytes.
-ghost use Rattle.std.specs.Prelude.{◌≡◌, [], false};
+//! Devices over the streams of the system. Their traits promise nothing of the bytes, because std
+//! promises nothing of the bytes of standard input. The clauses of `read` and `write` speak of any
+//! stream whose bytes are known.
+ghost use Rattle.std.specs.Prelude.{◌≡◌, ◌+◌, ◌<◌, ◌≤◌, ◌^◌, [], false};
+ghost use Rattle.std.specs.Prelude.{if◌then◌else◌, IfOk, OnErr, OnSome, is_ok, length, take};
+ghost use Rattle.std.specs.Io.KnownBytes.{Consumes, IsAtEnd, Keeps, WriteAppends};
 
 use crate::counted::{read_ahead_from, read_from, write_to};
 use ick_runs::{ByteSink, ByteSource, DeviceFault};
 use std::io::{BufRead, Write};
 
-/// A stream that is read. Single bytes are taken from what it has read ahead, and longer targets
-/// are filled from the system.
+/// Reads a stream. A single byte comes from what the stream has read ahead, and a longer target is
+/// filled from the system.
 #[derive(Drop)]
 pub struct InStream<R> {
     stream: R,
@@ -14,7 +18,7 @@ pub struct InStream<R> {
 }
 
 impl<R: BufRead> InStream<R> {
-    /// The stream, of which no call has failed.
+    /// Returns a device over a stream. No call of the device has failed.
     pub fn new(stream: R) -> InStream<R>
         ensures { result.failures ≡ 0 }
     {
@@ -36,7 +40,19 @@ impl<R: BufRead> ByteSource for InStream<R> {
         self.failures
     }
 
-    fn read(&mut self, target: &mut [u8]) -> Result<usize, DeviceFault> {
+    /// Reads some bytes. If the stream's bytes are known, the next of them are in the target, and
+    /// no other byte is taken.
+    fn read(&mut self, target: &mut [u8]) -> Result<usize, DeviceFault>
+        requires { self.old.failures + 1 < 2 ^ 64 }
+        ensures count { self.new.failures ≡ self.old.failures + (if is_ok result then 0 else 1) }
+        ensures fits { IfOk result (λ n. n ≤ length target.old) }
+        ensures bytes { IfOk result (λ n. Consumes (R.remaining self.old.stream)
+            (R.remaining self.new.stream) (take n target.new)) }
+        ensures end { IfOk result (λ n. n ≡ 0 → 0 < length target.old →
+            OnSome (R.remaining self.old.stream) (IsAtEnd (R.remaining self.new.stream))) }
+        ensures kept { OnErr result (Keeps (R.remaining self.old.stream)
+            (R.remaining self.new.stream)) }
+    {
         if target.len() == 1 {
             read_ahead_from(&mut self.stream, &mut self.failures, target)
         } else {
@@ -45,7 +61,7 @@ impl<R: BufRead> ByteSource for InStream<R> {
     }
 }
 
-/// A stream that is written.
+/// Writes a stream.
 #[derive(Drop)]
 pub struct OutStream<W> {
     stream: W,
@@ -53,7 +69,7 @@ pub struct OutStream<W> {
 }
 
 impl<W: Write> OutStream<W> {
-    /// The stream, of which no call has failed.
+    /// Returns a device over a stream. No call of the device has failed.
     pub fn new(stream: W) -> OutStream<W>
         ensures { result.failures ≡ 0 }
     {
@@ -75,7 +91,16 @@ impl<W: Write> ByteSink for OutStream<W> {
         self.failures
     }
 
-    fn write(&mut self, text: &[u8]) -> Result<usize, DeviceFault> {
+    /// Writes some bytes of the front of a text. If the stream's bytes are known, exactly the bytes
+    /// that are counted are appended.
+    fn write(&mut self, text: &[u8]) -> Result<usize, DeviceFault>
+        requires { self.old.failures + 1 < 2 ^ 64 }
+        ensures count { self.new.failures ≡ self.old.failures + (if is_ok result then 0 else 1) }
+        ensures fits { IfOk result (λ n. n ≤ length text.now) }
+        ensures gains { IfOk result (λ n. 0 < length text.now → 0 < n) }
+        ensures bytes { WriteAppends (W.contents self.old.stream) (W.contents self.new.stream)
+            result text.now }
+    {
         write_to(&mut self.stream, &mut self.failures, text)
     }
 }

@@ -1,4 +1,4 @@
-//! The words that the system hands to the program.
+//! The arguments that the system hands to the program.
 ghost use Rattle.std.specs.Prelude.{◌≡◌, ◌≢◌, IfOk, drop, map, string_bytes};
 
 use ick_cli::WordsFault;
@@ -6,7 +6,7 @@ use std::alloc::{AllocError, Global};
 use std::env;
 use std::io::ErrorKind;
 
-/// All that the system hands over: the program's own name, and the words.
+/// Returns all that the system hands over: the program's own name, and the arguments.
 pub fn arguments(rt: &HostRuntime) -> Result<Vec<String>, WordsFault> {
     match env::args(rt) {
         Ok(arguments) => arguments
@@ -16,7 +16,7 @@ pub fn arguments(rt: &HostRuntime) -> Result<Vec<String>, WordsFault> {
     }
 }
 
-/// Why the arguments can't be had: for want of memory, or since one of them is no text.
+/// Returns why the arguments can't be read: memory ran out, or one of them is no text.
 fn words_fault(kind: ErrorKind) -> WordsFault
     ensures memory { kind ≡ ErrorKind.OutOfMemory → result ≡ WordsFault.NoMemory }
     ensures text { kind ≢ ErrorKind.OutOfMemory → result ≡ WordsFault.NotText }
@@ -27,7 +27,7 @@ fn words_fault(kind: ErrorKind) -> WordsFault
     }
 }
 
-/// The words behind the program's own name, each of them whole.
+/// Returns the arguments after the program's own name, each of them whole.
 pub fn words_of<'a>(alloc: Global, arguments: &'a [String]) -> Result<Vec<&'a str>, AllocError>
     ensures { IfOk result (λ words.
         map (λ w. w.now) words.items ≡ map string_bytes (drop 1 arguments.entry.now)) }
