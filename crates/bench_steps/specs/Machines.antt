@@ -1,0 +1,10 @@
+-- The machines that can be measured, by their names.
+use Rattle.std.specs.Prelude.{ℕ, List, codes}
+use Rattle.bench_steps.specs.declared.machine.Machine.{Machine}
+use Rattle.bench_steps.specs.declared.machine.Machine.TheVariants.{Copied, Trailed, Live}
+
+-- the name of a machine
+abbrev pub name_of : Machine → List ℕ
+name_of Copied = codes "copied"
+name_of Trailed = codes "trailed"
+name_of Live = codes "live"

@@ -1,0 +1,49 @@
+//! Numbers, choices and code from the fields of a row.
+
+use crate::stop::Stop;
+use ick_code::{Code, compile};
+use ick_source::read_source;
+use std::alloc::Global;
+use test_rows::Row;
+
+/// Returns the number in a field, or `otherwise` if the row has no such field.
+pub fn number(row: &Row, word: &[u8], otherwise: u64) -> Result<u64, Stop> {
+    let text = row.field(word);
+    if text.is_empty() {
+        return Ok(otherwise);
+    }
+    let mut number = 0u64;
+    for byte in text {
+        let digit = byte.wrapping_sub(b'0');
+        if digit > 9 {
+            return Err(Stop::Number);
+        }
+        number = number.saturating_mul(10).saturating_add(u64::from(digit));
+    }
+    Ok(number)
+}
+
+/// Returns the number in a field, or `otherwise` if the row has no such field.
+pub fn short_number(row: &Row, word: &[u8], otherwise: u32) -> Result<u32, Stop> {
+    match u32::try_from(number(row, word, u64::from(otherwise))?) {
+        Ok(number) => Ok(number),
+        Err(_) => Err(Stop::Number),
+    }
+}
+
+/// Returns choices that are given as digits.
+pub fn choices(alloc: Global, digits: &[u8]) -> Result<Vec<bool>, Stop> {
+    let mut choices = Vec::new(alloc);
+    for digit in digits {
+        choices.push(*digit == b'1')?;
+    }
+    Ok(choices)
+}
+
+/// Compiles a source.
+pub fn code_of<'a>(alloc: Global, source: &'a [u8]) -> Result<Code<'a>, Stop> {
+    let Ok(program) = read_source(alloc, source) else {
+        return Err(Stop::Source);
+    };
+    Ok(compile(alloc, &program)?)
+}
