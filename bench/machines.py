@@ -1,9 +1,9 @@
 #!/usr/bin/env python3
-"""Measures how long a step takes on each machine: the programs of workloads.py, by the built program `ick_steps`.
+"""Measures how long a step takes on each machine: the programs of workloads.py, by the built program `bench_steps`.
 
   machines.py [PROGRAM]
 
-It needs that program (`rt run` in crates/ick_steps builds it), Python 3.8 and Linux.
+It needs that program (`rt run` in crates/bench_steps builds it), Python 3.8 and Linux.
 
 For each program and machine the nanoseconds a step. The program makes a run once, and so often more that the further
 runs have some twenty million steps; what these take is measured, without what as many runs take of the same source with
@@ -61,11 +61,11 @@ def least(program, source):
 
 
 def main():
-    program = os.path.abspath(sys.argv[1] if len(sys.argv) == 2 else os.path.join(HERE, "../crates/ick_steps/out/ick_steps"))
+    program = os.path.abspath(sys.argv[1] if len(sys.argv) == 2 else os.path.join(HERE, "../crates/bench_steps/out/bench_steps"))
     if len(sys.argv) > 2 or sys.argv[1:] in (["-h"], ["--help"]):
         sys.exit(__doc__)
     if not os.access(program, os.X_OK) or os.path.isdir(program):
-        sys.exit(f"machines.py: {program} is no program that can be run: `rt run` in crates/ick_steps builds it")
+        sys.exit(f"machines.py: {program} is no program that can be run: `rt run` in crates/bench_steps builds it")
     print("| Program | steps | " + " | ".join(f"`{name}`, ns" for name in MACHINES.values()) + " |")
     print("|---|---|" + "---|" * len(MACHINES))
     for name in sorted(WORKLOADS):

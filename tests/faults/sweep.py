@@ -3,7 +3,7 @@
 
   sweep.py PROGRAM
 
-For each row of ../rows/table.py that is swept and each kind of failure, the program runs once with nothing failing,
+For each row of ../cli/table.py that is swept and each kind of failure, the program runs once with nothing failing,
 and then once for each N with its Nth call of that kind failing, until a run comes to its end with no call failed. What
 a row enters comes from a pipe, and then all of it again from a file. A run in which nothing failed has to leave the
 row's answer. Each of the others has to end by itself with an answer that the table of exit statuses allows:
@@ -28,7 +28,7 @@ import subprocess
 import sys
 
 HERE = os.path.dirname(os.path.realpath(__file__))
-sys.path.insert(0, os.path.join(HERE, "..", "rows"))
+sys.path.insert(0, os.path.join(HERE, "..", "cli"))
 from checks import Checks, entered, make  # noqa: E402
 from table import SWEPT, Answer  # noqa: E402
 

@@ -4,7 +4,10 @@ a run of the program.
 """
 import collections
 
-# Words (FILE stands for a file with the source), the source, and the standard input: bytes, or SOURCE for the source.
+from usage import ERRORS, HELP, error
+
+# Arguments, the source, and the standard input: bytes, or SOURCE for the source. The argument FILE is replaced by the
+# name of a file with the source, and " FILE " by such a name that begins and ends with a blank.
 Given = collections.namedtuple("Given", "name words source entered")
 # The exit status, the output and the error text.
 Answer = collections.namedtuple("Answer", "status output errors")
@@ -46,66 +49,6 @@ LISTING = b"""1 (1) DO - 100 CALCULATE "(1) DO .1 <- ,1SUB'#1$.2'#3"
 3 - PLEASE - 100 ABSTAIN "PLEASE ABSTAIN FROM (1)"
 4 - DO - 100 UNRECOGNISED "DO \\xff"
 """
-HELP = b"""Checks, lists and runs programs of INTERCAL-72
-
-Usage: ick [COMMAND]
-
-Commands:
-  check  Counts the statements of a program
-  list   Lists the statements of a program
-  run    Runs a program
-  runs   Lists the runs of a program
-  help   Print this message or the help of the given subcommand(s)
-
-Options:
-  -h, --help  Print help
-
-Without a command, ick runs the program on standard input, as `ick run` does.
-
-Exit status:
-  0   all went well
-  1   a fault of the run
-  2   the source is refused
-  3   the run was cut short, or wants a choice
-  4   a file, a stream or memory failed, or the input is too long
-  64  the words ask for nothing
-
-Example:
-  ick run examples/numerals.i
-"""
-HELP_OF_CHECK = b"""Counts the statements of a program
-
-Usage: ick check [FILE]
-
-Arguments:
-  [FILE]  The source; standard input where none is named
-
-Options:
-  -h, --help  Print help
-
-Prints `n STATEMENTS, p POLITE`, or says why the source is refused.
-
-Exit status:
-  0   the source compiles
-  2   it is refused
-  4   a file, a stream or memory failed
-  64  the words ask for nothing
-
-Example:
-  ick check examples/bodies.i
-"""
-USAGE_OF_CHECK = b"""error: unexpected argument 'extra' found
-
-Usage: ick check [FILE]
-
-For more information, try '--help'.
-"""
-USAGE = b"""error: unrecognized subcommand 'jump'
-
-Usage: ick [COMMAND]
-
-For more information, try '--help'.
-"""
 LONGEST = 1_048_576
 
 # The rows over which faults/ has every call of the system fail.
@@ -133,9 +76,9 @@ SWEPT = [
     (Given("refused by its labels", ["check"], LOST, SOURCE),
      Answer(2, b"", message(129, "PROGRAM HAS GOTTEN LOST", 2))),
     (Given("no file", ["run", "no-such-file"], b"", b""), Answer(4, b"", b"FILE NOT READ\n")),
-    (Given("help", ["--help"], b"", b""), Answer(0, HELP, b"")),
-    (Given("help of check", ["check", "--help"], b"", b""), Answer(0, HELP_OF_CHECK, b"")),
-    (Given("usage", ["jump"], b"", b""), Answer(64, b"", USAGE)),
+    (Given("help", ["--help"], b"", b""), Answer(0, HELP[""], b"")),
+    (Given("help of check", ["check", "--help"], b"", b""), Answer(0, HELP["check"], b"")),
+    (Given("usage", ["jump"], b"", b""), Answer(64, b"", error("", "unrecognized subcommand 'jump'"))),
 ]
 
 # The rest, which a plain run shows.
@@ -144,6 +87,9 @@ PLAIN = [
     (Given("file behind dashes", ["run", "--", "FILE"], PRINTS, b""), Answer(0, PRINTED, b"")),
     (Given("choices and seed", ["run", "--seed", "1", "--choices", "0", "no-such-file"], b"", b""),
      Answer(64, b"", b"CHOICES AND SEED TOGETHER\n")),
+    (Given("no cursor and a seed", ["run", "--seed", "1", "--choices", "2", "no-such-file"], b"", b""),
+     Answer(64, b"", b"CHOICES AND SEED TOGETHER\n")),
+    (Given("no choices", ["run", "--choices", "2", "no-such-file"], b"", b""), Answer(64, b"", b"BAD CURSOR\n")),
     (Given("no cursor", ["runs", "--from", "2", "no-such-file"], b"", b""), Answer(64, b"", b"BAD CURSOR\n")),
     (Given("no run", ["runs", "--from", "01", "FILE"], CHANCES, b""), Answer(64, b"", b"NO SUCH RUN\n")),
     (Given("input one byte too long for a listing", ["runs", "FILE"], ECHOES, b"\n" * (LONGEST + 1)),
@@ -152,8 +98,7 @@ PLAIN = [
      Answer(0, b'- GIVE-UP "_\\n\\n"\nDONE\n', b"")),
     (Given("a longer input of a run", ["run", "FILE"], ECHOES, b"\n" * (LONGEST + 1)), Answer(0, b"_\n\n", b"")),
     (Given("standard input beside FILE", ["run", "FILE"], PRINTS, REFUSED), Answer(0, PRINTED, b"")),
-    (Given("a third word", ["check", "FILE", "extra"], PRINTS, b""), Answer(64, b"", USAGE_OF_CHECK)),
-    (Given("a fourth word", ["check", "FILE", "extra", "more"], PRINTS, b""), Answer(64, b"", USAGE_OF_CHECK)),
+    (Given("a file whose name begins and ends with a blank", ["run", " FILE "], PRINTS, b""), Answer(0, PRINTED, b"")),
     (Given("a word of byte 255", ["check", b"\xff"], b"", b""), Answer(64, b"", b"WORDS NOT READ\n")),
     (Given("a folder", ["check", "."], b"", b""), Answer(4, b"", b"FILE NOT READ\n")),
     (Given("no bytes", ["check"], b"", b""), Answer(0, b"0 STATEMENTS, 0 POLITE\n", b"")),
@@ -161,4 +106,9 @@ PLAIN = [
     (Given("one byte longer", ["run"], b" " * (LONGEST + 1), SOURCE), Answer(2, b"", b"SOURCE TOO LONG\n")),
     (Given("one byte longer, from FILE", ["list", "FILE"], b" " * (LONGEST + 1), b""),
      Answer(2, b"", b"SOURCE TOO LONG\n")),
+] + [
+    (Given(f"help by {words}", words.split(), b"", b""), Answer(0, text, b"")) for command, text in HELP.items()
+    for words in [f"{command} -h", f"{command} --help", f"help {command}"]
+] + [
+    (Given(f"error by {words}", words, PRINTS, PRINTS), Answer(64, b"", text)) for words, text in ERRORS
 ]

@@ -3,15 +3,15 @@
 
   rows.py PROGRAM
 
-The rows of table.py and those of language.py; a large program by `list` and `run`; and streams that take or give
+The rows of table.py, language.py and large.py; a large program by `list` and `run`; and streams that take or give
 nothing. The last line is 'N passed, M failed', counting runs of the program.
 """
 import os
 import subprocess
 
 from checks import Checks, entered, make
-from language import RUN, RUNS
-from large import large
+from language import AGAIN, CHECK, LIST, RUN, RUNS
+from large import LIMITS, large
 from table import FAULTS, PLAIN, PRINTS, SOURCE, SWEPT, Answer, Given
 
 SECONDS = 60
@@ -46,7 +46,7 @@ class Rows(Checks):
             self.row(prints, Answer(4, b"", b"READ FAILED\n"), stdin=unread)
 
     def all(self):
-        for given, wanted in SWEPT + PLAIN + RUN + RUNS:
+        for given, wanted in SWEPT + PLAIN + CHECK + LIST + RUN + RUNS + AGAIN + LIMITS:
             self.row(given, wanted)
         source, listing, printed = large()
         self.row(Given("large, listed", ["list", "FILE"], source, b""), Answer(0, listing, b""))

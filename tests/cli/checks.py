@@ -8,16 +8,25 @@ import tempfile
 from table import SOURCE
 
 
+# The name of a file for a word of a row.
+FILES = {"FILE": "source", " FILE ": " source "}
+
+
 class Checks:
     def __init__(self, program, folder):
         self.program, self.folder = os.path.abspath(program), folder
         self.passed, self.failed = 0, 0
 
     def command(self, given):
-        """The command of a row, whose source then stands in FILE."""
-        with open(os.path.join(self.folder, "source"), "wb") as file:
-            file.write(given.source)
-        return [self.program] + ["source" if word == "FILE" else word for word in given.words]
+        """The command of a row, after its source is written to each file that the row names and to no other."""
+        for word, name in FILES.items():
+            path = os.path.join(self.folder, name)
+            if word in given.words:
+                with open(path, "wb") as file:
+                    file.write(given.source)
+            elif os.path.exists(path):
+                os.remove(path)
+        return [self.program] + [FILES.get(word, word) for word in given.words]
 
     def check(self, name, found, wanted):
         if found == wanted:

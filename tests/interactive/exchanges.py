@@ -13,7 +13,7 @@ import subprocess
 import sys
 
 HERE = os.path.dirname(os.path.realpath(__file__))
-sys.path.insert(0, os.path.join(HERE, "..", "rows"))
+sys.path.insert(0, os.path.join(HERE, "..", "cli"))
 from checks import Checks, make  # noqa: E402
 from leaves import JOINED, LEAVES, WRITES  # noqa: E402
 from media import CONTROL_D, SECONDS, can_be_typed, file_with, pipe_with, pipes  # noqa: E402

@@ -1,11 +1,20 @@
-"""Rows of the language over the built program: programs, their input, and what they leave by `run` and `runs`. The
-sources and answers are written out, from docs/MANUAL.md and the tables of faults and numerals, and come from no run of
-the program. A source and an input end with a line feed where nothing else is said; `/` with its spaces stands for one.
+"""Rows of the language over the built program: programs, their input, and the answers of `check`, `list`, `run` and
+`runs`. The sources and answers are written out, from docs/MANUAL.md and the tables of faults and numerals, and come
+from no run of the program. A source and an input that are given as text end with a line feed, and ` / ` is a line feed
+too.
 """
-from table import Answer, Given, message
+from table import SOURCE, Answer, Given, message
 
 TEXTS = {
+    17: "DO YOU EXPECT ME TO FIGURE THIS OUT?",
+    79: "PROGRAMMER IS INSUFFICIENTLY POLITE",
+    99: "PROGRAMMER IS OVERLY POLITE",
     123: "PROGRAM HAS DISAPPEARED INTO THE BLACK LAGOON",
+    129: "PROGRAM HAS GOTTEN LOST",
+    139: "I WASN'T PLANNING TO GO THERE ANYWAY",
+    182: "YOU MUST LIKE THIS LABEL A LOT!",
+    197: "SO! 65535 LABELS AREN'T ENOUGH FOR YOU?",
+    200: "NOTHING VENTURED, NOTHING GAINED",
     240: "ERROR HANDLER PRINTED SNIDE REMARK",
     241: "VARIABLES MAY NOT BE STORED IN WEST HYPERSPACE",
     275: "DON'T BYTE OFF MORE THAN YOU CAN CHEW",
@@ -28,11 +37,32 @@ def ran(source, wanted, entered=b"", words=()):
     return Given(f"run {source!r} {list(words)}", ["run", *words, "FILE"], lines(source), lines(entered)), wanted
 
 
-def listed(source, wanted, words=(), entered=b""):
-    """A row by `runs`, from FILE: the lines of a listing."""
+def listed(source, wanted, words=(), entered=b"", command="runs"):
+    """A row by a command whose answer is these lines, from FILE."""
     printed = "".join(line + "\n" for line in wanted).encode()
-    return Given(f"runs {source!r} {list(words)}", ["runs", *words, "FILE"], lines(source), lines(entered)), \
+    return Given(f"{command} {source!r} {list(words)}", [command, *words, "FILE"], lines(source), lines(entered)), \
         Answer(0, printed, b"")
+
+
+def checked(source, statements, polite):
+    """A row by `check`, from FILE: the numbers of statements and of polite ones."""
+    return listed(source, [f"{statements} STATEMENTS, {polite} POLITE"], command="check")
+
+
+def uncompiled(command, source, number, line):
+    """A row whose source is refused with the message of a fault that names this line."""
+    return Given(f"{command} {source!r}", [command, "FILE"], lines(source), b""), \
+        Answer(2, b"", message(number, TEXTS[number], line))
+
+
+def again(rows, *commands):
+    """The rows that name FILE alone, with each of the other commands. A command without FILE is entered the source, so
+    it is there for the rows that enter nothing.
+    """
+    return [(given._replace(name=f"{words} {given.source!r}", words=words,
+                            entered=given.entered if "FILE" in words else SOURCE), wanted)
+            for given, wanted in rows if len(given.words) == 2 for words in commands
+            if "FILE" in words or not given.entered]
 
 
 def refused(command, source, words, status, errors):
@@ -50,12 +80,23 @@ def faults(number, line, output=b"", text=None):
     return Answer(1, output, message(number, text or TEXTS[number], line))
 
 
+ASKS = "DO %50 READ OUT #1 / PLEASE GIVE UP"
 OFTEN = "(1) DO %50 (1) NEXT / PLEASE GIVE UP"
 ECHO = "DO WRITE IN .1 / PLEASE READ OUT .1 / DO GIVE UP"
+SILENCED = "DO %50 ABSTAIN FROM READING OUT / DO READ OUT #1 / PLEASE GIVE UP"
 BOTH = "DO %50 READ OUT #5 / DO %50 ABSTAIN FROM READING OUT / PLEASE READ OUT #1 / DO GIVE UP"
 ONE = b"\nI\n"
 
 RUN = [
+    # statements
+    ran("DO READ OUT #1 / PLEASE GIVE UP", prints(ONE)),
+    ran("PLEASE NOTE THAT THIS WOULD DO NOTHING / DO GIVE UP", ENDS),
+    ran("HELLO", faults(0, 2, text="HELLO")),
+    ran("DO %101 GIVE UP", faults(0, 2, text="DO %101 GIVE UP")),
+    ran("DO %0 READ OUT #1 / DO %100 READ OUT #2 / PLEASE GIVE UP", prints(b"\nII\n")),
+    ran("DO READOUT #1 / PLEASE GIVE UP", prints(ONE)),
+    ran("DO READ OUT ;1 / PLEASE GIVE UP", faults(0, 2, text="DO READ OUT ;1")),
+    ran(b"", faults(633, 1)),
     # values and numerals
     ran("DO READ OUT #0 / PLEASE GIVE UP", prints(b"_\n\n")),
     ran("DO READ OUT #4000 / PLEASE GIVE UP", prints(b" _\nMV\n")),
@@ -68,6 +109,7 @@ RUN = [
     ran("DO .1 <- #65535$#1 / PLEASE GIVE UP", faults(275, 2)),
     ran("DO :1 <- #0$#1$#1 / DO READ OUT :1 / PLEASE GIVE UP", prints(b"\nV\n")),
     ran('DO :1 <- "#65535$#1"$#1 / PLEASE GIVE UP', faults(533, 2)),
+    ran('DO :1 <- "#65535$#1"$#1', faults(533, 2)),
     ran("DO :1 <- 'V#1~#1' / DO :2 <- 'V#1~\"#65535$#65535\"' / PLEASE READ OUT :1+:2 / DO GIVE UP",
         prints(b"___\nXXXMMDCCLXIX\n      ________\nmmcxlvMMCDLXXXMMMDCXLIX\n")),
     # and, or and exclusive or of two numbers, as programs say them: all even bits of the operator on their mingle
@@ -125,6 +167,7 @@ RUN = [
     ran(ECHO, prints(b"_\n\n"), b"\n"),
     ran(ECHO, faults(579, 2, text="WHAT BASE AND/OR LANGUAGE INCLUDES TEN?"), "TEN"),
     ran(ECHO, faults(562, 2), b""),
+    ran("DO WRITE IN .1 / PLEASE GIVE UP", faults(562, 2)),
     ran(ECHO, faults(275, 2), "SIX FIVE FIVE THREE SIX"),
     ran("DO WRITE IN ,1SUB#1 / PLEASE GIVE UP", faults(241, 2), "TEN"),
     ran("DO READ OUT #1+,1SUB#1 / PLEASE GIVE UP", faults(241, 2, ONE)),
@@ -137,41 +180,61 @@ RUN = [
         prints(b"\nI\n\nLXV\n"), b"ONE\nA"),
     ran("DO READ OUT ,1 / PLEASE GIVE UP", faults(241, 2)),
     ran("DO ,1 <- #1 BY #1 / PLEASE READ OUT ,1", faults(241, 3)),
+    ran("DO ,1 <- #1 BY #1 / DO READ OUT ,1", faults(241, 3)),
     # choices, seeds and limits
+    ran(OFTEN, Answer(3, b"", b"CHOICE WANTED AFTER 0 STEPS\n")),
     ran(OFTEN, ENDS, words=["--limit", "3", "--choices", "10"]),
+    ran(OFTEN, ENDS, words=["--limit", "3", "--choices", "10111"]),
     ran(OFTEN, Answer(3, b"", b"LIMIT REACHED AFTER 3 STEPS\n"), words=["--limit", "3", "--choices", "110"]),
     ran(OFTEN, Answer(3, b"", b"CHOICE WANTED AFTER 1 STEPS\n"), words=["--limit", "3", "--choices", "1"]),
     ran(OFTEN, Answer(3, b"", b"CHOICE WANTED AFTER 0 STEPS\n"), words=["--choices=-"]),
     ran(OFTEN, Answer(3, b"", b"LIMIT REACHED AFTER 0 STEPS\n"), words=["--seed", "7", "--limit", "0"]),
+    ran(OFTEN, Answer(3, b"", b"LIMIT REACHED AFTER 0 STEPS\n"), words=["--choices", "0*1000000", "--limit", "0"]),
     ran(OFTEN, faults(123, 2), words=["--choices", "1*80"]),
     ran(OFTEN, ENDS, words=["-b", "--choices", "0"]),
     refused("run", OFTEN, ["--seed", "1", "--choices", "0"], 64, "CHOICES AND SEED TOGETHER"),
     refused("run", OFTEN, ["--choices", "0*1000001"], 64, "NO SUCH RUN"),
     refused("run", OFTEN, ["--choices", "2"], 64, "BAD CURSOR"),
     refused("run", OFTEN, ["--choices", ""], 64, "BAD CURSOR"),
+    refused("run", OFTEN, ["--choices="], 64, "BAD CURSOR"),
+    # the first words that these seeds draw are 298703107, 866585574, 2442223337 and 2553256318: 1 is below 2 ^ 31
+    ran(ASKS, prints(ONE), words=["--seed", "0"]),
+    ran(ASKS, prints(ONE), words=["--seed", "1"]),
+    ran(ASKS, ENDS, words=["--seed", "7"]),
+    ran(ASKS, ENDS, words=["--seed", "18446744073709551615"]),
 ]
 
+LONG_RUNS = [f'{"1" * k}0 GIVE-UP ""' for k in range(64)] + [f'1*{k},0*1 GIVE-UP ""' for k in range(64, 80)] \
+    + ['1*80 E123@1 ""']
+
 RUNS = [
-    listed("DO %50 READ OUT #1 / PLEASE GIVE UP", ['0 GIVE-UP ""', '1 GIVE-UP "\\nI\\n"', "DONE"]),
-    listed("DO %50 READ OUT #1 / PLEASE GIVE UP", ['0 GIVE-UP ""', '1 GIVE-UP "\\nI\\n"', "DONE"], ["--count", "2"]),
-    listed("DO %50 READ OUT #1 / PLEASE GIVE UP", ['0 GIVE-UP ""', "MORE"], ["--count", "1"]),
+    listed(ASKS, ['0 GIVE-UP ""', '1 GIVE-UP "\\nI\\n"', "DONE"]),
+    listed(ASKS, ['0 GIVE-UP ""', '1 GIVE-UP "\\nI\\n"', "DONE"], ["--count", "2"]),
+    listed(ASKS, ['0 GIVE-UP ""', "MORE"], ["--count", "1"]),
     listed(OFTEN, ['0 GIVE-UP ""', '10 GIVE-UP ""', '110 LIMIT ""', '111 LIMIT ""', "DONE"], ["--limit", "3"]),
+    listed(OFTEN, ['0 GIVE-UP ""', '10 GIVE-UP ""', '110 LIMIT ""', '111 LIMIT ""', "DONE"],
+           ["--limit", "3", "--count", "4"]),
+    listed(OFTEN, ['0 GIVE-UP ""', "MORE"], ["--limit", "3", "--count", "1"]),
     listed(OFTEN, ['- LIMIT ""', "DONE"], ["--limit", "0"]),
+    listed(OFTEN, ["DONE"], ["--limit", "0", "--from=-"]),
     listed(OFTEN, ['110 LIMIT ""', "MORE"], ["--limit", "3", "--from", "10", "--count", "1"]),
+    listed(OFTEN, ['110 LIMIT ""', '111 LIMIT ""', "DONE"], ["--limit", "3", "--from", "10", "--count", "2"]),
     listed(OFTEN, ["DONE"], ["--limit", "3", "--from", "111"]),
     refused("runs", OFTEN, ["--limit", "3", "--from", "1"], 64, "NO SUCH RUN"),
+    refused("runs", OFTEN, ["--limit", "3", "--from", "100"], 64, "NO SUCH RUN"),
     refused("runs", OFTEN, ["--limit", "3", "--from", "2"], 64, "BAD CURSOR"),
+    refused("runs", OFTEN, ["--limit", "3", "--from", ""], 64, "BAD CURSOR"),
     refused("runs", OFTEN, ["--limit", "1", "--from", "012"], 64, "BAD CURSOR"),
     refused("runs", OFTEN, ["--limit", "1", "--from", "01"], 64, "NO SUCH RUN"),
     listed("(1) DO (1) NEXT", ['- E123@1 ""', "DONE"], ["--limit", "100"]),
     listed("(1) DO (1) NEXT", ['- LIMIT ""', "DONE"], ["--limit", "79"]),
-    listed("DO %50 ABSTAIN FROM READING OUT / DO READ OUT #1 / PLEASE GIVE UP",
-           ['0 GIVE-UP "\\nI\\n"', '1 GIVE-UP ""', "DONE"]),
-    listed("DO %50 ABSTAIN FROM READING OUT / DO READ OUT #1 / PLEASE GIVE UP", ['1 GIVE-UP ""', "DONE"],
-           ["--from", "0"]),
-    refused("runs", "DO %50 ABSTAIN FROM READING OUT / DO READ OUT #1 / PLEASE GIVE UP", ["--from", "10"], 64,
-            "NO SUCH RUN"),
-    listed(BOTH, ['00 GIVE-UP "\\nI\\n"', '01 GIVE-UP ""', '10 GIVE-UP "\\nV\\n\\nI\\n"', '11 GIVE-UP "\\nV\\n"', "DONE"]),
+    listed(SILENCED, ['0 GIVE-UP "\\nI\\n"', '1 GIVE-UP ""', "DONE"]),
+    listed(SILENCED, ['1 GIVE-UP ""', "DONE"], ["--from", "0"]),
+    listed(SILENCED, ["DONE"], ["--from", "1"]),
+    refused("runs", SILENCED, ["--from", "10"], 64, "NO SUCH RUN"),
+    refused("runs", SILENCED, ["--from", "-"], 64, "NO SUCH RUN"),
+    listed(BOTH, ['00 GIVE-UP "\\nI\\n"', '01 GIVE-UP ""', '10 GIVE-UP "\\nV\\n\\nI\\n"', '11 GIVE-UP "\\nV\\n"',
+                  "DONE"]),
     listed(b"", ['- E633@0 ""', "DONE"]),
     listed("DO %0 READ OUT #1 / DO %100 READ OUT #2 / PLEASE GIVE UP", ['- GIVE-UP "\\nII\\n"', "DONE"]),
     listed("DO %50 WRITE IN .1 / DO WRITE IN .2 / PLEASE READ OUT .2 / DO GIVE UP",
@@ -185,13 +248,103 @@ RUNS = [
     listed("DO ,1 <- #1 / DO ,1SUB#1 <- #238 / DO %50 READ OUT ,1 / PLEASE READ OUT ,1 / DO GIVE UP",
            ['0 GIVE-UP "H"', '1 GIVE-UP "H$"', "DONE"]),
     # a list of more than 64 choices is printed in groups, and read so and plain
-    listed(OFTEN, [f'{"1" * k}0 GIVE-UP ""' for k in range(64)] + [f'1*{k},0*1 GIVE-UP ""' for k in range(64, 80)]
-           + ['1*80 E123@1 ""', "DONE"], ["--limit", "100"]),
+    listed(OFTEN, LONG_RUNS + ["DONE"], ["--limit", "100"]),
+    listed(OFTEN, LONG_RUNS + ["DONE"], ["--limit", "100", "--count", "81"]),
+    listed(OFTEN, LONG_RUNS[:80] + ["MORE"], ["--limit", "100", "--count", "80"]),
+    listed(OFTEN, LONG_RUNS[63:65] + ["MORE"], ["--limit", "100", "--from", "1" * 62 + "0", "--count", "2"]),
     listed(OFTEN, ['1*80 E123@1 ""', "DONE"], ["--limit", "100", "--from", "1*79,0*1"]),
     listed(OFTEN, ['1*80 E123@1 ""', "DONE"], ["--limit", "100", "--from", "1" * 79 + "0"]),
     refused("runs", OFTEN, ["--limit", "100", "--from", "0*101"], 64, "NO SUCH RUN"),
     refused("runs", OFTEN, ["--limit", "100", "--from", "0*" + "9" * 30], 64, "NO SUCH RUN"),
     refused("runs", OFTEN, ["--limit", "100", "--from", "0*" + "9" * 30 + ","], 64, "BAD CURSOR"),
+    refused("runs", OFTEN, ["--limit", "100", "--from", "0*0"], 64, "BAD CURSOR"),
+    refused("runs", OFTEN, ["--limit", "100", "--from", "0*03"], 64, "BAD CURSOR"),
+    refused("runs", OFTEN, ["--limit", "100", "--from", "0*2,0*1"], 64, "BAD CURSOR"),
     (Given("runs, input too long", ["runs", "FILE"], lines(OFTEN), b" " * 1_048_577),
      Answer(4, b"", b"INPUT TOO LONG\n")),
 ]
+
+CHECK = [
+    checked("PLEASE GIVE UP / PLEASE GIVE UP", 2, 2),
+    checked(b"", 0, 0),
+    checked("DO GIVE UP / DO GIVE UP / DO GIVE UP / DO GIVE UP", 4, 0),
+    checked("DO READ OUT #1 / PLEASE GIVE UP", 2, 1),
+    checked("HELLO", 1, 0),
+    checked("PLEASE NOTE THAT THIS WOULD DO NOTHING / DO GIVE UP", 3, 1),
+    checked("DO GIVE UP / DO GIVE UP / DO GIVE UP / DO GIVE UP / PLEASE GIVE UP", 5, 1),
+    checked("DO GIVE UP / DO GIVE UP / DO GIVE UP / DO GIVE UP / PLEASE GIVE UP / PLEASE GIVE UP", 6, 2),
+    uncompiled("check", "DO GIVE UP / DO GIVE UP / DO GIVE UP / DO GIVE UP / DO GIVE UP", 79, 6),
+    uncompiled("check", "PLEASE GIVE UP / PLEASE GIVE UP / DO GIVE UP / DO GIVE UP / DO GIVE UP", 99, 6),
+    uncompiled("check", "PLEASE GIVE UP / PLEASE GIVE UP / DO GIVE UP", 99, 4),
+    uncompiled("check", "DO .70000 <- #1 / PLEASE READ OUT #70000", 17, 3),
+    uncompiled("check", "(7) DO GIVE UP / (007) PLEASE GIVE UP", 182, 3),
+    uncompiled("check", "(1) DO (9) NEXT / (1) DO ABSTAIN FROM (8)", 182, 3),
+    uncompiled("check", "(99999999999999999999999) DO GIVE UP", 197, 2),
+    uncompiled("check", "DO (7) NEXT", 129, 2),
+    uncompiled("check", "DO ABSTAIN FROM (8) / DO (9) NEXT", 129, 3),
+    uncompiled("check", "DO ABSTAIN FROM (8) / PLEASE GIVE UP", 139, 2),
+    uncompiled("check", "DO REINSTATE (8)", 139, 2),
+    uncompiled("check", "DO .0 <- #70000", 17, 2),
+    uncompiled("check", "(70000) DO .0 <- #1", 200, 2),
+    uncompiled("check", "DO (0) NEXT", 197, 2),
+]
+
+
+def items(source, *wanted):
+    """A row by `list`, from FILE: the lines of its statements."""
+    return listed(source, wanted, command="list")
+
+
+def item(body, kind):
+    """A row by `list`, from FILE: a source of one statement, and the kind of its body."""
+    quoted = body.replace('"', '\\"')
+    return items("DO " + body, f'1 - DO - 100 {kind} "DO {quoted}"')
+
+
+LIST = [
+    items("PLEASE NOTE THAT THIS WOULD DO NOTHING / DO GIVE UP",
+          '1 - PLEASE NOT 100 UNRECOGNISED "PLEASE NOTE THAT THIS WOULD"', '2 - DO NOT 100 UNRECOGNISED "DO NOTHING"',
+          '3 - DO - 100 GIVE-UP "DO GIVE UP"'),
+    items(b""),
+    items("HELLO", '1 - DO - 100 UNRECOGNISED "HELLO"'),
+    items("(007) PLEASE DO %000000100 READ OUT #1 + #2",
+          '1 (7) PLEASE - 100 READ-OUT "(007) PLEASE DO %000000100 READ OUT #1 + #2"'),
+    items("DO N'T %0 GIVE / UP", '1 - DO NOT 0 GIVE-UP "DO N\'T %0 GIVE\\nUP"'),
+    uncompiled("list", "DO READ OUT #70000", 17, 2),
+    uncompiled("list", "PLEASE GIVE UP / PLEASE GIVE UP / PLEASE GIVE UP", 99, 4),
+    items("DO ABSTAIN FROM (5) DO READ OUT #1 (5) DO READ OUT #2 PLEASE GIVE UP",
+          '1 - DO - 100 ABSTAIN "DO ABSTAIN FROM (5)"', '2 - DO - 100 READ-OUT "DO READ OUT #1"',
+          '3 (5) DO - 100 READ-OUT "(5) DO READ OUT #2"', '4 - PLEASE - 100 GIVE-UP "PLEASE GIVE UP"'),
+    items("(1) DO %50 (1) NEXT", '1 (1) DO - 50 NEXT "(1) DO %50 (1) NEXT"'),
+    items("DO .1 <- #1 / DO ,1 <- #2 BY #3 / PLEASE (5) NEXT / DO FORGET #1 / DO RESUME #1 / (5) DO STASH .1 + ,2 / "
+          "DO RETRIEVE :1 / PLEASE IGNORE ;1 / DO REMEMBER .1 / DO ABSTAIN FROM CALCULATING + READINGOUT / "
+          "DO REINSTATE (5) / PLEASE WRITE IN .1 + ,2SUB#1 / DO READ OUT ,2SUB.1 / DO READ OUT #1~#1 / DO GIVE UP",
+          '1 - DO - 100 CALCULATE "DO .1 <- #1"',
+          '2 - DO - 100 CALCULATE "DO ,1 <- #2 BY #3"',
+          '3 - PLEASE - 100 NEXT "PLEASE (5) NEXT"',
+          '4 - DO - 100 FORGET "DO FORGET #1"',
+          '5 - DO - 100 RESUME "DO RESUME #1"',
+          '6 (5) DO - 100 STASH "(5) DO STASH .1 + ,2"',
+          '7 - DO - 100 RETRIEVE "DO RETRIEVE :1"',
+          '8 - PLEASE - 100 IGNORE "PLEASE IGNORE ;1"',
+          '9 - DO - 100 REMEMBER "DO REMEMBER .1"',
+          '10 - DO - 100 ABSTAIN "DO ABSTAIN FROM CALCULATING + READINGOUT"',
+          '11 - DO - 100 REINSTATE "DO REINSTATE (5)"',
+          '12 - PLEASE - 100 WRITE-IN "PLEASE WRITE IN .1 + ,2SUB#1"',
+          '13 - DO - 100 READ-OUT "DO READ OUT ,2SUB.1"',
+          '14 - DO - 100 UNRECOGNISED "DO READ OUT #1~#1"',
+          '15 - DO - 100 GIVE-UP "DO GIVE UP"'),
+    item("%99999999999999999999 GIVE UP", "UNRECOGNISED"),
+    item(".1 <- !1~#5'", "CALCULATE"),
+    item(".1 <- ,1SUB'.1''.2'", "CALCULATE"),
+    item(".1 <- ',1SUB#1\"#2\"'", "CALCULATE"),
+    item(".1 <- ',1SUB#1'#2''", "UNRECOGNISED"),
+    item(".1 <- ,1SUB,2SUB#1#2", "CALCULATE"),
+    item(".1 <- #&&77", "UNRECOGNISED"),
+    item(".1 <- ,V1SUB#1", "UNRECOGNISED"),
+]
+
+# The rows of FILE alone, once more in the other ways to name a source.
+AGAIN = again(CHECK, ["check"], ["check", "--", "FILE"]) + again(LIST, ["list"], ["list", "--", "FILE"]) \
+    + again(RUN, ["run", "-b", "--", "FILE"], [], ["--"], ["run"]) \
+    + again(RUNS, ["runs", "-b", "FILE"], ["runs", "--limit", "10000", "FILE"])
