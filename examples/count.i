@@ -1,0 +1,11 @@
+PLEASE NOTE: COUNTS TO FIVE. (10) IS A ROUTINE OF THIS PROGRAM, AND (1020) ONE OF THE
+        LIBRARY, WHICH ADDS 1 TO .1
+        DO (10) NEXT
+        DO (10) NEXT
+        DO (10) NEXT
+        PLEASE (10) NEXT
+        DO (10) NEXT
+        DO GIVE UP
+(10)    DO (1020) NEXT
+        PLEASE READ OUT .1
+        DO RESUME #1

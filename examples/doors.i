@@ -1,0 +1,22 @@
+PLEASE NOTE: THREE GATES, 1, 2 AND 4. THE GUEST STANDS AT 1, AND THE PRIZE IS BEHIND .1
+        DO .1 <- #1
+        DO %50 .1 <- #2
+        DO %33 .1 <- #4
+
+PLEASE NOTE: THE HOST OPENS ANOTHER GATE, .2, WITHOUT THE PRIZE. IF HE CAN CHOOSE, HE THROWS
+        A COIN
+        DO ,1 <- #4
+        DO ,1SUB#1 <- #2
+        DO %50 ,1SUB#1 <- #4
+        PLEASE ,1SUB#2 <- #4
+        DO ,1SUB#4 <- #2
+        DO .2 <- ,1SUB.1
+
+DO NOTE: THE GUEST STAYS, OR GOES TO THE GATE THAT IS LEFT
+        PLEASE .3 <- #1
+        DO %50 .3 <- '?.2$#6'~'#0$#65535'
+
+DO NOTE: THE PRIZE, THE OPEN GATE, THE GUEST, AND 1 IF THE PRIZE IS WON
+        DO .4 <- .1~.3
+        PLEASE READ OUT .1 + .2 + .3 + .4
+        DO GIVE UP

@@ -1,0 +1,17 @@
+PLEASE NOTE: EACH NUMBER IS THE SUM OF THE TWO IN FRONT OF IT, UP TO THE LAST THAT HAS
+        SIXTEEN BITS
+        DO .1 <- #0
+        DO .2 <- #1
+(10)    DO FORGET #1
+        PLEASE READ OUT .2
+        DO (1009) NEXT
+        DO .1 <- .2
+        DO .2 <- .3
+
+PLEASE NOTE: .4 IS 1 UNTIL A CARRY IS LOST
+        DO (11) NEXT
+        DO GIVE UP
+(11)    DO (12) NEXT
+        PLEASE FORGET #1
+        DO (10) NEXT
+(12)    DO RESUME .4

@@ -1,6 +1,0 @@
-DO ,1 <- #3
-DO ,1SUB#1 <- #238
-DO ,1SUB#2 <- #124
-PLEASE ,1SUB#3 <- #70
-DO READ OUT ,1
-DO GIVE UP

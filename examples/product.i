@@ -1,0 +1,9 @@
+PLEASE NOTE: TAKES TWO NUMBERS AND PRINTS THEIR PRODUCT
+        DO (1640) NEXT
+        DO :2 <- :1
+        DO (1640) NEXT
+        PLEASE (1540) NEXT
+        DO :1 <- :3
+        DO (1620) NEXT
+        DO (1630) NEXT
+        PLEASE GIVE UP

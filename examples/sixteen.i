@@ -1,0 +1,12 @@
+PLEASE NOTE: FOUR NEXTS MAKE (14) HAPPEN SIXTEEN TIMES: EACH CALLS WHAT IS BELOW IT, AND
+        THEN FALLS INTO IT
+        DO .1 <- #1
+        DO (10) NEXT
+        DO GIVE UP
+(10)    PLEASE (11) NEXT
+(11)    DO (12) NEXT
+(12)    DO (13) NEXT
+(13)    DO (14) NEXT
+(14)    PLEASE READ OUT .1
+        DO .1 <- '.1$#0'~'#32767$#1'
+        DO RESUME #1
