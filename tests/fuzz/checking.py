@@ -1,0 +1,79 @@
+"""Runs the program on a source and an input, with its arguments written in one of several ways, and counts checks."""
+import os
+import re
+import subprocess
+
+SECONDS = 60
+SHOWN = 600
+
+
+class Checking:
+    def __init__(self, command, folder, number, random):
+        self.command, self.folder, self.number, self.random = command, folder, number, random
+        self.passed, self.failed, self.said = 0, 0, []
+        self.last = []
+
+    def write(self, name, text):
+        with open(os.path.join(self.folder, name), "wb") as file:
+            file.write(text)
+
+    def words(self, command, options, file):
+        """Returns the arguments: options with `=` or apart, FILE before, between or after them, and -b now and then."""
+        parts = []
+        for name, value in options:
+            together = self.random.random() < 0.5 or str(value).startswith("-")
+            parts.append([f"--{name}={value}"] if together else [f"--{name}", str(value)])
+        if command.startswith("run") and self.random.random() < 0.1:
+            parts.append(["-b"])
+        self.random.shuffle(parts)
+        if file:
+            at = self.random.randint(0, len(parts))
+            parts[at:at] = [["source"]] if at < len(parts) or self.random.random() < 0.8 else [["--", "source"]]
+        return [self.command, command] + [word for part in parts for word in part]
+
+    def called(self, words, **streams):
+        self.last = words[1:]
+        done = subprocess.run(words, cwd=self.folder, stdout=subprocess.PIPE, stderr=subprocess.PIPE, timeout=SECONDS,
+                              close_fds=False, **streams)
+        return done.returncode, done.stdout, done.stderr
+
+    def answer(self, command, options, file="FILE", entered=None):
+        """Returns the status, the output and the error text. The input is the program's own, if no other is given."""
+        words = self.words(command, options, file)
+        if entered is not None:
+            return self.called(words, input=entered)
+        with open(os.path.join(self.folder, "input"), "rb") as file:
+            return self.called(words, stdin=file)
+
+    def run_by_file(self, choices):
+        """Returns the answer of a run and what is left of its input, which is a file."""
+        words = self.words("run", [("choices", choices), ("limit", self.limit)], "FILE")
+        with open(os.path.join(self.folder, "input"), "rb", buffering=0) as file:
+            answer = self.called(words, stdin=file)
+            return answer, file.read()
+
+    def run_by_pipe(self, choices):
+        """Returns the answer of a run and what is left of its input, which is a pipe."""
+        words = self.words("run", [("choices", choices), ("limit", self.limit)], "FILE")
+        ours, theirs = os.pipe()
+        os.write(theirs, self.input)
+        os.close(theirs)
+        with open(ours, "rb", buffering=0) as file:
+            answer = self.called(words, stdin=file)
+            return answer, file.read()
+
+    def hold(self, name, found, wanted):
+        """Counts a check. A tuple of status, output and error text may have a pattern as its error text."""
+        if isinstance(wanted, tuple) and isinstance(wanted[-1], re.Pattern):
+            same = found[:-1] == wanted[:-1] and bool(wanted[-1].fullmatch(found[-1]))
+        else:
+            same = found == wanted
+        if same:
+            self.passed += 1
+            return True
+        self.failed += 1
+        if self.failed == 1:
+            self.said.append(f"program {self.number}:\n{self.source.decode()}input {self.input}")
+        self.said.append(f"program {self.number}, {name}, last {' '.join(self.last)}: {str(found)[:SHOWN]}, "
+                         f"and not {str(wanted)[:SHOWN]}")
+        return False
