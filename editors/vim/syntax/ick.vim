@@ -1,0 +1,30 @@
+" INTERCAL-72 as ick reads it: a statement begins at DO or PLEASE, inside other words too.
+if exists('b:current_syntax')
+  finish
+endif
+syntax case match
+
+" what no statement has read is unread, unless a match below takes it
+syntax match ickUnread /\_[^[:space:]]/
+syntax match ickLabel /(\_s*\d\+\_s*)/
+syntax match ickMark /[.:,;#&V?$~'"!+]\|<-/
+syntax match ickNumber /\d\+/
+syntax keyword ickWord NEXT FORGET RESUME STASH RETRIEVE IGNORE REMEMBER ABSTAIN FROM REINSTATE GIVE UP WRITE IN READ OUT
+syntax keyword ickWord SUB BY CALCULATING NEXTING FORGETTING RESUMING STASHING RETRIEVING IGNORING REMEMBERING
+syntax keyword ickWord ABSTAINING REINSTATING WRITING READING
+syntax match ickChance /%\_s*\d\+/
+syntax match ickIdentifier /PLEASE\_s*DO\|PLEASE\|DO/
+" READOUT has DO inside, and is one statement's word
+syntax match ickWord /READOUT/
+" NOT or N'T makes a comment, up to the next start; the label behind FROM or REINSTATE is no start
+syntax match ickComment /\%(\%(PLEASE\_s*DO\|PLEASE\|DO\)\_s*\%(%\_s*\d\+\_s*\)\?\)\@<=N\%(OT\|'T\)\_.\{-}\ze\%(\%(\%(\%(FROM\|REINSTATE\)\_s*\)\@<!(\_s*\d\+\_s*)\_s*\)\?\%(DO\|PLEASE\)\|\%$\)/
+
+highlight default link ickUnread Error
+highlight default link ickLabel Label
+highlight default link ickMark Operator
+highlight default link ickNumber Number
+highlight default link ickWord Statement
+highlight default link ickChance Special
+highlight default link ickIdentifier Keyword
+highlight default link ickComment Comment
+let b:current_syntax = 'ick'

@@ -1,0 +1,203 @@
+"""Tries ick-advice: its cut and its refusals against ick, its messages, and every fault that it explains."""
+import glob
+import random
+import re
+
+from common import EXAMPLES, LIBRARY, closed_pipe, content, help_and_mistakes, pasted
+
+import ick_faults
+import ick_listing
+import ick_source
+
+PEER = "/usr/share/doc/intercal/examples"
+TEXTS = 500
+
+PIECES = (".1 <- .2 ~ #3", ".1<-'#1$!2'~#3", ',1 <- #2 BY "#3"', ",1SUB'#1''#2' <- ,1SUB,2SUB#1#2", "READ OUT .1 + #2 + ,1",
+          "READOUT ,1SUB#1", "WRITE IN .1 + :2", "STASH .1+,2", "FORGET #1", "RESUME '?.1$#1'~#3", "GIVE UP", "GIVEUP",
+          "ABSTAIN FROM CALCULATING + READING OUT", "REINSTATE WRITING IN", "IGNORE ;1", ".1<-\"'#1$#2'$\"#3~#4\"\"",
+          "REMEMBER .1", "RETRIEVE :3")
+SCRAPS = ("DO", "PLEASE", "NOT", "N'T", "%50", "%101", "% 7", "(1)", "(70000)", "NEXT", "ABSTAIN FROM", "READ OUT", "READOUT",
+          "<-", "+", "BY", ".1", ",1", ";1", "SUB", "#1", "#70000", ".0", "'", '"', "!1", "&", "V", "~", "$", "\n", "\t",
+          "\x0b", "\x80", "\\", "do", "NOTE", "COME FROM", "1 2")
+
+ROWS = (
+    ("DO .1 <- 5 PLEASE GIVE UP", "1:10: statement 1 {E}: a number is written with a mesh, as #5"),
+    ("DO .1 = #5 PLEASE GIVE UP", "1:7: statement 1 {E}: a calculation is written with <-"),
+    ("DO .1 <- #5 + #6 PLEASE GIVE UP",
+     "1:13: statement 1 {E}: + joins lists, and is no sum: call (1000) of library/arithmetic.i"),
+    ("DO .1 <- .2 - #1 PLEASE GIVE UP", "1:13: statement 1 {E}: there is no minus: call (1010) of library/arithmetic.i"),
+    ("DO READ OUT .1$.2 PLEASE GIVE UP", "1:15: statement 1 {E}: READ OUT takes no expression: calculate a variable first"),
+    ("DO READ OUT HELLO PLEASE GIVE UP",
+     "1:13: statement 1 {E}: READ OUT takes no text: ick-say makes statements that print one"),
+    ("DO READ OUT .1, .2 PLEASE GIVE UP", "1:15: statement 1 {E}: a list is written with +"),
+    ("DO READ OUT ;1 PLEASE GIVE UP",
+     "1:16: statement 1 {E}: a hybrid can't be read or written whole: name an element, or use a tail"),
+    ("DO .1 <- '#1~#2 PLEASE GIVE UP", "1:1: statement 1 {E}: ' to close the group is missing at its end"),
+    ("DO .1 <- \"#1~'#2\" PLEASE GIVE UP", "1:17: statement 1 {E}: reading stops here, where ' to close the group is expected"),
+    ("DO .1 <- #&&5 PLEASE GIVE UP",
+     "1:12: statement 1 {E}: an operand has one unary operator: put a group round the inner one"),
+    ("DO .1 <- &#5 PLEASE GIVE UP",
+     "1:10: statement 1 {E}: a unary operator stands behind the first mark of its operand, as in #&77"),
+    ("DO COME FROM (5) DO GIVE UP",
+     "1:4: statement 1 {E}: COME FROM is C-INTERCAL's, and not in this language\n"
+     "1:14: COME FROM hands its (5) to statement 2 as its label"),
+    ("DO .1 <- #1 ONCE PLEASE GIVE UP", "1:13: statement 1 {E}: ONCE and AGAIN are C-INTERCAL's, and not in this language"),
+    ("DO ABSTAIN #1 FROM GIVING UP PLEASE GIVE UP",
+     "1:4: statement 1 {E}: ABSTAIN with a count is C-INTERCAL's, and not in this language"),
+    ("DO ABSTAIN FROM COMMENTING PLEASE GIVE UP", "1:17: statement 1 {E}: no gerund begins so"),
+    ("DO RAED OUT #1 PLEASE GIVE UP", "1:4: statement 1 {E}: RAED is no word of this language; READ is"),
+    ("DO DO GIVE UP", "1:4: statement 1 {E}: nothing stands between this identifier and the next one"),
+    ("DO %101 GIVE UP PLEASE GIVE UP", "1:4: statement 1 {E}: a chance goes from 0 to 100"),
+    ("please do read out #1\nplease give up",
+     "1:1: statement 1 {E}: small letters are no letters of the language: write capitals, or use ick-convert\n"
+     "2:15: {G}"),
+    ("#!/usr/bin/ick\nDO GIVE UP",
+     "1:1: statement 1 {E}: what stands in front of the first DO or PLEASE is a statement of its own"),
+    ("PLEASE NOTE: NOTHING RANDOM HERE\nDO GIVE UP", "1:25: the comment in front is cut at RANDOM: statement 2 {E}"),
+    ("DOES IT WORK?\nPLEASE GIVE UP", "1:1: statement 1 {E}: it begins inside the word DOES"),
+    ("PLEASE NOTE: SEE (5)\nDO GIVE UP",
+     "1:18: the comment in front hands its (5) to statement 2 as its label"),
+    ("PLEASE NOTE: SEE (5)\nDO (5) NEXT\n(5) DO GIVE UP",
+     "1:18: the comment in front hands its (5) to statement 2 as its label\n"
+     "3:1: refused, E182: (5) is the label of statement 3, and of statement 2 at line 1, since the comment in front hands "
+     "it on"),
+    ("DO (1000) NEXT\nDO (1610) NEXT\nPLEASE GIVE UP",
+     "1:5: refused, E129: paste library/text.i and library/arithmetic.i behind the program, for its calls of (1000), "
+     "(1610)"),
+    ("DO (1020) NEXT\nDO (5000) NEXT\nPLEASE (7) NEXT\nDO GIVE UP",
+     "1:5: refused, E129: paste library/arithmetic.i behind the program, for its calls of (1020)\n"
+     "2:5: refused, E129: no statement has the label (5000); C-INTERCAL's library of floating-point numbers isn't here\n"
+     "3:9: refused, E129: no statement has the label (7)"),
+    ("DO GIVE UP\n" * 11, "11:1: refused, E079: 11 statements, 0 with PLEASE: say PLEASE in 2 more"),
+    ("PLEASE GIVE UP\n" * 3, "3:1: refused, E099: 3 statements, 3 with PLEASE: say PLEASE in 2 fewer"),
+    ("DO READ OUT #70000\nPLEASE GIVE UP",
+     "1:13: refused, E017: A mesh (#) holds 0 to 65535. Make a larger number by mingle: #a$#b has the bits of a at the odd "
+     "places, and those of b at the even ones."),
+    ("DO READ OUT #1", "1:15: {G}"),
+    ("", "1:1: {G}"),
+    ("DO GIVE UP\nPLEASE BE IDLE HERE", ""),
+    ("(10) DO .1 <- #1\nDO RESUME #1\nPLEASE GIVE UP BEFORE THE LIBRARY\n(1000) DO GIVE UP", ""),
+)
+
+
+def random_text(chance):
+    """Statements, most of them sound, with scraps between them and single bytes changed."""
+    words = []
+    for place in range(chance.randint(1, 12)):
+        if chance.random() < 0.3:
+            words.append(f"({10 * place + chance.randint(1, 9)})")
+        words.append(chance.choice(("DO", "DO", "DO", "PLEASE", "PLEASE DO")))
+        if chance.random() < 0.2:
+            words.append(chance.choice(("NOT", "N'T", "%30", "%0 NOT")))
+        if chance.random() < 0.7:
+            words.append(chance.choice(PIECES))
+        else:
+            words += [chance.choice(SCRAPS) for _ in range(chance.randint(0, 7))]
+    text = "".join(word + chance.choice(("", " ", "\n")) for word in words)
+    if chance.random() < 0.2:
+        place = chance.randrange(len(text))
+        text = text[:place] + chance.choice("'\"!~$.,;:#(%)\n 1D") + text[place:]
+    return text.encode("latin-1")
+
+
+def listed(source):
+    """What `ick list` prints of a text, or the number and the statement of its refusal."""
+    statements = ick_source.cut(source)
+    refusals = ick_source.refusals(statements)
+    if refusals:
+        return refusals[0][0], refusals[0][1].number if statements else 0
+    lines = [f"{one.number} {'-' if one.label is None else f'({one.label})'} {'PLEASE' if one.polite else 'DO'} "
+             f"{'NOT' if one.abstained else '-'} {one.chance} {one.kind} ".encode()
+             + ick_listing.quoted(source[one.start:one.end]) + b"\n" for one in statements]
+    return b"".join(lines)
+
+
+def refused(err):
+    """The number and the statement of a message."""
+    found = re.match(rb"ICL(\d+)I .*\n +ON THE WAY TO (\d+)\n", err, re.DOTALL)
+    return (int(found[1]), int(found[2]) - 1) if found else None
+
+
+def try_cut(tally):
+    chance = random.Random(72)
+    sources = [(path, content(path)) for path in EXAMPLES + LIBRARY + sorted(glob.glob(f"{PEER}/**/*.*i", recursive=True))]
+    sources += [(f"random text {place}", random_text(chance)) for place in range(TEXTS)]
+    sources += [(f"height {high}", b"DO .1 <- " + text) for high in (255, 256)
+                for text in (b"'" * high + b"#1" + b"'" * high, b"#1" + b"~#1" * high, b",1SUB" * high + b"#1")]
+    recognised = 0
+    for name, source in sources:
+        status, out, err = tally.ick("list", given=source)
+        tally.same(f"the cut of {name}: {source[:400]!r}", listed(source), out if status == 0 else refused(err))
+        recognised += status == 0
+    tally.check(recognised > TEXTS // 3, f"only {recognised} texts were read")
+
+
+def try_messages(tally):
+    marks = {"E": "is fault 000 when it is done", "G": "no GIVE UP is ever done: the program can only end by a fault"}
+    for source, wanted in ROWS:
+        wanted = "".join(f"-:{line}\n" for line in wanted.format(**marks).splitlines()).encode()
+        found = tally.tool("ick-advice", given=source.encode())
+        tally.same(f"advice on {source!r}", found, (1 if wanted else 0, wanted, b""))
+
+
+def try_examples(tally):
+    wanted = {"trap.i": b"cut at RANDOM", "edge.i": b"no GIVE UP", "lagoon.i": b"no GIVE UP"}
+    for path in EXAMPLES:
+        name = path.rsplit("/", 1)[1]
+        _, out, err = tally.tool("ick-advice", given=pasted(path))
+        good = wanted[name] in out and out.count(b"\n") == 1 if name in wanted else not out
+        tally.check(good and not err, f"advice on {path}: {out!r} {err!r}")
+
+
+def try_peer(tally):
+    """Each example of C-INTERCAL that ick refuses gets the reason: COME FROM, a count, or a library."""
+    paths = sorted(glob.glob(f"{PEER}/**/*.i", recursive=True))
+    if not paths:
+        tally.untried.append("ick-advice on C-INTERCAL's examples (package intercal)")
+    for path in paths:
+        source = content(path)
+        refusals = ick_source.refusals(ick_source.cut(source))
+        if not refusals:
+            continue
+        number = refusals[0][0]
+        _, out, _ = tally.tool("ick-advice", path)
+        reason = {182: rb"refused, E182: .* since .* hands it on",
+                  129: rb"refused, E129: .*(paste library/|floating-point)"}.get(number, rb"$.")
+        tally.check(re.search(reason, out) is not None, f"no reason for E{number} in {path}: {out[:400]!r}")
+
+
+def try_explained(tally):
+    for number, (_, program, given, _) in ick_faults.FAULTS.items():
+        path = f"{tally.folder}/fault.i"
+        with open(path, "w", encoding="ascii") as file:
+            file.write(program)
+        _, _, err = tally.ick("run", path, given=given.encode())
+        tally.check(err.startswith(f"ICL{number:03}I ".encode()), f"the program of E{number:03}: {err!r}")
+        status, out, _ = tally.tool("ick-advice", "--explain", str(number))
+        tally.check(status == 0 and out.startswith(f"ICL{number:03}I: ".encode()), f"--explain {number}: {out!r}")
+    for name in ("E017", "ICL017I"):
+        tally.same(name, tally.tool("ick-advice", "--explain", name), tally.tool("ick-advice", "--explain", "17"))
+    for name in ("1", "E", "-17"):
+        status, out, err = tally.tool("ick-advice", f"--explain={name}")
+        tally.check(status == 2 and not out and b"no message" in err, f"--explain {name}: {status} {out!r} {err!r}")
+
+
+def try_line(tally):
+    source = b"HELLO\nDO READ OUT #70000 (7) PLEASE\nGIVE UP"
+    for line, wanted in (("2", b'-:1:1: statement 1: "HELLO"\n'), ("3", b'-:2:1: statement 2: "DO READ OUT #70000"\n'),
+                         ("4", b'-:2:20: statement 3: "(7) PLEASE\\nGIVE UP"\n')):
+        tally.same(f"--line {line}", tally.tool("ick-advice", "--line", line, given=source), (0, wanted, b""))
+    for line in ("1", "5"):
+        status, out, err = tally.tool("ick-advice", "--line", line, given=source)
+        tally.check(status == 2 and not out and b"3 statements" in err, f"--line {line}: {status} {out!r} {err!r}")
+
+
+def try_all(tally):
+    help_and_mistakes(tally, "ick-advice")
+    closed_pipe(tally, "ick-advice", [], b"DO X " * 20000)
+    try_cut(tally)
+    try_messages(tally)
+    try_examples(tally)
+    try_peer(tally)
+    try_explained(tally)
+    try_line(tally)

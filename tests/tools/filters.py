@@ -1,0 +1,88 @@
+"""Tries ick-json, ick-say and ick-wimp: there and back over every example, rows, and numerals of all sizes."""
+import glob
+import json
+import random
+
+from common import TOP, closed_pipe, content, help_and_mistakes
+
+import ick_listing
+
+RUNS = (b'- GIVE-UP "\\nI\\n"\n0*65,1*1 E275@3 "\\x80\\\\\\"\\n"\n1 LIMIT ""\nMORE\n')
+OBJECTS = (
+    {"choices": "-", "end": "GIVE-UP", "output": "\nI\n", "base64": "CkkK", "numerals": [1]},
+    {"choices": "0*65,1*1", "end": "FAULT", "fault": 275, "statement": 3, "output": "\ufffd\\\"\n", "base64": "gFwiCg==",
+     "numerals": []},
+    {"choices": "1", "end": "LIMIT", "output": "", "base64": "", "numerals": []},
+    {"listing": "MORE"},
+)
+WRONG = (b"HELLO\n", b'0 GIVE-UP ""x\n', b'2 GIVE-UP ""\n', b'0 GIVE-UP "\\q"\n', b'0 E1@1 ""\n')
+NO_OBJECTS = (b"[]\n", b"{}\n", b"1\n", b"x\n", b'{"listing": "END"}\n', b'{"choices": "2", "end": "LIMIT", "base64": ""}\n',
+              b'{"choices": "0", "end": "LIMIT", "base64": "?"}\n', b"[" * 5000 + b"\n")
+
+
+def try_json(tally):
+    status, out, err = tally.tool("ick-json", "--numerals", given=RUNS)
+    tally.same("ick-json of runs", (status, err, [json.loads(line) for line in out.splitlines()]), (0, b"", list(OBJECTS)))
+    listing = RUNS + b"".join(map(content, sorted(glob.glob(f"{TOP}/examples/*.runs") + glob.glob(f"{TOP}/examples/*.list"))))
+    status, out, err = tally.tool("ick-json", given=listing)
+    bare = b"".join(json.dumps({key: value for key, value in json.loads(line).items() if key not in ("output", "text")})
+                    .encode() + b"\n" for line in out.splitlines())
+    tally.same("ick-json of the examples' listings, and back", (status, err, tally.tool("ick-json", "--back", given=bare)),
+               (0, b"", (0, listing, b"")))
+    for options, lines in (([], WRONG), (["--back"], NO_OBJECTS)):
+        for line in lines:
+            status, out, err = tally.tool("ick-json", *options, given=line)
+            tally.check(status == 1 and not out and b"line 1 is no line" in err, f"ick-json {options} of {line[:40]!r}: "
+                                                                                f"{status} {err!r}")
+
+
+def try_say(tally):
+    every = bytes(range(256)) * 3
+    for text in (b"x", b"Hello, world!\n", every, b"\0", b"PLEASE DO NOT\n" * 40):
+        status, out, err = tally.tool("ick-say", "--array", "7", given=text)
+        polite = out.count(b"PLEASE ,7") + out.count(b"PLEASE READ")
+        source = out + b"DO GIVE UP\n"
+        tally.same(f"ick-say of {text[:20]!r}", (status, err, tally.ick("run", given=source)), (0, b"", (0, text, b"")))
+        tally.check(polite == len(out.splitlines()) // 4, f"ick-say of {text[:20]!r}: {polite} polite")
+    _, first, _ = tally.tool("ick-say", "Hello,", "you")
+    _, second, _ = tally.tool("ick-say", "--after", "10", "again")
+    tally.same("two texts", tally.ick("run", given=first + second + b"DO GIVE UP"), (0, b"Hello, you\nagain\n", b""))
+    tally.same("no text", tally.tool("ick-say", given=b""), (0, b"", b""))
+    for options, given in ((["--array", "0", "x"], b""), (["--after", "256", "x"], b""), ([], b"x" * 65536)):
+        status, out, err = tally.tool("ick-say", *options, given=given)
+        tally.check(status == 2 and not out and err.count(b"\n") < 6, f"ick-say {options}: {status} {err[:80]!r}")
+
+
+def try_wimp(tally):
+    chance = random.Random(5)
+    numbers = [0, 1, 4, 3999, 4000, 65535, 999999, 3888888888, 4294967295]
+    numbers += [chance.getrandbits(chance.randint(1, 32)) for _ in range(91)]
+    decimal = b"".join(b"%d\n" % number for number in numbers)
+    path = f"{tally.folder}/echo.i"
+    with open(path, "wb") as file:
+        file.write(b"PLEASE WRITE IN :1\nDO READ OUT :1\nDO WRITE IN :1\nDO READ OUT :1\n" * (len(numbers) // 2))
+        file.write(b"DO GIVE UP\n")
+    _, names, _ = tally.tool("ick-wimp", "in", given=decimal)
+    status, numerals, err = tally.ick("run", path, given=names)
+    tally.check(status == 0, f"numbers in: {status} {err!r}")
+    tally.same("numbers out", tally.tool("ick-wimp", "out", given=numerals), (0, decimal, b""))
+    for given, wanted in ((b"12 x OH 0\n\n7", b"ONE TWO x OH ZERO\n\nSEVEN"), (b"1a 2\n", b"1a TWO\n")):
+        tally.same(f"ick-wimp in of {given!r}", tally.tool("ick-wimp", "in", given=given), (0, wanted, b""))
+    for given, wanted in (
+            (b"\nI\n", b"1\n"), (b"_\n\n", b"0\n"), (b"\n\nI\n", b"\n1\n"), (b"\nMILD\n", b"\nMILD\n"), (b"\nIIII\n", b"\nIIII\n"),
+            (b" _\nMV", b" _\nMV"), (b"", b""), (b"_", b"_"), (b"\xff\x00\n", b"\xff\x00\n"), (b"_ \nV\n", b"_ \nV\n"),
+            (b'01 GIVE-UP "\\nV\\n_\\n\\n"\nDONE\n', b'01 GIVE-UP "5\\n0\\n"\nDONE\n'),
+            (b'0 E275@1 "x\\x80"\n', b'0 E275@1 "x\\x80"\n')):
+        tally.same(f"ick-wimp out of {given!r}", tally.tool("ick-wimp", "out", given=given), (0, wanted, b""))
+
+
+def try_all(tally):
+    for name in ("ick-json", "ick-wimp"):
+        help_and_mistakes(tally, name)
+    closed_pipe(tally, "ick-json", [], RUNS * 2000)
+    closed_pipe(tally, "ick-wimp", ["out"], b"x\n" * 2000)
+    closed_pipe(tally, "ick-say", [], b"x" * 20000)
+    tally.check(ick_listing.unquoted(ick_listing.quoted(bytes(range(256)))[1:-1]) == bytes(range(256)), "every byte quoted")
+    try_json(tally)
+    try_say(tally)
+    try_wimp(tally)

@@ -1,0 +1,53 @@
+"""The faults by number: what each means, a smallest program that has it, that program's input, and what to do."""
+
+FAULTS = {
+    0: ("A statement was done that ick can't read as any of its sixteen forms.",
+        "DO SOMETHING\nPLEASE GIVE UP", "",
+        "`ick-advice FILE` says where reading stops. A comment begins with DO NOTE or PLEASE NOTE, and ends at the "
+        "next DO or PLEASE, also inside a word."),
+    17: ("A mesh (#) holds 0 to 65535.",
+         "DO READ OUT #70000\nPLEASE GIVE UP", "",
+         "Make a larger number by mingle: #a$#b has the bits of a at the odd places, and those of b at the even ones."),
+    79: ("Fewer than a fifth of the statements say PLEASE. Comments are statements too.",
+         "DO GIVE UP\n" * 5, "", "`ick-advice FILE` says how many PLEASE are missing."),
+    99: ("More than a third of the statements say PLEASE. Comments are statements too.",
+         "PLEASE GIVE UP\nPLEASE GIVE UP\nDO GIVE UP", "", "`ick-advice FILE` says how many PLEASE are too many."),
+    123: ("79 calls by NEXT are open, and there is another.",
+          "(1) DO (1) NEXT", "",
+          "Begin a loop with FORGET #1, so that its NEXT leaves no entry. Leave each routine by RESUME."),
+    129: ("NEXT goes to a label that no statement has.",
+          "DO (7) NEXT\nPLEASE GIVE UP", "",
+          "For labels from 1000 to 1999 paste the library's text behind the program. (n) in front of NEXT is a statement's "
+          "label, and not its number."),
+    139: ("ABSTAIN or REINSTATE names a label that no statement has.",
+          "DO ABSTAIN FROM (8)\nPLEASE GIVE UP", "", "Label the statement, or name a gerund."),
+    182: ("Two statements have the same label.",
+          "(7) DO GIVE UP\n(007) PLEASE GIVE UP", "",
+          "A comment that ends in (n) hands it to the next statement as its label, and so does COME FROM (n)."),
+    197: ("A label goes from 1 to 65535.", "(0) DO GIVE UP", "", "Take another number."),
+    200: ("The number of a variable goes from 1 to 65535.", "DO .0 <- #1\nPLEASE GIVE UP", "", "Take another number."),
+    240: ("An array gets a dimension of 0.", "DO ,1 <- #0\nPLEASE GIVE UP", "", "Test the size first."),
+    241: ("There is no such element. The array has no dimensions yet, or another number of them, or a subscript is 0 or "
+          "too large. Dimensions that make more than 65,536 elements have this fault too, and so has READ OUT or "
+          "WRITE IN of a whole tail that hasn't exactly one dimension.",
+          "DO ,1SUB#1 <- #1\nPLEASE GIVE UP", "",
+          "Give dimensions first: DO ,1 <- #10. Subscripts begin at 1."),
+    275: ("A onespot or an element of a tail gets a number above 65535.",
+          "DO .1 <- #65535$#65535\nPLEASE GIVE UP", "",
+          "Store it in a twospot, as :1, or select the bits that matter, as by ~#65535."),
+    436: ("RETRIEVE has nothing to retrieve.", "DO RETRIEVE .1\nPLEASE GIVE UP", "",
+          "STASH the same variable before, once for each RETRIEVE."),
+    533: ("Mingle takes numbers up to 65535, and a line of WRITE IN goes up to 4294967295.",
+          "DO :1 <- '#1$#65535'$#1\nPLEASE GIVE UP", "",
+          "Operators group from the right: a$b$c is a$(b$c), whose right side is mostly too large."),
+    562: ("WRITE IN finds no line left in the input.", "DO WRITE IN .1\nPLEASE GIVE UP", "",
+          "Name the program as FILE, and give the input as standard input: ick run FILE <input."),
+    579: ("A line of the input has a word that is no name of a digit.", "DO WRITE IN .1\nPLEASE GIVE UP", "TEN\n",
+          "Write each digit by its name: ONE ZERO for 10. `ick-wimp in` does it."),
+    621: ("RESUME #0 goes nowhere.", "DO RESUME #0\nPLEASE GIVE UP", "",
+          "A test gives RESUME 1 or 2: '?.1$#1'~#3 is 1 for .1 = 0, and 2 for .1 = 1."),
+    632: ("RESUME of more calls than are open.", "DO RESUME #1\nPLEASE GIVE UP", "",
+          "A FORGET at the head of a loop also takes the entry of the routine around it, if the loop is entered by "
+          "falling into it. Enter such a loop by NEXT."),
+    633: ("The run went past the last statement.", "DO READ OUT #1", "", "End the program with GIVE UP."),
+}

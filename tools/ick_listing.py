@@ -1,0 +1,32 @@
+"""The lines that `ick runs` and `ick list` print, and texts in quotes."""
+import re
+
+TEXT = rb'"((?:[ !#-\[\]-~]|\\(?:n|\\|"|x[0-9a-f]{2}))*)"'
+RUN = re.compile(rb"(-|[01]+|[01]\*[1-9][0-9]*(?:,[01]\*[1-9][0-9]*)*) (GIVE-UP|LIMIT|E([0-9]{3})@([0-9]+)) " + TEXT)
+STATEMENT = re.compile(rb"([0-9]+) (\([0-9]+\)|-) (PLEASE|DO) (NOT|-) ([0-9]+) ([A-Z-]+) " + TEXT)
+ENDS = (b"DONE", b"MORE")
+NAMED = {b"n": b"\n", b"\\": b"\\", b'"': b'"'}
+QUOTES = {byte: b"\\x%02x" % byte for byte in range(256) if not 32 <= byte <= 126}
+QUOTES.update({10: b"\\n", 34: b'\\"', 92: b"\\\\"})
+
+
+def unquoted(text):
+    """The bytes that stand between quotes, as they were."""
+    return re.sub(rb'\\(n|\\|"|x[0-9a-f]{2})', lambda code: NAMED.get(code[1]) or bytes([int(code[1][1:], 16)]), text)
+
+
+def quoted(text):
+    """The bytes in quotes, as ick prints them."""
+    return b'"' + b"".join(QUOTES.get(byte) or bytes([byte]) for byte in text) + b'"'
+
+
+def choices_of(text, most):
+    """The first choices that a cursor's text stands for, as a string of 0 and 1, at most so many."""
+    if text == "-":
+        return ""
+    if "*" not in text:
+        return text[:most]
+    found = ""
+    for group in text.split(","):
+        found += group[0] * min(int(group[2:]), most - len(found))
+    return found

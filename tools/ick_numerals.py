@@ -1,0 +1,48 @@
+"""Numerals as READ OUT prints them, and what they are worth."""
+import re
+
+WORTH = dict(zip("IVXLCDM", (1, 5, 10, 50, 100, 500, 1000)))
+WORTH.update({letter.lower(): 1000000 * worth for letter, worth in list(WORTH.items())})
+# the letters of each place for 1, 5 and 10, a bar in front of a letter that has one
+PLACES = ("I V X", "X L C", "C D M", "M _V _X", "_X _L _C", "_C _D _M", "_M v x", "x l c", "c d m", "m _v -")
+DIGITS = ("", "a", "aa", "aaa", "ab", "b", "ba", "baa", "baaa", "ac")
+BARS, LETTERS = re.compile(rb"[ _]*"), re.compile(rb"[IVXLCDMivxlcdm]*")
+
+
+def numeral(number):
+    """The bars and the letters of a number, as two lines without their ends."""
+    if number == 0:
+        return "_", ""
+    symbols = []
+    for place, digit in reversed(list(enumerate(reversed(str(number))))):
+        letters = dict(zip("abc", PLACES[place].split()))
+        symbols += [letters[one] for one in DIGITS[int(digit)]]
+    bars = "".join("_" if len(symbol) > 1 else " " for symbol in symbols).rstrip()
+    return bars, "".join(symbol[-1] for symbol in symbols)
+
+
+def number_of(bars, letters):
+    """The number whose numeral is these two lines of bytes, or None."""
+    if not BARS.fullmatch(bars) or not LETTERS.fullmatch(letters) or len(letters) > 39:
+        return None
+    bars, letters = bars.decode(), letters.decode()
+    worths = [WORTH[letter] * (1000 if bars[place:place + 1] == "_" else 1) for place, letter in enumerate(letters)]
+    number = sum(-worth if worths[place + 1:place + 2] > [worth] else worth for place, worth in enumerate(worths))
+    return number if 0 <= number < 1 << 32 and numeral(number) == (bars, letters) else None
+
+
+def pieces(output):
+    """The pieces of an output, in order: a number for each numeral, and the bytes of each other line with its end."""
+    lines = output.split(b"\n")
+    place, found = 0, []
+    while place < len(lines):
+        number = number_of(lines[place], lines[place + 1]) if place + 2 < len(lines) else None
+        if number is not None:
+            found.append(number)
+            place += 1
+        elif place + 1 < len(lines):
+            found.append(lines[place] + b"\n")
+        elif lines[place]:
+            found.append(lines[place])
+        place += 1
+    return found

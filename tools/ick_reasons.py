@@ -1,0 +1,84 @@
+"""Says why ick can't read a statement."""
+import difflib
+import re
+
+import ick_source
+
+ELSEWHERE = "is C-INTERCAL's, and not in this language"
+WORDS = ("FORGET RESUME STASH RETRIEVE IGNORE REMEMBER ABSTAIN REINSTATE GIVE WRITE READ NEXT FROM OUT IN UP "
+         "CALCULATING NEXTING FORGETTING RESUMING STASHING RETRIEVING IGNORING REMEMBERING ABSTAINING REINSTATING "
+         "WRITING READING").split()
+BEGINS = re.compile("|".join(WORDS[:13] + WORDS[16:]))
+SMALL = re.compile(r"\b(do|please|forget|resume|stash|retrieve|ignore|remember|abstain|reinstate|give|write|read"
+                   r"|next)\b")
+
+# how a body begins, and what is wrong with it
+BODIES = (
+    (r"COME\s*FROM", f"COME FROM {ELSEWHERE}"),
+    (r"(\(\s*\d+\s*\)\s*)?NEXT\s*FROM", f"NEXT FROM {ELSEWHERE}"),
+    (r"ABSTAIN\s*[^A-Z\s]", f"ABSTAIN with a count {ELSEWHERE}"),
+    (r"TRY\s*AGAIN", f"TRY AGAIN {ELSEWHERE}"),
+    (r"GO\s*(BACK|AHEAD)", f"backtracking {ELSEWHERE}"),
+    (r"CREATE", f"CREATE {ELSEWHERE}"),
+    (r"PIN\s*[.:]", f"PIN {ELSEWHERE}"),
+    (r"NOT|N'T|%\s*0*(\d\d?|100)\b", "NOT and a chance stand once each"),
+    (r"%", "a chance goes from 0 to 100"),
+    (r"$", "nothing stands between this identifier and the next one"),
+)
+
+# what stands in front of the place where reading stopped, what stands there, and what is wrong with it
+STOPS = (
+    (r"", r"(ONCE|AGAIN)\b", "ONCE and AGAIN are C-INTERCAL's, and not in this language"),
+    (r"", r"MAYBE\b", f"MAYBE {ELSEWHERE}"),
+    (r"", r"COME\s*FROM", f"COME FROM {ELSEWHERE}"),
+    (r"", r"WHILE\b", f"WHILE {ELSEWHERE}"),
+    (r"", r".?\x08", "overstruck marks aren't read: ick-convert rewrites them"),
+    (r"", r"[\xa2\xa3\xa4\xa5]|\xc2[\xa2-\xa5]", "the mark is an old spelling: ick-convert rewrites it"),
+    (r"", r"\d", "a number is written with a mesh, as #5"),
+    (r"^[.:,;][^<]*$", r"=", "a calculation is written with <-"),
+    (r"^[.:,;][^<]*$", r"/", f"operand overloading {ELSEWHERE}"),
+    (r"<-.*$", r"\+", "+ joins lists, and is no sum: call (1000) of library/arithmetic.i"),
+    (r"<-.*$", r"-", "there is no minus: call (1010) of library/arithmetic.i"),
+    (r"<-.*$", r"\*", "there is no product: call (1030) of library/arithmetic.i"),
+    (r"<-.*$", r"[@^|]", f"this operator {ELSEWHERE}"),
+    (r"[,;]\s*$", r"[&V?]", "no unary operator stands behind the mark of an array"),
+    (r"[&V?]\s*$", r"[&V?]", "an operand has one unary operator: put a group round the inner one"),
+    (r"(-|[~$'\"])\s*$", r"[&V?]", "a unary operator stands behind the first mark of its operand, as in #&77"),
+    (r"^READ\s*OUT.*$", r"[\"'~$&V?]", "READ OUT takes no expression: calculate a variable first"),
+    (r"^READ\s*OUT.*$", r"[A-Za-z]", "READ OUT takes no text: ick-say makes statements that print one"),
+    (r"^(READ\s*OUT|WRITE\s*IN).*;.*$", r"", "a hybrid can't be read or written whole: name an element, or use a tail"),
+    (r"^(READ|WRITE|STASH|RETRIEVE|IGNORE|REMEMBER|ABSTAIN|REINSTATE).*$", r",", "a list is written with +"),
+    (r"^(ABSTAIN\s*FROM|REINSTATE)", r"[A-Z]", "no gerund begins so"),
+)
+
+
+def why(source, statement):
+    """The place where an unrecognised statement goes wrong, and what is wrong there."""
+    body = source[statement.body:statement.end].decode("latin-1")
+    if SMALL.search(body) and not re.search(r"[A-Z]{2}", body):
+        return statement.start, "small letters are no letters of the language: write capitals, or use ick-convert"
+    if statement.expected == "DO or PLEASE":
+        return statement.start, "what stands in front of the first DO or PLEASE is a statement of its own"
+    if statement.stop == statement.body:
+        for pattern, reason in BODIES:
+            if re.match(pattern, body):
+                return statement.stop, reason
+        for word in re.findall(r"[A-Z]+", body)[:1]:
+            near = difflib.get_close_matches(word, WORDS, 1, 0.7)
+            if near and near[0] != word:
+                return statement.stop, f"{word} is no word of this language; {near[0]} is"
+        if statement.expected == ick_source.ANY:
+            return statement.stop, "no statement of this language begins so"
+    return stopped(source, statement)
+
+
+def stopped(source, statement):
+    """What is wrong at the place where reading stopped."""
+    before = source[statement.body:statement.stop].decode("latin-1")
+    after = source[statement.stop:max(statement.stop, statement.end)].decode("latin-1")
+    for behind, here, reason in STOPS:
+        if re.match(here, after) and re.search(behind, before, re.DOTALL):
+            return statement.stop, reason
+    if not after:
+        return statement.start, f"{statement.expected} is missing at its end"
+    return statement.stop, f"reading stops here, where {statement.expected} is expected"
