@@ -1,5 +1,5 @@
-//! The files of the system. `Files` promises nothing of their bytes, because std promises nothing of
-//! the bytes of a file.
+//! The files of the system. `Files` promises nothing of their bytes, because std promises nothing
+//! of the bytes of a file.
 ghost use Rattle.std.specs.Prelude.{◌≡◌, Some, [], false};
 ghost use Rattle.std.specs.Option.{option_map_or};
 

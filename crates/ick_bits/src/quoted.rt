@@ -86,7 +86,7 @@ fn plain_length(rest: &[u8]) -> usize
     count
 }
 
-/// Returns whether each of the first four bytes stands for itself.
+/// Returns whether each of the first four bytes is written as it is, without an escape.
 #[inline(always)]
 fn begins_with_four_plain(rest: &[u8]) -> bool
     requires { 4 ≤ length rest.now }
@@ -95,7 +95,7 @@ fn begins_with_four_plain(rest: &[u8]) -> bool
     is_plain(rest[0]) && is_plain(rest[1]) && is_plain(rest[2]) && is_plain(rest[3])
 }
 
-/// Returns whether the byte stands for itself.
+/// Returns whether the byte is written as it is, without an escape.
 #[inline(always)]
 fn is_plain(byte: u8) -> bool
     ensures { result ≡ true → escaped byte ≡ byte ∷ [] }
@@ -103,7 +103,7 @@ fn is_plain(byte: u8) -> bool
     PLAIN[byte as usize] == 1
 }
 
-/// For each byte, 1 if it stands for itself, and 0 otherwise.
+/// For each byte, 1 if it is written as it is, and 0 if it is escaped.
 static PLAIN: [u8; 256] = [
     0, 0, 0, 0, 0, 0, 0, 0, 0, 0, 0, 0, 0, 0, 0, 0, 0, 0, 0, 0, 0, 0, 0, 0, 0, 0, 0, 0, 0, 0, 0, 0,
     1, 1, 0, 1, 1, 1, 1, 1, 1, 1, 1, 1, 1, 1, 1, 1, 1, 1, 1, 1, 1, 1, 1, 1, 1, 1, 1, 1, 1, 1, 1, 1,

@@ -1,5 +1,5 @@
 -- What a job leaves in the reader.
-use Rattle.std.specs.Prelude.{◌≡◌, ◌+◌, ◌⊎◌, ℕ, Bool, false, List, [], Option, Some, None, drop, unwrap_or}
+use Rattle.std.specs.Prelude.{◌≡◌, ◌+◌, ℕ, Bool, false, List, [], Option, Some, None, drop, unwrap_or}
 use Rattle.ick_source.specs.Refusals.{Compiles, longest}
 use Rattle.ick_source.specs.StatementTree.{StatementTree}
 use Rattle.ick_code.specs.meaning.Move.{first_state}

@@ -15,26 +15,26 @@ use ick_bits::NoMemory;
 pub trait Backtrack: Drop {
     ghost seen: { Self → Machine };
 
-    /// What was written so far in the present state.
+    /// Returns what the run has written so far, in the present state.
     fn output(&self) -> &[u8]
         ensures { result.now ≡ (seen self.now).state.output };
 
-    /// The count of work: what it began at, and one for each step that was made, in runs that were
-    /// taken back too.
+    /// Returns the count of work: the number that it began at, and one more for each step that was
+    /// made, those that `back` took back included.
     fn work(&self) -> u64
         ensures { result ≡ (seen self.now).work };
 
-    /// The number of marked states.
+    /// Returns the number of marked states.
     fn marks(&self) -> usize
         ensures { result ≡ length (seen self.now).marks };
 
-    /// Makes one step: the statement that is met is done or passed over (Revised Manual, 4.3), or
-    /// the program goes past its last statement (this profile: fault 633). The count of work rises
-    /// by one, and no other call changes it.
+    /// Makes one step: does or passes over the statement that is met (Revised Manual, 4.3), or ends
+    /// the run by fault 633 past the last statement (this profile). The count of work rises by
+    /// one. Beside this call only `Asks::run` changes it.
     ///
-    /// Where a choice is asked, `done` is the choice; elsewhere it changes nothing. The run must
-    /// not have ended, and the count must be below its greatest value. After `NoMemory` state,
-    /// marks and count are unchanged.
+    /// `done` says whether a statement with a chance is done, if the machine asks that, and else it
+    /// changes nothing. The run must not have ended, and the count must be below 2^64 - 1. After
+    /// `NoMemory` state, marks and count are unchanged.
     fn step(&mut self, done: bool) -> Result<(), NoMemory>
         requires going { IsGoing (ask (seen self.old).program (seen self.old).state) }
         requires room { (seen self.old).work < 2 ^ 64 - 1 }
@@ -44,15 +44,15 @@ pub trait Backtrack: Drop {
         }) }
         ensures err { OnErr result (seen self.new ≡ seen self.old) };
 
-    /// Marks the present state. After `NoMemory` all is unchanged.
+    /// Marks the present state. After `NoMemory` state, marks and count are unchanged.
     fn mark(&mut self) -> Result<(), NoMemory>
         ensures ok { OnOk result (seen self.new ≡ record (seen self.old) {
           marks = (seen self.old).marks ++ (seen self.old).state ∷ [];
         }) }
         ensures err { OnErr result (seen self.new ≡ seen self.old) };
 
-    /// Sets the machine back: the state becomes the last marked one, whole, and that mark is gone.
-    /// There must be a mark. The count of work stays, and no memory is taken.
+    /// Sets the machine back to the last marked state, and removes that mark. There must be a mark.
+    /// The count of work is unchanged, and no memory is taken.
     fn back(&mut self)
         requires { 0 < length (seen self.old).marks }
         ensures { seen self.old ≡ record (seen self.new) {
@@ -60,7 +60,7 @@ pub trait Backtrack: Drop {
           marks = (seen self.new).marks ++ (seen self.new).state ∷ [];
         } };
 
-    /// Drops the last mark; the state stays. There must be a mark.
+    /// Removes the last mark. There must be one. State and count of work are unchanged.
     fn drop_mark(&mut self)
         requires { 0 < length (seen self.old).marks }
         ensures { seen self.new ≡ record (seen self.old) {
@@ -69,20 +69,20 @@ pub trait Backtrack: Drop {
 }
 
 /// A machine with marks that tells what it asks, and goes on while it asks nothing. `'c` is the
-/// life of the code whose texts the messages of its faults have.
+/// lifetime of the code: the message of a fault shows a text of it.
 pub trait Asks<'c>: Backtrack {
-    /// What is asked before the next step (Revised Manual, 4.3): whether a statement is done that
-    /// isn't abstained from and has a chance strictly between 0 and 100; or nothing, since there is
-    /// one way to go on, or since the run has ended.
+    /// Returns what is asked before the next step (Revised Manual, 4.3): a choice, if the statement
+    /// that is met isn't abstained from and has a chance from 1 to 99; or nothing, if there is one
+    /// way to go on; or how the run ended.
     fn asks(&self) -> Ask<'c>
         ensures { let machine = Self.seen self.now in
             asked_of result ≡ Some (ask machine.program machine.state) };
 
-    /// Makes steps, as many as the limit allows, while nothing is asked and the run hasn't ended.
-    /// Answers their number, by which the count of work rises; marks stay.
+    /// Makes steps while nothing is asked and the run hasn't ended, at most as many as the limit.
+    /// Returns their number, by which the count of work rises. Marks are unchanged.
     ///
-    /// The count of work must have the limit left. After `NoMemory` fewer steps were made, each of
-    /// them whole, and the count of work rose by their number.
+    /// The count of work and the limit together must be below 2^64. After `NoMemory` fewer steps
+    /// than the limit were made, each of them whole, and the count of work rose by their number.
     fn run(&mut self, limit: u32) -> Result<u32, NoMemory>
         requires { (Self.seen self.old).work + limit < 2 ^ 64 }
         ensures ok { IfOk result (λ k. HasRun (Self.seen self.old) k (Self.seen self.new)) }

@@ -10,10 +10,10 @@ ghost use Rattle.ick_machine.specs.declared.feed.FeedFault.TheVariants.{Read as 
 use ick_bits::NoMemory;
 use std::alloc::{AllocError, AllocFailed};
 
-/// Why a feed gave nothing.
+/// Why a feed answered neither a line, nor a byte, nor the end of the input.
 #[derive(Clone, Copy, Debug, PartialEq, Eq)]
 pub enum FeedFault {
-    /// The line could not grow, since memory was refused.
+    /// Memory for the line was refused.
     NoMemory,
     /// A read failed.
     Read,
@@ -45,10 +45,10 @@ impl<T: Drop> From<AllocFailed<T>> for FeedFault {
 
 /// Input that is read while a run needs it, line by line or byte by byte, and no byte more.
 ///
-/// A call takes off the front of the input just what it answers, and the end of a line with the
-/// line. Before each call the count of failures must be below its greatest value.
+/// A call takes just what it answers off the front of the input, and with a line also its end.
+/// Before each call the count of failures must be below 2^64 - 1.
 pub trait Feed {
-    /// Whether `left` is what really comes.
+    /// Whether `left` is what the reads will give. It is false if nothing is known of the source.
     ghost told: { Bool };
 
     /// The input that is left.
@@ -57,16 +57,17 @@ pub trait Feed {
     /// How many reads have failed.
     ghost failed: { Self → ℕ };
 
-    /// The name of the reference that the feed holds, which every call keeps; any number where it
-    /// holds none.
+    /// The name of the reference that the feed holds, or any number if it holds none. No call
+    /// changes it.
     ghost held: { Self → ℕ };
 
-    /// How many reads have failed.
+    /// Returns how many reads have failed.
     fn failures(&self) -> u64
         ensures { result ≡ failed self.now };
 
-    /// The target becomes the next line, without its end; false where no input is left. `Read`
-    /// raises the count of failures by one, and every other answer leaves it.
+    /// Sets the target to the next line without its end, and returns true; or returns false if no
+    /// input is left. `Read` raises the count of failures by one, and every other answer leaves it
+    /// unchanged.
     fn line(&mut self, target: &mut Vec<u8>) -> Result<bool, FeedFault>
         requires { failed self.old + 1 < 2 ^ 64 }
         ensures count { failed self.new ≡ failed self.old + feed_failures result }
@@ -78,8 +79,8 @@ pub trait Feed {
         ensures none { told ≡ true → result ≡ Ok false →
             (left self.old ≡ []) × (left self.new ≡ []) };
 
-    /// The next byte, or nothing where no input is left. It takes no memory. `Read` raises the
-    /// count of failures by one, and every other answer leaves it.
+    /// Returns the next byte, or nothing if no input is left. It takes no memory. `Read` raises the
+    /// count of failures by one, and every other answer leaves it unchanged.
     fn byte(&mut self) -> Result<Option<u8>, FeedFault>
         requires { failed self.old + 1 < 2 ^ 64 }
         ensures count { failed self.new ≡ failed self.old + feed_failures result }
