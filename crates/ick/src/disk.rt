@@ -8,6 +8,7 @@ use ick_cli::Files;
 use ick_runs::{ByteSource, DeviceFault};
 use std::fs::{self, File};
 use std::io::{self, Read};
+use std::os::fd::AsRawFd;
 
 /// Reads the file that was opened last. If no file was opened, there is no byte to read.
 #[derive(Drop)]
@@ -67,7 +68,7 @@ impl Files for DiskFiles<'_> {
     ghost named = { λ _ _. [] };
 
     fn open_named(&mut self, name: &str) -> Result<(), DeviceFault> {
-        match fs::open(self.runtime, name) {
+        match open_apart(self.runtime, name) {
             Ok(file) => {
                 self.open.file = Some(file);
                 Ok(())
@@ -77,5 +78,16 @@ impl Files for DiskFiles<'_> {
                 Err(DeviceFault)
             }
         }
+    }
+}
+
+/// Opens a file. If a standard stream is closed, the system gives its descriptor to the file, and a
+/// run would read its source as its input. A duplicate never has a standard stream's descriptor.
+fn open_apart(runtime: &HostRuntime, name: &str) -> io::Result<File> {
+    let file = fs::open(runtime, name)?;
+    if file.as_raw_fd() <= 2 {
+        file.try_clone()
+    } else {
+        Ok(file)
     }
 }
