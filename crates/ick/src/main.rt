@@ -1,54 +1,74 @@
 //! The program `ick`: the command line over the files and the streams of the system.
 //!
 //! - `words`: the arguments that the system hands over
+//! - `serving`: the arguments served over any devices
 //! - `counted`: reads and writes that count their failures
 //! - `streams`: sources and sinks over streams
 //! - `disk`: the files of the system
 #![tactic(auto)]
 
-ghost use Rattle.std.specs.Prelude.{◌≡◌, ◌+◌, ◌<◌, ◌^◌};
+ghost use Rattle.std.specs.Prelude.{◌≡◌, ◌+◌, ◌<◌, ◌^◌, IfErr, IfOk};
 ghost use Rattle.std.specs.Process.{exit_status};
+ghost use Rattle.clap.specs.Words.{fault_of};
+ghost use Rattle.ick_cli.specs.Notice.{notice_text};
+ghost use Rattle.ick_cli.specs.Serve.{Finishes, FinishesDue, IsStatus};
+ghost use Rattle.ick_cli.specs.Usage.{AreMistakes, IsRefused, words_notice, words_status};
+ghost use Rattle.ick_cli.specs.Words.{ick_app};
+ghost use Rattle.ick.specs.Arguments.{after_name};
 
 mod counted;
 mod disk;
+mod serving;
 mod streams;
 mod words;
 
 use disk::DiskFiles;
-use ick_cli::{Status, WordsFault, refuse_words, serve};
+use ick_cli::{Status, WordsFault, refuse_words};
 use ick_runs::ByteSink;
+use serving::serve_arguments;
 use std::io::Lock;
 use std::process::ExitCode;
 use streams::{InStream, OutStream};
-use words::{arguments, words_of};
+use words::arguments;
 
 fn main(rt: HostRuntime) -> ExitCode {
     let mut errors = OutStream::new(rt.stderr());
-    let status = match arguments(&rt) {
-        Ok(arguments) => answer(&rt, &arguments, &mut errors),
-        Err(fault) => refuse_words(fault, &mut errors),
-    };
-    exit_code(status)
+    exit_code(answer(&rt, arguments(&rt), &mut errors))
 }
 
-/// Serves the arguments over the files and the streams of the system.
-fn answer<E: ByteSink>(rt: &HostRuntime, arguments: &[String], errors: &mut E) -> Status
+/// Serves the arguments over the files and the streams of the system, or refuses arguments that
+/// can't be read.
+fn answer<E: ByteSink>(
+    rt: &HostRuntime,
+    arguments: Result<Vec<String>, WordsFault>,
+    errors: &mut E,
+) -> Status
     requires { E.failed errors.old + 1 < 2 ^ 64 }
+    ensures refused { IfErr arguments (λ fault. Finishes E.told (words_status fault)
+        (notice_text (words_notice fault)) (E.failed errors.old) (E.failed errors.new)
+        (E.written errors.old) (E.written errors.new) result) }
+    ensures usage { IfOk arguments (λ a. AreMistakes (fault_of ick_app (after_name a.items)) →
+        FinishesDue IsRefused E.told (E.failed errors.old) (E.failed errors.new)
+        (E.written errors.old) (E.written errors.new) result) }
+    ensures failed { E.failed errors.old < E.failed errors.new → result ≡ 4 }
+    ensures status { IsStatus result }
 {
-    let Ok(words) = words_of(rt.alloc(), arguments) else {
-        return refuse_words(WordsFault::NoMemory, errors);
-    };
-    let mut files = DiskFiles::new(rt);
-    let mut reader = InStream::new(rt.stdin().lock());
-    let mut writer = OutStream::new(rt.stdout());
-    serve(
-        rt.alloc(),
-        words.as_slice(),
-        &mut files,
-        &mut reader,
-        &mut writer,
-        errors,
-    )
+    match arguments {
+        Ok(arguments) => {
+            let mut files = DiskFiles::new(rt);
+            let mut reader = InStream::new(rt.stdin().lock());
+            let mut writer = OutStream::new(rt.stdout());
+            serve_arguments(
+                rt.alloc(),
+                &arguments,
+                &mut files,
+                &mut reader,
+                &mut writer,
+                errors,
+            )
+        }
+        Err(fault) => refuse_words(fault, errors),
+    }
 }
 
 /// Returns the status in the system's form.

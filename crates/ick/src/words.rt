@@ -1,5 +1,7 @@
 //! The arguments that the system hands to the program.
-ghost use Rattle.std.specs.Prelude.{◌≡◌, ◌≢◌, IfOk, drop, map, string_bytes};
+ghost use Rattle.std.specs.Prelude.{◌≡◌, ◌≢◌, IfOk};
+ghost use Rattle.clap.specs.Walk.{texts};
+ghost use Rattle.ick.specs.Arguments.{after_name};
 
 use ick_cli::WordsFault;
 use std::alloc::{AllocError, Global};
@@ -29,8 +31,7 @@ fn words_fault(kind: ErrorKind) -> WordsFault
 
 /// Returns the arguments after the program's own name, each of them whole.
 pub fn words_of<'a>(alloc: Global, arguments: &'a [String]) -> Result<Vec<&'a str>, AllocError>
-    ensures { IfOk result (λ words.
-        map (λ w. w.now) words.items ≡ map string_bytes (drop 1 arguments.entry.now)) }
+    ensures { IfOk result (λ words. texts words.items ≡ after_name arguments.entry.now) }
 {
     let mut words = Vec::new(alloc);
     for argument in &arguments[arguments.len().min(1)..] {
