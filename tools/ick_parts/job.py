@@ -1,71 +1,76 @@
-"""The folder of a job: the program, its input, the limit, and a checksum of these and of ick."""
+"""The folder of a job: the program, its input, the limit, a checksum of these and of ick, and the last plan."""
 import hashlib
 import os
 import shutil
 import subprocess
 import sys
 
-from ick_parts import Failed, Refused
+from ick_parts import Refused
+from ick_parts.cursors import read_place, show_place
+from ick_tool import content
 
 FORM = "ick-parts-1"
+RUNS_A_CALL = "1000000"  # the most that ick lists in one call
 
 
 class Job:
     def __init__(self, folder):
         self.folder = folder
-        try:
-            with open(self.path("job"), encoding="ascii") as file:
-                words = file.read().split()
-        except OSError as error:
-            raise Refused(f"{folder} is no job: {error.strerror}")
+        words = content(self.path("job")).decode("ascii", "replace").split()
         if len(words) != 3 or words[0] != FORM:
-            raise Refused(f"{folder}/job can't be read")
+            raise Refused(f"{self.path('job')} is damaged")
         self.limit, self.name = words[1:]
 
     def path(self, *names):
         return os.path.join(self.folder, *names)
 
-    def compare(self):
-        """Refuses if program, input or ick aren't those that the job began with."""
+    def compared(self):
+        """Returns the job if program, input and ick are those that it began with."""
         self.ick = find_ick()
         if name_of(self.limit, self.path("program.i"), self.path("input"), self.ick) != self.name:
             raise Refused(f"the program, its input or {self.ick} has changed since {self.folder} was begun")
+        return self
 
     def call(self, *arguments, **more):
+        """Starts ick on the program and its input."""
         with open(self.path("input"), "rb") as given:
             return subprocess.Popen([self.ick, *arguments, "--limit", self.limit, self.path("program.i")],
-                                    stdin=given, close_fds=False, **more)
+                                    stdin=given, **more)
+
+    def read_plan(self):
+        """Returns the number of the last plan, and its pieces as pairs of places."""
+        lines = content(self.path("plan")).decode("ascii", "replace").split("\n")[:-1] or [""]
+        pieces = [line.split(" ") for line in lines[1:]]
+        if not lines[0].isdigit() or any(len(it) != 2 for it in pieces):
+            raise Refused(f"{self.path('plan')} is damaged: remove it, and plan again")
+        return int(lines[0]), [(read_place(start), read_place(end)) for start, end in pieces]
+
+    def write_plan(self, pieces):
+        path = self.path("plan")
+        number = self.read_plan()[0] + 1 if os.path.exists(path) else 1
+        with open(path + ".new", "w", encoding="ascii") as file:
+            file.write(f"{number}\n" + "".join(f"{show_place(start)} {show_place(end)}\n" for start, end in pieces))
+        os.rename(path + ".new", path)
 
 
 def find_ick():
     found = shutil.which(os.environ.get("ICK") or "ick")
     if not found:
-        raise Failed("there is no ick on the PATH; the environment variable ICK can name it")
+        raise FileNotFoundError("there is no ick on the PATH; the environment variable ICK can name it")
     return found
 
 
 def name_of(limit, *paths):
-    sums = [limit]
+    checksum = hashlib.sha256(limit.encode())
     for path in paths:
         with open(path, "rb") as file:
-            sums.append(hashlib.sha256(file.read()).hexdigest())
-    return hashlib.sha256(" ".join(sums).encode()).hexdigest()[:32]
-
-
-def replace_file(path, text):
-    """Writes a file that is there whole or not at all."""
-    with open(path + ".new", "w", encoding="ascii") as file:
-        file.write(text)
-        file.flush()
-        os.fsync(file.fileno())
-    os.rename(path + ".new", path)
+            checksum.update(hashlib.sha256(file.read()).digest())
+    return checksum.hexdigest()[:32]
 
 
 def begin(folder, source, limit):
-    with open(source, "rb") as file:
-        program = file.read()
+    program, ick = content(source), find_ick()
     given = b"" if sys.stdin.isatty() else sys.stdin.buffer.read()
-    ick = find_ick()
     try:
         os.makedirs(os.path.join(folder, "parts"))
     except FileExistsError:
@@ -74,4 +79,5 @@ def begin(folder, source, limit):
     for path, text in zip(paths, (program, given)):
         with open(path, "wb") as file:
             file.write(text)
-    replace_file(os.path.join(folder, "job"), f"{FORM} {limit} {name_of(limit, *paths, ick)}\n")
+    with open(os.path.join(folder, "job"), "w", encoding="ascii") as file:
+        file.write(f"{FORM} {limit} {name_of(limit, *paths, ick)}\n")

@@ -1,79 +1,78 @@
-"""Probes: finds whole runs below a list of choices, and how many there are about, by single runs of ick."""
-import math
+"""Probes: finds runs that begin with given choices, and about how many there are, by single runs of ick."""
 import random
 import subprocess
 
-from ick_parts import Failed
 from ick_parts.cursors import argument_of
 
-SAMPLES = 3  # the random runs from which the size of a subtree is estimated
+SAMPLES = 3  # the most random runs from which a number of runs is estimated
+
+
+class Guess:
+    """Guesses the length of a run: that of the last one, or as much more than the stem's. It takes what was nearer then."""
+
+    def __init__(self):
+        self.stem, self.length, self.is_by_stem = 0, 0, False
+
+    def of(self, stem):
+        return max(stem, self.length + (stem - self.stem if self.is_by_stem else 0))
+
+    def learn(self, stem, length):
+        plain, by_stem = abs(length - self.length), abs(length - self.length - stem + self.stem)
+        self.is_by_stem = by_stem < plain or by_stem == plain and self.is_by_stem
+        self.stem, self.length = stem, length
 
 
 class Prober:
     def __init__(self, job):
-        self.job, self.known, self.calls, self.guess = job, {}, 0, {}
+        self.job, self.known, self.weights = job, {}, {}
+        self.first, self.last, self.random = Guess(), Guess(), Guess()
 
     def is_enough(self, choices):
-        """Whether a list of choices is a run's whole list or longer: whether the run then asks nothing more."""
+        """Returns whether choices are all that a run takes, or more."""
         if choices not in self.known:
-            self.calls += 1
             with self.job.call("run", "--choices=" + argument_of(choices), stdout=subprocess.DEVNULL,
-                               stderr=subprocess.PIPE) as child:
-                error = child.stderr.read()
-            if child.returncode not in (0, 1, 3):
-                raise Failed(f"ick run: {error.decode(errors='replace').strip()} (status {child.returncode})")
-            self.known[choices] = child.returncode != 3 or not error.startswith(b"CHOICE WANTED AFTER ")
+                               stderr=subprocess.PIPE) as ick:
+                error = ick.stderr.read()
+            if ick.returncode not in (0, 1, 3):
+                raise ChildProcessError(f"ick run ended with status {ick.returncode}: {error.decode(errors='replace')}")
+            self.known[choices] = not error.startswith(b"CHOICE WANTED AFTER ")
         return self.known[choices]
 
-    def whole(self, kind, stem, more):
-        """Returns the run that begins with the stem and goes on with more(n), the first n choices of an endless list.
-
-        The search begins at the length of the last such run, and doubles its steps.
-        """
-        low, high, step = -1, max(0, self.guess.get(kind, 0) - len(stem)), 1
-        while not self.is_enough(stem + more(high)):
-            low, high, step = high, high + step, step * 2
+    def run_below(self, guess, stem, prefix):
+        """Returns the run that begins with a stem and takes the choices of prefix(n), the first n of an endless list."""
+        low, high, step = len(stem), guess.of(len(stem)), 1
+        while not self.is_enough(prefix(high)):
+            low, high, step = high + 1, high + step, step * 2
         step = 1
-        while high - low > 1:
-            middle = max(0, high - step) if low < 0 else (low + high) // 2
-            if self.is_enough(stem + more(middle)):
+        while low < high:
+            # as long as each try is enough, the steps grow
+            middle = (low + high) // 2 if low > len(stem) else max(low, high - step)
+            if self.is_enough(prefix(middle)):
                 high, step = middle, step * 2
             else:
-                low = middle
-        self.guess[kind] = len(stem) + high
-        return stem + more(high)
+                low = middle + 1
+        guess.learn(len(stem), high)
+        return prefix(high)
 
     def first_below(self, stem):
-        return self.whole("first", stem, lambda n: "0" * n)
+        return self.run_below(self.first, stem, lambda length: stem.ljust(length, "0"))
 
     def last_below(self, stem):
-        return self.whole("last", stem, lambda n: "1" * n)
+        return self.run_below(self.last, stem, lambda length: stem.ljust(length, "1"))
 
     def weight(self, stem):
-        """Returns the logarithm of about how many runs begin with the stem.
+        """Returns about how many runs begin with a stem.
 
-        Each of a few random runs stands for 2 to the number of its further choices (Knuth's estimate); the result is
-        their mean.
+        A random run stands for 2 to the number of its further choices (Knuth's estimate). The result is the mean of
+        several, up to one whose length was guessed.
         """
-        dice, depths = random.Random(stem), []
-        for _ in range(SAMPLES):
-            path = RandomChoices(dice)
-            depths.append((len(self.whole("random", stem, path.take)) - len(stem)) * math.log(2))
-            if depths[0] == 0:
-                return 0.0  # the stem is a run
-        return log_sum(depths) - math.log(SAMPLES)
-
-
-class RandomChoices:
-    def __init__(self, dice):
-        self.dice, self.choices = dice, ""
-
-    def take(self, count):
-        while len(self.choices) < count:
-            self.choices += format(self.dice.getrandbits(64), "064b")
-        return self.choices[:count]
-
-
-def log_sum(weights):
-    most = max(weights)
-    return most + math.log(sum(math.exp(it - most) for it in weights))
+        if stem not in self.weights:
+            numbers, is_guessed = [], False
+            while len(numbers) < SAMPLES and not is_guessed:
+                seed, guessed = f"{stem} {len(numbers)}", self.random.of(len(stem))
+                length = len(self.run_below(self.random, stem, lambda length: (
+                    stem + "".join(random.Random(seed).choices("01", k=length - len(stem))))))
+                numbers.append(2 ** (length - len(stem)))
+                is_guessed = length == guessed
+            self.weights[stem] = sum(numbers) // len(numbers)
+        return self.weights[stem]

@@ -1,83 +1,101 @@
 """Segments: files of lines that stand together in the listing, each with a file of seals.
 
-The first line of the seals says after which place the segment begins. Each further line is a seal: how many bytes are
-good, their checksum with the first line, the last cursor, and MORE or DONE. One process writes a segment once, and
-nobody changes it later. Bytes behind the last seal don't count.
+The first line of the seals says behind which place the segment begins. Each further line is a seal: how many bytes are
+good, their checksum with the first line, and the place to which they go. One process writes a segment once, and nobody
+changes it later. Bytes behind the last seal don't count.
 """
-import hashlib
+import glob
 import os
+import re
+import time
+import zlib
 
 from ick_parts import Refused
-from ick_parts.cursors import FIRST, LAST, cursor_of_last_line, read_cursor, read_place
+from ick_parts.cursors import FIRST, LAST, end_of_line, last_run, read_place, show_place
 from ick_parts.job import FORM
+
+SEAL = re.compile(r"(\d+) [0-9a-f]{8} (\S+)")
+SEAL_SECONDS = float(os.environ.get("ICK_PARTS_SEAL") or 2)
+SEAL_BYTES = 1 << 25
+
+
+def show_seal(size, checksum, cursor):
+    return f"{size} {zlib.crc32(f'{size} {cursor}'.encode(), checksum):08x} {cursor}"
+
+
+class Writer:
+    """Writes a new segment, and seals it from time to time."""
+
+    def __init__(self, job, folder, start):
+        os.makedirs(folder, exist_ok=True)
+        path = os.path.join(folder, os.urandom(6).hex())
+        self.lines, self.seals = (open(name, "xb", buffering=0) for name in (path, path + ".seals"))
+        self.place, self.size, self.sealed, self.sealed_at = start, 0, 0, time.monotonic()
+        head = f"{FORM} {job.name} {show_place(start)}".encode()
+        self.checksum = zlib.crc32(head)
+        write_all(self.seals, head + b"\n")
+
+    def keep(self, lines):
+        if lines:
+            write_all(self.lines, lines)
+            self.checksum = zlib.crc32(lines, self.checksum)
+            self.size += len(lines)
+            self.place = last_run(lines)
+        if self.size > self.sealed + SEAL_BYTES or time.monotonic() > self.sealed_at + SEAL_SECONDS:
+            self.seal()
+
+    def seal(self, is_done=False):
+        """Seals all lines, if there are new ones or they are the last of the listing."""
+        if self.size > self.sealed or is_done:
+            os.fsync(self.lines.fileno())
+            cursor = show_place(LAST if is_done else self.place)
+            write_all(self.seals, show_seal(self.size, self.checksum, cursor).encode() + b"\n")
+            os.fsync(self.seals.fileno())
+            self.sealed, self.sealed_at = self.size, time.monotonic()
 
 
 class Segment:
-    def __init__(self, job, path):
-        self.path, self.seals, self.start, self.end = path, [], None, None
-        with open(path + ".seals", "rb") as file:
-            lines = file.read().split(b"\n")[:-1]  # a last line without its end was torn
-        if not lines:
-            return
-        self.head = lines[0]
-        words = self.words_of(lines[0], 3)
-        if words[0] != FORM:
-            raise Refused(f"{path}.seals can't be read")
+    """A segment to read. It has the runs behind `start`, up to `end`."""
+
+    def __init__(self, job, path, head, *seals):
+        self.path, self.head, self.seals = path, head, [SEAL.fullmatch(line) for line in seals]
+        words = head.split(" ")
+        if len(words) != 3 or words[0] != FORM or None in self.seals:
+            raise Refused(f"{path}.seals is damaged: remove it and {path}, and plan again")
         if words[1] != job.name:
             raise Refused(f"{path} is of another job")
-        self.start = self.end = read_place(words[2])
-        for line in lines[1:]:
-            size, checksum, last, word = self.words_of(line, 4)
-            if not size.isdigit() or word not in ("MORE", "DONE"):
-                raise Refused(f"{path}.seals can't be read")
-            self.seals.append((int(size), checksum, last, word))
-            self.end = LAST if word == "DONE" else read_place(last)
+        self.start, self.end = read_place(words[2]), read_place(self.seals[-1][2])
 
-    def words_of(self, line, count):
-        words = line.decode("ascii", "replace").split(" ")
-        if len(words) != count:
-            raise Refused(f"{self.path}.seals can't be read")
-        return words
-
-    def blocks(self):
-        """Yields the sealed text, each block after it was compared with its seal."""
-        checksum, at, cursor = new_checksum(self.head), 0, self.head.split(b" ")[2].decode()
+    def blocks_behind(self, place):
+        """Yields the lines behind a place with where they begin, in blocks that were compared with their seals."""
+        is_wanted, at, checksum = place == self.start, 0, zlib.crc32(self.head.encode())
         with open(self.path, "rb") as file:
-            for size, wanted, last, word in self.seals:
-                text = file.read(size - at)
-                at += len(text)
-                checksum.update(text)
-                if at != size:
-                    raise Refused(f"{self.path} is shorter than its seals say")
-                cursor = cursor_of_last_line(text) if text else cursor
-                if seal_sum(checksum, size, last, word) != wanted or cursor != last:
-                    raise Refused(f"{self.path} is damaged before byte {size}")
-                yield text
+            for it in self.seals:
+                lines = file.read(max(0, int(it[1]) - at))
+                at, checksum = at + len(lines), zlib.crc32(lines, checksum)
+                if it[0] != show_seal(at, checksum, it[2]):
+                    raise Refused(f"{self.path} is damaged before byte {it[1]}: remove it and its seals, and plan again")
+                skipped = 0 if is_wanted else end_of_line(lines, place)
+                is_wanted = is_wanted or skipped > 0
+                if is_wanted and skipped < len(lines):
+                    yield at - len(lines) + skipped, lines[skipped:]
+        if not is_wanted:
+            raise Refused(f"{self.path} goes past {show_place(place)} and hasn't got it")
 
 
-def new_checksum(head):
-    return hashlib.blake2b(head, digest_size=16)
-
-
-def seal_sum(checksum, size, last, word):
-    copy = checksum.copy()
-    copy.update(f"{size} {last} {word}".encode())
-    return copy.hexdigest()
-
-
-def segments_of(job, piece=None):
-    """Returns the segments with at least one seal, of all pieces or of one, in the order of their beginnings."""
+def segments_of(job, piece="*"):
+    """Returns the segments with at least one seal, of all pieces or of one, in the order of their starts."""
     found = []
-    for name in [piece] if piece else sorted(os.listdir(job.path("parts"))):
-        if os.path.isdir(job.path("parts", name)):
-            for file in sorted(os.listdir(job.path("parts", name))):
-                if file.endswith(".seals"):
-                    found.append(Segment(job, job.path("parts", name, file[:-len(".seals")])))
-    return sorted((it for it in found if it.seals), key=lambda it: it.start)
+    for path in glob.glob(os.path.join(glob.escape(job.path("parts")), piece, "*.seals")):
+        with open(path, "rb") as file:
+            lines = file.read().decode("ascii", "replace").split("\n")[:-1]  # a last line without its end was torn
+        if len(lines) > 1:
+            found.append(Segment(job, path[:-len(".seals")], *lines))
+    return sorted(found, key=lambda it: it.start)
 
 
 def cover(job):
-    """Returns the segments that make the listing, each with the place after which it is wanted; and the gaps."""
+    """Returns the segments that make the listing, each with the place behind which it is wanted; and the gaps."""
     used, gaps, at = [], [], FIRST
     for segment in segments_of(job):
         if segment.start > at:
@@ -87,3 +105,10 @@ def cover(job):
             used.append((segment, at))
             at = segment.end
     return used, gaps + ([(at, LAST)] if at != LAST else [])
+
+
+def write_all(file, text):
+    """Writes to a file without a buffer."""
+    view = memoryview(text)
+    while view:
+        view = view[file.write(view):]
