@@ -14,10 +14,11 @@ import common
 import advice
 import convert
 import filters
+import parts
 import tree
 import vim
 
-TRIED = {"advice": advice, "tree": tree, "filters": filters, "convert": convert, "vim": vim}
+TRIED = {"advice": advice, "tree": tree, "filters": filters, "convert": convert, "vim": vim, "parts": parts}
 
 
 def main():

@@ -46,7 +46,7 @@ def follows(before, after):
 
 
 def first_run(lines):
-    return read_place(lines[:lines.find(b" ")].decode("ascii", "replace"))
+    return read_place(lines[:max(0, lines.find(b" "))].decode("ascii", "replace"))
 
 
 def last_run(lines):

@@ -60,13 +60,15 @@ class Part:
         after = ["--from=" + argument_of(place)] if place != FIRST else []
         with self.job.call("runs", "--count", RUNS_A_CALL, *after, stdout=subprocess.PIPE, bufsize=0) as self.ick:
             fcntl.fcntl(self.ick.stdout, F_SETPIPE_SZ, READ_BYTES)
-            for text in blocks_of_lines(self.ick.stdout):
-                how = self.take(text)
-                if how == "enough":
-                    self.ick.kill()
-                if how:
-                    return how
-        return "failed"
+            try:
+                for text in blocks_of_lines(self.ick.stdout):
+                    how = self.take(text)
+                    if how:
+                        return how
+                self.ick.wait()
+                return "failed"
+            finally:
+                self.ick.kill()
 
     def take(self, text):
         """Keeps whole lines up to the end of the piece."""
