@@ -46,6 +46,7 @@ FAILING_ICK = """#!/bin/sh
 case ${{FAIL-}} in
     dies) '{0}' "$@" 2>/dev/null | head -c 50001; exit 4 ;;
     ends) '{0}' "$@" 2>/dev/null | head -n 1000 ;;
+    silent) exit 4 ;;
     waits) '{0}' "$@" 2>/dev/null | head -c 50001; while kill -0 $PPID 2>/dev/null; do sleep 0.1; done ;;
     *) exec '{0}' "$@" ;;
 esac
