@@ -1,11 +1,10 @@
-"""Tries ick-parts: whole listings in any number of parts, through kills, failures, full disks and damage of every kind."""
+"""Tries ick-parts: whole listings in any number of parts, through kills, failures, full disks and damage."""
 import bisect
 import glob
 import heapq
 import io
 import os
 import random
-import resource
 import shutil
 import signal
 import subprocess
@@ -29,15 +28,21 @@ def chances(count):
     return "".join(f"{'DO' if number % 4 else 'PLEASE'} %50 FORGET #0\n" for number in range(count))
 
 
-# each is a program, its input and the limit of its listing: a full tree, runs that end at different faults, one long path
-# with a full tree at each step, a path of faults, and a program without choices
+LETTERS = "PLEASE %50 WRITE IN .1\nDO %50 READ OUT .1\nDO %50 WRITE IN .1\nDO %50 READ OUT .1\n" * 3
+STAIRS = "DO (1) NEXT\n(1) DO FORGET #1\nDO %50 (2) NEXT\nPLEASE (1) NEXT\n(2) DO FORGET #1\n"
+
+# each is a program, its input, the limit of its listing, and the numbers of pieces into which it is cut
 PROGRAMS = {
-    "even": (chances(13) + "DO READ OUT #1972\nDO GIVE UP\n", b"", 10_000),
-    "letters": (("PLEASE" + " %50 WRITE IN .1\nDO %50 READ OUT .1\nDO" * 2 + " FORGET #0\n") * 3 + "DO GIVE UP\n", b"ONE\nTWO\nTHREE FOUR\nFIVE\n", 10_000),
-    "stairs": ("DO (1) NEXT\n(1) DO FORGET #1\nDO %50 (2) NEXT\nPLEASE (1) NEXT\n(2) DO FORGET #1\n" + chances(6)
-               + "DO GIVE UP\n", b"", 600),
-    "again": ("(1) DO %50 (1) NEXT\nPLEASE GIVE UP\n", b"", 10_000),
-    "one": ("DO READ OUT #1 PLEASE GIVE UP\n", b"", 10_000),
+    # a full tree
+    "even": (chances(13) + "DO READ OUT #1972\nDO GIVE UP\n", b"", 10_000, (1, 2, 5)),
+    # runs that end at different places
+    "letters": (LETTERS + "DO GIVE UP\n", b"ONE\nTWO\nTHREE FOUR\nFIVE\n", 10_000, (2, 5)),
+    # one long path with a full tree at each step
+    "stairs": (STAIRS + chances(6) + "DO GIVE UP\n", b"", 600, (3,)),
+    # one long path
+    "again": ("(1) DO %50 (1) NEXT\nPLEASE GIVE UP\n", b"", 10_000, (3,)),
+    # no choices
+    "one": ("DO READ OUT #1 PLEASE GIVE UP\n", b"", 10_000, (1, 2)),
 }
 
 # stands for ick; FAIL says what goes wrong with a listing
@@ -59,9 +64,9 @@ class Case:
     def __init__(self, tally, name, folder=None, ick=None):
         self.tally, self.name = tally, name
         self.folder = os.path.join(tally.folder, folder or name)
-        self.environment = dict(os.environ, ICK=ick or tally.program, ICK_PARTS_SEAL="0", PATH=f"{TOOLS}:{os.environ['PATH']}")
+        self.environment = dict(os.environ, ICK=ick or tally.program, ICK_PARTS_SEAL="0")
         shutil.rmtree(self.folder, ignore_errors=True)
-        source, given, limit = PROGRAMS[name]
+        source, given, limit, _ = PROGRAMS[name]
         path = os.path.join(tally.folder, f"{name}.i")
         with open(path, "w", encoding="ascii") as file:
             file.write(source)
@@ -73,9 +78,9 @@ class Case:
         words = [sys.executable, PARTS, command, self.folder, *map(str, arguments)]
         return called(words, given, dict(self.environment, **more))
 
-    def start(self, *arguments, **more):
-        return subprocess.Popen([sys.executable, PARTS, "part", self.folder, *arguments], stdin=subprocess.DEVNULL,
-                                stderr=subprocess.PIPE, env=dict(self.environment, **more))
+    def start(self, command, *arguments, stdout=None, **more):
+        return subprocess.Popen([sys.executable, PARTS, command, self.folder, *arguments], stdin=subprocess.DEVNULL,
+                                stdout=stdout, stderr=subprocess.PIPE, env=dict(self.environment, **more))
 
     def plan(self, count):
         status, out, err = self.call("plan", count, "--short", 0)
@@ -102,7 +107,14 @@ class Case:
                 break
             self.parts(count)
         status, out, err = self.call("join")
-        self.tally.check((status, err) == (0, b"") and out == self.whole, f"{text}: {status} {err!r}, not the listing of ick")
+        self.tally.check((status, err) == (0, b"") and out == self.whole, f"{text}, not the whole: {status} {err!r}")
+
+
+def ended(process):
+    """Waits for a process. Returns its status and what it wrote to standard error."""
+    status = process.wait(SECONDS)
+    with process.stderr:
+        return status, process.stderr.read()
 
 
 def random_tree(dice, depth):
@@ -148,14 +160,15 @@ def try_check(tally):
         tally.same(f"check of {text!r}", checked(text), wanted)
     for text in (b"", b"DONE\n", b"0 A\nDONE\n", b"1 A\nDONE\n", b"0 A\n1 A\n", b"0 A\n1 A", b"0 A\n0 A\n1 A\nDONE\n",
                  b"00 A\n01 A\n11 A\nDONE\n", b"0 A\nMORE\n1 A\nDONE\n", b"0 A\n1 A\nDONE\nDONE\n", b"- A\n- A\nDONE\n",
-                 b"- A\n0 A\n1 A\nDONE\n", b"0 A\n10 A\n110 A\n1111 A\nDONE\n", b"x\n", b"0\n1\nDONE\n", b"0 A\n1 A\nDONE"):
+                 b"- A\n0 A\n1 A\nDONE\n", b"0 A\n10 A\n110 A\n1111 A\nDONE\n", b"x\n", b"0\n1\nDONE\n",
+                 b"0 A\n1 A\nDONE"):
         tally.check(checked(text) is None, f"check passes {text!r}")
     sys.stdin = kept
 
 
 def try_splits(tally):
-    for name in PROGRAMS:
-        for count in (1, 2, 5):
+    for name, (_, _, _, counts) in PROGRAMS.items():
+        for count in counts:
             case = Case(tally, name)
             made = case.plan(count)
             results = case.parts(made)
@@ -163,13 +176,11 @@ def try_splits(tally):
             tally.same(f"parts of {name} in {made}", results, [(0, b"", b"")] * made)
             tally.same(f"join of {name} in {made}", case.call("join"), (0, case.whole, b""))
             tally.same(f"plan of {name} behind its end", case.plan(3), 0)
-    runs = Case(tally, "even").whole.count(b"\n") - 1
-    status, out, err = called([sys.executable, PARTS, "check"], Case(tally, "even").whole)
-    tally.same("check of even", (status, out, err), (0, b"%d RUNS\n" % runs, b""))
-    status, out, err = case.call("plan", 5)
-    case = Case(tally, "one")
-    status, out, err = case.call("plan", 5)
-    tally.check((status, out) == (0, b"1\n") and b"one piece" in err, f"plan of a short listing: {status} {out!r} {err!r}")
+    tally.same("check of even", called([sys.executable, PARTS, "check"], Case(tally, "even").whole),
+               (0, b"8192 RUNS\n", b""))
+    case = Case(tally, "even")
+    status, out, err = case.call("plan", 5, "--short", SECONDS)
+    tally.check((status, out) == (0, b"1\n") and b"one piece" in err, f"plan of a short listing: {status} {err!r}")
     case.finishes("a short listing")
 
 
@@ -206,8 +217,11 @@ def try_damage(tally):
     write(path + ".seals", seals[:-3])
     case.refuses("a seal is torn")
     case.finishes("after a torn seal")
-    write(path, b"x" + text[1:])
-    case.refuses("damaged where another segment goes on")
+    case = Case(tally, "letters")
+    case.parts(case.plan(2))
+    path = case.lines()[0]
+    write(path, b"x" + content(path)[1:])
+    case.refuses("a segment is damaged")
     os.unlink(path)
     os.unlink(path + ".seals")
     case.finishes("after a damaged segment was removed")
@@ -219,7 +233,7 @@ def write(path, text):
 
 
 def try_foreign(tally):
-    """Segments of two processes on a piece are one listing; what is of another job, program, input or ick is refused."""
+    """Two processes on a piece make one listing. What is of another job, program, input or ick is refused."""
     case = Case(tally, "even")
     case.plan(2)
     with ThreadPoolExecutor(4) as pool:
@@ -234,11 +248,10 @@ def try_foreign(tally):
             file.write(b"\n")
         status, _, err = other.call("part", 1)
         tally.check(status == 1 and b"has changed" in err, f"part after {name} changed: {status} {err!r}")
-    write(f"{other.folder}/plan", b"x\n")
     case = Case(tally, "even")
+    case.plan(2)
     status, _, err = case.call("part", 1, ICK="/bin/sh")
     tally.check(status == 1 and b"has changed" in err, f"part by another ick: {status} {err!r}")
-    case.plan(2)
     for text in (b"", b"x\n", b"1\n- 0\n1\n", b"1\n- 2\n"):
         write(f"{case.folder}/plan", text)
         status, _, err = case.call("part", 1)
@@ -250,21 +263,20 @@ def try_failures(tally):
     ick = os.path.join(tally.folder, "failing-ick")
     write(ick, FAILING_ICK.format(tally.program).encode())
     os.chmod(ick, 0o755)
-    for fails, status_wanted in (("dies", 4), ("ends", 4), ("waits", 143), ("waits", 0), ("waits", -9)):
+    for fails, wanted in (("dies", 4), ("ends", 4), ("waits", 143), ("waits", 0), ("waits", -9)):
         case = Case(tally, "even", ick=ick)
         case.plan(1)
-        part = case.start("1", *(["--seconds", "1"] if status_wanted == 0 else []), FAIL=fails)
-        if status_wanted in (143, -9):
+        part = case.start("part", "1", *(["--seconds", "1"] if wanted == 0 else []), FAIL=fails)
+        if wanted in (143, -9):
             wait_for(lambda: any(content(f"{path}.seals").count(b"\n") > 1 for path in case.lines()))
-            part.send_signal(signal.SIGTERM if status_wanted == 143 else signal.SIGKILL)
-        part.wait(SECONDS)
-        err = part.stderr.read()
-        part.stderr.close()
-        tally.check(part.returncode == status_wanted and (status_wanted == 4) == (b"ick ended with" in err),
-                    f"part whose ick {fails}: {part.returncode}, not {status_wanted}: {err!r}")
+            part.send_signal(signal.SIGTERM if wanted == 143 else signal.SIGKILL)
+        status, err = ended(part)
+        tally.check(status == wanted and (wanted == 4) == (b"ick ended with" in err),
+                    f"part whose ick {fails}: {status}, not {wanted}: {err!r}")
         path, = case.lines()
         kept = content(path)
-        tally.check(len(kept) > 5000 and kept.endswith(b"\n") and case.whole.startswith(kept), f"whole lines of an ick that {fails}")
+        tally.check(kept.endswith(b"\n") and case.whole.startswith(kept),
+                    f"what is kept of an ick that {fails} isn't whole lines")
         case.refuses(f"after an ick that {fails}")
         with open(path, "ab") as file:
             file.write(b"0101 GIVE-UP")
@@ -282,32 +294,30 @@ def try_kills(tally):
     case, dice = Case(tally, "stairs"), random.Random(5)
     for _ in range(3):
         for which in range(1, case.plan(2) + 1):
-            part = case.start(str(which))
+            part = case.start("part", str(which))
             time.sleep(dice.uniform(0.05, 0.3))
             part.kill()
-            part.communicate(timeout=SECONDS)
+            ended(part)
     case.finishes("after kills")
 
 
 def try_disks(tally):
     case = Case(tally, "even")
     case.plan(2)
-    for size in (20, 100_000):
-        part = subprocess.run([sys.executable, PARTS, "part", case.folder, "1"], stdin=subprocess.DEVNULL, env=case.environment,
-                              stderr=subprocess.PIPE, timeout=SECONDS, check=False,
-                              preexec_fn=lambda: resource.setrlimit(resource.RLIMIT_FSIZE, (size, size)))
-        tally.check(part.returncode == 4 and b"File too large" in part.stderr and part.stderr.count(b"\n") == 1,
-                    f"part that may write {size} bytes: {part.returncode} {part.stderr!r}")
+    for blocks in (0, 200):
+        limited = ["sh", "-c", f'ulimit -f {blocks}; exec "$@"', "sh", sys.executable, PARTS, "part", case.folder, "1"]
+        status, _, err = called(limited, environment=case.environment)
+        tally.check(status == 4 and b"File too large" in err and err.count(b"\n") == 1,
+                    f"part whose files have at most {blocks} blocks: {status} {err!r}")
         case.refuses("after a full disk")
     case.finishes("after a full disk")
     with open("/dev/full", "wb") as full:
-        done = subprocess.run([sys.executable, PARTS, "join", case.folder], stdout=full, stderr=subprocess.PIPE, check=False)
-    tally.check(done.returncode == 4 and b"No space left" in done.stderr, f"join to a full disk: {done}")
+        status, err = ended(case.start("join", stdout=full))
+    tally.check(status == 4 and b"No space left" in err, f"join to a full disk: {status} {err!r}")
     reading, writing = os.pipe()
     os.close(reading)
-    done = subprocess.run([sys.executable, PARTS, "join", case.folder], stdout=writing, stderr=subprocess.PIPE, check=False)
+    tally.same("join into a closed pipe", ended(case.start("join", stdout=writing)), (-signal.SIGPIPE, b""))
     os.close(writing)
-    tally.same("join into a closed pipe", done.stderr, b"")
 
 
 def try_arguments(tally):
@@ -320,7 +330,7 @@ def try_arguments(tally):
             tally.check(status == 2 and not out and err.count(b"\n") < 6, f"{name} {words}: {status} {err!r}")
         if name != "ick-parts":
             status, out, err = called(["/bin/sh", path, tally.folder, "1", "1"], environment={"PATH": "/nowhere"})
-            tally.check(status == 4 and not out and b"on the PATH" in err, f"{name} without its program: {status} {err!r}")
+            tally.check(status == 4 and not out and b"on the PATH" in err, f"{name} on no PATH: {status} {err!r}")
     case = Case(tally, "one")
     for words in (["plan", case.folder, "0"], ["plan", case.folder, "1", "--short", "x"], ["part", case.folder, "-1"],
                   ["part", case.folder, "1", "--seconds", "-1"], ["part", case.folder, "1"], ["join", "/no/such"],
@@ -330,7 +340,7 @@ def try_arguments(tally):
     status, _, err = case.call("begin", __file__)
     tally.check(status == 1 and b"is there already" in err, f"begin twice: {status} {err!r}")
     status, _, err = case.call("plan", 2, ICK="/no/such")
-    tally.check(status == 4 and b"there is no ick" in err, f"plan without ick: {status} {err!r}")
+    tally.check(status == 4 and b"there is no /no/such" in err, f"plan without ick: {status} {err!r}")
     write(f"{case.folder}/job", b"x")
     case.refuses("a damaged job")
 
@@ -357,20 +367,21 @@ def time_of(sizes, processes):
 
 
 def try_balance(tally):
-    """The heaviest process has at most 1.3 times the mean, in runs, in rounds in which a part lists a quarter of a share."""
+    """The heaviest process has at most 1.3 times the mean, in runs, if a part ends after a quarter of such a share."""
     for name in ("even", "letters", "stairs"):
         runs = [first_run(line) for line in Case(tally, name).whole.splitlines()[:-1]]
         place_of = {FIRST: 0, LAST: len(runs), **{run: place for place, run in enumerate(runs, 1)}}
         for processes in (4, 16):
-            gaps, time, round_, probes = [(FIRST, LAST)], 0, max(1, len(runs) // processes // 4), 0
+            gaps, time_, most, probes = [(FIRST, LAST)], 0, len(runs) // processes // 4, 0
             while gaps:
                 prober = Listed(runs)
                 pieces = cut(prober, gaps, 4 * processes)
                 probes += len(prober.known)
                 places = [(place_of[start], place_of[end]) for start, end in pieces]
-                time += time_of([min(end - start, round_) for start, end in places], processes)
-                gaps = sorted((runs[start + round_ - 1], piece[1]) for (start, end), piece in zip(places, pieces) if end - start > round_)
-            heaviest = time * processes / len(runs)
+                time_ += time_of([min(end - start, most) for start, end in places], processes)
+                gaps = sorted((runs[start + most - 1], runs[end - 1] if end < len(runs) else LAST)
+                              for start, end in places if end - start > most)
+            heaviest = time_ * processes / len(runs)
             tally.check(heaviest <= 1.3, f"{name} on {processes}: the heaviest has {heaviest:.2f} times the mean")
             tally.check(probes <= 100 * 4 * processes, f"{name} on {processes}: {probes} probes")
 
@@ -391,6 +402,6 @@ def try_parallel(tally):
 
 
 def try_all(tally):
-    for attempt in (try_cursors, try_check, try_splits, try_damage, try_foreign, try_failures, try_kills, try_disks, try_arguments,
-                    try_balance, try_parallel):
+    for attempt in (try_cursors, try_check, try_splits, try_damage, try_foreign, try_failures, try_kills, try_disks,
+                    try_arguments, try_balance, try_parallel):
         attempt(tally)

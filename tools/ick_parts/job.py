@@ -11,6 +11,7 @@ from ick_tool import content
 
 FORM = "ick-parts-1"
 RUNS_A_CALL = "1000000"  # the most that ick lists in one call
+BUILT = os.path.join(os.path.dirname(__file__), "../../crates/ick/out/ick")  # what ./ick built in this repository
 
 
 class Job:
@@ -54,9 +55,10 @@ class Job:
 
 
 def find_ick():
-    found = shutil.which(os.environ.get("ICK") or "ick")
+    named = os.environ.get("ICK")
+    found = shutil.which(named) if named else shutil.which("ick") or shutil.which(BUILT)
     if not found:
-        raise FileNotFoundError("there is no ick on the PATH; the environment variable ICK can name it")
+        raise FileNotFoundError(f"there is no {named or 'ick on the PATH; the environment variable ICK can name it'}")
     return found
 
 

@@ -55,7 +55,7 @@ class Part:
         return STOPPED if self.told == signal.SIGTERM else 0
 
     def call(self):
-        """Keeps the lines of one call. Returns MORE or DONE, `enough` at the end of the piece or the time, or `failed`."""
+        """Keeps the lines of one call. Returns MORE or DONE, `enough` at the end of piece or time, or `failed`."""
         place = self.writer.place
         after = ["--from=" + argument_of(place)] if place != FIRST else []
         with self.job.call("runs", "--count", RUNS_A_CALL, *after, stdout=subprocess.PIPE, bufsize=0) as self.ick:

@@ -20,7 +20,7 @@ FLIPPED = str.maketrans("01", "10")
 
 
 class Subtrees:
-    """Neighbouring subtrees: each leaves one path at one of the forks. The fork at the path's end is the path itself."""
+    """Neighbouring subtrees, each of which leaves one path at one of the forks. At its end it is the path itself."""
 
     def __init__(self, prober, gap, path, forks):
         self.prober, self.gap, self.path, self.forks = prober, gap, path, forks

@@ -8,7 +8,7 @@ SAMPLES = 3  # the most random runs from which a number of runs is estimated
 
 
 class Guess:
-    """Guesses the length of a run: that of the last one, or as much more than the stem's. It takes what was nearer then."""
+    """Guesses the length of a run: that of the last one, or as much above its stem, whichever was nearer then."""
 
     def __init__(self):
         self.stem, self.length, self.is_by_stem = 0, 0, False
@@ -39,7 +39,7 @@ class Prober:
         return self.known[choices]
 
     def run_below(self, guess, stem, prefix):
-        """Returns the run that begins with a stem and takes the choices of prefix(n), the first n of an endless list."""
+        """Returns the run that begins with a stem and takes choices of an endless list, whose first n are prefix(n)."""
         low, high, step = len(stem), guess.of(len(stem)), 1
         while not self.is_enough(prefix(high)):
             low, high, step = high + 1, high + step, step * 2

@@ -74,7 +74,7 @@ class Segment:
                 lines = file.read(max(0, int(it[1]) - at))
                 at, checksum = at + len(lines), zlib.crc32(lines, checksum)
                 if it[0] != show_seal(at, checksum, it[2]):
-                    raise Refused(f"{self.path} is damaged before byte {it[1]}: remove it and its seals, and plan again")
+                    raise Refused(f"{self.path} is damaged before byte {it[1]}: remove it and its seals, plan again")
                 skipped = 0 if is_wanted else end_of_line(lines, place)
                 is_wanted = is_wanted or skipped > 0
                 if is_wanted and skipped < len(lines):

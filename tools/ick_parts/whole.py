@@ -10,7 +10,7 @@ def blocks_of(job):
     """Yields where the blocks of the listing are: file, beginning and size. Each was compared with its seal."""
     used, gaps = cover(job)
     if gaps:
-        raise Refused(f"not whole: {len(gaps)} gaps, the first behind {show_place(gaps[0][0])}; plan again")
+        raise Refused(f"not whole: runs are missing behind {show_place(gaps[0][0])}; plan again")
     for segment, place in used:
         for begin, lines in segment.blocks_behind(place):
             if not follows(place, first_run(lines)):
