@@ -19,7 +19,7 @@ from ick_parts.cursors import FIRST, LAST, argument_of, first_run, follows, read
 from ick_parts.job import Job
 from ick_parts.plan import cut
 from ick_parts.probes import Prober
-from ick_parts.whole import blocks_of, check
+from ick_parts.whole import ranges_of, check
 
 PARTS = os.path.join(TOOLS, "ick-parts")
 
@@ -191,7 +191,7 @@ def try_damage(tally):
 
     def is_refused():
         try:
-            return not list(blocks_of(Job(case.folder)))
+            return not list(ranges_of(Job(case.folder)))
         except Refused:
             return True
 
@@ -348,8 +348,8 @@ def try_arguments(tally):
 class Listed(Prober):
     """Answers from a listing that is there."""
 
-    def __init__(self, runs):
-        super().__init__(None)
+    def __init__(self, job, runs):
+        super().__init__(job)
         self.runs = runs
 
     def is_enough(self, choices):
@@ -369,12 +369,13 @@ def time_of(sizes, processes):
 def try_balance(tally):
     """The heaviest process has at most 1.3 times the mean, in runs, if a part ends after a quarter of such a share."""
     for name in ("even", "letters", "stairs"):
-        runs = [first_run(line) for line in Case(tally, name).whole.splitlines()[:-1]]
+        case = Case(tally, name)
+        runs = [first_run(line) for line in case.whole.splitlines()[:-1]]
         place_of = {FIRST: 0, LAST: len(runs), **{run: place for place, run in enumerate(runs, 1)}}
         for processes in (4, 16):
             gaps, time_, most, probes = [(FIRST, LAST)], 0, len(runs) // processes // 4, 0
             while gaps:
-                prober = Listed(runs)
+                prober = Listed(Job(case.folder), runs)
                 pieces = cut(prober, gaps, 4 * processes)
                 probes += len(prober.known)
                 places = [(place_of[start], place_of[end]) for start, end in pieces]

@@ -5,11 +5,10 @@ import subprocess
 import time
 
 from ick_parts import Refused
-from ick_parts.cursors import FIRST, argument_of, end_of_line, last_run
+from ick_parts.cursors import FIRST, LAST, argument_of, end_of_line, last_run
 from ick_parts.job import RUNS_A_CALL
-from ick_parts.segments import Writer, segments_of
+from ick_parts.segments import READ_BYTES, Writer, segments_of
 
-READ_BYTES = 1 << 20
 F_SETPIPE_SZ = 1031
 STOPPED = 143
 
@@ -24,7 +23,7 @@ def list_part(job, which, seconds):
     for segment in segments_of(job, piece):
         if segment.start <= start < segment.end:
             start = segment.end
-    return Part(job, Writer(job, job.path("parts", piece), start), end).list(seconds) if start < end else 0
+    return Part(job, Writer(job, job.path("parts", piece), start), end).run(seconds) if start < end else 0
 
 
 class Part:
@@ -38,7 +37,7 @@ class Part:
         if self.ick and (number == signal.SIGTERM or self.writer.size):
             self.ick.kill()
 
-    def list(self, seconds):
+    def run(self, seconds):
         """Calls ick until the piece or the time is at its end."""
         signal.signal(signal.SIGTERM, self.stop)
         signal.signal(signal.SIGALRM, self.stop)
@@ -47,7 +46,9 @@ class Part:
         while how == "MORE":
             how = self.call()
         signal.setitimer(signal.ITIMER_REAL, 0)
-        self.writer.seal(how == "DONE")
+        self.writer.seal(self.writer.place)
+        if how == "DONE":
+            self.writer.seal(LAST)
         if how == "failed" and self.ick.returncode == -signal.SIGTERM:
             self.told = signal.SIGTERM  # it went to all processes
         if how == "failed" and not self.told:

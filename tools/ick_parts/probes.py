@@ -24,7 +24,7 @@ class Guess:
 
 class Prober:
     def __init__(self, job):
-        self.job, self.known, self.weights = job, {}, {}
+        self.job, self.limit, self.known, self.weights = job, int(job.limit), {}, {}
         self.first, self.last, self.random = Guess(), Guess(), Guess()
 
     def is_enough(self, choices):
@@ -42,7 +42,8 @@ class Prober:
         """Returns the run that begins with a stem and takes choices of an endless list, whose first n are prefix(n)."""
         low, high, step = len(stem), guess.of(len(stem)), 1
         while not self.is_enough(prefix(high)):
-            low, high, step = high + 1, high + step, step * 2
+            # a run asks for at most as many choices as it makes steps
+            low, high, step = high + 1, min(high + step, self.limit), step * 2
         step = 1
         while low < high:
             # as long as each try is enough, the steps grow

@@ -17,6 +17,7 @@ from ick_parts.job import FORM
 SEAL = re.compile(r"(\d+) [0-9a-f]{8} (\S+)")
 SEAL_SECONDS = float(os.environ.get("ICK_PARTS_SEAL") or 2)
 SEAL_BYTES = 1 << 25
+READ_BYTES = 1 << 20
 
 
 def show_seal(size, checksum, cursor):
@@ -42,14 +43,13 @@ class Writer:
             self.size += len(lines)
             self.place = last_run(lines)
         if self.size > self.sealed + SEAL_BYTES or time.monotonic() > self.sealed_at + SEAL_SECONDS:
-            self.seal()
+            self.seal(self.place)
 
-    def seal(self, is_done=False):
-        """Seals all lines, if there are new ones or they are the last of the listing."""
-        if self.size > self.sealed or is_done:
+    def seal(self, place):
+        """Seals the lines up to a place, if there are new ones or it is the end of the listing."""
+        if self.size > self.sealed or place == LAST:
             os.fsync(self.lines.fileno())
-            cursor = show_place(LAST if is_done else self.place)
-            write_all(self.seals, show_seal(self.size, self.checksum, cursor).encode() + b"\n")
+            write_all(self.seals, show_seal(self.size, self.checksum, show_place(place)).encode() + b"\n")
             os.fsync(self.seals.fileno())
             self.sealed, self.sealed_at = self.size, time.monotonic()
 
@@ -64,23 +64,25 @@ class Segment:
             raise Refused(f"{path}.seals is damaged: remove it and {path}, and plan again")
         if words[1] != job.name:
             raise Refused(f"{path} is of another job")
-        self.start, self.end = read_place(words[2]), read_place(self.seals[-1][2])
+        self.places = [read_place(words[2])] + [read_place(it[2]) for it in self.seals]
+        self.start, self.end = self.places[0], self.places[-1]
 
-    def blocks_behind(self, place):
-        """Yields the lines behind a place with where they begin, in blocks that were compared with their seals."""
-        is_wanted, at, checksum = place == self.start, 0, zlib.crc32(self.head.encode())
+    def range_behind(self, place):
+        """Returns where the lines behind a place begin and end, after it compared all lines with their seals."""
+        begin, at, checksum = 0 if place == self.start else None, 0, zlib.crc32(self.head.encode())
         with open(self.path, "rb") as file:
             for it in self.seals:
-                lines = file.read(max(0, int(it[1]) - at))
-                at, checksum = at + len(lines), zlib.crc32(lines, checksum)
+                block = at
+                for lines in read_range(file, block, int(it[1])):
+                    at, checksum = at + len(lines), zlib.crc32(lines, checksum)
                 if it[0] != show_seal(at, checksum, it[2]):
                     raise Refused(f"{self.path} is damaged before byte {it[1]}: remove it and its seals, plan again")
-                skipped = 0 if is_wanted else end_of_line(lines, place)
-                is_wanted = is_wanted or skipped > 0
-                if is_wanted and skipped < len(lines):
-                    yield at - len(lines) + skipped, lines[skipped:]
-        if not is_wanted:
+                if begin is None:
+                    skipped = end_of_line(b"".join(read_range(file, block, at)), place)
+                    begin = block + skipped if skipped else None
+        if begin is None:
             raise Refused(f"{self.path} goes past {show_place(place)} and hasn't got it")
+        return begin, at
 
 
 def segments_of(job, piece="*"):
@@ -105,6 +107,13 @@ def cover(job):
             used.append((segment, at))
             at = segment.end
     return used, gaps + ([(at, LAST)] if at != LAST else [])
+
+
+def read_range(file, begin, end):
+    """Yields the bytes of a range, in pieces that stay in the processor's cache."""
+    file.seek(begin)
+    for at in range(begin, end, READ_BYTES):
+        yield file.read(min(READ_BYTES, end - at))
 
 
 def write_all(file, text):

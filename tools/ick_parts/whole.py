@@ -2,33 +2,34 @@
 import sys
 
 from ick_parts import Refused
-from ick_parts.cursors import FIRST, LAST, first_run, follows, last_run, show_place
-from ick_parts.segments import cover, write_all
+from ick_parts.cursors import FIRST, LAST, first_run, follows, show_place
+from ick_parts.segments import cover, read_range, write_all
 
 
-def blocks_of(job):
-    """Yields where the blocks of the listing are: file, beginning and size. Each was compared with its seal."""
+def ranges_of(job):
+    """Yields the ranges of bytes that make the listing, with their files. All bytes were compared with their seals."""
     used, gaps = cover(job)
     if gaps:
         raise Refused(f"not whole: runs are missing behind {show_place(gaps[0][0])}; plan again")
     for segment, place in used:
-        for begin, lines in segment.blocks_behind(place):
-            if not follows(place, first_run(lines)):
+        begin, end = segment.range_behind(place)
+        with open(segment.path, "rb") as file:
+            file.seek(begin)
+            if begin < end and not follows(place, first_run(file.readline())):
                 raise Refused(f"{segment.path} doesn't go on right behind {show_place(place)}")
-            place = last_run(lines)
-            yield segment.path, begin, len(lines)
-        if segment.end == LAST and not follows(place, LAST):
+        if segment.end == LAST and not follows(segment.places[-2], LAST):
             raise Refused(f"{segment.path} is at its end where more runs are")
+        yield segment.path, begin, end
 
 
 def join(job):
     """Writes the listing. All of it is compared first, so that a refusal writes nothing."""
-    blocks = list(blocks_of(job))
+    ranges = list(ranges_of(job))
     with open(1, "wb", buffering=0, closefd=False) as output:
-        for path, begin, size in blocks:
+        for path, begin, end in ranges:
             with open(path, "rb") as file:
-                file.seek(begin)
-                write_all(output, file.read(size))
+                for text in read_range(file, begin, end):
+                    write_all(output, text)
         write_all(output, b"DONE\n")
 
 
