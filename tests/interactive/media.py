@@ -4,7 +4,7 @@ import select
 import termios
 import time
 
-SECONDS = 30
+SECONDS = 120
 CONTROL_D = b"\x04"
 LONGEST_TYPED = 4000
 BLOCK = 65_536
