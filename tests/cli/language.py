@@ -3,7 +3,7 @@
 from no run of the program. A source and an input that are given as text end with a line feed, and ` / ` is a line feed
 too.
 """
-from table import SOURCE, Answer, Given, message
+from table import PLAIN, SOURCE, Answer, Given, message
 
 TEXTS = {
     17: "DO YOU EXPECT ME TO FIGURE THIS OUT?",
@@ -85,6 +85,13 @@ OFTEN = "(1) DO %50 (1) NEXT / PLEASE GIVE UP"
 ECHO = "DO WRITE IN .1 / PLEASE READ OUT .1 / DO GIVE UP"
 SILENCED = "DO %50 ABSTAIN FROM READING OUT / DO READ OUT #1 / PLEASE GIVE UP"
 BOTH = "DO %50 READ OUT #5 / DO %50 ABSTAIN FROM READING OUT / PLEASE READ OUT #1 / DO GIVE UP"
+WIDE = "DO :1 <- #65535$#65535 / DO READ OUT :1 / PLEASE GIVE UP"
+ELEMENTS = "DO ,1 <- #2 BY #3 / DO ,1SUB'#2''#3' <- #7 / PLEASE READ OUT ,1SUB#2#3+,1SUB'#1$#0'#1 / DO GIVE UP"
+LOST_ELEMENT = "DO ,1 <- #2 BY #3 / DO ,1SUB'#2''#3' <- #7 / PLEASE READ OUT ,1SUB#3#1+,1SUB'#1$#0'#1 / DO GIVE UP"
+HIDDEN = "DO .1 <- #5 / DO STASH .1 / DO .1 <- #6 / DO IGNORE .1 / DO RETRIEVE .1 / PLEASE READ OUT .1 / " \
+    "DO REMEMBER .1 / DO RETRIEVE .1 / DO GIVE UP"
+ARRAYS = "DO ,1 <- #256 BY #256 / DO ,1SUB#256#256 <- #7 / DO STASH ,1 / DO ,1 <- #1 / " \
+    "PLEASE %50 RETRIEVE ,1 / DO READ OUT ,1SUB#256#256 / DO GIVE UP"
 ONE = b"\nI\n"
 
 RUN = [
@@ -100,8 +107,7 @@ RUN = [
     # values and numerals
     ran("DO READ OUT #0 / PLEASE GIVE UP", prints(b"_\n\n")),
     ran("DO READ OUT #4000 / PLEASE GIVE UP", prints(b" _\nMV\n")),
-    ran("DO :1 <- #65535$#65535 / DO READ OUT :1 / PLEASE GIVE UP",
-        prints(b" _    _ _____\nmvccxcMvCMLXVMMCCXCV\n")),
+    ran(WIDE, prints(b" _    _ _____\nmvccxcMvCMLXVMMCCXCV\n")),
     ran("DO .1 <- #&77 / DO .2 <- #V77 / DO .3 <- #?77 / PLEASE READ OUT .1+.2+.3 / DO GIVE UP",
         prints(b"\nIV\n___\nXXXMMDCCCLXXIX\n___\nXXXMMDCCCLXXV\n")),
     ran("DO .1 <- #179~#201 / DO .2 <- #201~#179 / PLEASE READ OUT .1+.2 / DO GIVE UP",
@@ -134,10 +140,8 @@ RUN = [
     ran("DO :1 <- #0$#255 / DO .3 <- \"?:1$#1\"~\"#0$#65535\" / PLEASE READ OUT .3 / DO GIVE UP",
         prints(b"__\nXXMDCCCXLIV\n")),
     # arrays
-    ran("DO ,1 <- #2 BY #3 / DO ,1SUB'#2''#3' <- #7 / PLEASE READ OUT ,1SUB#2#3+,1SUB'#1$#0'#1 / DO GIVE UP",
-        prints(b"\nVII\n_\n\n")),
-    ran("DO ,1 <- #2 BY #3 / DO ,1SUB'#2''#3' <- #7 / PLEASE READ OUT ,1SUB#3#1+,1SUB'#1$#0'#1 / DO GIVE UP",
-        faults(241, 4)),
+    ran(ELEMENTS, prints(b"\nVII\n_\n\n")),
+    ran(LOST_ELEMENT, faults(241, 4)),
     ran("DO ,1 <- #0", faults(240, 2)),
     ran("DO ,1 <- #256 BY #257", faults(241, 2)),
     ran("DO ,1 <- #256 BY #256", faults(633, 2)),
@@ -150,8 +154,7 @@ RUN = [
     ran("(1) DO (1) NEXT", faults(123, 2)),
     ran("DO (1) NEXT / DO GIVE UP / (1) PLEASE FORGET #9 / DO RESUME #1", faults(632, 5)),
     # STASH, RETRIEVE, IGNORE and REMEMBER
-    ran("DO .1 <- #5 / DO STASH .1 / DO .1 <- #6 / DO IGNORE .1 / DO RETRIEVE .1 / PLEASE READ OUT .1 / "
-        "DO REMEMBER .1 / DO RETRIEVE .1 / DO GIVE UP", faults(436, 9, b"\nVI\n")),
+    ran(HIDDEN, faults(436, 9, b"\nVI\n")),
     ran("DO RETRIEVE .1", faults(436, 2)),
     ran("DO IGNORE .1 / DO .1 <- #1 / PLEASE RESUME .1", faults(621, 4)),
     ran("DO ,1 <- #2 / DO STASH ,1 / DO ,1 <- #3 / DO RETRIEVE ,1 / PLEASE ,1SUB#3 <- #1", faults(241, 6)),
@@ -202,6 +205,9 @@ RUN = [
     ran(ASKS, prints(ONE), words=["--seed", "1"]),
     ran(ASKS, ENDS, words=["--seed", "7"]),
     ran(ASKS, ENDS, words=["--seed", "18446744073709551615"]),
+    # the second word of seed 7 is 414063806
+    ran(BOTH, ENDS, words=["--seed", "7"]),
+    ran(ARRAYS, prints(b"\nVII\n"), words=["--choices", "1"]),
 ]
 
 LONG_RUNS = [f'{"1" * k}0 GIVE-UP ""' for k in range(64)] + [f'1*{k},0*1 GIVE-UP ""' for k in range(64, 80)] \
@@ -235,6 +241,9 @@ RUNS = [
     refused("runs", SILENCED, ["--from", "-"], 64, "NO SUCH RUN"),
     listed(BOTH, ['00 GIVE-UP "\\nI\\n"', '01 GIVE-UP ""', '10 GIVE-UP "\\nV\\n\\nI\\n"', '11 GIVE-UP "\\nV\\n"',
                   "DONE"]),
+    listed(BOTH, ['10 GIVE-UP "\\nV\\n\\nI\\n"', "MORE"], ["--from", "01", "--count", "1"]),
+    listed(BOTH, ['11 GIVE-UP "\\nV\\n"', "DONE"], ["--from", "1*1,0*1"]),
+    listed(ARRAYS, ['0 E241@6 ""', '1 GIVE-UP "\\nVII\\n"', "DONE"]),
     listed(b"", ['- E633@0 ""', "DONE"]),
     listed("DO %0 READ OUT #1 / DO %100 READ OUT #2 / PLEASE GIVE UP", ['- GIVE-UP "\\nII\\n"', "DONE"]),
     listed("DO %50 WRITE IN .1 / DO WRITE IN .2 / PLEASE READ OUT .2 / DO GIVE UP",
@@ -348,3 +357,9 @@ LIST = [
 AGAIN = again(CHECK, ["check"], ["check", "--", "FILE"]) + again(LIST, ["list"], ["list", "--", "FILE"]) \
     + again(RUN, ["run", "-b", "--", "FILE"], [], ["--"], ["run"]) \
     + again(RUNS, ["runs", "-b", "FILE"], ["runs", "--limit", "10000", "FILE"])
+
+# The rows of these sources are swept too, and those of the last one also with no further page.
+SWEPT = [row for row in RUN + RUNS
+         if row[0].source in [lines(it) for it in (WIDE, ECHO, BOTH, ELEMENTS, LOST_ELEMENT, HIDDEN, ARRAYS)]]
+PAGED = [row for row in SWEPT if row[0].source == lines(ARRAYS)] \
+    + [row for row in PLAIN if row[0].name in ("the longest source", "the longest input of a listing")]

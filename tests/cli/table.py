@@ -51,7 +51,7 @@ LISTING = b"""1 (1) DO - 100 CALCULATE "(1) DO .1 <- ,1SUB'#1$.2'#3"
 """
 LONGEST = 1_048_576
 
-# The rows over which faults/ has every call of the system fail.
+# Rows over which faults/ has every call of the system fail.
 SWEPT = [
     (Given("prints", [], PRINTS, SOURCE), Answer(0, PRINTED, b"")),
     (Given("prints from FILE", ["run", "FILE"], PRINTS, b""), Answer(0, PRINTED, b"")),
@@ -80,6 +80,8 @@ SWEPT = [
     (Given("help of check", ["check", "--help"], b"", b""), Answer(0, HELP["check"], b"")),
     (Given("usage", ["jump"], b"", b""), Answer(64, b"", error("", "unrecognized subcommand 'jump'"))),
 ]
+# Those that are also swept with reads and writes of each size.
+PIECEMEAL = [row for row in SWEPT if row[0].name in ("faults", "talks", "runs", "list from FILE")]
 
 # The rest, which a plain run shows.
 PLAIN = [

@@ -1,10 +1,13 @@
 /* Stands before the C library's calls for memory and for bytes, and has one of them fail.
  *
- *   FAULT      which kind of call: alloc, open, read, write; or read-interrupted, write-interrupted (by a signal),
- *              write-broken (a pipe that nobody reads); or short-read, short-write, which move one byte in place of
- *              many; or seek
+ *   FAULT      which kind of call: alloc, open, read, write, seek; or open-interrupted, read-interrupted,
+ *              write-interrupted (by a signal); or read-again, write-again (a stream that doesn't wait), write-broken
+ *              (a pipe that nobody reads), write-full (a full disk), write-none (a write that answers 0); or
+ *              short-read, short-write, which move few bytes in place of many; or pages, which are requests for memory:
+ *              from the Nth on the system gives the C library no further page, and what it then refuses has failed
  *   FAULT_AT   N, counted from 1: which call of that kind (0 or absent: none)
  *   FAULT_TO   one (or absent): the Nth call alone; all: the Nth and each later one
+ *   FAULT_SIZE how many bytes a short read or write moves at most (absent: one)
  *   FAULT_LOG  a file that afterwards holds "calls=C failed=F errors=E": the calls of that kind, those that failed,
  *              and how many of these were writes on standard error
  *
@@ -17,13 +20,19 @@
 #include <stdio.h>
 #include <stdlib.h>
 #include <string.h>
+#include <sys/resource.h>
 #include <sys/syscall.h>
 #include <unistd.h>
 
-enum kind { NONE, ALLOC, OPEN, READ, WRITE, READ_INTERRUPTED, WRITE_INTERRUPTED, WRITE_BROKEN, SHORT_READ, SHORT_WRITE, SEEK, KINDS };
+enum kind {
+    NONE, ALLOC, OPEN, READ, WRITE, READ_INTERRUPTED, WRITE_INTERRUPTED, WRITE_BROKEN, SHORT_READ, SHORT_WRITE, SEEK,
+    READ_AGAIN, WRITE_AGAIN, WRITE_FULL, WRITE_NONE, OPEN_INTERRUPTED, PAGES, KINDS
+};
 
 static const char *const names[KINDS] = {"", "alloc", "open", "read", "write", "read-interrupted", "write-interrupted",
-                                         "write-broken", "short-read", "short-write", "seek"};
+                                         "write-broken", "short-read", "short-write", "seek", "read-again",
+                                         "write-again", "write-full", "write-none",
+                                         "open-interrupted", "pages"};
 
 static enum kind wanted;
 static int and_later;
@@ -69,16 +78,39 @@ static void *no_memory(void) {
     return NULL;
 }
 
+/* Counts a request for memory, and ends the supply of pages at the Nth. */
+static void request(void) {
+    const struct rlimit none = {1, 1};
+    if (wanted == PAGES && ++calls == at)
+        setrlimit(RLIMIT_DATA, &none);
+}
+
+static void *answer(void *block) {
+    if (wanted == PAGES && !block)
+        failed++;
+    return block;
+}
+
 void *malloc(size_t size) {
-    return fails(ALLOC) ? no_memory() : __libc_malloc(size);
+    request();
+    return fails(ALLOC) ? no_memory() : answer(__libc_malloc(size));
 }
 
 void *calloc(size_t count, size_t size) {
-    return fails(ALLOC) ? no_memory() : __libc_calloc(count, size);
+    request();
+    return fails(ALLOC) ? no_memory() : answer(__libc_calloc(count, size));
 }
 
 void *realloc(void *block, size_t size) {
-    return fails(ALLOC) ? no_memory() : __libc_realloc(block, size);
+    request();
+    return fails(ALLOC) ? no_memory() : answer(__libc_realloc(block, size));
+}
+
+/* The size of a short read or write of so many bytes. */
+static size_t short_size(size_t size) {
+    const char *most = getenv("FAULT_SIZE");
+    size_t count = most ? strtoul(most, NULL, 10) : 1;
+    return count < size ? count : size;
 }
 
 ssize_t read(int file, void *target, size_t size) {
@@ -86,8 +118,10 @@ ssize_t read(int file, void *target, size_t size) {
         return errno = EIO, -1;
     if (fails(READ_INTERRUPTED))
         return errno = EINTR, -1;
+    if (fails(READ_AGAIN))
+        return errno = EAGAIN, -1;
     if (size > 1 && fails(SHORT_READ))
-        size = 1;
+        size = short_size(size);
     return syscall(SYS_read, file, target, size);
 }
 
@@ -110,8 +144,14 @@ ssize_t write(int file, const void *text, size_t size) {
         return not_written(file, EINTR);
     if (fails(WRITE_BROKEN))
         return not_written(file, EPIPE);
+    if (fails(WRITE_AGAIN))
+        return not_written(file, EAGAIN);
+    if (fails(WRITE_FULL))
+        return not_written(file, ENOSPC);
+    if (fails(WRITE_NONE))
+        return not_written(file, 0) + 1;
     if (size > 1 && fails(SHORT_WRITE))
-        size = 1;
+        size = short_size(size);
     return syscall(SYS_write, file, text, size);
 }
 
@@ -126,5 +166,7 @@ int open(const char *name, int flags, ...) {
     va_end(rest);
     if (fails(OPEN))
         return errno = EMFILE, -1;
+    if (fails(OPEN_INTERRUPTED))
+        return errno = EINTR, -1;
     return (int)syscall(SYS_open, name, flags, mode);
 }

@@ -3,106 +3,163 @@
 
   sweep.py PROGRAM
 
-For each row of ../cli/table.py that is swept and each kind of failure, the program runs once with nothing failing,
-and then once for each N with its Nth call of that kind failing, until a run comes to its end with no call failed. What
-a row enters comes from a pipe, and then all of it again from a file. A run in which nothing failed has to leave the
-row's answer. Each of the others has to end by itself with an answer that the table of exit statuses allows:
+For each swept row of ../cli and each kind of failure, the program runs once with nothing failing. Then it runs once for
+each N with its Nth call of that kind failing, until a run makes fewer calls. What a row enters comes from a pipe, and
+then all of it again from a file. A run in which nothing failed leaves the row's answer. Each other run ends by itself
+with an answer that the table of exit statuses allows:
 
-  alloc        status 4 and OUT OF MEMORY alone on standard error; the output is a beginning of the row's.
-               Where one request alone is refused, the row's answer too: the standard library's collect and extend
-               ask for less room when they are refused the room that they were told of
-  open, read   status 4 and FILE NOT READ where the row names a file, or READ FAILED where standard input is read,
-               which for `run` and `runs` it is in any case, alone; the output is a beginning of the row's
-  write        status 4; the output is a beginning of the row's, and WRITE FAILED alone; or, where it was standard
-               error that failed, all of the output, and a beginning of the row's error text
-  short-read   the row's answer
-  short-write  the row's answer
-  seek         the row's answer: what can't be read ahead is read byte by byte
+  alloc        status 4, and OUT OF MEMORY alone on standard error. The output is a prefix of the row's, and whole lines
+               for `runs`. If one request alone is refused, the row's answer is allowed too: the standard library's
+               collect and extend ask for less room when they are refused the room that they were told of
+  pages        as alloc; for rows that need much memory, a request fails if it needs a further page
+  open, read   status 4, and one line on standard error: FILE NOT READ if the row names a file, or READ FAILED if it may
+               read standard input. The output is a prefix of the row's
+  write        status 4. The output is a prefix of the row's, and WRITE FAILED stands alone on standard error. If a
+               write on standard error failed, there is all of the output, and a prefix of the row's error text
+  write-full   as write, but all later writes fail too, also those on standard error
+  open-interrupted, short-read, short-write, seek
+               the row's answer: the standard library opens again, and what can't be read ahead is read byte by byte
 
-A read or a write that a signal interrupts has failed, and so has a write to a pipe that nobody reads. A line is
-printed for each row and kind; the last line is 'N passed, M failed', counting runs of the program.
+A read or write fails in each of these ways: by an error of the device, by a signal, since it would have to wait, and a
+write also by a pipe that nobody reads and by the answer 0. Some rows are also run with every read, and then with every
+write, of at most k bytes, for each k up to the longest text. The cases run in parallel, and a line is printed for each.
+The last line is 'N passed, M failed', counting runs of the program.
 """
 import collections
+import concurrent.futures
 import os
 import subprocess
 import sys
+import tempfile
 
 HERE = os.path.dirname(os.path.realpath(__file__))
 sys.path.insert(0, os.path.join(HERE, "..", "cli"))
+import language  # noqa: E402
+import table  # noqa: E402
 from checks import Checks, entered, make  # noqa: E402
-from table import SWEPT, Answer  # noqa: E402
 
-KINDS = [("alloc", "all"), ("alloc", "one"), ("open", "one"), ("read", "one"), ("read-interrupted", "one"),
-         ("write", "one"), ("write-interrupted", "one"), ("write-broken", "one"), ("short-read", "one"),
-         ("short-write", "one"), ("seek", "one")]
+KINDS = [("alloc", "all"), ("alloc", "one"), ("open", "one"), ("open-interrupted", "one"), ("read", "one"),
+         ("read-interrupted", "one"), ("read-again", "one"), ("write", "one"), ("write-interrupted", "one"),
+         ("write-again", "one"), ("write-broken", "one"), ("write-none", "one"), ("write-full", "all"),
+         ("short-read", "one"), ("short-write", "one"), ("seek", "one")]
+SIZES = [("short-read", "each size"), ("short-write", "each size")]
+PAGES = [("pages", "all")]
+HARMLESS = ["open-interrupted", "short-read", "short-write", "seek"]
 PIPE, FILE = "from a pipe", "from a file"
-MOST = 20_000
+MOST, MOST_MISTAKES = 20_000, 20
 SECONDS = 60
+
+# Rows, each list of which is swept over kinds of failures.
+ROWS = [(table.SWEPT + language.SWEPT, KINDS), (table.PIECEMEAL, SIZES), (language.PAGED, PAGES)]
+
+# What a run left, and how many calls it made, how many of them failed, and how many of these were on standard error.
+Found = collections.namedtuple("Found", "answer calls failed errors")
+
+
+class Case(Checks):
+    """A row whose calls of one kind fail, in a folder of its own."""
+
+    def __init__(self, program, library, folder, case):
+        super().__init__(program, folder)
+        (self.given, self.wanted), self.form, self.kind, self.to = case
+        self.library, self.log, self.input = library, os.path.join(folder, "log"), os.path.join(folder, "input")
+        self.tally, self.mistakes = collections.Counter(), []
+        with open(self.input, "wb") as file:
+            file.write(entered(self.given))
+
+    def found(self, at, size=1):
+        """Runs the program with its call AT failing, and returns what it left. There are no counts if it crashed."""
+        env = {"LD_PRELOAD": self.library, "FAULT": self.kind, "FAULT_AT": str(at), "FAULT_SIZE": str(size),
+               "FAULT_TO": "one" if self.to == "one" else "all", "FAULT_LOG": self.log}
+        used = {"env": env, "cwd": self.folder, "capture_output": True, "timeout": SECONDS}
+        try:
+            if self.form is PIPE:
+                done = subprocess.run(self.command(self.given), input=entered(self.given), **used)
+            else:
+                with open(self.input, "rb") as file:
+                    done = subprocess.run(self.command(self.given), stdin=file, **used)
+            answer = table.Answer(done.returncode, done.stdout, done.stderr)
+        except subprocess.TimeoutExpired as error:
+            answer = table.Answer(None, error.stdout, error.stderr)
+        try:
+            with open(self.log, encoding="ascii") as file:
+                counts = [int(word.partition("=")[2]) for word in file.read().split()]
+            os.remove(self.log)
+        except FileNotFoundError:
+            return Found(answer, None, None, None)
+        return Found(answer, *counts)
+
+    def note(self, found, place):
+        """Counts a run, and notes what is wrong with it."""
+        if found.calls is None:
+            wrong = "no end by itself"
+        elif found.failed == 0:
+            wrong = None if found.answer == self.wanted else "nothing failed, and the answer is another"
+        else:
+            wrong = mistake(self.given, self.kind, self.to, found, self.wanted)
+            said = found.answer.errors.decode(errors="replace").splitlines()[:1]
+            self.tally[f"{found.answer.status} {said}"] += 1
+        if wrong:
+            self.failed += 1
+            self.mistakes.append(f"    at {place}: {wrong}: {str(found.answer)[:1000]}")
+        else:
+            self.passed += 1
+
+    def each_call(self):
+        """Has each call fail, until a run makes fewer calls. Yields after each run."""
+        for at in range(MOST):
+            found = self.found(at)
+            self.note(found, at)
+            if found.calls is not None and at > found.calls:
+                return
+            yield
+        self.failed += 1
+        self.mistakes.append(f"    no end after {MOST} runs")
+
+    def each_size(self):
+        """Has every call move at most so many bytes, up to the longest text. Yields after each run."""
+        for size in range(1, 1 + max(map(len, (self.given.source, entered(self.given), *self.wanted[1:])))):
+            self.note(self.found(1, size), f"size {size}")
+            yield
+
+    def all(self):
+        for _ in self.each_size() if self.to == "each size" else self.each_call():
+            if len(self.mistakes) == MOST_MISTAKES:
+                self.mistakes.append("    and no further run was tried")
+                break
+        answers = "; ".join(f"{count} x {answer}" for answer, count in sorted(self.tally.items())) or "no such call"
+        return [f"{self.given.name[:100]}, {self.form}, {self.kind} ({self.to}): {answers}"] + self.mistakes
+
+
+def cases():
+    """Returns the cases: a row, the form of what is entered, and a kind of failure."""
+    return [(row, form, kind, to) for rows, kinds in ROWS for row in rows
+            for form in ((PIPE, FILE) if entered(row[0]) else (PIPE,)) for kind, to in kinds]
+
+
+def tried(program, library, number):
+    """Runs the case of a number. Returns the lines that it prints, and how many of its runs passed and failed."""
+    with tempfile.TemporaryDirectory() as folder:
+        case = Case(program, library, folder, cases()[number])
+        return case.all(), case.passed, case.failed
 
 
 class Sweep(Checks):
-    def __init__(self, program, folder):
-        super().__init__(program, folder)
-        self.library, self.input = (os.path.join(folder, name) for name in ("faults.so", "input"))
-        subprocess.run([os.environ.get("CC", "cc"), "-O1", "-Wall", "-shared", "-fPIC", "-o", self.library,
-                        os.path.join(HERE, "faults.c")], check=True)
-
-    def answer(self, given, form, kind, to, at):
-        """What one run leaves, and how many calls failed in it, and how many of them on standard error."""
-        log = os.path.join(self.folder, "log")
-        env = {"LD_PRELOAD": self.library, "FAULT": kind, "FAULT_AT": str(at), "FAULT_TO": to, "FAULT_LOG": log}
-        used = {"env": env, "cwd": self.folder, "capture_output": True, "timeout": SECONDS}
-        if form is PIPE:
-            done = subprocess.run(self.command(given), input=entered(given), **used)
-        else:
-            with open(self.input, "rb") as file:
-                done = subprocess.run(self.command(given), stdin=file, **used)
-        found = Answer(done.returncode, done.stdout, done.stderr)
-        try:
-            with open(log, encoding="ascii") as file:
-                counts = dict(word.split("=") for word in file.read().split())
-            os.remove(log)
-        except FileNotFoundError:
-            return found, None, None
-        return found, int(counts["failed"]), int(counts["errors"])
-
-    def sweep(self, given, wanted, form, kind, to):
-        tally, mistakes = collections.Counter(), []
-        for at in range(MOST):
-            found, failed, on_errors = self.answer(given, form, kind, to, at)
-            if failed is None:
-                wrong = "crashed"
-            elif failed == 0:
-                wrong = None if found == wanted else "nothing failed, and the answer is another"
-            else:
-                wrong = mistake(given, kind, to, on_errors, found, wanted)
-                tally[f"{found.status} {found.errors.decode(errors='replace').splitlines()[:1]}"] += 1
-            if wrong:
-                mistakes.append(f"    at {at}: {wrong}: {found}")
-            else:
-                self.passed += 1
-            if failed == 0 and at > 0:
-                break
-        else:
-            mistakes.append(f"    no end after {MOST} runs")
-        self.failed += len(mistakes)
-        summary = "; ".join(f"{count} x {answer}" for answer, count in sorted(tally.items())) or "no such call"
-        print(f"{given.name}, {form}, {kind} ({to}): {summary}")
-        for line in mistakes:
-            print(line)
-
     def all(self):
-        for given, wanted in SWEPT:
-            with open(self.input, "wb") as file:
-                file.write(entered(given))
-            for form in (PIPE, FILE) if entered(given) else (PIPE,):
-                for kind, to in KINDS:
-                    self.sweep(given, wanted, form, kind, to)
+        library = os.path.join(self.folder, "faults.so")
+        subprocess.run([os.environ.get("CC", "cc"), "-O1", "-Wall", "-shared", "-fPIC", "-o", library,
+                        os.path.join(HERE, "faults.c")], check=True)
+        with concurrent.futures.ProcessPoolExecutor(len(os.sched_getaffinity(0))) as pool:
+            numbers = range(len(cases()))
+            for lines, passed, failed in pool.map(tried, [self.program] * len(numbers), [library] * len(numbers),
+                                                  numbers):
+                self.passed, self.failed = self.passed + passed, self.failed + failed
+                print(*lines, sep="\n", flush=True)
 
 
 def notices(given, kind):
     """The lines that a failure of this kind may have."""
-    if kind == "alloc":
+    if kind in ("alloc", "pages"):
         return [b"OUT OF MEMORY\n"]
     if kind.startswith("write"):
         return [b"WRITE FAILED\n"]
@@ -114,22 +171,25 @@ def notices(given, kind):
     return found
 
 
-def mistake(given, kind, to, on_errors, found, wanted):
+def mistake(given, kind, to, found, wanted):
     """What is wrong with the answer of a run in which a call failed, or None."""
-    harmless = kind.startswith("short") or kind == "seek"
-    if found == wanted and (harmless or (kind == "alloc" and to == "one")):
+    answer = found.answer
+    if answer == wanted and (kind in HARMLESS or (kind == "alloc" and to == "one") or kind == "pages"):
         return None
-    if harmless:
+    if kind in HARMLESS:
         return "another answer"
-    if found.status != 4:
-        return f"status {found.status}"
-    if on_errors:
-        if not wanted.errors.startswith(found.errors) or found.errors == wanted.errors:
-            return "the error text is no beginning of the row's"
-        return None if found.output == wanted.output else "another output"
-    if found.errors not in notices(given, kind):
+    if answer.status != 4:
+        return f"status {answer.status}"
+    if found.errors == found.failed:
+        if not wanted.errors.startswith(answer.errors) or answer.errors == wanted.errors:
+            return "the error text is no prefix of the row's"
+        return None if answer.output == wanted.output else "another output"
+    if answer.errors not in ([b""] if found.errors else notices(given, kind)):
         return "error text"
-    return None if wanted.output.startswith(found.output) else "the output is no beginning of the row's"
+    if not wanted.output.startswith(answer.output):
+        return "the output is no prefix of the row's"
+    is_cut = given.words[:1] == ["runs"] and kind in ("alloc", "pages") and not answer.output.endswith(b"\n")
+    return "a line is cut short" if is_cut and answer.output else None
 
 
 if __name__ == "__main__":
