@@ -1,5 +1,6 @@
 #!/usr/bin/env python3
-"""Rows over a built ick with little memory, a small stack, or streams that can't be read, with absolute answers.
+"""Rows over a built ick with little memory, a small stack, or streams that are closed or can't be read, with absolute
+answers.
 
   hostile.py PROGRAM
 
@@ -11,7 +12,8 @@ import resource
 import subprocess
 
 from checks import Checks, make
-from table import ECHOES, PRINTED, PRINTS, Answer, Given
+from table import CHANCES, ECHOES, FAULTED, FAULTS, HELP, LISTED_RUNS, PRINTED, PRINTS, REFUSAL, REFUSED, TALKS
+from table import Answer, Given
 
 SECONDS = 120
 MEMORY = 12 * 1024 * 1024
@@ -49,6 +51,69 @@ DEEPEST = [
     ("elements", f"DO ,1 <- #1\nDO ,1SUB#1 <- #1\nDO .1 <- {',1SUB' * 255}#1\nPLEASE READ OUT .1\nDO GIVE UP\n",
      b"\nI\n"),
 ]
+
+UNREAD = Answer(4, b"", b"READ FAILED\n")
+UNWRITTEN = Answer(4, b"", b"WRITE FAILED\n")
+UNSAID = Answer(4, b"", b"")
+ENDS = b"DO GIVE UP\n"
+LISTED_ENDS = b'1 - DO - 100 GIVE-UP "DO GIVE UP"\n'
+ALL = (0, 1, 2)
+
+# The descriptors that are closed, the arguments, the source, and the answer. Without FILE the source is standard input.
+CLOSED = [
+    # a run that takes no input is as with an input
+    ((0,), ["run", "FILE"], ECHOES, UNREAD),
+    ((0,), ["run", "--seed=1", "FILE"], ECHOES, UNREAD),
+    ((0,), ["run", "--choices=1", "FILE"], TALKS, UNREAD._replace(output=b"\nI\n")),
+    ((0,), ["run", "FILE"], PRINTS, Answer(0, PRINTED, b"")),
+    ((0,), ["run", "FILE"], FAULTS, FAULTED),
+    ((0,), ["run", "FILE"], REFUSED, REFUSAL),
+    ((0,), ["run", "--limit=0", "FILE"], ECHOES, Answer(3, b"", b"LIMIT REACHED AFTER 0 STEPS\n")),
+    ((0,), ["run", "no-such-file"], b"", Answer(4, b"", b"FILE NOT READ\n")),
+    ((0,), ["run", "--choices=2", "FILE"], ECHOES, Answer(64, b"", b"BAD CURSOR\n")),
+    # a listing reads its input before the first run
+    ((0,), ["runs", "FILE"], ECHOES, UNREAD),
+    ((0,), ["runs", "FILE"], PRINTS, UNREAD),
+    ((0,), ["runs", "--from=0", "FILE"], CHANCES, UNREAD),
+    ((0,), ["runs", "FILE"], REFUSED, REFUSAL),
+    ((0,), ["check", "FILE"], PRINTS, Answer(0, b"3 STATEMENTS, 1 POLITE\n", b"")),
+    ((0,), ["list", "FILE"], ENDS, Answer(0, LISTED_ENDS, b"")),
+    ((0,), [], b"", UNREAD),
+    ((0,), ["run"], b"", UNREAD),
+    ((0,), ["runs"], b"", UNREAD),
+    ((0,), ["check"], b"", UNREAD),
+    ((0,), ["list"], b"", UNREAD),
+    ((0,), ["--help"], b"", Answer(0, HELP[""], b"")),
+    # FILE then has the descriptor, and can't be written
+    ((1,), ["run", "FILE"], PRINTS, UNWRITTEN),
+    ((1,), ["run", "FILE"], FAULTS, UNWRITTEN),
+    ((1,), ["runs", "FILE"], CHANCES, UNWRITTEN),
+    ((1,), ["check", "FILE"], PRINTS, UNWRITTEN),
+    ((1,), ["list", "FILE"], PRINTS, UNWRITTEN),
+    ((1,), ["--help"], b"", UNWRITTEN),
+    ((1,), ["run", "FILE"], ENDS, Answer(0, b"", b"")),
+    ((1,), ["run", "FILE"], REFUSED, REFUSAL),
+    ((2,), ["run", "FILE"], PRINTS, Answer(0, PRINTED, b"")),
+    ((2,), ["runs", "FILE"], CHANCES, Answer(0, LISTED_RUNS, b"")),
+    ((2,), ["run", "FILE"], FAULTS, UNSAID._replace(output=b"\nI\n")),
+    ((2,), ["run", "FILE"], REFUSED, UNSAID),
+    ((2,), ["check", "FILE"], REFUSED, UNSAID),
+    ((2,), ["jump"], b"", UNSAID),
+    (ALL, ["run", "FILE"], ENDS, Answer(0, b"", b"")),
+    (ALL, ["run", "FILE"], ECHOES, UNSAID),
+    (ALL, ["run", "FILE"], PRINTS, UNSAID),
+    (ALL, ["runs", "FILE"], ENDS, UNSAID),
+    (ALL, ["check", "FILE"], ENDS, UNSAID),
+    (ALL, ["list", "FILE"], ENDS, UNSAID),
+    (ALL, ["run"], b"", UNSAID),
+    (ALL, ["--help"], b"", UNSAID),
+    (ALL, ["jump"], b"", UNSAID),
+]
+
+
+def closing(descriptors):
+    """Returns what a child does before the program: it closes standard streams."""
+    return lambda: [os.close(descriptor) for descriptor in descriptors]
 
 
 def limited(kind, most):
@@ -97,19 +162,28 @@ class Hostile(Checks):
 
     def inputs(self):
         """A folder, and a file that is open for writing alone, as standard input."""
-        unread = Answer(4, b"", b"READ FAILED\n")
-        for words in ["run", "FILE"], ["runs", "FILE"], ["check"], ["list"], ["run"], ["runs"]:
-            given = Given(f"{words} of what can't be read", words, ECHOES, b"")
+        rows = [(["run", "FILE"], ECHOES, UNREAD), (["run", "FILE"], PRINTS, Answer(0, PRINTED, b"")),
+                (["run", "FILE"], REFUSED, REFUSAL), (["list", "FILE"], ENDS, Answer(0, LISTED_ENDS, b""))]
+        rows += [(words, ECHOES, UNREAD) for words in (["runs", "FILE"], ["check"], ["list"], ["run"], ["runs"], [])]
+        for words, source, wanted in rows:
+            given = Given(f"{words} of what can't be read", words, source, b"")
             folder = os.open(self.folder, os.O_RDONLY)
             written = os.open(os.devnull, os.O_WRONLY)
             for stream in (folder, written):
-                self.check(given.name, self.answer(given, stdin=stream), unread)
+                self.check(given.name, self.answer(given, stdin=stream), wanted)
                 os.close(stream)
+
+    def closed(self):
+        """Standard streams that are closed, each alone and all together."""
+        for descriptors, words, source, wanted in CLOSED:
+            given = Given(f"{words} without the streams {descriptors}", words, source, b"")
+            self.check(given.name, self.answer(given, preexec_fn=closing(descriptors)), wanted)
 
     def all(self):
         self.memory()
         self.stack()
         self.inputs()
+        self.closed()
 
 
 if __name__ == "__main__":
