@@ -88,7 +88,7 @@ def blocks_of_lines(stream):
         if not text:
             return
         if len(text) < READ_BYTES >> 3:
-            time.sleep(0.004)  # a read that takes more at once costs less
+            time.sleep(0.01)  # a read that takes more at once costs less
         text = rest + text
         size = text.rfind(b"\n") + 1
         rest = text[size:]
