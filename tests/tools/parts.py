@@ -329,6 +329,8 @@ def try_arguments(tally):
             status, out, err = called([path, *words])
             tally.check(status == 2 and not out and err.count(b"\n") < 6, f"{name} {words}: {status} {err!r}")
         if name != "ick-parts":
+            status, out, err = called([path, "/no/such", "1", "1"])
+            tally.check(status == 2 and not out and b"no folder /no/such" in err, f"{name} /no/such: {status} {err!r}")
             status, out, err = called(["/bin/sh", path, tally.folder, "1", "1"], environment={"PATH": "/nowhere"})
             tally.check(status == 4 and not out and b"on the PATH" in err, f"{name} on no PATH: {status} {err!r}")
     case = Case(tally, "one")
