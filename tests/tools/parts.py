@@ -337,7 +337,7 @@ def try_arguments(tally):
     for words in (["plan", case.folder, "0"], ["plan", case.folder, "1", "--short", "x"], ["part", case.folder, "-1"],
                   ["part", case.folder, "1", "--seconds", "-1"], ["part", case.folder, "1"], ["join", "/no/such"],
                   ["begin", case.folder, "/no/such"], ["begin", case.folder, __file__, "--limit", "4294967296"]):
-        status, out, err = called([PARTS, *words])
+        status, out, err = called([PARTS, *words], environment=case.environment)
         tally.check(status == 2 and not out and b"Traceback" not in err, f"ick-parts {words}: {status} {err!r}")
     status, _, err = case.call("begin", __file__)
     tally.check(status == 1 and b"is there already" in err, f"begin twice: {status} {err!r}")
