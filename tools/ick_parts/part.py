@@ -1,4 +1,5 @@
 """A part: lists one piece of the plan, or a prefix of it, as a segment of its own."""
+import contextlib
 import fcntl
 import signal
 import subprocess
@@ -60,7 +61,8 @@ class Part:
         place = self.writer.place
         after = ["--from=" + argument_of(place)] if place != FIRST else []
         with self.job.call("runs", "--count", RUNS_A_CALL, *after, stdout=subprocess.PIPE, bufsize=0) as self.ick:
-            fcntl.fcntl(self.ick.stdout, F_SETPIPE_SZ, READ_BYTES)
+            with contextlib.suppress(OSError):  # a user may have only so many large pipes, and a small one does too
+                fcntl.fcntl(self.ick.stdout, F_SETPIPE_SZ, READ_BYTES)
             try:
                 for text in blocks_of_lines(self.ick.stdout):
                     how = self.take(text)
