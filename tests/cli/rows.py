@@ -14,7 +14,7 @@ from language import AGAIN, CHECK, LIST, RUN, RUNS
 from large import LIMITS, large
 from table import FAULTS, PLAIN, PRINTS, SOURCE, SWEPT, Answer, Given
 
-SECONDS = 60
+SECONDS = 600
 
 
 class Rows(Checks):

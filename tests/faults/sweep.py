@@ -47,7 +47,7 @@ PAGES = [("pages", "all")]
 HARMLESS = ["open-interrupted", "short-read", "short-write", "seek"]
 PIPE, FILE = "from a pipe", "from a file"
 MOST, MOST_MISTAKES = 20_000, 20
-SECONDS = 60
+SECONDS = 600
 
 # Rows, each list of which is swept over kinds of failures.
 ROWS = [(table.SWEPT + language.SWEPT, KINDS), (table.PIECEMEAL, SIZES), (language.PAGED, PAGES)]

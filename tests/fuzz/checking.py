@@ -3,7 +3,7 @@ import os
 import re
 import subprocess
 
-SECONDS = 60
+SECONDS = 600
 SHOWN = 600
 
 

@@ -8,7 +8,7 @@ TOP = os.path.dirname(os.path.dirname(os.path.dirname(os.path.realpath(__file__)
 TOOLS = os.path.join(TOP, "tools")
 EXAMPLES = sorted(glob.glob(os.path.join(TOP, "examples", "*.i")))
 LIBRARY = [os.path.join(TOP, "library", name) for name in ("text.i", "arithmetic.i")]
-SECONDS = 60
+SECONDS = 600
 
 sys.path.insert(0, TOOLS)
 
