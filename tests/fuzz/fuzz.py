@@ -15,12 +15,18 @@ import tempfile
 
 import seeds
 from checking import Checking
-from listings import choices_in, errors_of, follows, grouped, printed, read_listing
+from listings import MOST_PLAIN, choices_in, errors_of, follows, grouped, near_cursor, printed, read_listing
 from programs import Maker, asks, decided, input_for, listing_of, source_of, text_of
 
 MANY = 40
 MILLION = 1_000_000
 PART = 8
+
+
+def steps_in(errors):
+    """Returns the number of steps in the error text of a run that was cut short, or 0."""
+    found = errors.split()[3:4]
+    return int(found[0]) if found and found[0].isdigit() else 0
 
 
 class Fuzzed(Checking):
@@ -80,8 +86,7 @@ class Fuzzed(Checking):
     def wanted(self, line):
         """Checks the run without its last choice, which wants one, and returns the number of its steps."""
         status, output, errors = self.run(line.choices[:-1] or "-")
-        found = errors.split()[3:4]
-        steps = int(found[0]) if found and found[0].isdigit() else 0
+        steps = steps_in(errors)
         self.hold("a run that wants a choice",
                   (status, errors, line.output.startswith(output), steps < self.limit),
                   (3, f"CHOICE WANTED AFTER {steps} STEPS\n".encode(), True, True))
@@ -114,15 +119,27 @@ class Fuzzed(Checking):
         self.hold("a cursor with a choice more", self.runs(1, choices + "0"), refusal)
         if choices:
             self.hold("a cursor with a choice less", self.runs(1, grouped(choices[:-1])), refusal)
-        text = "".join(self.random.choice("0011*,-259") for _ in range(self.random.randint(1, 7)))
-        found = choices_in(text)
-        if found is None:
-            self.hold("no cursor", self.runs(1, text), (64, b"", b"BAD CURSOR\n"))
-            self.hold("no choices", self.run(text), (64, b"", b"BAD CURSOR\n"))
-        elif len(found) > MILLION:
-            self.hold("too many choices", self.run(text), refusal)
-        elif len(found) > self.limit:
-            self.hold("more choices than the limit", self.runs(1, text), refusal)
+        texts = ["".join(self.random.choice("0011*,-259") for _ in range(self.random.randint(1, 7)))]
+        texts += [near_cursor(self.random, choices) for _ in range(3)]
+        for text in texts:
+            found = choices_in(text)
+            if found is None:
+                self.hold("no cursor", self.runs(1, text), (64, b"", b"BAD CURSOR\n"))
+                self.hold("no choices", self.run(text), (64, b"", b"BAD CURSOR\n"))
+            elif len(found) > MILLION:
+                self.hold("too many choices", self.run(text), refusal)
+            elif len(found) > self.limit:
+                self.hold("more choices than the limit", self.runs(1, text), refusal)
+
+    def grouped_from(self, choices):
+        """Checks the first run, which has these choices, at limits where it has 64 of them, the most that are printed
+        plainly, and one more.
+        """
+        for count in (MOST_PLAIN, MOST_PLAIN + 1):
+            if len(choices) > count:
+                steps = steps_in(self.run(choices[:count])[2])
+                lines, _ = self.listed(steps)
+                self.hold("the choices up to a limit", [line.choices for line in lines[:1]], [choices[:count]])
 
     def seeded(self, lines, done):
         """Checks runs of seeds against the listed runs, and against the choices that the seed draws."""
@@ -178,6 +195,7 @@ class Fuzzed(Checking):
                 self.same_run(line, limit)
         self.rest(lines, done)
         self.refused(lines)
+        self.grouped_from(lines[0].choices)
         self.seeded(lines, done)
         self.streams()
         self.chances_decided()
@@ -199,13 +217,13 @@ def main():
     parser = argparse.ArgumentParser()
     parser.add_argument("program")
     parser.add_argument("--seed", type=int, default=1)
-    parser.add_argument("--programs", type=int, default=300)
+    parser.add_argument("--programs", type=int, default=1000)
     parser.add_argument("--first", type=int, default=1)
     given = parser.parse_args()
     passed, failed = 0, 0
     numbers = range(given.first, given.first + given.programs)
     parts = [numbers[at:at + PART] for at in range(0, len(numbers), PART)]
-    with concurrent.futures.ProcessPoolExecutor(min(4, os.cpu_count() or 1)) as pool:
+    with concurrent.futures.ProcessPoolExecutor(len(os.sched_getaffinity(0))) as pool:
         command = os.path.abspath(given.program)
         for done in pool.map(fuzz, [command] * len(parts), [given.seed] * len(parts), parts):
             passed, failed = passed + done[0], failed + done[1]

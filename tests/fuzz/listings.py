@@ -40,6 +40,18 @@ def printed(choices):
     return grouped(choices) if len(choices) > MOST_PLAIN else choices or "-"
 
 
+def near_cursor(random, choices):
+    """Returns a text that is nearly one of groups: one group is cut in two, or is written in another way."""
+    groups = grouped(choices or "0").split(",")
+    at = random.randrange(len(groups))
+    digit, size = groups[at].split("*")
+    group = groups[at]
+    groups[at] = random.choice([f"{digit}*1,{group}", f"{group},{digit}*1", f"{digit}*0{size}", f"{digit}*0",
+                                f"{digit}*", f"*{size}", f"{digit}{size}", f"2*{size}", f"{group},", f"-,{group}",
+                                f"{group}9", f" {group}", f"{digit}*+{size}", digit * int(size)])
+    return ",".join(groups)
+
+
 def unquoted(text):
     return ESCAPED.sub(lambda found: {b"n": b"\n", b"\\": b"\\", b'"': b'"'}.get(
         found.group(1)) or bytes([int(found.group(1)[1:], 16)]), text)

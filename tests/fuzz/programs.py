@@ -1,6 +1,6 @@
 """Makes random programs whose statements interact: subroutines and loops by NEXT, FORGET and RESUME, stashes of ignored
 names, arrays that get other dimensions under chances, ABSTAIN by label and by gerund, also of a GIVE UP with a label,
-and Turing text. Each program comes with its listing.
+loops that count, and Turing text. Each program comes with its listing.
 """
 import collections
 
@@ -16,6 +16,9 @@ KINDS = {
     "RETRIEVE": "RETRIEVING", "IGNORE": "IGNORING", "REMEMBER": "REMEMBERING", "ABSTAIN": "ABSTAINING",
     "REINSTATE": "REINSTATING", "WRITE-IN": "WRITING IN", "READ-OUT": "READING OUT",
 }
+# What a loop counts by, and its labels.
+COUNTER = ".7"
+COUNTING = (11, 12, 13, 14)
 UNRECOGNISED = ["HELLO", "READ OUT ;1", ".1 <- ,1SUB", "WRITE IN #1", "%101 GIVE UP", "STASH #1"]
 WEIGHTS = {
     "calculate": 12, "calculate_element": 6, "dimension": 6, "next": 4, "forget": 4, "resume": 2, "stash": 8,
@@ -188,6 +191,22 @@ class Maker:
             self.add("FORGET", "FORGET #0", chance=1)
         self.add("NEXT", f"({label}) NEXT", chance=0 if often else 1)
 
+    def counted_loop(self):
+        """Adds a loop of some turns, as programs write it: a NEXT to a NEXT to a RESUME chooses whether it goes on."""
+        again, ask, turn, leave = COUNTING
+        self.add("CALCULATE", f"{COUNTER} <- #{self.random.choice([1, 3, 7, 15])}", chance=0)
+        self.add("NEXT", f"({again}) NEXT", chance=0)
+        self.add("FORGET", "FORGET #1", again, chance=0)
+        self.some(self.random.randint(1, 3))
+        self.add("CALCULATE", f"{COUNTER} <- {COUNTER}~#65534", chance=0)
+        self.add("NEXT", f"({ask}) NEXT", chance=0)
+        self.add("NEXT", f"({again}) NEXT", chance=0)
+        self.add("NEXT", f"({turn}) NEXT", ask, chance=0)
+        self.add("FORGET", "FORGET #1", chance=0)
+        self.add("NEXT", f"({leave}) NEXT", chance=0)
+        self.add("RESUME", f"""RESUME "?'{COUNTER}~#1'$#1"~#3""", turn, chance=0)
+        self.add("FORGET", "FORGET #1", leave, chance=0)
+
     def called(self):
         if self.subroutines and self.random.random() < 0.25:
             return "NEXT", f"({self.random.choice(self.subroutines)}) NEXT"
@@ -195,20 +214,34 @@ class Maker:
 
     def shown(self):
         """Returns a READ OUT of most of what the program can change."""
-        places = [place for place in SCALARS if self.random.random() < 0.4] + [self.bodies.whole()]
-        elements = [f"{array}SUB{''.join('#1' for _ in self.bodies.sizes[array])}" for array in self.bodies.sizes]
+        places = [place for place in SCALARS if self.random.random() < 0.7] + [self.bodies.whole()]
+        elements = [f"{array}SUB{''.join(f'#{self.random.choice([1, 1, size])}' for size in sizes)}"
+                    for array, sizes in self.bodies.sizes.items() for _ in range(2)]
         return "READ-OUT", f"READ OUT {' + '.join(places + elements + ['#5'])}"
+
+    def calculations(self):
+        """Adds calculations of scalars in a row, without chances."""
+        for _ in range(self.random.randint(2, 4)):
+            self.add(*self.bodies.calculate(), chance=0)
+
+    def some(self, count):
+        for _ in range(count):
+            if self.random.random() < 0.15:
+                self.calculations()
+            else:
+                self.add(*self.called())
 
     def fill(self):
         for array in ARRAYS:
             if self.random.random() < 0.85:
                 self.add(*self.bodies.dimension(array), chance=0.1)
-        for _ in range(self.random.randint(1, 9)):
-            self.add(*self.called())
-        if self.random.random() < 0.3:
+        self.some(self.random.randint(1, 9))
+        draw = self.random.random()
+        if draw < 0.3:
             self.loop()
-        for _ in range(self.random.randint(0, 5)):
-            self.add(*self.called())
+        elif draw < 0.6:
+            self.counted_loop()
+        self.some(self.random.randint(0, 5))
         if self.random.random() < 0.75:
             self.add(*self.shown(), chance=0.1)
         if self.random.random() < 0.85:
@@ -220,7 +253,7 @@ class Maker:
             self.add("RESUME", self.bodies.resume()[1], chance=0.1)
 
     def label_rest(self):
-        """Gives each label that no statement has yet to a statement, mostly to a GIVE UP, and adds one if none is left."""
+        """Gives each label that no statement has to a statement, often to a GIVE UP, and adds one if none is left."""
         used = {statement.label for statement in self.made}
         for label in self.labels:
             if label in used:
@@ -284,7 +317,7 @@ def decided(program, chance):
 
 
 def input_for(random):
-    """Returns an input: lines of digit names, and now and then bytes, an unknown word, or a number that is too large."""
+    """Returns an input: lines of digit names, and at times bytes, an unknown word, or a number that is too large."""
     names = ["OH", "ZERO", "ONE", "TWO", "THREE", "FOUR", "FIVE", "SIX", "SEVEN", "EIGHT", "NINE", "NINER"]
     lines = []
     for _ in range(random.choice([0, 1, 2, 4, 8, 12])):
