@@ -5,11 +5,14 @@
  *              (a pipe that nobody reads), write-full (a full disk), write-none (a write that answers 0); or
  *              short-read, short-write, which move few bytes in place of many; or pages, which are requests for memory:
  *              from the Nth on the system gives the C library no further page, and what it then refuses has failed
- *   FAULT_AT   N, counted from 1: which call of that kind (0 or absent: none)
- *   FAULT_TO   one (or absent): the Nth call alone; all: the Nth and each later one
+ *   FAULT_AT   N, counted from 1: which call of that kind (0 or absent: none). Or each: every write on standard output
+ *              begins a part, in which calls are counted anew. In the first part the first call fails, in the next the
+ *              second, and so on. After a part in which none failed, the first call fails again
+ *   FAULT_TO   one (or absent): the Nth call alone; all: the Nth and each later one; write: the Nth and each later one
+ *              until the program next writes; none: no call, they are only counted
  *   FAULT_SIZE how many bytes a short read or write moves at most (absent: one)
  *   FAULT_LOG  a file that afterwards holds "calls=C failed=F errors=E": the calls of that kind, those that failed,
- *              and how many of these were writes on standard error
+ *              and how many of these were writes on standard error. With each, every part has such a line
  *
  * Only what the program asks for by these names is counted. What the C library takes for itself isn't seen.
  */
@@ -35,7 +38,7 @@ static const char *const names[KINDS] = {"", "alloc", "open", "read", "write", "
                                          "open-interrupted", "pages"};
 
 static enum kind wanted;
-static int and_later;
+static int in_parts, none, all, until_write, and_later;
 static unsigned long at, calls, failed, errors;
 
 extern void *__libc_malloc(size_t);
@@ -46,10 +49,15 @@ static int fails(enum kind kind) {
     if (kind != wanted)
         return 0;
     calls++;
-    if (at == 0 || calls < at || (calls > at && !and_later))
+    if (none || at == 0 || calls < at || (calls > at && !and_later))
         return 0;
     failed++;
     return 1;
+}
+
+static void begin_part(void) {
+    and_later = all || until_write;
+    calls = failed = errors = 0;
 }
 
 __attribute__((constructor)) static void begin(void) {
@@ -57,20 +65,30 @@ __attribute__((constructor)) static void begin(void) {
     for (int i = 1; kind && i < KINDS; i++)
         if (!strcmp(kind, names[i]))
             wanted = (enum kind)i;
-    at = which ? strtoul(which, NULL, 10) : 0;
-    and_later = until && !strcmp(until, "all");
-    calls = failed = errors = 0;
+    in_parts = which && !strcmp(which, "each");
+    at = which && !in_parts ? strtoul(which, NULL, 10) : 0;
+    none = until && !strcmp(until, "none");
+    all = until && !strcmp(until, "all");
+    until_write = until && !strcmp(until, "write");
+    begin_part();
 }
 
 __attribute__((destructor)) static void end(void) {
     const char *log = getenv("FAULT_LOG");
     char line[96];
     int length = snprintf(line, sizeof line, "calls=%lu failed=%lu errors=%lu\n", calls, failed, errors);
-    int file = log ? (int)syscall(SYS_open, log, O_WRONLY | O_CREAT | O_TRUNC, 0644) : -1;
+    int flags = O_WRONLY | O_CREAT | (in_parts ? O_APPEND : O_TRUNC);
+    int file = log ? (int)syscall(SYS_open, log, flags, 0644) : -1;
     if (file >= 0) {
         syscall(SYS_write, file, line, (size_t)length);
         syscall(SYS_close, file);
     }
+}
+
+static void next_part(void) {
+    end();
+    at = failed ? at + 1 : 1;
+    begin_part();
 }
 
 static void *no_memory(void) {
@@ -138,6 +156,10 @@ static ssize_t not_written(int file, int why) {
 }
 
 ssize_t write(int file, const void *text, size_t size) {
+    if (until_write && failed)
+        and_later = 0;
+    if (in_parts && file == STDOUT_FILENO)
+        next_part();
     if (fails(WRITE))
         return not_written(file, EIO);
     if (fails(WRITE_INTERRUPTED))
