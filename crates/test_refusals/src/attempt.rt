@@ -1,0 +1,42 @@
+//! One attempt at a row.
+
+use crate::context::Context;
+use crate::stop::{Stop, Wrong};
+use crate::{live, machines, runs, served, texts};
+use test_rows::{Row, Tally};
+
+/// Makes the calls of a row, and leaves the row's line in `other`. If a call was refused, the
+/// answer up to the refusal must be a prefix of the wanted one.
+pub fn attempt(context: &mut Context<'_>, row: &Row, tally: &mut Tally) {
+    context.answer.clear();
+    let answered = answer(context, row);
+    context.other.clear();
+    match answered {
+        Ok(()) => {}
+        Err(Stop::Wrong(wrong)) => context.answer.say(wrong.text().as_bytes()),
+        Err(Stop::Refused(call)) => {
+            context.tell_refused(call.name());
+            if row.field(b"wanted").starts_with(context.answer.bytes()) {
+                context.other.say(row.name());
+                context.other.say(b": refused\n");
+                return;
+            }
+            context.answer.say(b" and a refusal");
+        }
+    }
+    context.other.say_row(tally, row, context.answer.bytes());
+}
+
+/// Makes the calls of a row, by its field `call`.
+fn answer(context: &mut Context<'_>, row: &Row) -> Result<(), Stop> {
+    match row.field(b"call") {
+        [b'a', b'p', b'p', b'e', b'n', b'd', ..] => texts::answer(context, row),
+        b"script" | b"next" | b"write_runs" => machines::answer(context, row),
+        b"step Live" | b"run Live" => live::answer(context, row),
+        b"run_with" => runs::with_choices(context, row),
+        b"run_seeded" => runs::seeded(context, row),
+        b"run_stream" => runs::streamed(context, row),
+        b"serve" => served::answer(context, row),
+        _ => Err(Stop::Wrong(Wrong::NoSuchCall)),
+    }
+}

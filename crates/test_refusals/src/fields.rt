@@ -1,0 +1,70 @@
+//! Numbers, choices, code and cursors from the fields of a row.
+
+use crate::stop::{Call, Stop, Wrong};
+use ick_code::{Code, compile};
+use ick_runs::{Cursor, RunsError};
+use ick_source::{Program, Refusal, read_source};
+use std::alloc::Global;
+use test_rows::Row;
+
+/// The most choices of a row, each of which is to do the statement.
+const CHOICES: &[bool] = &[true; 100];
+
+/// Returns the number in a field, or 0 if the row has no such field.
+pub fn number(row: &Row, word: &[u8]) -> u32 {
+    let mut number = 0u32;
+    for byte in row.field(word) {
+        let digit = byte.saturating_sub(b'0');
+        number = number.saturating_mul(10).saturating_add(u32::from(digit));
+    }
+    number
+}
+
+/// Returns the limit on steps of a row, which is 100 if the row names none.
+pub fn limit(row: &Row) -> u32 {
+    match number(row, b"limit") {
+        0 => 100,
+        limit => limit,
+    }
+}
+
+/// Returns as many choices as a row's field `choices` says, each to do the statement.
+pub fn choices(row: &Row) -> &'static [bool] {
+    let count = number(row, b"choices") as usize;
+    CHOICES.get(..count).unwrap_or(CHOICES)
+}
+
+/// Reads the source of a row.
+pub fn program_of(alloc: Global, row: &Row) -> Result<Program<'_>, Stop> {
+    match read_source(alloc, row.field(b"source")) {
+        Ok(program) => Ok(program),
+        Err(Refusal::NoMemory) => Err(Stop::Refused(Call::ReadSource)),
+        Err(_) => Err(Stop::Wrong(Wrong::OtherRefusal)),
+    }
+}
+
+/// Compiles the source of a row.
+pub fn code_of(alloc: Global, row: &Row) -> Result<Code<'_>, Stop> {
+    let program = program_of(alloc, row)?;
+    match compile(alloc, &program) {
+        Ok(code) => Ok(code),
+        Err(_) => Err(Stop::Refused(Call::Compile)),
+    }
+}
+
+/// Reads the cursor in a row's field `from`. If memory is refused, texts that are no cursor, or
+/// that have too many choices, must still be refused for that.
+pub fn cursor_of(alloc: Global, row: &Row) -> Result<Cursor, Stop> {
+    match Cursor::from_text(alloc, row.field(b"from"), limit(row)) {
+        Ok(cursor) => Ok(cursor),
+        Err(RunsError::NoMemory) if is_strict(alloc) => Err(Stop::Refused(Call::FromText)),
+        Err(_) => Err(Stop::Wrong(Wrong::OtherRefusal)),
+    }
+}
+
+/// Returns whether texts are refused that have more than 1,000 choices, or are no cursor.
+fn is_strict(alloc: Global) -> bool {
+    let many = Cursor::from_text(alloc, b"0*999999999999999999999", 1000);
+    let bad = Cursor::from_text(alloc, b"0*999999999999999999999,", 1000);
+    matches!(many, Err(RunsError::NoSuchRun)) && matches!(bad, Err(RunsError::BadCursor))
+}

@@ -1,0 +1,89 @@
+//! The machine that reads its input from a feed. After a refused `step` or `run` it has failed for
+//! good, and has the output that it had before.
+
+use crate::context::Context;
+use crate::ends::say_kind;
+use crate::feeds::TextFeed;
+use crate::fields::code_of;
+use crate::stop::{Call, Stop, Wrong};
+use crate::texts::{Piece, append};
+use ick_machine::{Live, LiveAsk};
+use test_rows::Row;
+
+/// More calls than a row makes.
+const MOST: u32 = 10_000;
+
+/// Adds the output of a row's program, its end, and the message of its fault behind the bytes AB.
+pub fn answer(context: &mut Context<'_>, row: &Row) -> Result<(), Stop> {
+    let code = code_of(context.alloc(), row)?;
+    let Ok(mut live) = Live::new(context.alloc(), &code) else {
+        return Err(Stop::Refused(Call::NewLive));
+    };
+    let mut feed = TextFeed {
+        text: row.field(b"input"),
+    };
+    if row.field(b"call") == b"step Live".as_slice() {
+        steps(context, &mut live, &mut feed)?;
+    } else {
+        runs(context, &mut live, &mut feed)?;
+    }
+    if let LiveAsk::Ended(end) = live.asks() {
+        say_kind(&mut context.answer, end);
+    }
+    append(context, &Piece::End(&live))
+}
+
+/// Makes steps to the end of the run, and adds its output. Each choice is to do.
+fn steps(
+    context: &mut Context<'_>,
+    live: &mut Live<'_, '_>,
+    feed: &mut TextFeed<'_>,
+) -> Result<(), Stop> {
+    for _ in 0..MOST {
+        context.other.clear();
+        context.other.say(live.output());
+        let stepped = match live.asks() {
+            LiveAsk::Plain => live.step(false, feed),
+            LiveAsk::Choice(_) => live.step(true, feed),
+            _ => break,
+        };
+        if stepped.is_err() {
+            return Err(failed(context, live, Call::StepOfLive));
+        }
+    }
+    context.answer.say(live.output());
+    Ok(())
+}
+
+/// Makes many steps at a time to the end of the run, and adds its output. Each choice is to do.
+fn runs(
+    context: &mut Context<'_>,
+    live: &mut Live<'_, '_>,
+    feed: &mut TextFeed<'_>,
+) -> Result<(), Stop> {
+    for _ in 0..MOST {
+        context.other.clear();
+        let (is_refused, call) = match live.asks() {
+            LiveAsk::Plain => (live.run(100, feed).is_err(), Call::RunOfLive),
+            LiveAsk::Choice(_) => (live.step(true, feed).is_err(), Call::StepOfLive),
+            _ => break,
+        };
+        if is_refused {
+            return Err(failed(context, live, call));
+        }
+        context.answer.say(live.output());
+        live.clear_output();
+    }
+    Ok(())
+}
+
+/// Returns that a call was refused, if the machine has failed and its output is the one in `other`.
+/// It must have failed still after its output is cleared.
+fn failed(context: &Context<'_>, live: &mut Live<'_, '_>, call: Call) -> Stop {
+    let is_kept = live.output() == context.other.bytes() && live.asks() == LiveAsk::Failed;
+    live.clear_output();
+    if is_kept && live.output().is_empty() && live.asks() == LiveAsk::Failed {
+        return Stop::Refused(call);
+    }
+    Stop::Wrong(Wrong::NotFailed)
+}

@@ -1,0 +1,87 @@
+//! Whole runs. A refused call leaves nothing but, if the run is streamed, a prefix of its output.
+
+use crate::context::Context;
+use crate::ends::{say_choices, say_end, say_kind};
+use crate::fields::{choices, code_of, limit, number};
+use crate::stop::{Call, Stop, Wrong};
+use ick_runs::{Chooser, Ran, RunsError, SliceSource, Streamed, run_seeded, run_stream, run_with};
+use test_rows::Row;
+
+/// Adds the run with the choices of a row.
+pub fn with_choices(context: &mut Context<'_>, row: &Row) -> Result<(), Stop> {
+    let code = code_of(context.alloc(), row)?;
+    let input = row.field(b"input");
+    match run_with(context.alloc(), &code, input, limit(row), choices(row)) {
+        Ok(ran) => say_ran(context, &ran),
+        Err(_) => return Err(Stop::Refused(Call::RunWith)),
+    }
+    Ok(())
+}
+
+/// Adds the choices that the seed of a row draws, and their run.
+pub fn seeded(context: &mut Context<'_>, row: &Row) -> Result<(), Stop> {
+    let code = code_of(context.alloc(), row)?;
+    let input = row.field(b"input");
+    let seed = u64::from(number(row, b"seed"));
+    match run_seeded(context.alloc(), &code, input, limit(row), seed) {
+        Ok(drawn) => {
+            say_choices(&mut context.answer, &drawn.choices);
+            say_ran(context, &drawn.ran);
+        }
+        Err(_) => return Err(Stop::Refused(Call::RunSeeded)),
+    }
+    Ok(())
+}
+
+/// Adds a run.
+fn say_ran(context: &mut Context<'_>, ran: &Ran<'_>) {
+    match ran {
+        Ran::Ended {
+            output,
+            end,
+            used,
+            steps,
+        } => {
+            context.answer.quote(output);
+            say_end(&mut context.answer, *end);
+            context.answer.count(*used as u64, b" choices ");
+            context.answer.count(u64::from(*steps), b" steps");
+        }
+        Ran::Wants { output, steps } => {
+            context.answer.quote(output);
+            context
+                .answer
+                .count(u64::from(*steps), b" steps and no choice left");
+        }
+    }
+}
+
+/// Returns the choices of a row, or those that its seed draws.
+fn chooser(row: &Row) -> Chooser<'static> {
+    if row.field(b"seed").is_empty() {
+        return Chooser::Listed(choices(row));
+    }
+    Chooser::Seeded(u64::from(number(row, b"seed")))
+}
+
+/// Adds what a streamed run writes, and what the call returns.
+pub fn streamed(context: &mut Context<'_>, row: &Row) -> Result<(), Stop> {
+    let alloc = context.alloc();
+    let code = code_of(alloc, row)?;
+    let mut reader = SliceSource::new(row.field(b"input"));
+    let writer = &mut context.answer;
+    match run_stream(alloc, &code, &mut reader, writer, limit(row), chooser(row)) {
+        Ok(streamed) => say_streamed(context, &streamed),
+        Err(RunsError::NoMemory) => return Err(Stop::Refused(Call::RunStream)),
+        Err(_) => return Err(Stop::Wrong(Wrong::OtherRefusal)),
+    }
+    Ok(())
+}
+
+/// Adds what `run_stream` returns.
+fn say_streamed(context: &mut Context<'_>, streamed: &Streamed) {
+    say_choices(&mut context.answer, &streamed.choices);
+    say_kind(&mut context.answer, streamed.end);
+    context.answer.quote(&streamed.message);
+    context.answer.count(u64::from(streamed.steps), b" steps");
+}
