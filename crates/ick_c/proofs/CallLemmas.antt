@@ -1,0 +1,70 @@
+-- From what is served over memory to what bytes leave.
+use Rattle.std.proofs.Common.{◌≡◌, inl, inr, ℕ, true, List, Some, arith, refl, subst, sym}
+use Rattle.std.proofs.lemmas.List.{append-nil}
+use Rattle.clap.specs.Words.{Text}
+use Rattle.ick_runs.specs.Written.{Written}
+use Rattle.ick_cli.specs.Ending.{input_of}
+use Rattle.ick_cli.specs.Job.{job_of}
+use Rattle.ick_cli.specs.Laws.{OneAnswer}
+use Rattle.ick_cli.specs.Notice.{notice_text}
+use Rattle.ick_cli.specs.Serve.{Finishes, cut_by_memory, memory_failed}
+use Rattle.ick_cli.specs.Usage.{help_without_memory, refused_without_memory, words_notice, words_status}
+use Rattle.ick_cli.specs.declared.driver.WordsFault.{WordsFault}
+use Rattle.ick_cli.specs.declared.driver.WordsFault.TheVariants.{NoMemory, NotText}
+use Rattle.ick_c.specs.Arguments.{Holds}
+use Rattle.ick_c.specs.Call.{Serves, ServesBytes, nothing, source_in}
+use Rattle.ick_c.proofs.ArgumentLemmas.{same_held}
+
+-- what any arguments leave if memory ran out before they were read
+without_memory : OneAnswer → (arguments : List Text) (file input : List ℕ) (writer errors errors' : Written)
+    (status : ℕ)
+    → Finishes true 4 (notice_text (words_notice NoMemory))
+    errors.failures errors'.failures errors.bytes errors'.bytes status
+    → Serves arguments file input writer writer errors errors' status
+without_memory law arguments file input writer errors errors' status done =
+    let job = job_of arguments in
+    let found = law job.task (Some (source_in job file input)) (input_of job.file input) in
+    record {
+      job = λ has_job. (found.0, found.1, (_, _, cut_by_memory 0 refl (sym (append-nil _)), done));
+      usage = λ mistakes. (refl, (_, _, refused_without_memory, done));
+      help = λ requests. (_, _, help_without_memory refl refl, done);
+      said = (_, _, memory_failed refl, done);
+      failed = λ bad. elim bad [ inl less ↦ absurd (omega arith) | inr less ↦ done.fault less ];
+    }
+
+-- what bytes leave whose arguments were not read
+pub not_read : OneAnswer → (bytes file input : List ℕ) (writer errors errors' : Written) (fault : WordsFault)
+    (status : ℕ) → (fault ≡ NotText → (arguments : List Text) → ¬ Holds bytes arguments)
+    → (fault ≡ NoMemory → (arguments : List Text) × Holds bytes arguments)
+    → Finishes true (words_status fault) (notice_text (words_notice fault))
+    errors.failures errors'.failures errors.bytes errors'.bytes status
+    → ServesBytes bytes file input writer writer errors errors' status
+not_read law bytes file input writer errors errors' NoMemory status none some done = record {
+  held = λ arguments held. without_memory law arguments file input writer errors errors' status done;
+  unread = λ unheld. let found = some refl in absurd (unheld found.0 found.1);
+}
+not_read law bytes file input writer errors errors' NotText status none some done = record {
+  held = λ arguments held. absurd (none refl arguments held);
+  unread = λ unheld. (refl, done);
+}
+
+-- what bytes leave whose arguments were served
+pub read : (bytes file input : List ℕ) (writer writer' errors errors' : Written) (status : ℕ) (arguments : List Text)
+    → Holds bytes arguments → Serves arguments file input writer writer' errors errors' status
+    → ServesBytes bytes file input writer writer' errors errors' status
+read bytes file input writer writer' errors errors' status arguments holds serves = record {
+  held = λ others held.
+      subst (λ (a : List Text). Serves a file input writer writer' errors errors' status)
+      (same_held bytes others arguments held holds) serves;
+  unread = λ unheld. absurd (unheld arguments holds);
+}
+
+-- what bytes leave over two sinks that are new, with the same status
+pub from_nothing : (bytes file input : List ℕ) (writer writer' errors errors' : Written) (status code : ℕ)
+    → writer ≡ nothing → errors ≡ nothing → code ≡ status
+    → ServesBytes bytes file input writer writer' errors errors' status
+    → ServesBytes bytes file input nothing writer' nothing errors' code
+from_nothing bytes file input writer writer' errors errors' status code none none' same serves =
+    subst (λ (w : Written). ServesBytes bytes file input w writer' nothing errors' code) none
+    (subst (λ (w : Written). ServesBytes bytes file input writer writer' w errors' code) none'
+    (subst (λ (n : ℕ). ServesBytes bytes file input writer writer' errors errors' n) (sym same) serves))

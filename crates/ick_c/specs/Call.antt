@@ -1,0 +1,54 @@
+-- What a call over a file and an input in memory leaves.
+use Rattle.std.specs.Prelude.{◌≡◌, ◌<◌, ◌⊎◌, if◌then◌else◌, ℕ, true, List, [], Some}
+use Rattle.clap.specs.Words.{Text, fault_of}
+use Rattle.ick_runs.specs.Written.{Written}
+use Rattle.ick_cli.specs.Ending.{input_of}
+use Rattle.ick_cli.specs.Job.{Asked, HasJob, has_file, job_of}
+use Rattle.ick_cli.specs.Notice.{notice_text}
+use Rattle.ick_cli.specs.Serve.{Failures, Finishes, FinishesDue, IsDue, IsServed, counts}
+use Rattle.ick_cli.specs.Tool.{Answer, IsToolAnswer}
+use Rattle.ick_cli.specs.Usage.{AreMistakes, AreRequests, IsHelped, IsRefused}
+use Rattle.ick_cli.specs.Words.{ick_app}
+use Rattle.ick_cli.specs.declared.notice.Notice.TheVariants.{WordsNotRead}
+use Rattle.ick_c.specs.Arguments.{Holds}
+
+-- no byte was written, and no write failed
+abbrev pub nothing : Written
+nothing = record { bytes = []; failures = 0 }
+
+-- the source of a job in memory: the file, or the input if the job names no file
+abbrev pub source_in : Asked → List ℕ → List ℕ → List ℕ
+source_in job file input = if has_file job then file else input
+
+-- how many calls of the devices have failed: in memory only writes can fail
+abbrev pub failures_of : Written → Failures
+failures_of writer = counts 0 0 writer.failures
+
+-- an error text and a status that are due were finished over a sink in memory
+abbrev pub Reports : (List ℕ → ℕ → Type 0) → Written → Written → ℕ → Type 0
+Reports Due errors errors' status =
+    FinishesDue Due true errors.failures errors'.failures errors.bytes errors'.bytes status
+
+-- What `serve` leaves of arguments. If they ask for a job, there is an answer that is the tool's, and it is served. If
+-- not, they get a text of clap. The error text is due, and the status is 4 if memory ran out for a text.
+pub record Serves (arguments : List Text) (file input : List ℕ)
+    (writer writer' errors errors' : Written) (status : ℕ) : Type 0 where
+  pub job : HasJob arguments → (answer : Answer)
+      × IsToolAnswer (job_of arguments).task (Some (source_in (job_of arguments) file input))
+      (input_of (job_of arguments).file input) answer
+      × Reports (IsServed answer (failures_of writer) (failures_of writer') writer.bytes writer'.bytes)
+      errors errors' status
+  pub usage : AreMistakes (fault_of ick_app arguments) → (writer' ≡ writer) × Reports IsRefused errors errors' status
+  pub help : AreRequests (fault_of ick_app arguments)
+      → Reports (IsHelped true writer.failures writer'.failures writer.bytes writer'.bytes) errors errors' status
+  pub said : Reports (IsDue (failures_of writer) (failures_of writer')) errors errors' status
+  pub failed : (writer.failures < writer'.failures) ⊎ (errors.failures < errors'.failures) → status ≡ 4
+
+-- What bytes leave: what `serve` leaves of the arguments that they hold; or one line, if they hold none.
+pub record ServesBytes (bytes file input : List ℕ)
+    (writer writer' errors errors' : Written) (status : ℕ) : Type 0 where
+  pub held : (arguments : List Text) → Holds bytes arguments
+      → Serves arguments file input writer writer' errors errors' status
+  pub unread : ((arguments : List Text) → ¬ Holds bytes arguments) → (writer' ≡ writer)
+      × Finishes true 64 (notice_text WordsNotRead)
+      errors.failures errors'.failures errors.bytes errors'.bytes status

@@ -1,0 +1,73 @@
+//! The command line for programs in C. One call takes arguments, a file and an input in memory, and
+//! gives output, error text and exit status.
+//!
+//! - `arguments`: the arguments that bytes hold
+//! - `one_file`: a file in memory
+//! - `call`: the answer to arguments
+//! - `room`: the front of a text, in a caller's memory
+//! - `laws`: bytes hold at most one list of arguments
+#![tactic(auto)]
+
+ghost use Rattle.std.specs.Prelude.{◌≡◌, length};
+ghost use Rattle.ick_runs.specs.Written.{Written};
+ghost use Rattle.ick_cli.specs.Serve.{IsStatus};
+ghost use Rattle.ick_c.specs.Call.{ServesBytes, nothing};
+ghost use Rattle.ick_c.specs.Room.{filled};
+
+mod arguments;
+mod call;
+mod laws;
+mod one_file;
+mod room;
+
+use call::answer;
+use ick_runs::VecSink;
+pub use laws::one_list;
+use room::fill;
+use std::alloc::Global;
+
+/// The lengths of the two texts that a call wrote, in bytes.
+#[repr(C)]
+#[derive(Clone, Copy)]
+pub struct Lengths {
+    pub output: usize,
+    pub errors: usize,
+}
+
+/// Does what the program `ick` does with these arguments, and returns the exit status. Each file
+/// has the bytes `file`, and standard input has the bytes `input`.
+///
+/// The program's own name is none of the arguments. A byte 0 follows each of them. If the last byte
+/// isn't 0, or an argument is no text in UTF-8, the error text is `WORDS NOT READ` and the status
+/// 64. `output` gets the front of what `ick` writes on standard output, and `errors` the front of
+/// what it writes on standard error, as much as there is room. The rest of the room is unchanged.
+/// `lengths` says how long the whole texts are.
+#[unsafe(no_mangle)]
+pub extern "C" fn ick_serve(
+    alloc: Global,
+    arguments: &[u8],
+    file: &[u8],
+    input: &[u8],
+    output: &mut [u8],
+    errors: &mut [u8],
+    lengths: &mut Lengths,
+) -> u8
+    ensures served { (writer : Written) × (said : Written)
+        × (output.new ≡ filled writer.bytes output.old)
+        × (lengths.new.output ≡ length writer.bytes)
+        × (errors.new ≡ filled said.bytes errors.old)
+        × (lengths.new.errors ≡ length said.bytes)
+        × ServesBytes arguments.now file.now input.now nothing writer nothing said result }
+    ensures status { IsStatus result }
+{
+    let mut writer = VecSink::new(alloc);
+    let mut said = VecSink::new(alloc);
+    let status = answer(alloc, arguments, file, input, &mut writer, &mut said);
+    let output_length = fill(output, writer.bytes());
+    let errors_length = fill(errors, said.bytes());
+    *lengths = Lengths {
+        output: output_length,
+        errors: errors_length,
+    };
+    status.code()
+}
