@@ -1,0 +1,49 @@
+/* ick, the proved INTERCAL-72 compiler and explorer, as one call over memory.
+ *
+ *     cc program.c libick.a        bindings/build makes libick.a, and libick.so
+ *
+ * The call opens no file, and reads and writes no stream. It keeps nothing from one call to the next, so threads may
+ * call it at the same time. It takes memory by malloc, realloc and free, and gives all of it back. It must not be
+ * called from a signal handler, or from the forked child of a process with threads. */
+#ifndef ICK_H
+#define ICK_H
+
+#include <stddef.h>
+#include <stdint.h>
+
+#ifdef __cplusplus
+extern "C" {
+#endif
+
+/* The lengths of the two texts that a call wrote, in bytes. */
+struct ick_lengths {
+    size_t output;
+    size_t errors;
+};
+
+/* Does what the program ick does with these arguments, and returns the exit status: 0 to 4, or 64.
+ *
+ * arguments   The arguments as docs/MANUAL.md has them, without the program's own name. A byte 0 follows each of them.
+ *             If the last byte isn't 0, or an argument is no text in UTF-8, the answer is WORDS NOT READ and 64.
+ * file        The bytes of every file: an argument FILE opens it, whatever its name.
+ * input       The bytes of standard input.
+ * output      Gets the front of what ick writes on standard output, up to output_room bytes.
+ * errors      Gets the front of what ick writes on standard error, up to errors_room bytes.
+ * lengths     Gets the whole lengths of both texts, which may be greater than the rooms. The same call with more room
+ *             gives the same texts. An error text can be as long as the source, since a fault can quote a statement.
+ *
+ * What is behind a text in its room stays as it was. If memory runs out, the status is 4 and the output is the front of
+ * the whole output. The error text is OUT OF MEMORY, or WRITE FAILED if the output could not grow. It may be missing,
+ * since it takes memory too.
+ *
+ * No pointer may be null, not even with a length of 0, and no length may be above PTRDIFF_MAX. output, errors and
+ * lengths must not overlap each other or anything else. */
+uint8_t ick_serve(const uint8_t *arguments, size_t arguments_length, const uint8_t *file, size_t file_length,
+                  const uint8_t *input, size_t input_length, uint8_t *output, size_t output_room, uint8_t *errors,
+                  size_t errors_room, struct ick_lengths *lengths);
+
+#ifdef __cplusplus
+}
+#endif
+
+#endif
