@@ -1,0 +1,58 @@
+// The worker as the page sees it: one call at a time, which can be stopped.
+'use strict';
+
+// A module with a memory of 64-bit addresses, and nothing else.
+const MEMORY_64 = Uint8Array.of(0, 97, 115, 109, 1, 0, 0, 0, 5, 3, 1, 4, 0);
+
+// Tells whether this browser can run the page's module.
+function canRun() {
+  try {
+    return WebAssembly.validate(MEMORY_64);
+  } catch {
+    return false;
+  }
+}
+
+class Engine {
+  // The texts of the worker's script and of the module in base 64.
+  constructor(script, module) {
+    this.script = URL.createObjectURL(new Blob([script], { type: 'text/javascript' }));
+    this.module = Uint8Array.from(atob(module), (letter) => letter.charCodeAt(0));
+    this.begin();
+  }
+
+  begin() {
+    this.waiting = null;
+    this.worker = new Worker(this.script);
+    this.worker.onmessage = ({ data }) => this.answer(data);
+    this.worker.onerror = (event) => this.answer({ failed: event.message || 'the worker stopped' });
+    this.ready = this.send({ module: this.module });
+  }
+
+  send(message) {
+    return new Promise((answer) => {
+      this.waiting = answer;
+      this.worker.postMessage(message);
+    });
+  }
+
+  answer(data) {
+    this.waiting?.(data);
+    this.waiting = null;
+  }
+
+  // Answers what the worker answers: status, output, errors, or `failed`. Answers null if it is stopped.
+  async call(request) {
+    const { ready } = this;
+    const loaded = await ready;
+    if (ready !== this.ready) return null;
+    return loaded.failed ? loaded : this.send(request);
+  }
+
+  // Stops the call that is being made, and begins anew.
+  stop() {
+    this.worker.terminate();
+    this.answer(null);
+    this.begin();
+  }
+}

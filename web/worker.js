@@ -1,0 +1,85 @@
+// Runs `ick` beside the page: the module, its memory, and one call of `ick_serve` for each message.
+'use strict';
+
+const QUOTED = 1 << 16; // a message has at most so many bytes besides the statement that it quotes
+const OUT_OF_MEMORY = 'OUT OF MEMORY\n', OUT_OF_STACK = 'OUT OF STACK\n';
+
+class NoMemory extends Error {}
+
+let module, ick;
+
+async function load(bytes) {
+  module = await WebAssembly.compile(bytes);
+  ick = (await WebAssembly.instantiate(module)).exports;
+}
+
+// Returns the address of so many bytes in the module's memory.
+function room(length) {
+  const address = ick.malloc(BigInt(Math.max(length, 1)));
+  if (address === 0n) throw new NoMemory();
+  return address;
+}
+
+function copyIn(bytes) {
+  const address = room(bytes.length);
+  new Uint8Array(ick.memory.buffer).set(bytes, Number(address));
+  return address;
+}
+
+const copyOut = (address, length) =>
+  new Uint8Array(ick.memory.buffer).slice(Number(address), Number(address) + length);
+
+// Calls `ick` with its arguments, where FILE has the bytes `file` and standard input has `input`. Returns the status,
+// at most `most` bytes of the output, the length of the whole output, and the error text.
+function serve({ words, file, input, most }) {
+  const mostErrors = file.length + QUOTED;
+  const given = [words, file, input], places = given.map(copyIn);
+  const output = room(most), errors = room(mostErrors), lengths = room(16);
+  const slices = given.flatMap((bytes, at) => [places[at], BigInt(bytes.length)]);
+  const status = ick.ick_serve(...slices, output, BigInt(most), errors, BigInt(mostErrors), lengths);
+  const counts = new DataView(ick.memory.buffer, Number(lengths), 16);
+  const [written, said] = [0, 8].map((at) => Number(counts.getBigUint64(at, true)));
+  const answer = {
+    status, written, output: copyOut(output, Math.min(written, most)),
+    errors: copyOut(errors, Math.min(said, mostErrors)),
+  };
+  for (const address of [...places, output, errors, lengths]) ick.free(address);
+  return answer;
+}
+
+// Tells whether an error means that a stack is full: the browser's own, or that of the module. The latter begins at the
+// address 0 and grows down, so the module can't write over its data.
+function isFullStack(error) {
+  return error instanceof RangeError || error.name === 'InternalError' || /out of bounds/.test(error.message);
+}
+
+// Answers for a call that didn't return. Its module may be in any state, so a new one takes its place.
+async function recover(error) {
+  ick = null;
+  ick = (await WebAssembly.instantiate(module)).exports;
+  const text = error instanceof NoMemory ? OUT_OF_MEMORY : isFullStack(error) ? OUT_OF_STACK : null;
+  if (text === null) throw error;
+  return { status: 4, written: 0, output: new Uint8Array(), errors: new TextEncoder().encode(text) };
+}
+
+async function answer(data) {
+  if (data.module) {
+    await load(data.module);
+    return {};
+  }
+  try {
+    return serve(data);
+  } catch (error) {
+    return recover(error);
+  }
+}
+
+onmessage = async ({ data }) => {
+  const began = performance.now();
+  try {
+    const found = await answer(data);
+    postMessage({ ...found, milliseconds: performance.now() - began });
+  } catch (error) {
+    postMessage({ failed: String(error) });
+  }
+};
