@@ -141,6 +141,12 @@ function drawTree() {
   $('tree').scrollTo(0, 0);
 }
 
+// Gives the focus to the answer's head if the button that had it is gone.
+function keepFocus() {
+  const focused = document.activeElement;
+  if (focused === document.body || !focused.checkVisibility()) $('status').focus();
+}
+
 function show(answer, request) {
   const [output, errors] = [answer.output, answer.errors].map((bytes) => new TextDecoder().decode(bytes));
   const isOfTree = request.job === 'run' && request.isOfTree;
@@ -149,7 +155,7 @@ function show(answer, request) {
   else showRun(answer, request, output, errors);
   if (isOfTree) $(output ? 'written' : 'said').scrollIntoView({ block: 'nearest' });
   else if (request.from === undefined) $('status').scrollIntoView({ block: 'nearest' });
-  if (document.activeElement === document.body) $('status').focus();
+  keepFocus();
 }
 
 /* Jobs */

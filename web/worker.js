@@ -2,14 +2,16 @@
 'use strict';
 
 const QUOTED = 1 << 16; // a message has at most so many bytes besides the statement that it quotes
+const KEPT = 1 << 26; // a memory that grew beyond this isn't used again: heap.c joins no blocks
 const OUT_OF_MEMORY = 'OUT OF MEMORY\n', OUT_OF_STACK = 'OUT OF STACK\n';
 
 class NoMemory extends Error {}
 
 let module, ick;
 
-async function load(bytes) {
-  module = await WebAssembly.compile(bytes);
+// Begins with a new memory.
+async function renew() {
+  ick = null;
   ick = (await WebAssembly.instantiate(module)).exports;
 }
 
@@ -53,10 +55,9 @@ function isFullStack(error) {
   return error instanceof RangeError || error.name === 'InternalError' || /out of bounds/.test(error.message);
 }
 
-// Answers for a call that didn't return. Its module may be in any state, so a new one takes its place.
+// Answers for a call that didn't return. It may have left anything in the memory.
 async function recover(error) {
-  ick = null;
-  ick = (await WebAssembly.instantiate(module)).exports;
+  await renew();
   const text = error instanceof NoMemory ? OUT_OF_MEMORY : isFullStack(error) ? OUT_OF_STACK : null;
   if (text === null) throw error;
   return { status: 4, written: 0, output: new Uint8Array(), errors: new TextEncoder().encode(text) };
@@ -64,11 +65,14 @@ async function recover(error) {
 
 async function answer(data) {
   if (data.module) {
-    await load(data.module);
+    module = await WebAssembly.compile(data.module);
+    await renew();
     return {};
   }
   try {
-    return serve(data);
+    const found = serve(data);
+    if (ick.memory.buffer.byteLength > KEPT) await renew();
+    return found;
   } catch (error) {
     return recover(error);
   }

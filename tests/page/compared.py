@@ -1,0 +1,122 @@
+"""Holds the page's module against the built program: the rows of tests/cli, the examples, and programs of tests/fuzz.
+
+The module is called in the browser, by the page's own worker.
+"""
+import base64
+import glob
+import os
+import subprocess
+import sys
+import tempfile
+
+TOP = os.path.dirname(os.path.dirname(os.path.dirname(os.path.realpath(__file__))))
+sys.path += [f"{TOP}/tests/cli", f"{TOP}/tests/fuzz"]
+from checks import entered
+from fuzz import Fuzzed
+from language import AGAIN, CHECK, LIST, RUN, RUNS
+from large import LIMITS, large
+from table import PLAIN, SWEPT, Answer, Given
+
+MOST = 1 << 26
+# The module has one file, so it can't be without one.
+LACKING = {"no-such-file", "."}
+SERVED = """
+globalThis.served = async (...given) => {
+  const [words, file, input] = given.map((text) => Uint8Array.from(atob(text), (letter) => letter.charCodeAt(0)));
+  const { status, failed, ...found } = await engine.call({ words, file, input, most: MOST_BYTES });
+  const packed = await Promise.all([found.output, found.errors].map((bytes) => new Promise((done) => {
+    const reader = new FileReader();
+    reader.onload = () => done(reader.result.split(',')[1]);
+    reader.readAsDataURL(new Blob([bytes ?? '']));
+  })));
+  return { status: failed ?? status, output: packed[0], errors: packed[1] };
+};
+0""".replace("MOST_BYTES", str(MOST))
+
+
+class Module:
+    """The module of the page that a Chromium shows."""
+
+    def __init__(self, chromium):
+        self.chromium = chromium
+        chromium.evaluate(SERVED)
+
+    def answer(self, words, file, given):
+        """Returns the status, the output and the error text of `ick` with these arguments."""
+        parts = [b"".join(word.encode() + b"\0" if isinstance(word, str) else word + b"\0" for word in words), file, given]
+        texts = ", ".join(f"'{base64.b64encode(part).decode()}'" for part in parts)
+        found = self.chromium.evaluate(f"served({texts})")
+        return found["status"], base64.b64decode(found["output"]), base64.b64decode(found["errors"])
+
+
+def compare_rows(tally, module):
+    """Each row of tests/cli that speaks of one file and of streams that work, by its own absolute answer."""
+    source, listing, printed = large()
+    rows = SWEPT + PLAIN + CHECK + LIST + RUN + RUNS + AGAIN + LIMITS + [
+        (Given("large, listed", ["list", "FILE"], source, b""), Answer(0, listing, b"")),
+        (Given("large, run", ["run", "FILE"], source, b""), Answer(0, printed, b""))]
+    for given, wanted in rows:
+        if not LACKING & {word for word in given.words if isinstance(word, str)}:
+            found = module.answer(given.words, given.source, entered(given))
+            tally.equal(Answer(*found), wanted, f"the row {given.name}")
+
+
+def example_words(name):
+    """Returns the files that are pasted behind an example, and its options for each command."""
+    found = {}
+    if os.path.isfile(f"{TOP}/examples/{name}.how"):
+        with open(f"{TOP}/examples/{name}.how", encoding="ascii") as file:
+            found = {line.split()[0]: line.split()[1:] for line in file}
+    return found.pop("with", []), found
+
+
+def read(path, default=b""):
+    if not os.path.isfile(path):
+        return default
+    with open(path, "rb") as file:
+        return file.read()
+
+
+def compare_examples(tally, module, program):
+    """Each example by each command, with its own options."""
+    for path in sorted(glob.glob(f"{TOP}/examples/*.i")):
+        name = os.path.basename(path)[:-2]
+        pasted, options = example_words(name)
+        source = read(path) + b"".join(read(f"{TOP}/library/{file}") for file in pasted)
+        given = read(f"{TOP}/examples/{name}.in")
+        with tempfile.NamedTemporaryFile() as file:
+            file.write(source)
+            file.flush()
+            for command in ("run", "runs", "list", "check"):
+                words = [command, *options.get(command, [])]
+                done = subprocess.run([program, *words, file.name], input=given, capture_output=True, check=False)
+                tally.equal(module.answer([*words, "FILE"], source, given), (done.returncode, done.stdout, done.stderr),
+                            f"ick {' '.join(words)} {name}.i")
+
+
+class Held(Fuzzed):
+    """A random program whose every call is also made by the module."""
+
+    def __init__(self, module, tally, *given):
+        self.module, self.tally, self.files = module, tally, {}
+        super().__init__(*given)
+
+    def write(self, name, text):
+        self.files[name] = text
+        super().write(name, text)
+
+    def called(self, words, **streams):
+        found = super().called(words, **streams)
+        given = streams.get("input", self.files["input"])
+        self.tally.equal(self.module.answer(words[1:], self.files["source"], given), found,
+                         f"program {self.number}: {' '.join(words[1:])}")
+        return found
+
+
+def compare_programs(tally, module, program, seed, numbers):
+    """Random programs by all commands, options and cursors that tests/fuzz calls them with."""
+    with tempfile.TemporaryDirectory() as folder:
+        for number in numbers:
+            held = Held(module, tally, program, folder, seed, number)
+            held.all()
+            tally.equal(held.failed, 0, f"what tests/fuzz finds in program {number}: {held.said}")

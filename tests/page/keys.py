@@ -1,0 +1,68 @@
+"""The page by the keyboard alone, in any browser."""
+
+FOCUSED = "document.activeElement.matches({!r})"
+
+
+def tab_to(browser, selector, most=40):
+    """Presses Tab until the focus is on an element that the selector names."""
+    for _ in range(most):
+        browser.press("Tab")
+        if browser.evaluate(FOCUSED.format(selector)):
+            return True
+    return False
+
+
+def by_keyboard(tally, page):
+    """Chooses an example, lists its runs, runs an end again, writes a program, answers its questions, and stops one."""
+    browser, name = page.browser, type(page.browser).__name__
+    page.open()
+
+    def reach(selector):
+        tally.check(tab_to(browser, selector), f"{name}: Tab doesn't reach {selector}")
+
+    browser.press("Tab")
+    browser.press("Enter")
+    tally.equal(browser.evaluate("document.activeElement.id"), "status", f"{name}: where the first link leads")
+    page.open()
+    reach("#example")
+    for key in "lia":
+        browser.press(key)
+    tally.equal(page.value("example"), "liars", f"{name}: the example by its first letters")
+    reach("[data-job=runs]")
+    browser.press("Enter")
+    browser.wait("document.getElementById('status').textContent.startsWith('8 runs')")
+    reach(".leaf")
+    browser.press_all("ArrowDown", "ArrowDown", "ArrowDown", "ArrowUp", "Enter")
+    browser.wait("document.getElementById('status').textContent.startsWith('The program gave up')")
+    tally.equal((page.value("choices"), page.text("output")), ("010", "Believe Joe\n"), f"{name}: an end by its key")
+    tally.equal(browser.evaluate(FOCUSED.format(".leaf[aria-current]")), True, f"{name}: the focus after an end")
+    browser.press_all("End", "Enter")
+    browser.wait("document.getElementById('choices').value === '111'")
+    page.idle()
+
+    page.open()
+    reach("#source")
+    browser.press("a", control=True)
+    browser.write("DO %50 READ OUT #5\nDO %50 READ OUT #1\nPLEASE GIVE UP\n")
+    browser.press("Enter", control=True)
+    browser.wait("document.activeElement.matches('[data-choice=\"0\"]')")
+    browser.press_all("Tab", " ")
+    browser.wait("document.getElementById('choices').value === '1'")
+    page.idle()
+    tally.equal(browser.evaluate(FOCUSED.format("[data-choice='1']")), True, f"{name}: the focus after a choice")
+    browser.press("Enter")
+    browser.wait("document.getElementById('status').textContent.startsWith('The program gave up')")
+    tally.equal(page.text("output"), "\nV\n\nI\n", f"{name}: the run by two choices")
+    tally.equal(browser.evaluate("document.activeElement.id"), "status", f"{name}: the focus behind the last choice")
+
+    page.open()
+    reach("#source")
+    browser.press("a", control=True)
+    browser.write("(1) DO FORGET #1\nPLEASE DO (1) NEXT\n")
+    reach("#limit")
+    browser.write("4294967295")
+    browser.press("Enter")
+    browser.wait("document.getElementById('status').textContent.startsWith('Running')")
+    browser.press("Escape")
+    browser.wait("document.getElementById('status').textContent.startsWith('Stopped')")
+    tally.check(True, "")

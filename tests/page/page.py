@@ -1,0 +1,125 @@
+#!/usr/bin/env python3
+"""Builds the page, holds its module against a built ick, and uses the page in Chromium and Firefox.
+
+  page.py PROGRAM [--page PAGE] [--programs N] [--seed N] [--pictures FOLDER]
+
+With --page it takes that page in place of the one that web/build makes. The module answers the rows of tests/cli, the
+examples, and N random programs of tests/fuzz (500). Chromium is used by its buttons, and both browsers by their keys.
+Debian's packages chromium and firefox-esr have them. The gate doesn't run this script. With --pictures it also puts
+pictures of the page into a folder, to be looked at. The last line is 'N passed, M failed'.
+"""
+import argparse
+import os
+import subprocess
+import sys
+import tempfile
+
+sys.dont_write_bytecode = True
+import compared
+import keys
+import shown
+from browsers import Chromium, Firefox
+
+BUILD = os.path.join(compared.TOP, "web", "build")
+
+
+class Tally:
+    def __init__(self):
+        self.passed = self.failed = 0
+
+    def check(self, holds, complaint):
+        if holds:
+            self.passed += 1
+        else:
+            self.failed += 1
+            print(complaint, flush=True)
+
+    def equal(self, found, wanted, name):
+        self.check(found == wanted, f"{name}\n  wants {str(wanted)[:600]!r}\n  finds {str(found)[:600]!r}")
+
+
+def build(page, *words):
+    if subprocess.run([BUILD, page, *words], stdin=subprocess.DEVNULL, check=False).returncode:
+        sys.exit("web/build failed\n0 passed, 1 failed")
+
+
+def part(tally, name, work, *given):
+    """Does a part of the tests, and says how many checks of it passed."""
+    before = tally.passed
+    work(tally, *given)
+    print(f"{name}: {tally.passed - before} passed", flush=True)
+
+
+def in_chromium(tally, address, asked):
+    with Chromium() as chromium:
+        page = shown.Page(chromium, address)
+        page.open()
+        module = compared.Module(chromium)
+        part(tally, "rows", compared.compare_rows, module)
+        part(tally, "examples", compared.compare_examples, module, asked.program)
+        numbers = range(1, asked.programs + 1)
+        part(tally, "programs", compared.compare_programs, module, asked.program, asked.seed, numbers)
+        for name in ("shown_examples", "question", "stopping", "going_on", "tree", "links", "failures", "alone", "contrast"):
+            page.open()
+            part(tally, name, getattr(shown, name), page)
+        part(tally, "keys in Chromium", keys.by_keyboard, page)
+        part(tally, "unable", shown.unable, page)
+
+
+def in_firefox(tally, address):
+    with Firefox() as firefox:
+        page = shown.Page(firefox, address)
+        page.open()
+        part(tally, "examples in Firefox", shown.shown_examples, page)
+        part(tally, "keys in Firefox", keys.by_keyboard, page)
+
+
+def with_deep_module(tally, folder):
+    build(f"{folder}/deep.html", "--module", os.path.join(compared.TOP, "tests", "page", "deep.ll"))
+    for browser in (Chromium, Firefox):
+        with browser() as opened:
+            part(tally, f"a full stack in {browser.__name__}", shown.full_stack,
+                 shown.Page(opened, f"file://{folder}/deep.html"))
+
+
+def take_pictures(address, folder):
+    """Takes pictures of the page, wide and narrow, in light and in dark colours."""
+    os.makedirs(folder, exist_ok=True)
+    with Chromium() as chromium:
+        page = shown.Page(chromium, address)
+        for scheme in ("light", "dark"):
+            chromium.colours(scheme)
+            for width, height in ((1280, 900), (375, 812)):
+                chromium.resize(width, height)
+                page.open()
+                chromium.picture(f"{folder}/{scheme}-{width}-start.png")
+                for example, job in (("doors", "runs"), ("quiet", "run"), ("trap", "run")):
+                    page.choose(example)
+                    page.job(job)
+                    chromium.picture(f"{folder}/{scheme}-{width}-{example}.png")
+
+
+def main():
+    parser = argparse.ArgumentParser(usage=__doc__.split("\n\n")[1].strip())
+    parser.add_argument("program", type=os.path.abspath)
+    parser.add_argument("--page", type=os.path.abspath)
+    parser.add_argument("--programs", type=int, default=500)
+    parser.add_argument("--seed", type=int, default=1)
+    parser.add_argument("--pictures")
+    asked = parser.parse_args()
+    tally = Tally()
+    with tempfile.TemporaryDirectory(prefix="page-") as folder:
+        path = asked.page or f"{folder}/ick.html"
+        if not asked.page:
+            build(path)
+        if asked.pictures:
+            take_pictures(f"file://{path}", asked.pictures)
+        in_chromium(tally, f"file://{path}", asked)
+        in_firefox(tally, f"file://{path}")
+        with_deep_module(tally, folder)
+    print(f"{tally.passed} passed, {tally.failed} failed")
+    sys.exit(tally.failed > 0)
+
+
+if __name__ == "__main__":
+    main()

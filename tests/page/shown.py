@@ -1,0 +1,259 @@
+"""What the page shows in Chromium when its buttons are pressed."""
+import json
+import os
+
+from compared import TOP, example_words, read
+
+ENDLESS = "(1) DO FORGET #1\nPLEASE DO (1) NEXT\n"
+GREEDY = "".join(f"{'PLEASE' if at % 4 == 3 else 'DO'} ;{at} <- #65535\n" for at in range(1, 3000)) + "DO GIVE UP\n"
+LONG = "(1) DO READ OUT #1\nPLEASE FORGET #1\nDO (1) NEXT\n"
+SECRET = "ick-page-test"
+
+
+class Page:
+    """The page in one browser, of which tests see the document alone."""
+
+    def __init__(self, browser, address):
+        self.browser, self.address = browser, address
+
+    def open(self, fragment=""):
+        self.browser.open(self.address + fragment)
+        self.browser.wait("document.getElementById('made').textContent !== ''")
+        self.idle()
+
+    def idle(self):
+        self.browser.wait("document.getElementById('answer').getAttribute('aria-busy') === 'false'")
+
+    def value(self, name):
+        return self.browser.evaluate(f"document.getElementById('{name}').value")
+
+    def text(self, name):
+        """Returns the text of a part of the page, or None if it isn't shown."""
+        return self.browser.evaluate(f"document.getElementById('{name}').closest('[hidden]') ? null : "
+                                     f"document.getElementById('{name}').textContent")
+
+    def press(self, selector):
+        self.browser.evaluate(f"document.querySelector({selector!r}).click()")
+        self.idle()
+
+    def job(self, name):
+        self.press(f"[data-job={name}]")
+
+    def press_leaf(self, place):
+        self.browser.evaluate(f"document.querySelectorAll('.leaf')[{place}]"
+                              ".dispatchEvent(new MouseEvent('click', { bubbles: true }))")
+        self.idle()
+
+    def set(self, **fields):
+        for name, value in fields.items():
+            self.browser.evaluate(f"document.getElementById('{name}').value = {json.dumps(value)}")
+
+    def choose(self, example):
+        self.set(example=example)
+        self.browser.evaluate("document.getElementById('example').dispatchEvent(new Event('change'))")
+
+    def status(self):
+        return self.text("status")
+
+
+def shown_examples(tally, page):
+    """Each example, as it is chosen: what it prints, and its listings."""
+    names = page.browser.evaluate("[...document.querySelectorAll('#example option')].map((it) => it.value).join()")
+    there = {name[:-2] for name in os.listdir(f"{TOP}/examples") if name.endswith(".i")}
+    tally.equal(set(names.split(",")) - {""}, there, "the examples of the page")
+    for name in sorted(there):
+        page.choose(name)
+        for job, part, ending in (("run", "output", "out"), ("runs", "listing", "runs"), ("list", "output", "list"),
+                                  ("check", "output", "check")):
+            wanted = read(f"{TOP}/examples/{name}.{ending}", None)
+            if wanted is not None:
+                page.job(job)
+                tally.equal(page.text(part) or "", wanted.decode(), f"{job} of the example {name}")
+        if os.path.isfile(f"{TOP}/examples/{name}.err"):
+            page.job("run")
+            tally.equal(page.text("errors"), read(f"{TOP}/examples/{name}.err").decode(), f"the message of {name}")
+        tally.equal(page.browser.evaluate("[...document.querySelectorAll('#library :checked')].map((it) => it.value)"
+                                          ".join()"), ",".join(example_words(name)[0]), f"the library of {name}")
+
+
+def question(tally, page):
+    """A run that asks offers both choices, one after the other, and each can be taken back."""
+    page.choose("quiet")
+    page.job("run")
+    tally.check("asks for a choice" in page.status(), "a run that asks doesn't say so")
+    tally.equal(page.text("errors"), None, "a message beside the question")
+    page.press("[data-choice='1']")
+    tally.equal((page.value("choices"), page.text("output")), ("1", "\nV\n"), "the run after one choice")
+    page.press("[data-choice='0']")
+    tally.equal((page.value("choices"), page.text("output")), ("10", "\nV\n\nI\n"), "the run after both choices")
+    tally.equal(page.text("question-name"), None, "a question behind the end")
+    page.set(choices="1")
+    page.job("run")
+    page.press("#back")
+    tally.equal((page.value("choices"), page.text("output")), ("", None), "the run without its last choice")
+    page.choose("again")
+    page.set(choices="1*70", limit="100")
+    page.job("run")
+    page.press("[data-choice='1']")
+    page.press("[data-choice='0']")
+    tally.equal((page.value("choices"), page.status()[:19]), ("1*71,0*1", "The program gave up"), "choices in groups")
+
+
+def stopping(tally, page):
+    """A run without an end says that it runs, and can be stopped."""
+    page.set(source=ENDLESS, choices="", limit="4294967295")
+    page.browser.evaluate("document.querySelector('[data-job=run]').click()")
+    page.browser.wait("document.getElementById('status').textContent.startsWith('Running')")
+    page.browser.evaluate("document.querySelector('[data-job=runs]').click()")
+    page.press("#stop")
+    tally.check(page.status().startswith("Stopped"), "the run wasn't stopped")
+    page.choose("hello")
+    page.job("run")
+    tally.equal(page.text("output"), "Hello, world!\n", "a run after a stop")
+
+
+def going_on(tally, page):
+    """A listing goes on by its cursor until no run is left, and every run is there once."""
+    page.choose("fair")
+    page.set(count="5")
+    for wanted in (5, 10, 15, 20, 22):
+        if wanted == 5:
+            page.job("runs")
+        else:
+            page.press("#more")
+        tally.equal(page.text("listing").count("\n"), wanted + 1, f"the lines of a listing with {wanted} runs")
+    tally.equal(page.text("listing"), read(f"{TOP}/examples/fair.runs").decode(), "a listing in parts")
+    tally.equal(page.text("more"), None, "a button behind the last run")
+    tally.check("22 runs, and no other" in page.status(), f"the status {page.status()!r} of a whole listing")
+
+
+def tree(tally, page):
+    """Equal parts of the tree are one, and an end runs again."""
+    leaves = "[...document.querySelectorAll('.leaf')].map((it) => it.textContent)"
+    page.choose("race")
+    page.job("runs")
+    names = page.browser.evaluate(f"{leaves}.join('|')").split("|")
+    tally.equal(names[0].startswith("Run 000000: E241@21"), True, f"the first of the ends {names}")
+    tally.equal(len(names), 3, "the ends of the race")
+    tally.equal(sum("62 runs" in name for name in names), 1, "an end of 62 runs")
+    page.press_leaf(2)
+    tally.equal((page.value("choices"), page.text("output")), ("000010", "Safe\n"), "an end that is run again")
+    tally.check("run 000010" in page.status(), f"the status {page.status()!r} of an end")
+    tally.equal(page.text("listing").count("\n"), 65, "the listing behind an end that was run again")
+    page.choose("die")
+    page.job("runs")
+    page.press_leaf(0)
+    tally.check("reaches its limit" in page.status(), "an end at its limit isn't run with the limit of the listing")
+    page.choose("again")
+    page.set(count="1", limit="10")
+    page.job("runs")
+    tally.equal(page.browser.evaluate("document.querySelectorAll('.rest').length"), 1, "the rest of a listing")
+
+
+def links(tally, page):
+    """A link holds the whole form, and a spoiled link says so."""
+    fields = {"source": "DO READ OUT #7\nPLEASE GIVE UP\nDO é\n", "input": "ONE\n", "choices": "01", "seed": "5",
+              "limit": "60", "count": "9"}
+    page.set(**fields)
+    page.browser.evaluate("document.querySelector('#library input').checked = true")
+    page.browser.evaluate("document.getElementById('link').click()")
+    page.browser.wait("document.getElementById('status').textContent.startsWith('The link is')")
+    fragment = page.browser.evaluate("location.hash")
+    page.open(fragment)
+    tally.equal({name: page.value(name) for name in fields}, fields, "the form of a link")
+    tally.equal(page.browser.evaluate("document.querySelector('#library input').checked"), True, "the library of a link")
+    tally.equal(page.value("example"), "", "the example of a link")
+    page.open(fragment[:-9])
+    tally.check("can’t be read" in page.status(), f"the status {page.status()!r} of a spoiled link")
+    page.open("#status")
+    tally.equal(page.value("example"), "quiet", "the first example")
+
+
+def failures(tally, page):
+    """Refusals, wrong options, and memory that runs out have their status and their message."""
+    page.set(source="DO READ OUT #70000\n", seed="", choices="")
+    page.job("check")
+    tally.check("is refused" in page.status() and page.text("errors").startswith("ICL017I"), "a refusal isn't shown")
+    page.set(seed="x")
+    page.job("run")
+    tally.check("status 64" in page.status() and "--seed" in page.text("errors"), "a wrong option isn't shown")
+    page.choose("hello")
+    page.set(source=GREEDY)
+    page.job("run")
+    tally.equal(("status 4" in page.status(), page.text("errors")), (True, "OUT OF MEMORY\n"), "memory that runs out")
+    page.choose("hello")
+    page.job("run")
+    tally.equal(page.text("output"), "Hello, world!\n", "a run after memory ran out")
+    page.set(source=LONG, limit="3000000", seed="", choices="")
+    page.job("run")
+    tally.check("200,000 characters of 3,000,000." in page.text("output"), "a long output isn't cut")
+
+
+def alone(tally, page):
+    """The page can neither load nor send, and fits a narrow screen. Each control has a name."""
+    refused = page.browser.evaluate(f"""new Promise((done) => {{
+        document.addEventListener('securitypolicyviolation', (event) => done(event.effectiveDirective));
+        fetch('http://127.0.0.1:9/{SECRET}').catch(() => 0);
+    }})""")
+    tally.equal(refused, "connect-src", "what keeps the page from sending")
+    for width in (320, 375, 1280):
+        page.browser.resize(width, 800)
+        page.choose("guess")
+        for job in ("run", "runs", "list"):
+            page.job(job)
+            tally.check(page.browser.evaluate("document.documentElement.scrollWidth <= innerWidth"),
+                        f"the page is wider than {width} pixels after {job}")
+    nodes = page.browser.call("Accessibility.getFullAXTree")["nodes"]
+    controls = [it for it in nodes if not it["ignored"] and it["role"]["value"] in
+                {"button", "textbox", "combobox", "checkbox", "link", "group", "form", "region"}]
+    nameless = [it["role"]["value"] for it in controls if not it.get("name", {}).get("value")]
+    tally.equal((len(controls) > 20, nameless), (True, []), "controls without a name")
+
+
+# The lowest contrast of a text with what is behind it, and the text.
+CONTRAST = """(() => {
+  const part = (it) => (it <= .03928 ? it / 12.92 : ((it + .055) / 1.055) ** 2.4);
+  const light = (colour) => {
+    const [red, green, blue] = colour.match(/[\\d.]+/g).map((it) => part(it / 255));
+    return .2126 * red + .7152 * green + .0722 * blue;
+  };
+  const behind = (it) => {
+    const colour = getComputedStyle(it).backgroundColor;
+    return colour.endsWith(', 0)') && it.parentElement ? behind(it.parentElement) : colour;
+  };
+  const texts = [...document.querySelectorAll('body *:not(script, style, [aria-disabled=true])')].filter((it) =>
+    it.checkVisibility() && [...it.childNodes].some((node) => node.nodeType === 3 && node.data.trim()));
+  return texts.map((it) => {
+    const style = getComputedStyle(it), colour = it.closest('svg') ? style.fill : style.color;
+    const [low, high] = [light(colour), light(behind(it))].sort((one, other) => one - other);
+    return [(high + .05) / (low + .05), it.textContent.slice(0, 30)];
+  }).sort((one, other) => one[0] - other[0])[0];
+})()"""
+
+
+def contrast(tally, page):
+    """Each text has a contrast of 4.5 with what is behind it, in both schemes of colours."""
+    for scheme in ("dark", "light"):
+        page.browser.colours(scheme)
+        page.choose("doors")
+        page.job("runs")
+        page.press_leaf(0)
+        lowest, text = page.browser.evaluate(CONTRAST)
+        tally.check(lowest >= 4.5, f"the contrast of {text!r} is {lowest:.2f} by {scheme} colours")
+
+
+def unable(tally, page):
+    """A browser without 64-bit memory is told which browsers have it."""
+    page.browser.before_page("WebAssembly.validate = () => false;")
+    page.open()
+    tally.check("Chrome" in page.text("notice") and "Firefox" in page.text("notice"), "the page doesn't name browsers")
+    page.job("run")
+    tally.equal(page.text("output"), None, "an answer without a module")
+
+
+def full_stack(tally, page):
+    """A stack that is full is status 4, and the next call is answered too."""
+    page.open()
+    for _ in range(2):
+        page.job("run")
+        tally.equal(("status 4" in page.status(), page.text("errors")), (True, "OUT OF STACK\n"), "a full stack")
