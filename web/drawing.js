@@ -174,9 +174,11 @@ class Drawing {
   svg() {
     const size = { width: Math.ceil(this.right + MARGIN), height: this.rows * ROW + 2 * MARGIN - (ROW - BOX) };
     const lines = this.parts.flatMap((part) => this.linesOf(part));
-    const shapes = this.parts.toSorted((one, other) => one.row - other.row)
-      .map((part) => (part.end ? this.leaf(part) : this.branch(part)));
-    return drawn('svg', size, ...lines.filter((it) => it.tagName === 'path'),
-      ...lines.filter((it) => it.tagName !== 'path'), ...shapes);
+    const [paths, texts] = ['path', 'text'].map((name) => lines.filter((it) => it.tagName === name));
+    const branches = this.parts.filter((part) => !part.end).map((part) => this.branch(part));
+    const leaves = this.parts.filter((part) => part.end).toSorted((one, other) => one.row - other.row);
+    // A screen reader reads the ends alone, which say their choices. The listing has the rest.
+    return drawn('svg', size, drawn('g', { 'aria-hidden': true }, ...paths, ...texts, ...branches),
+      ...leaves.map((part) => this.leaf(part)));
   }
 }

@@ -3,7 +3,7 @@
 
 const $ = (id) => document.getElementById(id);
 const bytesOf = (text) => new TextEncoder().encode(text);
-const wordsOf = (words) => bytesOf(words.map((word) => `${word}\0`).join(''));
+const argvOf = (words) => bytesOf(words.map((word) => `${word}\0`).join(''));
 
 const MOST = 1 << 22; // bytes of an answer that the page takes
 const SHOWN = 200000; // characters of a text that it shows
@@ -96,7 +96,7 @@ function put(part, id, text, length = text.length) {
 const took = (milliseconds) => `${milliseconds < 10 ? milliseconds.toFixed(1) : Math.round(milliseconds)} ms`;
 
 function showRun(answer, request, output, errors) {
-  const asks = errors.startsWith('CHOICE WANTED') && !$('seed').value.trim();
+  const asks = errors.startsWith('CHOICE WANTED');
   const run = request.isOfTree ? `run ${request.choices}, ` : '';
   const more = `${run}status ${answer.status}, ${took(answer.milliseconds)}`;
   put('written', 'output', output, answer.written);
@@ -134,11 +134,17 @@ function drawTree() {
   const parts = treeOf(drawnRuns, DEPTH);
   const ends = parts.filter((part) => part.end).length;
   const first = drawnRuns.length < runs.length ? `The first ${counted(DRAWN, 'run')}. ` : '';
-  $('parts').textContent = `${first}${counted(ends, 'different end')}. Equal parts of the tree are drawn once.`
+  $('parts').textContent = `${first}Ends: ${ends}. Equal parts of the tree are drawn once.`
     + (isWhole ? '' : ' “…” is not listed yet.');
   $('tree').replaceChildren(new Drawing(parts).svg());
   $('tree').querySelector('.leaf')?.setAttribute('tabindex', '0');
   $('tree').scrollTo(0, 0);
+}
+
+// Scrolls so that an element is in the upper part of the window.
+function reveal(element) {
+  const { top } = element.getBoundingClientRect();
+  if (top < 0 || top > innerHeight * .6) element.scrollIntoView({ block: 'start' });
 }
 
 // Gives the focus to the answer's head if the button that had it is gone.
@@ -154,7 +160,7 @@ function show(answer, request) {
   if (request.job === 'runs') showListing(answer, request, output, errors);
   else showRun(answer, request, output, errors);
   if (isOfTree) $(output ? 'written' : 'said').scrollIntoView({ block: 'nearest' });
-  else if (request.from === undefined) $('status').scrollIntoView({ block: 'nearest' });
+  else if (request.from === undefined) reveal($('status'));
   keepFocus();
 }
 
@@ -181,7 +187,7 @@ async function ask(request) {
   setBusy(true);
   const late = setTimeout(() => say(['wait', 'Running …'], 'Stop or Escape ends it'), 150);
   const answer = await engine.call({
-    words: wordsOf(argumentsOf(request)), file: bytesOf(request.file), input: bytesOf(request.input), most: MOST,
+    argv: argvOf(argumentsOf(request)), file: bytesOf(request.file), input: bytesOf(request.input), most: MOST,
   });
   clearTimeout(late);
   setBusy(false);

@@ -5,7 +5,7 @@ const QUOTED = 1 << 16; // a message has at most so many bytes besides the state
 const KEPT = 1 << 26; // a memory that grew beyond this isn't used again: heap.c joins no blocks
 const OUT_OF_MEMORY = 'OUT OF MEMORY\n', OUT_OF_STACK = 'OUT OF STACK\n';
 
-class NoMemory extends Error {}
+const bytesOf = (text) => new TextEncoder().encode(text);
 
 let module, ick;
 
@@ -18,7 +18,7 @@ async function renew() {
 // Returns the address of so many bytes in the module's memory.
 function room(length) {
   const address = ick.malloc(BigInt(Math.max(length, 1)));
-  if (address === 0n) throw new NoMemory();
+  if (address === 0n) throw new RangeError('no memory');
   return address;
 }
 
@@ -33,9 +33,9 @@ const copyOut = (address, length) =>
 
 // Calls `ick` with its arguments, where FILE has the bytes `file` and standard input has `input`. Returns the status,
 // at most `most` bytes of the output, the length of the whole output, and the error text.
-function serve({ words, file, input, most }) {
+function serve({ argv, file, input, most }) {
   const mostErrors = file.length + QUOTED;
-  const given = [words, file, input], places = given.map(copyIn);
+  const given = [argv, file, input], places = given.map(copyIn);
   const output = room(most), errors = room(mostErrors), lengths = room(16);
   const slices = given.flatMap((bytes, at) => [places[at], BigInt(bytes.length)]);
   const status = ick.ick_serve(...slices, output, BigInt(most), errors, BigInt(mostErrors), lengths);
@@ -45,22 +45,25 @@ function serve({ words, file, input, most }) {
     status, written, output: copyOut(output, Math.min(written, most)),
     errors: copyOut(errors, Math.min(said, mostErrors)),
   };
+  // An error text takes memory too. Nothing else can fail here.
+  if (status === 4 && said === 0) answer.errors = bytesOf(OUT_OF_MEMORY);
   for (const address of [...places, output, errors, lengths]) ick.free(address);
   return answer;
 }
 
-// Tells whether an error means that a stack is full: the browser's own, or that of the module. The latter begins at the
-// address 0 and grows down, so the module can't write over its data.
-function isFullStack(error) {
-  return error instanceof RangeError || error.name === 'InternalError' || /out of bounds/.test(error.message);
+// Tells what ran out, if that is why a call threw. The browser's own stack can be full, or that of the module, which
+// grows down to the address 0. A further access is out of bounds, and reaches no data.
+function shortageOf(error) {
+  if (/call stack|recursion|out of bounds/.test(error.message)) return OUT_OF_STACK;
+  return error instanceof RangeError ? OUT_OF_MEMORY : null;
 }
 
 // Answers for a call that didn't return. It may have left anything in the memory.
 async function recover(error) {
   await renew();
-  const text = error instanceof NoMemory ? OUT_OF_MEMORY : isFullStack(error) ? OUT_OF_STACK : null;
+  const text = shortageOf(error);
   if (text === null) throw error;
-  return { status: 4, written: 0, output: new Uint8Array(), errors: new TextEncoder().encode(text) };
+  return { status: 4, written: 0, output: new Uint8Array(), errors: bytesOf(text) };
 }
 
 async function answer(data) {

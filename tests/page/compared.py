@@ -22,8 +22,8 @@ MOST = 1 << 26
 LACKING = {"no-such-file", "."}
 SERVED = """
 globalThis.served = async (...given) => {
-  const [words, file, input] = given.map((text) => Uint8Array.from(atob(text), (letter) => letter.charCodeAt(0)));
-  const { status, failed, ...found } = await engine.call({ words, file, input, most: MOST_BYTES });
+  const [argv, file, input] = given.map((text) => Uint8Array.from(atob(text), (letter) => letter.charCodeAt(0)));
+  const { status, failed, ...found } = await engine.call({ argv, file, input, most: MOST_BYTES });
   const packed = await Promise.all([found.output, found.errors].map((bytes) => new Promise((done) => {
     const reader = new FileReader();
     reader.onload = () => done(reader.result.split(',')[1]);
@@ -43,7 +43,8 @@ class Module:
 
     def answer(self, words, file, given):
         """Returns the status, the output and the error text of `ick` with these arguments."""
-        parts = [b"".join(word.encode() + b"\0" if isinstance(word, str) else word + b"\0" for word in words), file, given]
+        words = b"".join((word.encode() if isinstance(word, str) else word) + b"\0" for word in words)
+        parts = [words, file, given]
         texts = ", ".join(f"'{base64.b64encode(part).decode()}'" for part in parts)
         found = self.chromium.evaluate(f"served({texts})")
         return found["status"], base64.b64decode(found["output"]), base64.b64decode(found["errors"])

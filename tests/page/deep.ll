@@ -1,14 +1,15 @@
-; A library whose one call calls itself again and again: the page is built with it to see its stack run out.
+; A library whose one call calls itself again and again: the page is built with it to see its stack run out. The page
+; hands over arguments, which WebAssembly drops.
 @deeper = global i64 1
 
-define i8 @ick_serve(ptr %words, i64 %a, ptr %file, i64 %b, ptr %input, i64 %c, ptr %output, i64 %d, ptr %errors, i64 %e, ptr %lengths) {
+define i8 @ick_serve() {
   %room = alloca [4096 x i8]
   store volatile i8 1, ptr %room
   %goes = load volatile i64, ptr @deeper
   %ends = icmp eq i64 %goes, 0
   br i1 %ends, label %end, label %deeper
 deeper:
-  %below = call i8 @ick_serve(ptr %words, i64 %a, ptr %file, i64 %b, ptr %input, i64 %c, ptr %output, i64 %d, ptr %errors, i64 %e, ptr %lengths)
+  %below = call i8 @ick_serve()
   %one = load volatile i8, ptr %room
   %sum = add i8 %below, %one
   ret i8 %sum

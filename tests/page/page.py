@@ -18,7 +18,7 @@ sys.dont_write_bytecode = True
 import compared
 import keys
 import shown
-from browsers import Chromium, Firefox
+from browsers import Chromium, Failed, Firefox
 
 BUILD = os.path.join(compared.TOP, "web", "build")
 
@@ -46,7 +46,10 @@ def build(page, *words):
 def part(tally, name, work, *given):
     """Does a part of the tests, and says how many checks of it passed."""
     before = tally.passed
-    work(tally, *given)
+    try:
+        work(tally, *given)
+    except Failed as error:
+        tally.check(False, f"{name}: {error}")
     print(f"{name}: {tally.passed - before} passed", flush=True)
 
 
@@ -59,9 +62,10 @@ def in_chromium(tally, address, asked):
         part(tally, "examples", compared.compare_examples, module, asked.program)
         numbers = range(1, asked.programs + 1)
         part(tally, "programs", compared.compare_programs, module, asked.program, asked.seed, numbers)
-        for name in ("shown_examples", "question", "stopping", "going_on", "tree", "links", "failures", "alone", "contrast"):
+        for work in (shown.shown_examples, shown.question, shown.stopping, shown.going_on, shown.tree, shown.links,
+                     shown.failures, shown.alone, shown.contrast):
             page.open()
-            part(tally, name, getattr(shown, name), page)
+            part(tally, work.__name__, work, page)
         part(tally, "keys in Chromium", keys.by_keyboard, page)
         part(tally, "unable", shown.unable, page)
 

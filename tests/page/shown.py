@@ -7,7 +7,6 @@ from compared import TOP, example_words, read
 ENDLESS = "(1) DO FORGET #1\nPLEASE DO (1) NEXT\n"
 GREEDY = "".join(f"{'PLEASE' if at % 4 == 3 else 'DO'} ;{at} <- #65535\n" for at in range(1, 3000)) + "DO GIVE UP\n"
 LONG = "(1) DO READ OUT #1\nPLEASE FORGET #1\nDO (1) NEXT\n"
-SECRET = "ick-page-test"
 
 
 class Page:
@@ -161,7 +160,8 @@ def links(tally, page):
     fragment = page.browser.evaluate("location.hash")
     page.open(fragment)
     tally.equal({name: page.value(name) for name in fields}, fields, "the form of a link")
-    tally.equal(page.browser.evaluate("document.querySelector('#library input').checked"), True, "the library of a link")
+    ticked = page.browser.evaluate("document.querySelector('#library input').checked")
+    tally.equal(ticked, True, "the library of a link")
     tally.equal(page.value("example"), "", "the example of a link")
     page.open(fragment[:-9])
     tally.check("can’t be read" in page.status(), f"the status {page.status()!r} of a spoiled link")
@@ -191,10 +191,10 @@ def failures(tally, page):
 
 def alone(tally, page):
     """The page can neither load nor send, and fits a narrow screen. Each control has a name."""
-    refused = page.browser.evaluate(f"""new Promise((done) => {{
+    refused = page.browser.evaluate("""new Promise((done) => {
         document.addEventListener('securitypolicyviolation', (event) => done(event.effectiveDirective));
-        fetch('http://127.0.0.1:9/{SECRET}').catch(() => 0);
-    }})""")
+        fetch('http://127.0.0.1:9/').catch(() => 0);
+    })""")
     tally.equal(refused, "connect-src", "what keeps the page from sending")
     for width in (320, 375, 1280):
         page.browser.resize(width, 800)
