@@ -62,8 +62,8 @@ def in_chromium(tally, address, asked):
         part(tally, "examples", compared.compare_examples, module, asked.program)
         numbers = range(1, asked.programs + 1)
         part(tally, "programs", compared.compare_programs, module, asked.program, asked.seed, numbers)
-        for work in (shown.shown_examples, shown.question, shown.stopping, shown.going_on, shown.tree, shown.links,
-                     shown.failures, shown.alone, shown.contrast):
+        for work in (shown.shown_examples, shown.question, shown.stopping, shown.going_on, shown.tree,
+                     shown.equal_parts, shown.links, shown.failures, shown.alone, shown.contrast):
             page.open()
             part(tally, work.__name__, work, page)
         part(tally, "keys in Chromium", keys.by_keyboard, page)

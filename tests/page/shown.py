@@ -1,6 +1,9 @@
 """What the page shows in Chromium when its buttons are pressed."""
+import glob
 import json
 import os
+import re
+import subprocess
 
 from compared import TOP, example_words, read
 
@@ -147,6 +150,23 @@ def tree(tally, page):
     page.set(count="1", limit="10")
     page.job("runs")
     tally.equal(page.browser.evaluate("document.querySelectorAll('.rest').length"), 1, "the rest of a listing")
+
+
+def equal_parts(tally, page):
+    """The tree has as many parts as ick-tree draws of the same listing. Numerals have their bars."""
+    for path in sorted(glob.glob(f"{TOP}/examples/*.runs")):
+        page.choose(os.path.basename(path)[:-5])
+        page.job("runs")
+        found = page.browser.evaluate("document.querySelectorAll('#tree :is(.dot, .branch, .leaf)').length")
+        words = [f"{TOP}/tools/ick-tree", "--format", "dot", "--depth", "40", "--width", "10000", path]
+        dot = subprocess.run(words, capture_output=True, check=True).stdout.decode()
+        wanted = 0 if page.text("tree-name") is None else len(re.findall(r"^  n\d+ \[", dot, re.MULTILINE))
+        tally.equal(found if wanted else 0, wanted, f"the parts of the tree of {path}")
+    page.set(source="DO READ OUT #3999 + #4000\nDO %50 READ OUT #0\nPLEASE GIVE UP\n", limit="", seed="", choices="")
+    page.job("runs")
+    for kind, wanted in (("branch", "MMMCMXCIX, MV"), ("bar", "V,\u2007\u2007")):
+        texts = f"[...document.querySelectorAll('#tree .{kind}')].map((it) => it.textContent).join()"
+        tally.equal(page.browser.evaluate(texts), wanted, f"the texts of class {kind} in the tree")
 
 
 def links(tally, page):
