@@ -2,6 +2,7 @@
 'use strict';
 
 const LETTER = 8.43, LETTERS = 26, NUMERALS = 5; // the width of a letter, and how much of a text is shown
+const SPOKEN = 20; // pieces of an output in the name of an end
 const ROW = 34, BOX = 26, COLUMN = 56, MARGIN = 18, DOT = 5;
 
 function drawn(name, attributes, ...inside) {
@@ -40,11 +41,16 @@ function quotedLine(piece) {
 // Returns the spans of what was written since the branch before: numerals, and lines in quotes.
 function spansOf(pieces) {
   const shown = pieces.slice(0, NUMERALS).flatMap((piece, at) => {
-    const spans = piece.indexOf('\n') < piece.length - 1 && numberOf(...piece.split('\n')) !== null
-      ? spansOfNumeral(piece) : [span(quotedLine(piece))];
+    const spans = numberOfPiece(piece) === null ? [span(quotedLine(piece))] : spansOfNumeral(piece);
     return at ? [span(', '), ...spans] : spans;
   });
   return pieces.length > NUMERALS ? [...shown, span(', …')] : shown;
+}
+
+// Returns what was written in words: numerals are decimal numbers.
+function spoken(pieces) {
+  const shown = pieces.slice(0, SPOKEN).map((piece) => numberOfPiece(piece) ?? quotedLine(piece));
+  return [...shown, ...(pieces.length > SPOKEN ? ['…'] : [])].join(', ') || 'nothing';
 }
 
 const counted = (count, noun) => `${count.toLocaleString('en')} ${noun}${count === 1 ? '' : 's'}`;
@@ -165,8 +171,8 @@ class Drawing {
 
   // An end, which can be run again by the choices of its first run.
   leaf(part) {
-    const { choices, quoted } = part.first, many = part.count > 1 ? `, the first of ${counted(part.count, 'run')}` : '';
-    const name = `Run ${choices}${many}: ${part.end}, output "${quoted}"`;
+    const { choices, pieces } = part.first, many = part.count > 1 ? `, the first of ${counted(part.count, 'run')}` : '';
+    const name = `Run ${choices}${many}: ${part.end}, output ${spoken(pieces)}`;
     return drawn('g', { class: `leaf${kindOf(part.end)}`, role: 'button', tabindex: -1, 'aria-label': name,
       'data-choices': choices }, drawn('title', {}, name), ...this.box(part));
   }

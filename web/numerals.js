@@ -29,6 +29,12 @@ function numberOf(bars, letters) {
   return bars === wantedBars && letters === wantedLetters ? number : null;
 }
 
+// Returns the number of a piece of output that is a numeral, or null.
+function numberOfPiece(piece) {
+  const [bars, letters, ...rest] = piece.split('\n');
+  return rest.length === 1 ? numberOf(bars, letters) : null;
+}
+
 // Returns the pieces of an output, in order: both lines of each numeral, and each other line, with their ends.
 function piecesOf(output) {
   const lines = output.split('\n'), pieces = [];

@@ -138,6 +138,7 @@ def tree(tally, page):
     tally.equal(names[0].startswith("Run 000000: E241@21"), True, f"the first of the ends {names}")
     tally.equal(len(names), 3, "the ends of the race")
     tally.equal(sum("62 runs" in name for name in names), 1, "an end of 62 runs")
+    tally.equal(names[1].startswith("Run 000001: GIVE-UP, output “Safe”"), True, f"the second of the ends {names}")
     page.press_leaf(2)
     tally.equal((page.value("choices"), page.text("output")), ("000010", "Safe\n"), "an end that is run again")
     tally.check("run 000010" in page.status(), f"the status {page.status()!r} of an end")
@@ -164,9 +165,10 @@ def equal_parts(tally, page):
         tally.equal(found if wanted else 0, wanted, f"the parts of the tree of {path}")
     page.set(source="DO READ OUT #3999 + #4000\nDO %50 READ OUT #0\nPLEASE GIVE UP\n", limit="", seed="", choices="")
     page.job("runs")
-    for kind, wanted in (("branch", "MMMCMXCIX, MV"), ("bar", "V,\u2007\u2007")):
+    for kind, wanted in (("branch", "MMMCMXCIX, MV"), ("bar", "V,\u2007\u2007"),
+                         ("leaf title", "Run 0: GIVE-UP, output 3999, 4000,Run 1: GIVE-UP, output 3999, 4000, 0")):
         texts = f"[...document.querySelectorAll('#tree .{kind}')].map((it) => it.textContent).join()"
-        tally.equal(page.browser.evaluate(texts), wanted, f"the texts of class {kind} in the tree")
+        tally.equal(page.browser.evaluate(texts), wanted, f"the texts of .{kind} in the tree")
 
 
 def links(tally, page):
