@@ -4,7 +4,7 @@
   page.py PROGRAM [--page PAGE] [--programs N] [--seed N] [--pictures FOLDER]
 
 With --page it takes that page in place of the one that web/build makes. The module answers the rows of tests/cli, the
-examples, and N random programs of tests/fuzz (500). Chromium is used by its buttons, and both browsers by their keys.
+examples, and N random programs of tests/fuzz (500). Both browsers are used by the page's buttons, and by keys alone.
 Debian's packages chromium and firefox-esr have them. The gate doesn't run this script. With --pictures it also puts
 pictures of the page into a folder, to be looked at. The last line is 'N passed, M failed'.
 """
@@ -53,6 +53,13 @@ def part(tally, name, work, *given):
     print(f"{name}: {tally.passed - before} passed", flush=True)
 
 
+def in_both(tally, page):
+    for work in (shown.shown_examples, shown.question, shown.stopping, shown.going_on, shown.tree, shown.links,
+                 shown.failures, keys.by_keyboard):
+        page.open()
+        part(tally, f"{work.__name__} in {type(page.browser).__name__}", work, page)
+
+
 def in_chromium(tally, address, asked):
     with Chromium() as chromium:
         page = shown.Page(chromium, address)
@@ -62,20 +69,15 @@ def in_chromium(tally, address, asked):
         part(tally, "examples", compared.compare_examples, module, asked.program)
         numbers = range(1, asked.programs + 1)
         part(tally, "programs", compared.compare_programs, module, asked.program, asked.seed, numbers)
-        for work in (shown.shown_examples, shown.question, shown.stopping, shown.going_on, shown.tree,
-                     shown.equal_parts, shown.links, shown.failures, shown.alone, shown.contrast):
+        in_both(tally, page)
+        for work in (shown.equal_parts, shown.alone, shown.contrast, shown.unable):
             page.open()
             part(tally, work.__name__, work, page)
-        part(tally, "keys in Chromium", keys.by_keyboard, page)
-        part(tally, "unable", shown.unable, page)
 
 
 def in_firefox(tally, address):
     with Firefox() as firefox:
-        page = shown.Page(firefox, address)
-        page.open()
-        part(tally, "examples in Firefox", shown.shown_examples, page)
-        part(tally, "keys in Firefox", keys.by_keyboard, page)
+        in_both(tally, shown.Page(firefox, address))
 
 
 def with_deep_module(tally, folder):

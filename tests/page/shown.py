@@ -1,4 +1,4 @@
-"""What the page shows in Chromium when its buttons are pressed."""
+"""What the page shows when its buttons are pressed."""
 import glob
 import json
 import os
