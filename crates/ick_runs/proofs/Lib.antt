@@ -22,3 +22,4 @@ pub mod ChosenLaws
 pub mod LineLaws
 pub mod OutputLaws
 pub mod StreamLaws
+mod Rows
