@@ -1,18 +1,17 @@
--- The run that an explorer comes to is the least one after its place.
+-- The run that an explorer comes to is the least one after its position.
 use Rattle.std.proofs.Common.{◌≡◌, ℕ, Bool, true, List, [], ◌∷◌, ◌++◌, length, refl, ap, sym}
 use Rattle.std.proofs.Common.{◌∙◌, subst, arith, append_assoc}
 use Rattle.std.proofs.lemmas.List.{append-nil}
 use Rattle.std.specs.Prelude.{Some, None}
 use Rattle.ick_code.specs.meaning.State.{State}
 use Rattle.ick_machine.specs.Machine.{Program, Machine}
-use Rattle.ick_machine.specs.Asked.{Finish, finish_of}
-use Rattle.ick_runs.specs.declared.run.Run.{Run}
+use Rattle.ick_machine.specs.Asked.{Finish}
 use Rattle.ick_runs.specs.Runs.{run, ends, IsEnd, IsWhole}
 use Rattle.ick_runs.specs.Listings.{IsLeastAfter, common, zeros_in}
 use Rattle.ick_runs.specs.Paths.{Leads}
 use Rattle.ick_runs.specs.Marked.{IsMarked}
-use Rattle.ick_runs.specs.Standing.{Keeps, StandsAfter, IsRunOf}
-use Rattle.ick_runs.specs.Walks.{Walks, EndsHere, GoesDown, TurnsBack, Finds}
+use Rattle.ick_runs.specs.Standing.{Keeps, StandsAfter}
+use Rattle.ick_runs.specs.Walks.{Walks, EndsHere, GoesDown, TurnsBack, Arrives, Finds}
 use Rattle.ick_runs.proofs.RunLaws.{Leads-start, Leads-ends}
 use Rattle.ick_runs.proofs.Orders.{least-first, least-turned, common-turned}
 
@@ -30,10 +29,6 @@ walks_start l m c points e h = record {
     steps = none_of points (zeros_in c) h.counted (ap zeros_in e);
   });
 }
-
--- the run of c stops in t, at this end, after n steps
-pub record Arrives (p : Program) (s : State) (l : ℕ) (c : List Bool) (t : State) (n : ℕ) (f : Finish) : Type 0 where
-  pub is : run p s l c ≡ record { last = t; stop = ends f; steps = n; unused = [] }
 
 pub arrives : (s : State) (l : ℕ) (p : Program) (m : Machine) (c : List Bool) (points : List ℕ) (n : ℕ)
     (f : Finish) → m.program ≡ p → Walks s l m c points n → EndsHere l m n f → Arrives p s l c m.state n f
@@ -55,28 +50,10 @@ arrived s l p m c points n f e w a = record {
   keeps = subst (λ q. Keeps q s l c m.marks points) e w.keeps;
 }
 
--- the answer as it was put together
-pub record Shows (r : Run) (m : Machine) (c : List Bool) (n : ℕ) (f : Finish) : Type 0 where
-  pub choices : r.choices.items ≡ c
-  pub output : r.output.items ≡ m.state.output
-  pub end : finish_of r.end ≡ f
-  pub steps : r.steps ≡ n
-
-shown_run : (p : Program) (s : State) (l : ℕ) (r : Run) (m : Machine) (c : List Bool) (n : ℕ) (f : Finish) →
-    Shows r m c n f → Arrives p s l c m.state n f → IsRunOf p s l r
-shown_run p s l r m c n f h a =
-    let i : run p s l r.choices.items ≡ record { last = m.state; stop = ends f; steps = n; unused = [] } =
-    ap (run p s l) h.choices ∙ a.is in
-    record {
-      output = h.output ∙ sym (ap (λ x. x.last.output) i);
-      stop = ap (λ x. x.stop) i ∙ ap ends (sym h.end);
-      steps = h.steps ∙ sym (ap (λ x. x.steps) i);
-    }
-
-pub finds_first : (l : ℕ) (m m' : Machine) (c c' : List Bool) (points points' : List ℕ) (n : ℕ) (f : Finish)
-    (r : Run) → c ≡ [] → IsMarked l m c points → GoesDown l m c points 0 m' c' points' n →
-    EndsHere l m' n f → Shows r m' c' n f → Finds m.state l None m r m' points'
-finds_first l m m' c c' points points' n f r hc h down here shows =
+pub finds_first : (l : ℕ) (m m' : Machine) (c c' : List Bool) (points points' : List ℕ) (n : ℕ) (f : Finish) →
+    c ≡ [] → IsMarked l m c points → GoesDown l m c points 0 m' c' points' n → EndsHere l m' n f →
+    Finds m.state l None m m' c' points' n f
+finds_first l m m' c c' points points' n f hc h down here =
     let p = m.program in
     let s = m.state in
     let w = down.moves.walks s (walks_start l m c points hc h) in
@@ -84,18 +61,18 @@ finds_first l m m' c c' points points' n f r hc h down here shows =
     let stands = arrived s l p m' c' points' n f down.moves.program w a in
     let z : c' ≡ down.zeros.0 = down.zeros.2 ∙ ap (λ x. x ++ down.zeros.0) hc in
     record {
-      least = subst (IsLeastAfter p s l None) (sym z ∙ sym shows.choices)
+      least = subst (IsLeastAfter p s l None) (sym z)
           (least-first p s l down.zeros.0 down.zeros.1 (subst (IsWhole p s l) z stands.whole));
-      is_run = shown_run p s l r m' c' n f shows a;
-      stands = subst (λ x. StandsAfter p s l x m'.marks points') (sym shows.choices) stands;
-      work = let x = down.moves.work in let y = shows.steps in omega arith;
+      arrives = a;
+      stands = stands;
+      work = let x = down.moves.work in omega arith;
     }
 
 pub finds_next : (l : ℕ) (m m₁ m' : Machine) (c c₁ c' : List Bool) (points points₁ points' : List ℕ)
-    (k n : ℕ) (f : Finish) (r : Run) → TurnsBack l m c points m₁ c₁ points₁ k →
-    GoesDown l m₁ c₁ points₁ k m' c' points' n → EndsHere l m' n f → Shows r m' c' n f →
-    (s : State) → StandsAfter m.program s l c m.marks points → Finds s l (Some c) m r m' points'
-finds_next l m m₁ m' c c₁ c' points points₁ points' k n f r back down here shows s h =
+    (k n : ℕ) (f : Finish) → TurnsBack l m c points m₁ c₁ points₁ k →
+    GoesDown l m₁ c₁ points₁ k m' c' points' n → EndsHere l m' n f →
+    (s : State) → StandsAfter m.program s l c m.marks points → Finds s l (Some c) m m' c' points' n f
+finds_next l m m₁ m' c c₁ c' points points₁ points' k n f back down here s h =
     let p = m.program in
     let pre = back.turned.0 in
     let turn = back.turned.1 in
@@ -107,14 +84,13 @@ finds_next l m m₁ m' c c₁ c' points points₁ points' k n f r back down here
     let z = down.zeros.0 in
     let d : c' ≡ pre ++ true ∷ z =
     down.zeros.2 ∙ (ap (λ x. x ++ z) back.turned.2 ∙ append_assoc pre (true ∷ []) z) in
-    let shared : (run p s l (common c r.choices.items)).steps ≡ (run p s l pre).steps =
+    let shared : (run p s l (common c c')).steps ≡ (run p s l pre).steps =
     ap (λ x. (run p s l x).steps)
-    (ap (common c) (shows.choices ∙ d)
-    ∙ (ap (λ x. common x (pre ++ true ∷ z)) turn.2 ∙ common-turned pre turn.0 z)) in
+    (ap (common c) d ∙ (ap (λ x. common x (pre ++ true ∷ z)) turn.2 ∙ common-turned pre turn.0 z)) in
     record {
-      least = subst (IsLeastAfter p s l (Some c)) (sym d ∙ sym shows.choices)
+      least = subst (IsLeastAfter p s l (Some c)) (sym d)
           (least-turned p s l c pre z turn down.zeros.1 (subst (IsWhole p s l) d stands.whole));
-      is_run = shown_run p s l r m' c' n f shows a;
-      stands = subst (λ x. StandsAfter p s l x m'.marks points') (sym shows.choices) stands;
-      work = let x = down.moves.work in let y = shows.steps in let u = back.work in let v = both.1 in omega arith;
+      arrives = a;
+      stands = stands;
+      work = let x = down.moves.work in let u = back.work in let v = both.1 in omega arith;
     }

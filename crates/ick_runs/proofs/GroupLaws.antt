@@ -12,7 +12,8 @@ use Rattle.std.specs.Str.Parse.{AllDigits, digits_value}
 use Rattle.std.proofs.lemmas.List.{length-append, length-replicate, take-append-drop}
 use Rattle.std.proofs.lemmas.Fmt.{decimal_is_IsNumeral, first_decimal}
 use Rattle.ick_runs.specs.ChoiceTexts.{digit_of, plain_text, Group, IsLength, group_text, later_text, groups_text}
-use Rattle.ick_runs.specs.ChoiceTexts.{Differs, AreGroups, stretch_of, spread, IsGrouped, Stretch, is_same, with_choice}
+use Rattle.ick_runs.specs.ChoiceTexts.{Differs, AreGroups, stretch_of, spread, IsGrouped, is_same, with_choice}
+use Rattle.ick_runs.specs.declared.stretches.Stretch.{Stretch}
 use Rattle.ick_runs.specs.ChoiceTexts.{stretches, group_of, grouped_text, choices_text, IsTextOf}
 use Rattle.ick_runs.specs.Readings.{HasNoDigit}
 
@@ -110,7 +111,7 @@ abbrev pub choices_in : List Stretch → List Bool
 choices_in [] = []
 choices_in (s ∷ ss) = replicate s.size s.choice ++ choices_in ss
 
-same_or_other : (b c : Bool) → (b ≡ c) ⊎ (b ≡ c → ⊥)
+pub same_or_other : (b c : Bool) → (b ≡ c) ⊎ (b ≡ c → ⊥)
 same_or_other true true = inl refl
 same_or_other false false = inl refl
 same_or_other true false = inr (λ e. cc)
@@ -126,11 +127,11 @@ other_tells true c e f = let x : true ≡ false = f ∙ e in cc
 other_tells false true e f = cc
 other_tells false false e f = cc
 
-same_true : (b : Bool) → is_same b b ≡ true
+pub same_true : (b : Bool) → is_same b b ≡ true
 same_true true = refl
 same_true false = refl
 
-other_false : (b c : Bool) → (b ≡ c → ⊥) → is_same b c ≡ false
+pub other_false : (b c : Bool) → (b ≡ c → ⊥) → is_same b c ≡ false
 other_false true true f = absurd (f refl)
 other_false true false f = refl
 other_false false true f = refl
@@ -150,7 +151,7 @@ with_stretched : (last : Option Bool) (b : Bool) (ss : List Stretch) → Differs
 with_stretched last b [] d h = (d, omega arith, tt)
 with_stretched last b (s ∷ ss) d h = with_by last b s ss (is_same b s.choice) refl d h
 
-stretched : (c : List Bool) → IsStretched None (stretches c)
+pub stretched : (c : List Bool) → IsStretched None (stretches c)
 stretched [] = tt
 stretched (b ∷ c) = with_stretched None b (stretches c) tt (stretched c)
 
@@ -167,7 +168,7 @@ choices_with : (b : Bool) (ss : List Stretch) → choices_in (with_choice b ss) 
 choices_with b [] = refl
 choices_with b (s ∷ ss) = choices_by b s ss (is_same b s.choice) refl
 
-choices_all : (c : List Bool) → choices_in (stretches c) ≡ c
+pub choices_all : (c : List Bool) → choices_in (stretches c) ≡ c
 choices_all [] = refl
 choices_all (b ∷ c) = choices_with b (stretches c) ∙ ap (λ x. b ∷ x) (choices_all c)
 

@@ -12,6 +12,8 @@ pub mod WritingLaws
 pub mod DropLaws
 pub mod TextLaws
 pub mod GroupLaws
+pub mod StretchLaws
+pub mod KeptLaws
 pub mod PrintLaws
 pub mod BackLaws
 pub mod ReadingLaws

@@ -1,12 +1,15 @@
 -- What an explorer's calls answer, for each state that it stands at.
-use Rattle.std.proofs.Common.{◌≡◌, ◌<◌, ◌≤◌, ℕ, Bool, true, false, List, [], ◌∷◌, length, sym}
-use Rattle.std.proofs.Common.{subst, arith}
+use Rattle.std.proofs.Common.{◌≡◌, ◌+◌, ◌<◌, ◌≤◌, ℕ, Bool, true, false, List, [], ◌∷◌, length, sym}
+use Rattle.std.proofs.Common.{ap, ◌∙◌, subst, arith}
 use Rattle.std.specs.Prelude.{Option, Some, None, IfSome}
 use Rattle.ick_code.specs.meaning.State.{State}
-use Rattle.ick_runs.specs.Runs.{IsWhole}
-use Rattle.ick_runs.specs.Listings.{IsLast, IsAfter, zeros_in}
+use Rattle.ick_machine.specs.Asked.{Finish, finish_of}
+use Rattle.ick_runs.specs.declared.run.Run.{Run}
+use Rattle.ick_runs.specs.Runs.{run, ends, IsWhole}
+use Rattle.ick_runs.specs.Listings.{IsLast, IsAfter, IsLeastAfter, zeros_in}
 use Rattle.ick_runs.specs.Paths.{AllOnes}
-use Rattle.ick_runs.specs.Standing.{Explored, Stands, StandsFrom, zeros_of}
+use Rattle.ick_runs.specs.Standing.{Explored, Stands, StandsFrom, Gives, shared_from, zeros_of}
+use Rattle.ick_runs.specs.Walks.{Reaches}
 use Rattle.ick_runs.proofs.RunLaws.{whole-short}
 use Rattle.ick_runs.proofs.Orders.{last-ones}
 use Rattle.ick_runs.proofs.Further.{has_first, has_next}
@@ -54,3 +57,25 @@ pub few_of_choices : (from : Option (List Bool)) (n : ℕ) → n ≡ zeros_of fr
     IfSome from (λ c. n ≤ length c)
 few_of_choices None n e = tt
 few_of_choices (Some c) n e = let h = zeros-few c in omega arith
+
+-- a copy of the run that an explorer has moved to
+pub gives : (s : State) (old new : Explored) (c : List Bool) (n : ℕ) (f : Finish) (r : Run) →
+    Reaches s old new c n f → r.choices.items ≡ c → r.output.items ≡ new.present.output →
+    finish_of r.end ≡ f → r.steps ≡ n → Gives s old r new
+gives s old new c n f r h choices output end steps =
+    let i : run old.program s old.limit r.choices.items
+    ≡ record { last = new.present; stop = ends f; steps = n; unused = [] } =
+    ap (run old.program s old.limit) choices ∙ h.arrives.is in
+    record {
+      least = subst (IsLeastAfter old.program s old.limit old.from) (sym choices) h.least;
+      is_run = record {
+        output = output ∙ sym (ap (λ x. x.last.output) i);
+        stop = ap (λ x. x.stop) i ∙ ap ends (sym end);
+        steps = steps ∙ sym (ap (λ x. x.steps) i);
+      };
+      place = h.place ∙ ap Some (sym choices);
+      stands = h.stands;
+      work =
+          ap (λ x. new.work + shared_from old.program s old.limit old.from x) choices
+          ∙ (h.work ∙ ap (λ k. old.work + k) (sym steps));
+    }

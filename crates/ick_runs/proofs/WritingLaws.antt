@@ -10,14 +10,14 @@ use Rattle.std.proofs.Math.Seq.{take-add}
 use Rattle.std.proofs.lemmas.List.{append-nil}
 use Rattle.ick_machine.specs.Machine.{Program}
 use Rattle.ick_code.specs.meaning.State.{State}
-use Rattle.ick_machine.specs.Asked.{finish_of}
+use Rattle.ick_machine.specs.Asked.{Finish}
 use Rattle.ick_runs.specs.declared.errors.RunsError.{RunsError}
 use Rattle.ick_runs.specs.declared.errors.RunsError.TheVariants.{NoMemory, NoSuchRun, WorkFull, Failed, BadCursor, Read}
 use Rattle.ick_runs.specs.declared.errors.RunsError.TheVariants.{Write}
-use Rattle.ick_runs.specs.declared.run.Run.{Run}
 use Rattle.ick_runs.specs.Runs.{run, IsWhole}
 use Rattle.ick_runs.specs.Listings.{IsListing, IsLast, IsAfter, IsLeastAfter}
-use Rattle.ick_runs.specs.Standing.{Explored, Stands, Gives, IsRunOf, IsFull}
+use Rattle.ick_runs.specs.Standing.{Explored, Stands, IsFull}
+use Rattle.ick_runs.specs.Walks.{Arrives, Reaches}
 use Rattle.ick_runs.specs.Lines.{line_of, compiled_at, line_next, last_line, listed_of, run_line, run_lines}
 use Rattle.ick_runs.specs.Writes.{place_after, Counts, Gave, Wrote, WroteInPart, Writes}
 use Rattle.ick_runs.specs.WritingSteps.{WritesOne, WritesNone, WritesPart, Along, WritesNext}
@@ -35,11 +35,9 @@ pub one_more_limit : (old mid new i l l' : ℕ) → mid ≤ old + i * l → new 
     new ≤ old + (i + 1) * l
 one_more_limit old mid new i l l' h k e = omega arith
 
--- a run that was found
-pub some_of : (found : Option Run) (r : Run) (old new : Explored) → found ≡ Some r →
-    IfSome found (λ r. (s : State) → Stands s old → Gives s old r new) → (s : State) → Stands s old →
-    Gives s old r new
-some_of found r old new e h = subst (λ x. IfSome x (λ r. (s : State) → Stands s old → Gives s old r new)) e h
+-- what an option holds
+pub some_of : {R : Type 0} (found : Option R) (r : R) (P : R → Type 0) → found ≡ Some r → IfSome found P → P r
+some_of found r P e h = subst (λ x. IfSome x P) e h
 
 -- a listing that isn't at its end begins with the least list, and goes on with the listing after it
 pub record Begins (p : Program) (s : State) (l : ℕ) (d : List Bool) (xs : List (List Bool)) : Type 0 where
@@ -63,30 +61,28 @@ pub listing_some : (p : Program) (s : State) (l : ℕ) (from : Option (List Bool
 listing_some p s l from xs (d, w, a) k = contains-some xs d (k.complete d w a)
 
 -- the explorer gave one more run
-pub gave_one : (s : State) (old new : Explored) (r : Run) (xs : List (List Bool)) → Gives s old r new →
-    new.program ≡ old.program → new.limit ≡ old.limit → old.work + old.limit < 2 ^ 64 →
-    take 1 xs ≡ r.choices.items ∷ [] → Gave s old (take 1 xs) new
-gave_one s old new r xs g p l room e = subst (λ x. Gave s old x new) (sym e) (record {
+pub gave_one : (s : State) (old new : Explored) (c : List Bool) (n : ℕ) (f : Finish) (xs : List (List Bool)) →
+    Reaches s old new c n f → new.program ≡ old.program → new.limit ≡ old.limit →
+    old.work + old.limit < 2 ^ 64 → take 1 xs ≡ c ∷ [] → Gave s old (take 1 xs) new
+gave_one s old new c n f xs g p l room e = subst (λ x. Gave s old x new) (sym e) (record {
   place = g.place;
   stands = g.stands;
   program = p;
   limit = l;
-  counts = (room, (new.work, g.work ∙ ap (λ n. old.work + n) g.is_run.steps, refl));
+  counts = (room, (new.work, g.work ∙ ap (λ k. old.work + k) (sym (ap (λ r. r.steps) g.arrives.is)), refl));
 })
 
 -- the text of its line
-pub line_is : (p : Program) (s : State) (l : ℕ) (r : Run) → IsRunOf p s l r →
-    run_line p s l r.choices.items ≡ line_of r.choices.items (finish_of r.end) r.output.items
-line_is p s l r h =
-    ap (λ o. compiled_at r.choices.items o (run p s l r.choices.items).last.output) h.stop
-    ∙ ap (line_of r.choices.items (finish_of r.end)) (sym h.output)
+pub line_is : (p : Program) (s : State) (l : ℕ) (c : List Bool) (t : State) (n : ℕ) (f : Finish) →
+    Arrives p s l c t n f → run_line p s l c ≡ line_of c f t.output
+line_is p s l c t n f a = ap (λ r. compiled_at c r.stop r.last.output) a.is
 
-pub one_line : (p : Program) (s : State) (l : ℕ) (r : Run) (xs : List (List Bool)) (line : List ℕ) →
-    IsRunOf p s l r → take 1 xs ≡ r.choices.items ∷ [] →
-    line ≡ line_of r.choices.items (finish_of r.end) r.output.items → line ≡ run_lines p s l (take 1 xs)
-one_line p s l r xs line h e f =
-    f ∙ (sym (line_is p s l r h)
-    ∙ (sym (append-nil (run_line p s l r.choices.items)) ∙ ap (run_lines p s l) (sym e)))
+pub one_line : (p : Program) (s : State) (l : ℕ) (c : List Bool) (t : State) (n : ℕ) (f : Finish)
+    (xs : List (List Bool)) (line : List ℕ) → Arrives p s l c t n f → take 1 xs ≡ c ∷ [] →
+    line ≡ line_of c f t.output → line ≡ run_lines p s l (take 1 xs)
+one_line p s l c t n f xs line a e h =
+    h ∙ (sym (line_is p s l c t n f a)
+    ∙ (sym (append-nil (run_line p s l c)) ∙ ap (run_lines p s l) (sym e)))
 
 pub rest_after : (s : State) (old new : Explored) (d : List Bool) (xs : List (List Bool)) →
     new.program ≡ old.program → new.limit ≡ old.limit → new.from ≡ Some d →
@@ -171,29 +167,31 @@ pub writes_none : (told : Bool) (s : State) (xs : List (List Bool)) (e : Explore
 writes_none told s xs e w h k =
     record { none = listing_none e.program s e.limit e.from xs h k; same = refl; text = λ t. refl }
 
-pub writes_one : (told : Bool) (s : State) (xs : List (List Bool)) (old new : Explored) (w w' : List ℕ) (r : Run)
-    (line : List ℕ) → Gives s old r new → new.program ≡ old.program → new.limit ≡ old.limit →
-    old.work + old.limit < 2 ^ 64 → IsListing old.program s old.limit old.from xs →
-    line ≡ line_of r.choices.items (finish_of r.end) r.output.items →
+pub writes_one : (told : Bool) (s : State) (xs : List (List Bool)) (old new : Explored) (w w' : List ℕ)
+    (c : List Bool) (n : ℕ) (f : Finish) (line : List ℕ) → Reaches s old new c n f →
+    new.program ≡ old.program → new.limit ≡ old.limit → old.work + old.limit < 2 ^ 64 →
+    IsListing old.program s old.limit old.from xs → line ≡ line_of c f new.present.output →
     (told ≡ true → w' ≡ w ++ line) → WritesOne told s xs old new w w'
-writes_one told s xs old new w w' r line g p l room k e f =
-    let b = listing_begins old.program s old.limit old.from r.choices.items xs g.least k in record {
+writes_one told s xs old new w w' c n f line g p l room k e h =
+    let b = listing_begins old.program s old.limit old.from c xs g.least k in record {
       some = b.some;
-      gave = gave_one s old new r xs g p l room b.first;
-      rest = rest_after s old new r.choices.items (drop 1 xs) p l g.place b.rest;
-      text = λ t. f t ∙ ap (λ x. w ++ x) (one_line old.program s old.limit r xs line g.is_run b.first e);
+      gave = gave_one s old new c n f xs g p l room b.first;
+      rest = rest_after s old new c (drop 1 xs) p l g.place b.rest;
+      text = λ t. h t ∙ ap (λ x. w ++ x)
+          (one_line old.program s old.limit c new.present n f xs line g.arrives b.first e);
     }
 
-pub writes_part : (told : Bool) (s : State) (xs : List (List Bool)) (old new : Explored) (w w' : List ℕ) (r : Run)
-    (line : List ℕ) → Gives s old r new → new.program ≡ old.program → new.limit ≡ old.limit →
-    old.work + old.limit < 2 ^ 64 → IsListing old.program s old.limit old.from xs →
-    line ≡ line_of r.choices.items (finish_of r.end) r.output.items →
-    (n : ℕ) → (told ≡ true → w' ≡ w ++ take n line) → WritesPart told s xs old new w w' n
-writes_part told s xs old new w w' r line g p l room k e n f =
-    let b = listing_begins old.program s old.limit old.from r.choices.items xs g.least k in record {
+pub writes_part : (told : Bool) (s : State) (xs : List (List Bool)) (old new : Explored) (w w' : List ℕ)
+    (c : List Bool) (n : ℕ) (f : Finish) (line : List ℕ) → Reaches s old new c n f →
+    new.program ≡ old.program → new.limit ≡ old.limit → old.work + old.limit < 2 ^ 64 →
+    IsListing old.program s old.limit old.from xs → line ≡ line_of c f new.present.output →
+    (k : ℕ) → (told ≡ true → w' ≡ w ++ take k line) → WritesPart told s xs old new w w' k
+writes_part told s xs old new w w' c n f line g p l room k e m h =
+    let b = listing_begins old.program s old.limit old.from c xs g.least k in record {
       some = b.some;
-      gave = gave_one s old new r xs g p l room b.first;
-      text = λ t. f t ∙ ap (λ x. w ++ take n x) (one_line old.program s old.limit r xs line g.is_run b.first e);
+      gave = gave_one s old new c n f xs g p l room b.first;
+      text = λ t. h t ∙ ap (λ x. w ++ take m x)
+          (one_line old.program s old.limit c new.present n f xs line g.arrives b.first e);
     }
 
 -- how much of a text was written, where that is told

@@ -3,6 +3,7 @@ use Rattle.std.specs.Prelude.{◌≡◌, ◌⊎◌, ◌==◌, ◌||◌, ◌<◌,
 use Rattle.std.specs.Prelude.{if◌then◌else◌, not, Bool, true, false, List, [], ◌∷◌, ◌++◌, map, length}
 use Rattle.std.specs.Prelude.{get_or, decimal, codes, Option, Some, None, replicate}
 use Rattle.std.specs.Str.Parse.{IsNumeral, digits_value}
+use Rattle.ick_runs.specs.declared.stretches.Stretch.{Stretch}
 
 -- the digit of a choice
 abbrev pub digit_of : Bool → ℕ
@@ -73,11 +74,6 @@ IsPlain text c = text ≡ plain_text c
 -- a text of a list of choices, as it is read
 abbrev pub IsTextOf : List ℕ → List Bool → Type 0
 IsTextOf text c = IsPlain text c ⊎ IsGrouped None text c
-
--- a stretch of equal choices
-pub record Stretch : Type 0 where
-  pub choice : Bool
-  pub size : ℕ
 
 abbrev pub is_same : Bool → Bool → Bool
 is_same true b = b

@@ -8,9 +8,11 @@ pub mod Standing
 pub mod Explorers
 pub mod Walks
 pub mod ChoiceTexts
+pub mod Choices
 pub mod Printing
 pub mod Readings
 pub mod Lines
+pub mod Tails
 pub mod Writes
 pub mod WritingSteps
 pub mod Ordinary

@@ -21,7 +21,7 @@ pub record IsMarked (limit : ℕ) (m : Machine) (c : List Bool) (points : List �
   pub below : list_all (λ n. nat_lt n limit) points ≡ true
 
 abbrev pub HasMarks : ℕ → Machine → Path → Type 0
-HasMarks limit m path = IsMarked limit m path.choices.items path.points.items
+HasMarks limit m path = IsMarked limit m path.choices path.points.items
 
 -- an explorer that has given no run keeps no choices
 pub record IsPlaced (progress : Progress) (c : List Bool) : Type 0 where

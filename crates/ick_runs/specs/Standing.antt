@@ -37,7 +37,7 @@ abbrev pub explored_at : Machine → ℕ → Path → Progress → Explored
 explored_at m limit path progress = record {
   program = m.program;
   limit = limit;
-  from = place_of progress path.choices.items;
+  from = place_of progress path.choices;
   present = m.state;
   marks = m.marks;
   points = path.points.items;

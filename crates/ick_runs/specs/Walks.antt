@@ -1,16 +1,15 @@
 -- Describes how an explorer leads its machine along runs, for its private contracts.
 use Rattle.std.specs.Prelude.{◌≡◌, ℕ, ◌+◌, ◌-◌, ◌<◌, ◌≤◌, Bool, true, List, [], ◌∷◌}
-use Rattle.std.specs.Prelude.{◌++◌, Option}
+use Rattle.std.specs.Prelude.{◌++◌, Option, Some}
 use Rattle.ick_code.specs.meaning.State.{State}
 use Rattle.ick_code.specs.meaning.Move.{ask}
-use Rattle.ick_machine.specs.Machine.{Machine}
+use Rattle.ick_machine.specs.Machine.{Program, Machine}
 use Rattle.ick_machine.specs.Asked.{Finish}
 use Rattle.ick_runs.specs.Runs.{run, ends, stays}
 use Rattle.ick_runs.specs.Listings.{IsLeastAfter}
 use Rattle.ick_runs.specs.Paths.{Leads, AllZeros, TurnsAt}
 use Rattle.ick_runs.specs.Marked.{is_choice, IsMarked}
-use Rattle.ick_runs.specs.Standing.{Keeps, StandsAfter, IsRunOf, shared_from}
-use Rattle.ick_runs.specs.declared.run.Run.{Run}
+use Rattle.ick_runs.specs.Standing.{Explored, Keeps, Stands, StandsAfter, shared_from}
 
 -- the machine has made n steps of the run from s with these choices, and has the marks of their zeros
 pub record Walks (s : State) (limit : ℕ) (m : Machine) (c : List Bool) (points : List ℕ) (n : ℕ) : Type 0 where
@@ -52,13 +51,26 @@ pub record TurnsBack (limit : ℕ) (old : Machine) (c : List Bool) (points : Lis
       × ((s : State) → StandsAfter old.program s limit c old.marks points →
       Walks s limit new c' points' n × (n ≡ (run old.program s limit pre).steps + 1))
 
--- the machine is at the end of r, the least run after a position in the runs from s
-pub record Finds (s : State) (limit : ℕ) (from : Option (List Bool)) (old : Machine) (r : Run)
-    (new : Machine) (points : List ℕ) : Type 0 where
-  pub least : IsLeastAfter old.program s limit from r.choices.items
-  pub is_run : IsRunOf old.program s limit r
-  pub stands : StandsAfter old.program s limit r.choices.items new.marks points
-  pub work : new.work + shared_from old.program s limit from r.choices.items ≡ old.work + r.steps
+-- the run of c stops in t after n steps, at this end
+pub record Arrives (p : Program) (s : State) (limit : ℕ) (c : List Bool) (t : State) (n : ℕ) (finish : Finish)
+    : Type 0 where
+  pub is : run p s limit c ≡ record { last = t; stop = ends finish; steps = n; unused = [] }
+
+-- the machine is at the end of the run of c, the least run after a position in the runs from s
+pub record Finds (s : State) (limit : ℕ) (from : Option (List Bool)) (old new : Machine) (c : List Bool)
+    (points : List ℕ) (n : ℕ) (finish : Finish) : Type 0 where
+  pub least : IsLeastAfter old.program s limit from c
+  pub arrives : Arrives old.program s limit c new.state n finish
+  pub stands : StandsAfter old.program s limit c new.marks points
+  pub work : new.work + shared_from old.program s limit from c ≡ old.work + n
+
+-- the explorer has moved to the run of c, the least run after its old position
+pub record Reaches (s : State) (old new : Explored) (c : List Bool) (n : ℕ) (finish : Finish) : Type 0 where
+  pub least : IsLeastAfter old.program s old.limit old.from c
+  pub arrives : Arrives old.program s old.limit c new.present n finish
+  pub place : new.from ≡ Some c
+  pub stands : Stands s new
+  pub work : new.work + shared_from old.program s old.limit old.from c ≡ old.work + n
 
 -- the machine was led along the run of c to its end
 pub record Follows (limit : ℕ) (old : Machine) (c : List Bool) (new : Machine) (points : List ℕ) : Type 0 where

@@ -4,16 +4,17 @@ ghost use Rattle.std.specs.Prelude.{◌≡◌, ◌+◌, ◌<◌, ◌≤◌, ◌+
 ghost use Rattle.std.specs.Prelude.{false, length, take};
 ghost use Rattle.std.specs.Prelude.{drop, get_or, replicate, vec_len, vec_capacity, map};
 ghost use Rattle.ick_runs.specs.ChoiceTexts.{choices_text, digit_of, group_of, group_text};
-ghost use Rattle.ick_runs.specs.ChoiceTexts.{grouped_text};
+ghost use Rattle.ick_runs.specs.ChoiceTexts.{grouped_text, groups_text};
 ghost use Rattle.ick_runs.specs.Printing.{StartsOther};
 
+use crate::stretches::Stretch;
 use ick_bits::{NoMemory, append_decimal};
 
 /// Limits the choices of a plain text, which has one digit a choice.
-const MOST_PLAIN: usize = 64;
+pub(crate) const MOST_PLAIN: usize = 64;
 
 /// Returns the digit of a choice.
-fn digit(choice: bool) -> u8
+pub(crate) fn digit(choice: bool) -> u8
     ensures { result ≡ digit_of choice }
 {
     if choice { b'1' } else { b'0' }
@@ -87,6 +88,20 @@ fn push_groups(out: &mut Vec<u8>, choices: &[bool]) -> Result<(), NoMemory>
         }
         out.push(b',')?;
     }
+}
+
+/// Appends the groups of a list of stretches, which must not be empty. If `out` can't grow, only a
+/// prefix of the groups is appended.
+pub(crate) fn push_stretches(out: &mut Vec<u8>, kept: &[Stretch]) -> Result<(), NoMemory>
+    requires { 0 < length kept.now }
+    ensures { OnOk result (out.new.items ≡ out.old.items ++ groups_text (map group_of kept.now)) }
+{
+    push_group(out, kept[0].choice, kept[0].size)?;
+    for at in 1..kept.len() {
+        out.push(b',')?;
+        push_group(out, kept[at].choice, kept[at].size)?;
+    }
+    Ok(())
 }
 
 /// Appends the text of a list of choices, which must not be empty. If `out` can't grow, only a

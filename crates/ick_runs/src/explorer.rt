@@ -2,17 +2,19 @@
 
 ghost use Rattle.std.specs.Prelude.{◌≡◌, ◌↔◌, ◌+◌, ◌<◌, ◌≤◌, ◌^◌};
 ghost use Rattle.std.specs.Prelude.{◌⊎◌, [], true, false, Bool, List, length, Some, None, Ok};
-ghost use Rattle.std.specs.Prelude.{Err, IfOk, IfErr, IfSome, IfNone, IsSome};
+ghost use Rattle.std.specs.Prelude.{Err, IfOk, IfErr, IfSome, IfNone, IsSome, OnOk};
 ghost use Rattle.std.proofs.Props.{props};
 ghost use Rattle.ick_runs.specs.Marked.{HasMarks, IsPlaced};
 
+use crate::choices::Choices;
 use crate::cursor::Cursor;
 use crate::errors::RunsError;
+use crate::lines::LineBuilder;
 use crate::path::{Path, Progress};
 use crate::run::Run;
 use crate::walk;
 use ick_bits::NoMemory;
-use ick_machine::{Asks, Backtrack};
+use ick_machine::{Asks, Backtrack, End};
 use std::alloc::Global;
 
 /// Lists the runs of a machine's program from the machine's state. Each run is listed once, in the
@@ -34,7 +36,7 @@ pub struct Explorer<M: Backtrack> {
     progress: Progress,
     alloc: Global,
     ghost marked: { HasMarks limit (M.seen machine) path } by { Prim.hlevel props },
-    ghost placed: { IsPlaced progress path.choices.items } by { Prim.hlevel props },
+    ghost placed: { IsPlaced progress path.choices } by { Prim.hlevel props },
 }
 
 impl<M: Backtrack> Explorer<M> {
@@ -43,6 +45,9 @@ impl<M: Backtrack> Explorer<M> {
     ghost use Rattle.ick_runs.specs.Runs.{IsWhole};
     ghost use Rattle.ick_runs.specs.Standing.{Stands, HasMore, IsAtLast, HasFailed, Gives, IsFull};
     ghost use Rattle.ick_runs.specs.Standing.{IsMachineFull, Resumes, zeros_of};
+    ghost use Rattle.ick_machine.specs.Asked.{finish_of};
+    ghost use Rattle.ick_runs.specs.Lines.{line_of};
+    ghost use Rattle.ick_runs.specs.Walks.{Reaches};
 
     /// Returns an explorer before the first run from the machine's state. Each run has at most
     /// `limit` steps. The machine must have no marks. This call makes no step.
@@ -64,7 +69,7 @@ impl<M: Backtrack> Explorer<M> {
             machine,
             limit,
             path: Path {
-                choices: Vec::new(alloc),
+                choices: Choices::new(alloc),
                 points: Vec::new(alloc),
             },
             progress: Progress::Fresh,
@@ -104,7 +109,7 @@ impl<M: Backtrack> Explorer<M> {
             return Err(RunsError::WorkFull);
         }
         let mut path = Path {
-            choices: Vec::new(alloc),
+            choices: Choices::new(alloc),
             points: Vec::new(alloc),
         };
         if !walk::follow(&mut machine, &mut path, limit, cursor.choices())? {
@@ -210,6 +215,51 @@ impl<M: Backtrack> Explorer<M> {
         ensures program { (explored self.new).program ≡ (explored self.old).program }
         ensures limit { (explored self.new).limit ≡ (explored self.old).limit }
     {
+        let Some((steps, end)) = self.advance()? else {
+            return Ok(None);
+        };
+        match self.copy_run(steps, end) {
+            Ok(run) => Ok(Some(run)),
+            Err(NoMemory) => {
+                self.fail();
+                Err(RunsError::NoMemory)
+            }
+        }
+    }
+
+    /// Moves to the next run, and returns its number of steps and its end. Returns `None` if no run
+    /// is left. The refusals, and the state after each of them, are those of `next`.
+    pub(crate) fn advance<'c>(&mut self) -> Result<Option<(u32, End<'c>)>, RunsError>
+    where
+        M: Asks<'c>,
+        ensures failed { result ≡ Err RunsError.Failed ↔ (explored self.old).failed ≡ true }
+        ensures work_full { result ≡ Err RunsError.WorkFull
+            ↔ (((explored self.old).failed ≡ false) × IsFull (explored self.old)) }
+        ensures errors { IfErr result (λ e. (e ≡ RunsError.NoMemory)
+            ⊎ ((e ≡ RunsError.Failed) ⊎ (e ≡ RunsError.WorkFull))) }
+        ensures refused { IfErr result (λ e.
+            (e ≡ RunsError.NoMemory) ⊎ (explored self.new ≡ explored self.old)) }
+        ensures no_memory { result ≡ Err RunsError.NoMemory → HasFailed (explored self.new) }
+        ensures some { IfOk result (λ found. IfSome found (λ r.
+            (s : State) → Stands s (explored self.old) →
+            Reaches s (explored self.old) (explored self.new) self.new.path.choices
+            r.0 (finish_of r.1))) }
+        ensures none { IfOk result (λ found.
+            IfNone found ((explored self.new ≡ explored self.old)
+            × ((s : State) → Stands s (explored self.old) → IsAtLast s (explored self.old)))) }
+        ensures none_left { IfOk result (λ found.
+            IfNone found (zeros_of (explored self.new).from ≡ 0)) }
+        ensures not_first { IfOk result (λ found. IfNone found (IsSome (explored self.old).from)) }
+        ensures sound { IfOk result (λ _. (explored self.new).failed ≡ false) }
+        ensures room { IfOk result (λ _.
+            (explored self.old).work + (explored self.old).limit < 2 ^ 64) }
+        ensures begun { result ≡ Err RunsError.NoMemory →
+            (explored self.old).work + (explored self.old).limit < 2 ^ 64 }
+        ensures within { IfOk result (λ _.
+            (explored self.new).work ≤ (explored self.old).work + (explored self.old).limit) }
+        ensures program { (explored self.new).program ≡ (explored self.old).program }
+        ensures limit { (explored self.new).limit ≡ (explored self.old).limit }
+    {
         if let Progress::Spent = self.progress {
             return Err(RunsError::Failed);
         }
@@ -222,16 +272,10 @@ impl<M: Backtrack> Explorer<M> {
             }
         }
         let progress = self.progress;
-        match walk::find(
-            self.alloc,
-            &mut self.machine,
-            &mut self.path,
-            self.limit,
-            progress,
-        ) {
-            Ok(run) => {
+        match walk::find(&mut self.machine, &mut self.path, self.limit, progress) {
+            Ok(found) => {
                 self.progress = Progress::Given;
-                Ok(Some(run))
+                Ok(Some(found))
             }
             Err(NoMemory) => {
                 walk::forget(&mut self.machine, &mut self.path);
@@ -239,5 +283,38 @@ impl<M: Backtrack> Explorer<M> {
                 Err(RunsError::NoMemory)
             }
         }
+    }
+
+    /// Returns the run at the explorer's position, which has made this number of steps and has this
+    /// end. The answer is `NoMemory` if this call runs out of memory.
+    fn copy_run<'c>(&self, steps: u32, end: End<'c>) -> Result<Run<'c>, NoMemory>
+        ensures choices { IfOk result (λ r. r.choices.items ≡ self.now.path.choices) }
+        ensures output { IfOk result (λ r.
+            r.output.items ≡ (explored self.now).present.output) }
+        ensures end { IfOk result (λ r. finish_of r.end ≡ finish_of end.entry) }
+        ensures steps { IfOk result (λ r. r.steps ≡ steps) }
+    {
+        let choices = Vec::from_slice(self.alloc, self.path.choices.as_slice())?;
+        let output = Vec::from_slice(self.alloc, self.machine.output())?;
+        Ok(Run {
+            choices,
+            output,
+            end,
+            steps,
+        })
+    }
+
+    /// Builds the line of the run at the explorer's position, which has this end. The answer is
+    /// `NoMemory` if this call runs out of memory. The explorer's state is unchanged.
+    pub(crate) fn build_line<'c>(
+        &mut self,
+        lines: &mut LineBuilder<'c>,
+        end: End<'c>,
+    ) -> Result<(), NoMemory>
+        ensures line { OnOk result (lines.new.line.items ≡ line_of self.old.path.choices
+            (finish_of end.entry) (explored self.old).present.output) }
+        ensures same { explored self.new ≡ explored self.old }
+    {
+        lines.build(&mut self.path.choices, end, self.machine.output())
     }
 }

@@ -11,16 +11,18 @@
 //! | `feeds` | a source of bytes as the input of a machine |
 //! | `turn`, `streamed` | one run whose input and output are streams |
 //! | `choice_texts` | the printing of lists of choices |
+//! | `stretches`, `choices` | a list of choices that keeps what its text is made of |
 //! | `reading`, `groups` | the reading of lists of choices |
 //! | `cursor` | a position in a listing |
 //! | `run`, `path` | a run, and the position of an explorer |
 //! | `walk` | the machine's way from one run to the next |
 //! | `explorer` | the explorer |
-//! | `lines`, `listing`, `writing` | a listing as text |
+//! | `tail`, `lines`, `listing`, `writing` | a listing as text |
 //! | `laws` | laws of all runs, listings, texts and draws |
 #![tactic(auto)]
 
 mod choice_texts;
+mod choices;
 mod chooser;
 mod cursor;
 mod devices;
@@ -38,6 +40,8 @@ mod reading;
 mod run;
 mod seeded;
 mod streamed;
+mod stretches;
+mod tail;
 mod turn;
 mod walk;
 mod writing;

@@ -14,11 +14,10 @@ ghost use Rattle.ick_runs.specs.Standing.{StandsAfter, StandsFrom, place_of, has
 ghost use Rattle.ick_runs.specs.Walks.{IsChoosing, EndsHere, Moves, GoesDown, TurnsBack, Finds};
 ghost use Rattle.ick_runs.specs.Walks.{Follows};
 
+use crate::choices::Choices;
 use crate::path::{Path, Progress};
-use crate::run::Run;
 use ick_bits::NoMemory;
 use ick_machine::{Ask, Asks, Backtrack, End};
-use std::alloc::Global;
 
 /// Makes step `steps + 1` by the choice `done`, and adds the choice to the path. If the choice is a
 /// zero, this call first marks the state before the step. The machine must ask a choice, and
@@ -36,10 +35,10 @@ fn choose<M: Backtrack>(
     requires room { (M.seen machine.old).work < 2 ^ 64 - 1 }
     ensures program { (M.seen machine.new).program ≡ (M.seen machine.old).program }
     ensures choice { OnOk result
-        (path.new.choices.items ≡ path.old.choices.items ++ done ∷ []) }
+        (path.new.choices ≡ path.old.choices ++ done ∷ []) }
     ensures moves { OnOk result (Moves limit
-        (M.seen machine.old) path.old.choices.items path.old.points.items steps
-        (M.seen machine.new) path.new.choices.items path.new.points.items (steps + 1)) }
+        (M.seen machine.old) path.old.choices path.old.points.items steps
+        (M.seen machine.new) path.new.choices path.new.points.items (steps + 1)) }
 {
     path.choices.push(done)?;
     if done {
@@ -53,9 +52,9 @@ fn choose<M: Backtrack>(
 }
 
 /// Drops the last zero and the ones after it. The list must have a zero.
-fn drop_last_zero(choices: &mut Vec<bool>)
-    requires { 0 < zeros_in choices.old.items }
-    ensures { TurnsAt choices.old.items choices.new.items }
+fn drop_last_zero(choices: &mut Choices)
+    requires { 0 < zeros_in choices.old }
+    ensures { TurnsAt choices.old choices.new }
 {
     while let Some(done) = choices.pop() {
         if !done {
@@ -68,13 +67,13 @@ fn drop_last_zero(choices: &mut Vec<bool>)
 /// from the start of the run. The path must have a zero.
 fn turn_back<M: Backtrack>(machine: &mut M, path: &mut Path, limit: u32) -> Result<u32, NoMemory>
     requires marked { IsMarked limit
-        (M.seen machine.old) path.old.choices.items path.old.points.items }
+        (M.seen machine.old) path.old.choices path.old.points.items }
     requires more { 0 < length path.old.points.items }
     requires room { (M.seen machine.old).work + limit < 2 ^ 64 }
     ensures program { (M.seen machine.new).program ≡ (M.seen machine.old).program }
     ensures turns { IfOk result (λ n. TurnsBack limit
-        (M.seen machine.old) path.old.choices.items path.old.points.items
-        (M.seen machine.new) path.new.choices.items path.new.points.items n) }
+        (M.seen machine.old) path.old.choices path.old.points.items
+        (M.seen machine.new) path.new.choices path.new.points.items n) }
 {
     drop_last_zero(&mut path.choices);
     let steps = path.points.pop().unwrap();
@@ -86,6 +85,7 @@ fn turn_back<M: Backtrack>(machine: &mut M, path: &mut Path, limit: u32) -> Resu
 /// Goes on with a zero at each choice until the run ends. `start` counts the steps made before this
 /// call, and must be at most `limit`. Returns the number of steps made from the start of the run,
 /// and the end.
+#[inline(always)]
 fn go_down<'c, M: Asks<'c>>(
     machine: &mut M,
     path: &mut Path,
@@ -96,8 +96,8 @@ fn go_down<'c, M: Asks<'c>>(
     requires room { (M.seen machine.old).work + limit < 2 ^ 64 + start }
     ensures program { (M.seen machine.new).program ≡ (M.seen machine.old).program }
     ensures down { IfOk result (λ r. GoesDown limit
-        (M.seen machine.old) path.old.choices.items path.old.points.items start
-        (M.seen machine.new) path.new.choices.items path.new.points.items r.0) }
+        (M.seen machine.old) path.old.choices path.old.points.items start
+        (M.seen machine.new) path.new.choices path.new.points.items r.0) }
     ensures end { IfOk result (λ r. EndsHere limit (M.seen machine.new) r.0 (finish_of r.1)) }
 {
     let mut steps = start;
@@ -129,13 +129,13 @@ pub(crate) fn follow<'c, M: Asks<'c>>(
     choices: &[bool],
 ) -> Result<bool, NoMemory>
     requires marked { IsMarked limit
-        (M.seen machine.old) path.old.choices.items path.old.points.items }
-    requires none { path.old.choices.items ≡ [] }
+        (M.seen machine.old) path.old.choices path.old.points.items }
+    requires none { path.old.choices ≡ [] }
     requires room { (M.seen machine.old).work + limit < 2 ^ 64 }
     ensures path { IfOk result
-        (λ whole. whole ≡ true → path.new.choices.items ≡ choices.now) }
+        (λ whole. whole ≡ true → path.new.choices ≡ choices.now) }
     ensures marked { IfOk result (λ _. IsMarked limit
-        (M.seen machine.new) path.new.choices.items path.new.points.items) }
+        (M.seen machine.new) path.new.choices path.new.points.items) }
     ensures whole { IfOk result (λ whole. whole ≡ true → Follows limit
         (M.seen machine.old) choices.now (M.seen machine.new) path.new.points.items) }
     ensures not_whole { IfOk result (λ whole. whole ≡ false →
@@ -165,30 +165,6 @@ pub(crate) fn follow<'c, M: Asks<'c>>(
     }
 }
 
-/// Returns the run that has ended in the machine's state. The answer is `NoMemory` if this call
-/// runs out of memory.
-fn make_run<'c, M: Backtrack>(
-    alloc: Global,
-    machine: &M,
-    path: &Path,
-    steps: u32,
-    end: End<'c>,
-) -> Result<Run<'c>, NoMemory>
-    ensures choices { IfOk result (λ r. r.choices.items ≡ path.now.choices.items) }
-    ensures output { IfOk result (λ r. r.output.items ≡ (M.seen machine.now).state.output) }
-    ensures end { IfOk result (λ r. finish_of r.end ≡ finish_of end.entry) }
-    ensures steps { IfOk result (λ r. r.steps ≡ steps) }
-{
-    let choices = Vec::from_slice(alloc, &path.choices)?;
-    let output = Vec::from_slice(alloc, machine.output())?;
-    Ok(Run {
-        choices,
-        output,
-        end,
-        steps,
-    })
-}
-
 /// Drops all marks.
 fn drop_marks<M: Backtrack>(machine: &mut M)
     ensures none { (M.seen machine.new).marks ≡ [] }
@@ -202,7 +178,7 @@ fn drop_marks<M: Backtrack>(machine: &mut M)
 /// Drops all marks and clears the path.
 pub(crate) fn forget<M: Backtrack>(machine: &mut M, path: &mut Path)
     ensures marks { (M.seen machine.new).marks ≡ [] }
-    ensures choices { path.new.choices.items ≡ [] }
+    ensures choices { path.new.choices ≡ [] }
     ensures points { path.new.points.items ≡ [] }
     ensures program { (M.seen machine.new).program ≡ (M.seen machine.old).program }
 {
@@ -211,92 +187,88 @@ pub(crate) fn forget<M: Backtrack>(machine: &mut M, path: &mut Path)
     path.points.clear();
 }
 
-/// Finds the first run. The path must be empty. The answer is `NoMemory` if this call runs out of
-/// memory.
+/// Moves to the first run, and returns its number of steps and its end. The path must be empty. The
+/// answer is `NoMemory` if this call runs out of memory.
 fn find_first<'c, M: Asks<'c>>(
-    alloc: Global,
     machine: &mut M,
     path: &mut Path,
     limit: u32,
-) -> Result<Run<'c>, NoMemory>
+) -> Result<(u32, End<'c>), NoMemory>
     requires marked { IsMarked limit
-        (M.seen machine.old) path.old.choices.items path.old.points.items }
-    requires none { path.old.choices.items ≡ [] }
+        (M.seen machine.old) path.old.choices path.old.points.items }
+    requires none { path.old.choices ≡ [] }
     requires room { (M.seen machine.old).work + limit < 2 ^ 64 }
     ensures program { (M.seen machine.new).program ≡ (M.seen machine.old).program }
-    ensures path { IfOk result (λ r. path.new.choices.items ≡ r.choices.items) }
     ensures marked { IfOk result (λ _. IsMarked limit
-        (M.seen machine.new) path.new.choices.items path.new.points.items) }
+        (M.seen machine.new) path.new.choices path.new.points.items) }
     ensures within { IfOk result (λ _.
         (M.seen machine.new).work ≤ (M.seen machine.old).work + limit) }
     ensures found { IfOk result (λ r. Finds (M.seen machine.old).state limit None
-        (M.seen machine.old) r (M.seen machine.new) path.new.points.items) }
+        (M.seen machine.old) (M.seen machine.new) path.new.choices path.new.points.items
+        r.0 (finish_of r.1)) }
 {
     let (steps, end) = go_down(machine, path, limit, 0)?;
-    let run = make_run(alloc, machine, path, steps, end)?;
-    Ok(run)
+    Ok((steps, end))
 }
 
-/// Finds the run after the run that the path names. The path must have a zero. The answer is
-/// `NoMemory` if this call runs out of memory.
+/// Moves to the run after the run that the path names, and returns its number of steps and its end.
+/// The path must have a zero. The answer is `NoMemory` if this call runs out of memory.
 fn find_next<'c, M: Asks<'c>>(
-    alloc: Global,
     machine: &mut M,
     path: &mut Path,
     limit: u32,
-) -> Result<Run<'c>, NoMemory>
+) -> Result<(u32, End<'c>), NoMemory>
     requires marked { IsMarked limit
-        (M.seen machine.old) path.old.choices.items path.old.points.items }
+        (M.seen machine.old) path.old.choices path.old.points.items }
     requires more { 0 < length path.old.points.items }
     requires room { (M.seen machine.old).work + limit < 2 ^ 64 }
     ensures program { (M.seen machine.new).program ≡ (M.seen machine.old).program }
-    ensures path { IfOk result (λ r. path.new.choices.items ≡ r.choices.items) }
     ensures marked { IfOk result (λ _. IsMarked limit
-        (M.seen machine.new) path.new.choices.items path.new.points.items) }
+        (M.seen machine.new) path.new.choices path.new.points.items) }
     ensures within { IfOk result (λ _.
         (M.seen machine.new).work ≤ (M.seen machine.old).work + limit) }
     ensures found { IfOk result (λ r. (s : State) →
-        StandsAfter (M.seen machine.old).program s limit path.old.choices.items
+        StandsAfter (M.seen machine.old).program s limit path.old.choices
         (M.seen machine.old).marks path.old.points.items →
-        Finds s limit (Some path.old.choices.items)
-        (M.seen machine.old) r (M.seen machine.new) path.new.points.items) }
+        Finds s limit (Some path.old.choices)
+        (M.seen machine.old) (M.seen machine.new) path.new.choices path.new.points.items
+        r.0 (finish_of r.1)) }
 {
     let turned = turn_back(machine, path, limit)?;
     let (steps, end) = go_down(machine, path, limit, turned)?;
-    let run = make_run(alloc, machine, path, steps, end)?;
-    Ok(run)
+    Ok((steps, end))
 }
 
-/// Finds the run after the explorer's position. The explorer must not have failed, and a further
-/// run must exist. The answer is `NoMemory` if this call runs out of memory.
+/// Moves to the run after the explorer's position, and returns its number of steps and its end. The
+/// explorer must not have failed, and a further run must exist. The answer is `NoMemory` if this
+/// call runs out of memory.
 pub(crate) fn find<'c, M: Asks<'c>>(
-    alloc: Global,
     machine: &mut M,
     path: &mut Path,
     limit: u32,
     progress: Progress,
-) -> Result<Run<'c>, NoMemory>
+) -> Result<(u32, End<'c>), NoMemory>
     requires sound { has_failed progress ≡ false }
     requires marked { IsMarked limit
-        (M.seen machine.old) path.old.choices.items path.old.points.items }
-    requires none { progress ≡ Progress.Fresh → path.old.choices.items ≡ [] }
+        (M.seen machine.old) path.old.choices path.old.points.items }
+    requires none { progress ≡ Progress.Fresh → path.old.choices ≡ [] }
     requires more { progress ≡ Progress.Given → 0 < length path.old.points.items }
     requires room { (M.seen machine.old).work + limit < 2 ^ 64 }
     ensures program { (M.seen machine.new).program ≡ (M.seen machine.old).program }
-    ensures path { IfOk result (λ r. path.new.choices.items ≡ r.choices.items) }
     ensures marked { IfOk result (λ _. IsMarked limit
-        (M.seen machine.new) path.new.choices.items path.new.points.items) }
+        (M.seen machine.new) path.new.choices path.new.points.items) }
     ensures within { IfOk result (λ _.
         (M.seen machine.new).work ≤ (M.seen machine.old).work + limit) }
     ensures found { IfOk result (λ r. (s : State) →
-        StandsFrom (M.seen machine.old).program s limit (place_of progress path.old.choices.items)
+        StandsFrom (M.seen machine.old).program s limit (place_of progress path.old.choices)
         (M.seen machine.old).state (M.seen machine.old).marks path.old.points.items →
-        Finds s limit (place_of progress path.old.choices.items)
-        (M.seen machine.old) r (M.seen machine.new) path.new.points.items) }
+        Finds s limit (place_of progress path.old.choices)
+        (M.seen machine.old) (M.seen machine.new) path.new.choices path.new.points.items
+        r.0 (finish_of r.1)) }
 {
     match progress {
-        Progress::Fresh => Ok(find_first(alloc, machine, path, limit)?),
-        Progress::Given => Ok(find_next(alloc, machine, path, limit)?),
+        Progress::Fresh => Ok(find_first(machine, path, limit)?),
+        Progress::Given => Ok(find_next(machine, path, limit)?),
         Progress::Spent => unreachable!(),
     }
 }

@@ -13,7 +13,7 @@ ghost use Rattle.ick_runs.specs.WritingSteps.{WritesNext};
 use crate::devices::{ByteSink, write_whole};
 use crate::errors::RunsError;
 use crate::explorer::Explorer;
-use crate::lines::line_of;
+use crate::lines::LineBuilder;
 use crate::listing::Listed2;
 use ick_machine::Asks;
 use std::alloc::Global;
@@ -22,7 +22,7 @@ use std::alloc::Global;
 /// The answer is `WorkFull`, `NoMemory` or `Write` if that part fails. The explorer must not have
 /// failed.
 fn write_next<'c, M: Asks<'c>, W: ByteSink>(
-    alloc: Global,
+    lines: &mut LineBuilder<'c>,
     explorer: &mut Explorer<M>,
     writer: &mut W,
 ) -> Result<bool, RunsError>
@@ -45,15 +45,14 @@ fn write_next<'c, M: Asks<'c>, W: ByteSink>(
     if !explorer.more() {
         return Ok(false);
     }
-    let found = explorer.next()?;
-    let Some(run) = found else {
+    let Some(found) = explorer.advance()? else {
         return Ok(false);
     };
-    let Ok(line) = line_of(alloc, &run) else {
+    if explorer.build_line(lines, found.1).is_err() {
         explorer.fail();
         return Err(RunsError::NoMemory);
-    };
-    match write_whole(writer, line.as_slice()) {
+    }
+    match write_whole(writer, lines.line.as_slice()) {
         Ok(()) => Ok(true),
         Err(_) => Err(RunsError::Write),
     }
@@ -122,8 +121,9 @@ pub fn write_runs<'c, M: Asks<'c>, W: ByteSink>(
     if explorer.has_failed() {
         return Err(RunsError::Failed);
     }
+    let mut lines = LineBuilder::new(alloc);
     'each: for _i in 0..count {
-        let some = write_next(alloc, explorer, writer)?;
+        let some = write_next(&mut lines, explorer, writer)?;
         if !some {
             return write_last(writer, Listed2::Done);
         }
