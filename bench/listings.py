@@ -3,18 +3,24 @@
 
   listings.py [PROGRAM]
 
-It needs the built program (a call of ./ick builds it), Python 3.8 and Linux.
+It needs the built program (a call of ./ick builds it), Python 3.8 and Linux, and for the second table valgrind.
 
-Three programs. Two have twenty chances and so 1,048,576 runs: one makes 40,000 steps before its first chance and prints
-nothing, and of the other each run prints a numeral. The third has ten chances, and then each run goes through the loops
-of workloads.py: there nearly all steps are made in the runs' own parts, while marks stand. Listed are the first 1,000
-runs, and of the first two programs 1,000,000: the least processor time of five listings, the runs and the steps a
-second, the nanoseconds a step, and the largest resident memory.
+Five programs. Three have twenty or sixteen chances, and so 1,048,576 or 65,536 runs: one makes 40,000 steps before its
+first chance and prints nothing, of one each run prints a numeral behind the chances, and one prints 204 bytes before
+them. The fourth has ten chances, and then each run goes through the loops of workloads.py: there nearly all steps are
+made in the runs' own parts, while marks stand. Each run of the fifth has a million choices. The first table has the
+least processor time of five listings, the runs and the steps a second, the nanoseconds a step, and the largest resident
+memory.
 
-And in turns, the least of twenty rounds each: a step of the third program's runs, while marks stand, and a step of the
+The second table has the instructions that callgrind counts for a run: those of a listing of many runs less those of a
+listing of one run.
+
+And in turns, the least of twenty rounds each: a step of the fourth program's runs, while marks stand, and a step of the
 same loops by `ick run`, where nothing is marked. Nothing is judged.
 """
 import os
+import re
+import shutil
 import subprocess
 import sys
 import tempfile
@@ -26,18 +32,26 @@ ROUNDS = 5
 TURNS = 20
 LISTED = 60
 LIMIT = 1_500_000
+NOTHING = (None, "FORGET #0")
 
 
 def program(before, chances, after):
-    """A program of statements that do nothing, chances, and what comes after."""
-    return polite([(None, "FORGET #0")] * before + [(None, "%50 FORGET #0")] * chances + after + [(None, "GIVE UP")])
+    """A program of some statements, chances, and what comes after."""
+    return polite(before + [(None, "%50 FORGET #0")] * chances + after + [(None, "GIVE UP")])
 
 
-# the source; the steps before the chances, the chances, the steps behind them; and how many runs are listed
+def endless(chances):
+    """A loop of chances without an end."""
+    return polite([(1, "FORGET #1")] + [(None, "%50 FORGET #0")] * chances + [(None, "(1) NEXT")])
+
+
+# the source; the steps before the chances, the chances, the steps behind them; the limit; and how many runs are listed
 PROGRAMS = {
-    "long before the chances": (program(40_000, 20, []), 40_000, 20, 1, (1_000, 1_000_000)),
-    "a numeral a run": (program(0, 20, [(None, "READ OUT #1")]), 0, 20, 2, (1_000, 1_000_000)),
-    "loops behind the chances": (program(0, 10, loop(3, [])), 0, 10, 27_301, (1_000,)),
+    "long before the chances": (program([NOTHING] * 40_000, 20, []), 40_000, 20, 1, 50_000, (1_000, 1_000_000)),
+    "a numeral a run": (program([], 20, [(None, "READ OUT #1")]), 0, 20, 2, 50_000, (1_000, 1_000_000)),
+    "204 bytes before the chances": (program([(None, "READ OUT #3888")] * 12, 16, []), 12, 16, 1, 50_000, (65_536,)),
+    "loops behind the chances": (program([], 10, loop(3, [])), 0, 10, 27_301, 50_000, (1_000,)),
+    "a million choices a run": (endless(1_000), 1_999, 1_000_000, 0, 1_001_999, (1_000,)),
 }
 
 
@@ -66,13 +80,35 @@ def written(folder, name, source):
     return path
 
 
+def listing(ick, limit, runs, path):
+    """The command that lists the first runs of a program."""
+    return [ick, "runs", "--limit", str(limit), "--count", str(runs), path]
+
+
+def instructions(words, folder):
+    """The instructions that callgrind counts for a command that prints to nowhere."""
+    tool = ["valgrind", "--tool=callgrind", f"--callgrind-out-file={folder}/callgrind.out"]
+    ran = subprocess.run(tool + words, stdout=subprocess.DEVNULL, stderr=subprocess.PIPE, check=True)
+    return int(re.search(rb"Collected : (\d+)", ran.stderr)[1])
+
+
+def count_instructions(ick, folder):
+    """Prints the instructions that a run takes in a listing."""
+    print("\n| Program | instructions a run |")
+    print("|---|---|")
+    for name, (source, _, _, _, limit, counts) in PROGRAMS.items():
+        path, runs = written(folder, "program.i", source), min(counts[-1], 16_384)
+        first, all_runs = (instructions(listing(ick, limit, count, path), folder) for count in (1, runs))
+        print(f"| {name} | {(all_runs - first) / (runs - 1):,.0f} |", flush=True)
+
+
 def compare(ick, folder):
     """Prints how long a step takes in a listing, while marks stand, and in a run of the same loops."""
-    source, before, chances, after, _ = PROGRAMS["loops behind the chances"]
+    source, before, chances, after, _, _ = PROGRAMS["loops behind the chances"]
     third, alone = written(folder, "third.i", source), written(folder, "loop.i", WORKLOADS["loop"])
     commands = {
-        "listing": [ick, "runs", "--limit", "50000", "--count", str(LISTED), third],
-        "first run": [ick, "runs", "--limit", "50000", "--count", "1", third],
+        "listing": listing(ick, 50_000, LISTED, third),
+        "first run": listing(ick, 50_000, 1, third),
         "run": [ick, "run", "--limit", str(LIMIT), alone],
         "no run": [ick, "run", "--limit", "0", alone],
     }
@@ -96,15 +132,16 @@ def main():
     print("| Program | runs | s | runs a second | steps a second | ns a step | MiB |")
     print("|---|---|---|---|---|---|---|")
     with tempfile.TemporaryDirectory() as folder:
-        for name, (source, before, chances, after, counts) in PROGRAMS.items():
+        for name, (source, before, chances, after, limit, counts) in PROGRAMS.items():
             path = written(folder, "program.i", source)
             for runs in counts:
-                words = [ick, "runs", "--limit", "50000", "--count", str(runs), path]
-                found = [measured(words) for _ in range(ROUNDS)]
+                found = [measured(listing(ick, limit, runs, path)) for _ in range(ROUNDS)]
                 time, memory = min(it[0] for it in found), max(it[1] for it in found)
                 made = steps(before, chances, after, runs)
                 print(f"| {name} | {runs:,} | {time:.3f} | {runs / time:,.0f} | {made / time:,.0f} "
                       f"| {time / made * 1e9:.1f} | {memory / 1024:.0f} |", flush=True)
+        if shutil.which("valgrind"):
+            count_instructions(ick, folder)
         compare(ick, folder)
 
 
