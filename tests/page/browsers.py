@@ -12,6 +12,7 @@ import tempfile
 import time
 
 SECONDS = 120
+HANGS = 45  # seconds after which a browser without an answer is given up
 
 
 class Failed(Exception):
@@ -45,14 +46,16 @@ class Browser:
             self.press(key)
 
     def wait(self, condition, seconds=SECONDS):
-        """Waits until an expression of JavaScript is true, and returns its value."""
-        end = time.monotonic() + seconds
+        """Waits until an expression of JavaScript is true. A page that is being replaced may answer nothing at first."""
+        end, error = time.monotonic() + seconds, None
         while time.monotonic() < end:
-            found = self.evaluate(condition)
-            if found:
-                return found
+            try:
+                if self.evaluate(condition):
+                    return
+            except Failed as failed:
+                error = failed
             time.sleep(0.005)
-        raise Failed(f"{condition} was not true within {seconds} seconds")
+        raise Failed(f"{condition} was not true within {seconds} seconds: {error}")
 
 
 class Chromium(Browser):
@@ -63,11 +66,15 @@ class Chromium(Browser):
     def __init__(self):
         theirs, self.to = os.pipe()
         self.back, also_theirs = os.pipe()
-        # The protocol is on the descriptors 3 and 4.
-        shell = f'exec 3<&{theirs} 4>&{also_theirs}; exec chromium "$@"'
-        super().__init__("sh", "-c", shell, "sh", "--headless=new", "--no-sandbox", "--disable-gpu", "--disable-sync",
+
+        def place():
+            # The protocol is on the descriptors 3 and 4.
+            os.dup2(theirs, 3)
+            os.dup2(also_theirs, 4)
+
+        super().__init__("chromium", "--headless=new", "--no-sandbox", "--disable-gpu", "--disable-sync",
                          "--no-first-run", "--disable-background-networking", "--user-data-dir=FOLDER",
-                         "--remote-debugging-pipe", "about:blank", pass_fds=(theirs, also_theirs))
+                         "--remote-debugging-pipe", "about:blank", preexec_fn=place, pass_fds=(3, 4))
         os.close(theirs)
         os.close(also_theirs)
         self.rest, self.number, self.session = b"", 0, None
@@ -75,6 +82,11 @@ class Chromium(Browser):
         self.session = self.call("Target.attachToTarget", targetId=target, flatten=True)["sessionId"]
         self.call("Page.enable")
         self.call("Page.bringToFront")
+
+    def __exit__(self, *given):
+        super().__exit__(*given)
+        os.close(self.to)
+        os.close(self.back)
 
     def call(self, method, **parameters):
         self.number += 1
@@ -101,9 +113,8 @@ class Chromium(Browser):
         return json.loads(text)
 
     def open(self, address):
-        self.call("Page.navigate", url="about:blank")
         self.call("Page.navigate", url=address)
-        self.wait("document.readyState === 'complete' && location.href !== 'about:blank'")
+        self.wait(f"document.readyState === 'complete' && location.href === {json.dumps(address)}")
 
     def evaluate(self, expression):
         found = self.call("Runtime.evaluate", expression=expression, awaitPromise=True, returnByValue=True)
@@ -152,11 +163,15 @@ class Firefox(Browser):
         super().__init__("firefox-esr", "--headless", "--marionette", "--remote-allow-system-access", "--no-remote",
                          "--profile", "FOLDER")
         with open(f"{self.folder}/user.js", "w", encoding="ascii") as file:
-            file.write('user_pref("marionette.port", 0);\nuser_pref("toolkit.telemetry.enabled", false);\n')
+            file.write('user_pref("marionette.port", 0);\nuser_pref("browser.startup.page", 0);\n')
         self.socket, self.number, self.rest = self.connect(), 0, b""
         self.answer()
         self.call("WebDriver:NewSession", capabilities={})
-        self.call("WebDriver:SetTimeouts", script=SECONDS * 1000)
+        self.call("WebDriver:SetTimeouts", script=10_000, pageLoad=30_000)
+
+    def __exit__(self, *given):
+        super().__exit__(*given)
+        self.socket.close()
 
     def connect(self):
         end, path = time.monotonic() + SECONDS, f"{self.folder}/MarionetteActivePort"
@@ -166,7 +181,7 @@ class Firefox(Browser):
                 with open(path, encoding="ascii") as file:
                     port = file.read()
                 if port.strip():
-                    return socket.create_connection(("127.0.0.1", int(port)), SECONDS)
+                    return socket.create_connection(("127.0.0.1", int(port)), HANGS)
         raise Failed("firefox doesn't answer")
 
     def call(self, command, **parameters):
@@ -194,7 +209,6 @@ class Firefox(Browser):
         self.rest += found
 
     def open(self, address):
-        self.call("WebDriver:Navigate", url="about:blank")
         self.call("WebDriver:Navigate", url=address)
 
     def evaluate(self, expression):

@@ -20,6 +20,7 @@ import keys
 import shown
 from browsers import Chromium, Failed, Firefox
 
+STARTS = 4
 BUILD = os.path.join(compared.TOP, "web", "build")
 
 
@@ -53,6 +54,20 @@ def part(tally, name, work, *given):
     print(f"{name}: {tally.passed - before} passed", flush=True)
 
 
+def started(browser, address):
+    """Starts a browser with the page. Firefox now and then hangs as it loads its first page, and is then started again."""
+    for _ in range(STARTS):
+        opened = browser()
+        try:
+            page = shown.Page(opened, address)
+            page.open()
+            return page
+        except (Failed, OSError) as error:
+            print(f"{browser.__name__} is started again: {error}", flush=True)
+            opened.__exit__()
+    sys.exit(f"{browser.__name__} doesn't start\n0 passed, 1 failed")
+
+
 def in_both(tally, page):
     for work in (shown.shown_examples, shown.question, shown.stopping, shown.going_on, shown.tree, shown.links,
                  shown.failures, keys.by_keyboard):
@@ -76,16 +91,17 @@ def in_chromium(tally, address, asked):
 
 
 def in_firefox(tally, address):
-    with Firefox() as firefox:
-        in_both(tally, shown.Page(firefox, address))
+    page = started(Firefox, address)
+    with page.browser:
+        in_both(tally, page)
 
 
 def with_deep_module(tally, folder):
     build(f"{folder}/deep.html", "--module", os.path.join(compared.TOP, "tests", "page", "deep.ll"))
     for browser in (Chromium, Firefox):
-        with browser() as opened:
-            part(tally, f"a full stack in {browser.__name__}", shown.full_stack,
-                 shown.Page(opened, f"file://{folder}/deep.html"))
+        page = started(browser, f"file://{folder}/deep.html")
+        with page.browser:
+            part(tally, f"a full stack in {browser.__name__}", shown.full_stack, page)
 
 
 def take_pictures(address, folder):

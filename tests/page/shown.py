@@ -16,10 +16,12 @@ class Page:
     """The page in one browser, of which tests see the document alone."""
 
     def __init__(self, browser, address):
-        self.browser, self.address = browser, address
+        self.browser, self.address, self.opened = browser, address, 0
 
     def open(self, fragment=""):
-        self.browser.open(self.address + fragment)
+        # A new address each time, so that the browser loads the page anew for a new fragment too.
+        self.opened += 1
+        self.browser.open(f"{self.address}?{self.opened}{fragment}")
         self.browser.wait("document.getElementById('made').textContent !== ''")
         self.idle()
 
