@@ -59,7 +59,8 @@ class Sharing {
 // Returns the parts of the tree of these runs. The sides of a part come before it, and the root is the last.
 function treeOf(runs, depth) {
   const read = runs.map((run) => ({
-    choices: run.choices, end: run.end, digits: choicesOf(run.choices, depth + 1), pieces: piecesOf(unquoted(run.quoted)),
+    choices: run.choices, end: run.end,
+    digits: choicesOf(run.choices, depth + 1), pieces: piecesOf(unquoted(run.quoted)),
   }));
   const sharing = new Sharing();
   sharing.share(grow(read, depth), 0);

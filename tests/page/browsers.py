@@ -46,7 +46,7 @@ class Browser:
             self.press(key)
 
     def wait(self, condition, seconds=SECONDS):
-        """Waits until an expression of JavaScript is true. A page that is being replaced may answer nothing at first."""
+        """Waits until an expression of JavaScript is true. A page that is being replaced may not answer yet."""
         end, error = time.monotonic() + seconds, None
         while time.monotonic() < end:
             try:

@@ -55,7 +55,7 @@ def part(tally, name, work, *given):
 
 
 def started(browser, address):
-    """Starts a browser with the page. Firefox now and then hangs as it loads its first page, and is then started again."""
+    """Starts a browser with the page. Firefox hangs now and then as it loads its first page, so it is started again."""
     for _ in range(STARTS):
         opened = browser()
         try:
