@@ -63,11 +63,11 @@ def find_ick():
 
 
 def name_of(limit, *paths):
-    checksum = hashlib.sha256(limit.encode())
+    checksum = hashlib.blake2b(limit.encode(), digest_size=16)
     for path in paths:
         with open(path, "rb") as file:
-            checksum.update(hashlib.sha256(file.read()).digest())
-    return checksum.hexdigest()[:32]
+            checksum.update(hashlib.blake2b(file.read()).digest())
+    return checksum.hexdigest()
 
 
 def begin(folder, source, limit):

@@ -10,8 +10,9 @@ from ick_parts.cursors import FIRST, LAST, argument_of, end_of_line, last_run
 from ick_parts.job import RUNS_A_CALL
 from ick_parts.segments import READ_BYTES, Writer, segments_of
 
-F_SETPIPE_SZ = 1031
+F_SETPIPE_SZ, F_GETPIPE_SZ = 1031, 1032
 STOPPED = 143
+PAUSES = 0.02, 0.1  # seconds between two reads, at least and at most
 
 
 def list_part(job, which, seconds):
@@ -61,8 +62,6 @@ class Part:
         place = self.writer.place
         after = ["--from=" + argument_of(place)] if place != FIRST else []
         with self.job.call("runs", "--count", RUNS_A_CALL, *after, stdout=subprocess.PIPE, bufsize=0) as self.ick:
-            with contextlib.suppress(OSError):  # a user may have only so many large pipes, and a small one does too
-                fcntl.fcntl(self.ick.stdout, F_SETPIPE_SZ, READ_BYTES)
             try:
                 for text in blocks_of_lines(self.ick.stdout):
                     how = self.take(text)
@@ -77,21 +76,33 @@ class Part:
         """Keeps whole lines up to the end of the piece."""
         how = text[-5:-1].decode() if text.endswith((b"MORE\n", b"DONE\n")) else None
         text = text[:-5] if how else text
-        if text and last_run(text) >= self.end:
+        place = last_run(text) if text else self.writer.place
+        if place >= self.end:
             text, how = text[:end_of_line(text, self.end) or None], "enough"
-        self.writer.keep(text)
+            place = last_run(text)
+        self.writer.keep(text, place)
         return "enough" if self.told and self.writer.size else how
 
 
-def blocks_of_lines(stream):
+def blocks_of_lines(pipe):
+    """Yields whole lines, and sleeps between two reads.
+
+    It sleeps for a hundredth of the time that it has taken, since each read costs time, and ick lists past the end of
+    the piece until the next read. It wakes before the pipe is full.
+    """
+    with contextlib.suppress(OSError):  # a user may have only so many large pipes, and a small one does too
+        fcntl.fcntl(pipe, F_SETPIPE_SZ, READ_BYTES)
+    half = fcntl.fcntl(pipe, F_GETPIPE_SZ) / 2
+    began = before = time.monotonic()
     rest = b""
     while True:
-        text = stream.read(READ_BYTES)
-        if not text:
+        more = pipe.read(READ_BYTES)
+        if not more:
             return
-        if len(text) < READ_BYTES >> 3:
-            time.sleep(0.01)  # a read that takes more at once costs less
-        text = rest + text
+        text = rest + more
         size = text.rfind(b"\n") + 1
         rest = text[size:]
         yield text[:size]
+        now = time.monotonic()
+        time.sleep(min((now - before) * half / len(more), max(PAUSES[0], (now - began) / 100), PAUSES[1]))
+        before = now

@@ -36,12 +36,12 @@ class Writer:
         self.checksum = zlib.crc32(head)
         write_all(self.seals, head + b"\n")
 
-    def keep(self, lines):
-        if lines:
-            write_all(self.lines, lines)
-            self.checksum = zlib.crc32(lines, self.checksum)
-            self.size += len(lines)
-            self.place = last_run(lines)
+    def keep(self, lines, place):
+        """Writes lines, the last of which has the run of a place."""
+        write_all(self.lines, lines)
+        self.checksum = zlib.crc32(lines, self.checksum)
+        self.size += len(lines)
+        self.place = place
         if self.size > self.sealed + SEAL_BYTES or time.monotonic() > self.sealed_at + SEAL_SECONDS:
             self.seal(self.place)
 
