@@ -8,9 +8,12 @@ It needs the built program (a call of ./ick builds it), Python 3.8, Linux, a C c
 
 The program has nineteen chances, and so 524,288 runs of 20 steps. The models make the same choices. A state has the
 choices made so far, so that no two states are the same and nothing is merged. `ick` writes the line of each run into a
-file. SPIN searches all states and writes nothing of a run. Maude writes each last state into a file. Printed are the
-least processor times of three rounds, SPIN's without making and compiling its program, and how many times as long as
-`ick` each takes. Nothing is judged.
+file, by one write. SPIN's program is compiled and called in the plainest way, and then with flags and a hash table for
+a fast search. It writes nothing of a run, or the same lines as `ick` by blocks of the C library, or each of these lines
+by one write. Maude writes each last state into a file, by blocks.
+
+Printed are the least processor times of fifteen rounds (five for Maude), the system's share of each, and how many times
+as long as `ick` each takes. SPIN's times are without making and compiling its program. Nothing is judged.
 """
 import os
 import shutil
@@ -22,20 +25,24 @@ from workloads import polite
 
 HERE = os.path.dirname(os.path.realpath(__file__))
 CHOICES = 19
-ROUNDS = 3
+ROUNDS = 15
 
 PROGRAM = polite([(None, "%50 FORGET #0")] * CHOICES + [(None, "GIVE UP")])
-SPIN = f"""
-int made = 1;
-active proctype choose() {{
-    byte count = 0;
-end:
-    do
-    :: d_step {{ count < {CHOICES} -> made = made * 2; count++ }}
-    :: d_step {{ count < {CHOICES} -> made = made * 2 + 1; count++ }}
-    od
+# what SPIN does after a choice, if it writes lines
+TELLING = f"if :: count == {CHOICES} -> c_code {{ tell(now.made); }} :: else fi"
+TELL = f"""
+#include <stdio.h>
+static void tell(int made) {{
+    char line[] = "{'0' * CHOICES} GIVE-UP \\"\\"\\n";
+    for (int at = {CHOICES} - 1; at >= 0; at--, made /= 2)
+        line[at] = '0' + made % 2;
+    fwrite(line, 1, sizeof line - 1, stdout);
+    if (AT_ONCE)
+        fflush(stdout);
 }}
 """
+FAST = "-DSAFETY -DNOREDUCE -DNOCLAIM -DNOBOUNDCHECK".split()
+SMALL = ["-m100", "-w22"]
 MAUDE = f"""
 mod RUNS is
     protecting NAT .
@@ -50,15 +57,31 @@ quit
 """
 
 
+def spin_model(head, end):
+    """The model for SPIN, with what it declares and what it does after each choice."""
+    return f"""
+{head}
+int made = 1;
+active proctype choose() {{
+    byte count = 0;
+end:
+    do
+    :: d_step {{ count < {CHOICES} -> made = made * 2; count++; {end} }}
+    :: d_step {{ count < {CHOICES} -> made = made * 2 + 1; count++; {end} }}
+    od
+}}
+"""
+
+
 def measured(words, out):
-    """The processor time of a command that prints into a file."""
+    """The processor time of a command that prints into a file, and the system's share of it."""
     with open(os.devnull) as nothing, open(out, "wb") as file:
         child = subprocess.Popen(words, stdin=nothing, stdout=file, stderr=file)
         _, status, usage = os.wait4(child.pid, 0)
         child.returncode = os.waitstatus_to_exitcode(status) if hasattr(os, "waitstatus_to_exitcode") else status
     if child.returncode:
         sys.exit(f"checkers.py: {words[0]} ended with status {child.returncode}")
-    return usage.ru_utime + usage.ru_stime
+    return usage.ru_utime + usage.ru_stime, usage.ru_stime
 
 
 def written(folder, name, text):
@@ -69,13 +92,20 @@ def written(folder, name, text):
     return path
 
 
-def make_searcher(folder):
-    """Has SPIN make its program for the model, and compiles it."""
-    model = written(folder, "runs.pml", SPIN)
-    subprocess.run(["spin", "-a", model], cwd=folder, check=True, stdout=subprocess.DEVNULL)
-    flags = ["-O2", "-w", "-DSAFETY", "-DNOREDUCE", "-DNOCLAIM", "-DMEMLIM=4096"]
-    subprocess.run([os.environ.get("CC", "cc"), *flags, "-o", "pan", "pan.c"], cwd=folder, check=True)
-    return os.path.join(folder, "pan")
+def searcher(folder, name, model, *flags):
+    """The program that SPIN makes of a model, compiled with these flags."""
+    room = os.path.join(folder, name)
+    os.mkdir(room)
+    written(room, "tell.h", TELL)
+    subprocess.run(["spin", "-a", written(room, "runs.pml", model)], cwd=room, check=True, stdout=subprocess.DEVNULL)
+    subprocess.run([os.environ.get("CC", "cc"), "-O2", "-w", *flags, "-o", "pan", "pan.c"], cwd=room, check=True)
+    return os.path.join(room, "pan")
+
+
+def lines_in(path):
+    """The lines of runs in a file."""
+    with open(path, "rb") as file:
+        return [line for line in file if b" GIVE-UP " in line]
 
 
 def main():
@@ -86,20 +116,29 @@ def main():
         if not shutil.which(need):
             sys.exit(f"checkers.py: there is no command {need}")
     with tempfile.TemporaryDirectory() as folder:
-        source, model = written(folder, "runs.i", PROGRAM), written(folder, "runs.maude", MAUDE)
+        source, maude = written(folder, "runs.i", PROGRAM), written(folder, "runs.maude", MAUDE)
+        silent, telling = spin_model("", ""), spin_model('c_decl { \\#include "tell.h" }', TELLING)
         commands = {
             "`ick runs`": [ick, "runs", "--count", str(2**CHOICES), source],
-            "SPIN": [make_searcher(folder), "-m100", "-w22"],
-            "Maude": ["maude", "-no-banner", "-batch", model],
+            "SPIN, no lines, plain": [searcher(folder, "plain", silent)],
+            "SPIN, no lines": [searcher(folder, "silent", silent, *FAST), *SMALL],
+            "SPIN, lines by blocks": [searcher(folder, "blocks", telling, *FAST, "-DAT_ONCE=0"), *SMALL],
+            "SPIN, a write for each line": [searcher(folder, "writes", telling, *FAST, "-DAT_ONCE=1"), *SMALL],
+            "Maude": ["maude", "-no-banner", "-batch", maude],
         }
-        least = {name: float("inf") for name in commands}
-        for _ in range(ROUNDS):
+        outs = {name: os.path.join(folder, str(number)) for number, name in enumerate(commands)}
+        least = {name: (float("inf"), 0) for name in commands}
+        for number in range(ROUNDS):
             for name, words in commands.items():
-                least[name] = min(least[name], measured(words, os.path.join(folder, "out")))
-    print("| Checker | s | times |")
-    print("|---|---|---|")
-    for name, time in least.items():
-        print(f"| {name} | {time:.3f} | {time / least['`ick runs`']:.1f} |")
+                if name != "Maude" or number % 3 == 0:
+                    least[name] = min(least[name], measured(words, outs[name]))
+        of_ick, of_spin = lines_in(outs["`ick runs`"]), lines_in(outs["SPIN, a write for each line"])
+    if of_spin != of_ick or len(of_ick) != 2**CHOICES:
+        sys.exit("checkers.py: the lines of SPIN are not those of ick")
+    print("| Checker | s | system, s | times |")
+    print("|---|---|---|---|")
+    for name, (time, system) in least.items():
+        print(f"| {name} | {time:.3f} | {system:.3f} | {time / least['`ick runs`'][0]:.1f} |")
 
 
 if __name__ == "__main__":
