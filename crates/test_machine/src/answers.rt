@@ -70,13 +70,22 @@ impl Answers {
         }
     }
 
-    /// Returns these answers, followed by the other machine's if they differ.
-    pub fn agreed(self, other: Answers) -> Result<Answers, Failure> {
-        let mut answers = self;
-        if answers.text.as_slice() != other.text.as_slice() {
-            answers.say(b"but the other machine: ")?;
-            answers.text.extend_from_slice(&other.text)?;
+    /// Replaces these answers by a failure in words. Memory that is refused is passed on.
+    pub fn fail(&mut self, failure: Failure) -> Result<(), Failure> {
+        if let Failure::NoMemory = failure {
+            return Err(failure);
         }
-        Ok(answers)
+        self.text.clear();
+        self.say(failure.text())
+    }
+
+    /// Adds the other machine's answers, if they differ.
+    pub fn agree(&mut self, other: &Answers) -> Result<(), Failure> {
+        if self.text == other.text {
+            return Ok(());
+        }
+        self.say(b"but the other machine: ")?;
+        self.text.extend_from_slice(&other.text)?;
+        Ok(())
     }
 }

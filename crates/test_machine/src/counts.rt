@@ -4,22 +4,45 @@
 
 use crate::answers::Answers;
 use crate::failure::Failure;
-use crate::machines::{goes_on, step};
-use crate::numbers::number;
+use crate::fields::{has, number};
+use crate::machines::{back, goes_on, mark, step};
 use crate::programs::compiled;
+use ick_code::Code;
 use ick_machine::{Ask, Asks, Copied, Trailed};
 use std::alloc::Global;
 use test_rows::Row;
 
-/// Returns the number of runs and of steps.
-pub fn answer(alloc: Global, row: &Row) -> Result<Answers, Failure> {
+/// Adds the number of runs and of steps.
+pub fn answer(alloc: Global, row: &Row, answers: &mut Answers) -> Result<(), Failure> {
     let source = source_of(alloc, number(row, b"times"), number(row, b"choices"))?;
-    let code = compiled(alloc, &source)?;
+    count_by_source(alloc, &source, row, answers)
+}
+
+/// Counts on the program of a source.
+fn count_by_source(
+    alloc: Global,
+    source: &[u8],
+    row: &Row,
+    answers: &mut Answers,
+) -> Result<(), Failure> {
+    let code = compiled(alloc, source)?;
+    count_on(alloc, &code, row, answers)
+}
+
+/// Counts on the machine of the field `machine`.
+fn count_on(
+    alloc: Global,
+    code: &Code<'_>,
+    row: &Row,
+    answers: &mut Answers,
+) -> Result<(), Failure> {
     let from = u64::from(number(row, b"from"));
-    match row.field(b"machine") {
-        b"copied" => count(alloc, &mut Copied::new(alloc, &code, b"", from)?),
-        b"trailed" => count(alloc, &mut Trailed::new(alloc, &code, b"", from)?),
-        _ => Err(Failure::NoSuchMachine),
+    if has(row, b"machine", b"copied") {
+        count(Copied::new(alloc, code, b"", from)?, answers)
+    } else if has(row, b"machine", b"trailed") {
+        count(Trailed::new(alloc, code, b"", from)?, answers)
+    } else {
+        Err(Failure::NoSuchMachine)
     }
 }
 
@@ -36,17 +59,27 @@ fn source_of(alloc: Global, times: u32, choices: u32) -> Result<Vec<u8>, Failure
     Ok(source)
 }
 
-/// Makes all runs of a machine at its start, and counts runs and steps.
-fn count<'c, M: Asks<'c>>(alloc: Global, machine: &mut M) -> Result<Answers, Failure> {
+/// Makes all runs of a machine at its start, and adds the number of runs and of steps.
+fn count<'c, M: Asks<'c>>(machine: M, answers: &mut Answers) -> Result<(), Failure> {
+    let mut machine = machine;
+    let runs = runs_of(&mut machine)?;
+    tell_counts(runs, machine.work(), answers)
+}
+
+/// Adds a number of runs and of steps.
+fn tell_counts(runs: u32, steps: u64, answers: &mut Answers) -> Result<(), Failure> {
+    answers.count(u64::from(runs), b" runs")?;
+    answers.count(steps, b" steps")
+}
+
+/// Makes all runs of a machine at its start, and returns their number.
+fn runs_of<'c, M: Asks<'c>>(machine: &mut M) -> Result<u32, Failure> {
     for runs in 1..u32::MAX {
         go_down(machine)?;
         if machine.marks() == 0 {
-            let mut answers = Answers::new(alloc);
-            answers.count(u64::from(runs), b" runs")?;
-            answers.count(machine.work(), b" steps")?;
-            return Ok(answers);
+            return Ok(runs);
         }
-        machine.back();
+        back(machine)?;
         step(machine, true)?;
     }
     Err(Failure::NoEnd)
@@ -56,7 +89,7 @@ fn count<'c, M: Asks<'c>>(alloc: Global, machine: &mut M) -> Result<Answers, Fai
 fn go_down<'c, M: Asks<'c>>(machine: &mut M) -> Result<(), Failure> {
     for _ in 0..100_000u32 {
         if let Ask::Choice(_) = machine.asks() {
-            machine.mark()?;
+            mark(machine)?;
         }
         if !goes_on(machine, false)? {
             return Ok(());

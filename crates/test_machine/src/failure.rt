@@ -6,7 +6,7 @@ use std::alloc::{AllocError, AllocFailed};
 
 /// Why a row has no answers: memory is refused, a comparison failed, or the row asks for something
 /// that does not exist.
-#[derive(Clone, Copy, Debug)]
+#[derive(Clone, Copy)]
 pub enum Failure {
     NoMemory,
     AfterEnd,

@@ -1,9 +1,12 @@
-//! A text as a feed.
+//! A text as a feed, and a machine that reads its input from it.
 
 ghost use Rattle.std.specs.Prelude.{◌≡◌, ◌==◌, ◌≤◌, length, true};
 ghost use Rattle.std.specs.List.{position_or_len};
 
-use ick_machine::{Feed, FeedFault};
+use crate::failure::Failure;
+use ick_code::Code;
+use ick_machine::{Feed, FeedFault, Live, LiveAsk};
+use std::alloc::Global;
 
 /// A text as a feed. A read fails when `unread` bytes are left.
 #[derive(Drop)]
@@ -77,4 +80,72 @@ fn line_length(text: &[u8]) -> usize
         }
     }
     text.len()
+}
+
+/// A machine, and the feed that it reads its input from.
+#[derive(Drop)]
+pub struct Fed<'c, 'a, 't> {
+    pub live: Live<'c, 'a>,
+    pub feed: TextFeed<'t>,
+}
+
+impl<'c, 'a, 't> Fed<'c, 'a, 't> {
+    /// Makes a machine at the start of a program.
+    pub fn new(
+        alloc: Global,
+        code: &'c Code<'a>,
+        feed: TextFeed<'t>,
+    ) -> Result<Fed<'c, 'a, 't>, Failure> {
+        Ok(Fed {
+            live: Live::new(alloc, code)?,
+            feed,
+        })
+    }
+
+    /// Returns what the machine asks.
+    pub fn asks(&self) -> LiveAsk {
+        self.live.asks()
+    }
+
+    /// Returns the output since it was last cleared.
+    pub fn output(&self) -> &[u8] {
+        self.live.output()
+    }
+
+    /// Clears the output.
+    pub fn clear_output(&mut self) {
+        self.live.clear_output();
+    }
+
+    /// Returns the message of the fault that ended the run.
+    pub fn message(&self, alloc: Global) -> Result<Vec<u8>, Failure> {
+        let mut message = Vec::new(alloc);
+        self.live.append_fault(&mut message)?;
+        Ok(message)
+    }
+
+    /// Makes a step, unless the run has ended or failed. Returns whether there was a step.
+    pub fn goes_on(&mut self, done: bool) -> Result<bool, Failure> {
+        if self.feed.failures > 0 {
+            return Ok(false);
+        }
+        match self.live.asks() {
+            LiveAsk::Plain => self.live.step(done, &mut self.feed)?,
+            LiveAsk::Choice(_) => self.live.step(done, &mut self.feed)?,
+            _ => return Ok(false),
+        }
+        Ok(true)
+    }
+
+    /// Makes steps in one call, and returns their number. No read must have failed.
+    pub fn run(&mut self, limit: u32) -> Result<u32, Failure> {
+        if self.feed.failures > 0 {
+            return Err(Failure::HasFailed);
+        }
+        match self.live.asks() {
+            LiveAsk::Plain => Ok(self.live.run(limit, &mut self.feed)?),
+            LiveAsk::Choice(_) => Ok(self.live.run(limit, &mut self.feed)?),
+            _ => Err(Failure::Stopped),
+        }
+    }
 }

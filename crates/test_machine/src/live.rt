@@ -11,76 +11,73 @@
 
 use crate::answers::Answers;
 use crate::failure::Failure;
-use crate::feeds::TextFeed;
-use crate::numbers::number;
-use crate::programs::compiled;
-use ick_machine::{EndKind, Feed, FeedFault, Live, LiveAsk};
+use crate::feeds::{Fed, TextFeed};
+use crate::fields::number;
+use crate::orders::{Order, order_of};
+use ick_code::Code;
+use ick_machine::{EndKind, LiveAsk};
 use std::alloc::Global;
 use test_rows::Row;
 
-/// Returns the answers of the machine to a row's script.
-pub fn answer(alloc: Global, row: &Row) -> Result<Answers, Failure> {
-    let code = compiled(alloc, row.field(b"source"))?;
-    let mut live = Live::new(alloc, &code)?;
+/// Adds the answers of the machine to a row's script.
+pub fn answer(
+    alloc: Global,
+    code: &Code<'_>,
+    row: &Row,
+    answers: &mut Answers,
+) -> Result<(), Failure> {
     let mut feed = TextFeed::new(row.field(b"input"));
     if !row.field(b"unread").is_empty() {
         feed.unread = number(row, b"unread") as usize;
     }
-    let mut answers = Answers::new(alloc);
-    for word in row.field(b"script").split(|byte| *byte == b' ') {
-        match word {
-            b"finish" => finish(&mut live, &mut feed, &mut answers)?,
-            b"clear" => live.clear_output(),
-            b"rest" => answers.quote(feed.text)?,
-            b"failures" => answers.count(feed.failures(), b" failures")?,
-            _ => tell(alloc, &live, word, &mut answers)?,
-        }
+    let mut fed = Fed::new(alloc, code, feed)?;
+    follow(alloc, &mut fed, row.field(b"script"), answers)
+}
+
+/// Does what the words of a script order.
+fn follow(
+    alloc: Global,
+    fed: &mut Fed<'_, '_, '_>,
+    script: &[u8],
+    answers: &mut Answers,
+) -> Result<(), Failure> {
+    for word in script.split(|byte| *byte == b' ') {
+        obey(alloc, fed, order_of(word)?, answers)?;
     }
-    Ok(answers)
+    Ok(())
+}
+
+/// Does what a word orders, or adds what it asks for.
+fn obey(
+    alloc: Global,
+    fed: &mut Fed<'_, '_, '_>,
+    order: Order,
+    answers: &mut Answers,
+) -> Result<(), Failure> {
+    match order {
+        Order::Finish => finish(fed, answers),
+        Order::Clear => Ok(fed.clear_output()),
+        Order::Asks => tell_asked(fed.asks(), answers),
+        Order::Output => answers.quote(fed.output()),
+        Order::Rest => answers.quote(fed.feed.text),
+        Order::Failures => answers.count(fed.feed.failures, b" failures"),
+        Order::Message => answers.quote(&fed.message(alloc)?),
+        _ => Err(Failure::NoSuchWord),
+    }
 }
 
 /// Makes steps up to the end of the run, within a hundred steps. Each choice is to do. A failed
 /// read stops the run, and is an answer.
-fn finish(
-    live: &mut Live<'_, '_>,
-    feed: &mut TextFeed<'_>,
-    answers: &mut Answers,
-) -> Result<(), Failure> {
+fn finish(fed: &mut Fed<'_, '_, '_>, answers: &mut Answers) -> Result<(), Failure> {
     for _ in 0..100u32 {
-        if feed.failures() > 0 {
-            return Ok(());
-        }
-        let stepped = match live.asks() {
-            LiveAsk::Plain => live.step(false, feed),
-            LiveAsk::Choice(_) => live.step(true, feed),
-            _ => return Ok(()),
-        };
-        match stepped {
-            Ok(()) => {}
-            Err(FeedFault::Read) => return answers.say(b"a read failed"),
-            Err(FeedFault::NoMemory) => return Err(Failure::NoMemory),
+        match fed.goes_on(true) {
+            Ok(true) => {}
+            Ok(false) => return Ok(()),
+            Err(Failure::ReadFailed) => return answers.say(b"a read failed"),
+            Err(failure) => return Err(failure),
         }
     }
     Err(Failure::NoEnd)
-}
-
-/// Adds the answer to a word that changes nothing.
-fn tell(
-    alloc: Global,
-    live: &Live<'_, '_>,
-    word: &[u8],
-    answers: &mut Answers,
-) -> Result<(), Failure> {
-    match word {
-        b"asks" => tell_asked(live.asks(), answers),
-        b"output" => answers.quote(live.output()),
-        b"message" => {
-            let mut message = Vec::new(alloc);
-            live.append_fault(&mut message)?;
-            answers.quote(&message)
-        }
-        _ => Err(Failure::NoSuchWord),
-    }
 }
 
 /// Adds the machine's question, or its end.

@@ -1,4 +1,5 @@
-//! Steps and marks of a machine with marks.
+//! Steps and marks of a machine with marks. None of these functions has a contract, so that the
+//! proofs of their callers don't carry what the contracts of a machine say.
 
 use crate::failure::Failure;
 use ick_machine::{Ask, Asks};
@@ -45,6 +46,22 @@ pub fn finish<'c, M: Asks<'c>>(machine: &mut M) -> Result<(), Failure> {
         }
     }
     Err(Failure::NoEnd)
+}
+
+/// Makes a step in a call of `run`. The machine must ask nothing.
+pub fn run_one<'c, M: Asks<'c>>(machine: &mut M) -> Result<(), Failure> {
+    if machine.work() >= u64::MAX {
+        return Err(Failure::TooManySteps);
+    }
+    if machine.run(1)? != 1 {
+        return Err(Failure::NoStep);
+    }
+    Ok(())
+}
+
+/// Sets a mark.
+pub fn mark<'c, M: Asks<'c>>(machine: &mut M) -> Result<(), Failure> {
+    Ok(machine.mark()?)
 }
 
 /// Goes back to the last mark. There must be a mark.

@@ -3,22 +3,25 @@
 //!
 //! | Module | What it has |
 //! |---|---|
-//! | `runs` | `call run`: a run on both machines with marks |
-//! | `scripts` | `call script`: steps and marks as a script orders them |
+//! | `both` | `call run` and `call script`: both machines with marks answer a row |
 //! | `live` | `call live`: the machine that reads its input from a feed |
 //! | `counts` | `call count`: all runs of a program, and their steps |
-//! | `pairs` | `call pairs`: random programs on both machines with marks |
-//! | `many_steps` | `call many steps`: many steps in one call, compared with single steps |
+//! | `alike` | `call pairs` and `call many steps`: machines that must be alike on random programs |
 //! | `statements` | `call statements`: random statements by plans and by operations |
 //! | `memory` | `call memory ..`: a program's memory |
 //! | `plans` | `call plan ..`: plans made of compiled statements, and done |
 //! | `answers` | the answers to a row |
 //! | `failure` | why a row has no answers |
-//! | `numbers` | numbers in the fields of a row |
+//! | `fields` | names and numbers in the fields of a row |
 //! | `programs` | the code of a source |
 //! | `machines` | steps and marks of a machine |
-//! | `alike` | whether two machines are alike |
-//! | `feeds` | a text as a feed |
+//! | `runs` | runs from the start and from marks |
+//! | `orders` | the words of scripts |
+//! | `scripts` | steps and marks as a script orders them |
+//! | `sides` | two machines with marks side by side |
+//! | `pairs` | steps and marks in random order on both machines with marks |
+//! | `many_steps` | many steps in one call, compared with single steps |
+//! | `feeds` | a text as a feed, and a machine that reads its input from it |
 //! | `words` | pseudo-random numbers |
 //! | `random_programs` | small random programs |
 //! | `random_statements` | long random programs whose statements are tried one by one |
@@ -27,14 +30,16 @@
 
 mod alike;
 mod answers;
+mod both;
 mod counts;
 mod failure;
 mod feeds;
+mod fields;
 mod live;
 mod machines;
 mod many_steps;
 mod memory;
-mod numbers;
+mod orders;
 mod pairs;
 mod planned;
 mod plans;
@@ -43,11 +48,14 @@ mod random_programs;
 mod random_statements;
 mod runs;
 mod scripts;
+mod sides;
 mod statements;
 mod words;
 
 use answers::Answers;
 use failure::Failure;
+use fields::calls;
+use programs::compiled;
 use std::alloc::Global;
 use std::io;
 use std::io::{ErrorKind, Write};
@@ -76,27 +84,37 @@ fn report(alloc: Global, text: &[u8], out: &mut Vec<u8>) -> Result<(), Failure> 
 
 /// Compares the answers to a row with the text that the row wants.
 fn check(alloc: Global, row: &Row, tally: &mut Tally, out: &mut Vec<u8>) -> Result<(), Failure> {
-    let got = match answer(alloc, row) {
-        Ok(answers) => answers.text,
-        Err(Failure::NoMemory) => return Err(Failure::NoMemory),
-        Err(failure) => Vec::from_slice(alloc, failure.text())?,
-    };
-    tally.check(out, row, &got)?;
+    let mut answers = Answers::new(alloc);
+    if let Err(failure) = answer(alloc, row, &mut answers) {
+        answers.fail(failure)?;
+    }
+    tally.check(out, row, &answers.text)?;
     Ok(())
 }
 
-/// Returns the answers to a row, by its field `call`.
-fn answer(alloc: Global, row: &Row) -> Result<Answers, Failure> {
-    match row.field(b"call") {
-        b"run" => runs::answer(alloc, row),
-        b"script" => scripts::answer(alloc, row),
-        b"live" => live::answer(alloc, row),
-        b"count" => counts::answer(alloc, row),
-        b"pairs" => pairs::answer(alloc, row),
-        b"many steps" => many_steps::answer(alloc, row),
-        b"statements" => statements::answer(alloc, row),
-        [b'm', b'e', b'm', ..] => memory::answer(alloc, row),
-        [b'p', b'l', b'a', b'n', ..] => plans::answer(alloc, row),
-        _ => Err(Failure::NoSuchCall),
+/// Adds the answers to a row, by its field `call`.
+fn answer(alloc: Global, row: &Row, answers: &mut Answers) -> Result<(), Failure> {
+    if calls(row, b"count") {
+        counts::answer(alloc, row, answers)
+    } else if calls(row, b"pairs") || calls(row, b"many steps") {
+        alike::answer(alloc, row, answers)
+    } else if calls(row, b"statements") {
+        statements::answer(alloc, row, answers)
+    } else {
+        answer_by_code(alloc, row, answers)
+    }
+}
+
+/// Adds the answers to a row that has a source.
+fn answer_by_code(alloc: Global, row: &Row, answers: &mut Answers) -> Result<(), Failure> {
+    let code = compiled(alloc, row.field(b"source"))?;
+    if calls(row, b"run") || calls(row, b"script") {
+        both::answer(alloc, &code, row, answers)
+    } else if calls(row, b"live") {
+        live::answer(alloc, &code, row, answers)
+    } else if row.field(b"call").starts_with(b"memory ") {
+        memory::answer(alloc, &code, row, answers)
+    } else {
+        plans::answer(alloc, &code, row, answers)
     }
 }

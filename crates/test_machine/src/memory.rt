@@ -1,10 +1,11 @@
 //! `call memory ..`: how a program's memory begins, changes and is copied.
 
 ghost use Rattle.std.specs.Prelude.{◌<◌, length, OnOk};
+ghost use Rattle.ick_memory.specs.View.{Fits, view_of};
 
 use crate::answers::Answers;
 use crate::failure::Failure;
-use crate::programs::compiled;
+use crate::fields::calls;
 use ick_code::Code;
 use ick_memory::{
     Memory, Nobody, Trail, abstain_kind, abstain_one, copy_memory, fresh_memory, odds, put_numeral,
@@ -14,17 +15,81 @@ use ick_source::Gerund;
 use std::alloc::Global;
 use test_rows::Row;
 
-/// Returns the answers to a call. The source must have four statements and a scalar.
-pub fn answer(alloc: Global, row: &Row) -> Result<Answers, Failure> {
-    let code = compiled(alloc, row.field(b"source"))?;
-    match row.field(b"call") {
-        b"memory begins" => begins(alloc, &code),
-        b"memory changes" => changes(alloc, &code),
-        b"memory stashes" => stashes(alloc, &code),
-        b"memory abstains" => abstains(alloc, &code),
-        b"memory copies" => copies(alloc, &code),
-        _ => Err(Failure::NoSuchCall),
+/// Adds the answers to a call. The source must have four statements and a scalar.
+pub fn answer(
+    alloc: Global,
+    code: &Code<'_>,
+    row: &Row,
+    answers: &mut Answers,
+) -> Result<(), Failure> {
+    let mut memory = fresh_memory(alloc, code)?;
+    tell(alloc, code, &mut memory, row, answers)
+}
+
+/// Adds the answers to a call on a fresh memory.
+fn tell(
+    alloc: Global,
+    code: &Code<'_>,
+    memory: &mut Memory,
+    row: &Row,
+    answers: &mut Answers,
+) -> Result<(), Failure>
+    requires { Fits code.now (view_of memory.old) }
+{
+    if calls(row, b"memory begins") {
+        begins(code, memory, answers)
+    } else if calls(row, b"memory changes") {
+        changes(alloc, memory, answers)
+    } else if calls(row, b"memory stashes") {
+        stashes(memory, answers)
+    } else if calls(row, b"memory abstains") {
+        abstains(code, memory, answers)
+    } else if calls(row, b"memory copies") {
+        copies(alloc, memory, answers)
+    } else {
+        Err(Failure::NoSuchCall)
     }
+}
+
+/// Adds each statement's odds, the next statement, and the numbers of scalars and arrays.
+fn begins(code: &Code<'_>, memory: &Memory, answers: &mut Answers) -> Result<(), Failure>
+    requires { Fits code.now (view_of memory.now) }
+{
+    answers.count(u64::from(code.count()), b" statements")?;
+    for n in 1..=code.count() {
+        answers.count(u64::from(odds(code, memory, n)), b"%")?;
+    }
+    tell_place(memory, answers)?;
+    answers.count(memory.scalars.len() as u64, b" scalars")?;
+    answers.count(memory.arrays.len() as u64, b" arrays")
+}
+
+/// Adds the next statement.
+fn tell_place(memory: &Memory, answers: &mut Answers) -> Result<(), Failure> {
+    answers.count(u64::from(memory.place), b" is next")
+}
+
+/// Changes a scalar, the next statement and the output. Adds the number of logged changes.
+fn changes(alloc: Global, memory: &mut Memory, answers: &mut Answers) -> Result<(), Failure> {
+    answers.count(logged(alloc, memory)?, b" changes")?;
+    tell_place(memory, answers)?;
+    answers.quote(&memory.output)
+}
+
+/// Changes a scalar, the next statement and the output. Returns the number of logged changes.
+fn logged(alloc: Global, memory: &mut Memory) -> Result<u64, Failure> {
+    let mut trail = Trail::new(alloc);
+    change(memory, &mut trail)?;
+    Ok(trail.len() as u64)
+}
+
+/// Changes a scalar, the next statement and the output.
+fn change(memory: &mut Memory, trail: &mut Trail) -> Result<(), Failure> {
+    has_scalar(memory)?;
+    put_scalar(memory, trail, 0, 70000)?;
+    put_place(memory, trail, 3);
+    put_numeral(memory, trail, 1)?;
+    Ok(())
 }
 
 /// Checks that a memory has a first scalar and its stash.
@@ -38,79 +103,86 @@ fn has_scalar(memory: &Memory) -> Result<(), Failure>
     Ok(())
 }
 
-/// Returns each statement's odds, the next statement, and the numbers of scalars and arrays.
-fn begins(alloc: Global, code: &Code<'_>) -> Result<Answers, Failure> {
-    let memory = fresh_memory(alloc, code)?;
-    let mut answers = Answers::new(alloc);
-    answers.count(u64::from(code.count()), b" statements")?;
-    for n in 1..=code.count() {
-        answers.count(u64::from(odds(code, &memory, n)), b"%")?;
-    }
-    answers.count(u64::from(memory.place), b" is next")?;
-    answers.count(memory.scalars.len() as u64, b" scalars")?;
-    answers.count(memory.arrays.len() as u64, b" arrays")?;
-    Ok(answers)
-}
-
-/// Changes a scalar, the next statement and the output. Returns the number of logged changes.
-fn changes(alloc: Global, code: &Code<'_>) -> Result<Answers, Failure> {
-    let mut memory = fresh_memory(alloc, code)?;
-    let mut trail = Trail::new(alloc);
-    has_scalar(&memory)?;
-    put_scalar(&mut memory, &mut trail, 0, 70000)?;
-    put_place(&mut memory, &trail, 3);
-    put_numeral(&mut memory, &mut trail, 1)?;
-    let mut answers = Answers::new(alloc);
-    answers.count(trail.len() as u64, b" changes")?;
-    answers.count(u64::from(memory.place), b" is next")?;
-    answers.quote(&memory.output)?;
-    Ok(answers)
-}
-
 /// Stashes the value 7 of a scalar once, and takes it twice.
-fn stashes(alloc: Global, code: &Code<'_>) -> Result<Answers, Failure> {
-    let mut memory = fresh_memory(alloc, code)?;
-    let mut answers = Answers::new(alloc);
-    has_scalar(&memory)?;
-    put_scalar(&mut memory, &mut Nobody, 0, 7)?;
-    has_scalar(&memory)?;
-    save_scalar(&mut memory, &mut Nobody, 0)?;
+fn stashes(memory: &mut Memory, answers: &mut Answers) -> Result<(), Failure> {
+    has_scalar(memory)?;
+    put_scalar(memory, &mut Nobody, 0, 7)?;
+    save(memory)?;
     answers.count(memory.scalar_stashes.len() as u64, b" stashes")?;
-    for _ in 0..2u32 {
-        has_scalar(&memory)?;
-        match take_scalar(&mut memory, &mut Nobody, 0)? {
-            Some(number) => answers.count(u64::from(number), b"")?,
-            None => answers.say(b"none")?,
-        }
-    }
-    Ok(answers)
+    take(memory, answers)?;
+    take(memory, answers)
 }
 
-/// Returns the odds of statements after each ABSTAIN and REINSTATE.
-fn abstains(alloc: Global, code: &Code<'_>) -> Result<Answers, Failure> {
-    let mut memory = fresh_memory(alloc, code)?;
-    let mut answers = Answers::new(alloc);
-    if code.count() != 4 {
-        return Err(Failure::OtherStatements);
-    }
-    abstain_kind(code, &mut memory, &mut Nobody, Gerund::ReadingOut, true)?;
-    answers.count(u64::from(odds(code, &memory, 3)), b"%")?;
-    abstain_kind(code, &mut memory, &mut Nobody, Gerund::ReadingOut, false)?;
-    answers.count(u64::from(odds(code, &memory, 3)), b"%")?;
-    abstain_one(code, &mut memory, &mut Nobody, 4, true)?;
-    answers.count(u64::from(odds(code, &memory, 4)), b"%")?;
-    abstain_one(code, &mut memory, &mut Nobody, 2, false)?;
-    answers.count(u64::from(odds(code, &memory, 2)), b"%")?;
-    Ok(answers)
+/// Stashes the scalar.
+fn save(memory: &mut Memory) -> Result<(), Failure> {
+    has_scalar(memory)?;
+    save_scalar(memory, &mut Nobody, 0)?;
+    Ok(())
 }
 
-/// Copies a memory and changes it. Returns the next statement of the copy, then of the memory.
-fn copies(alloc: Global, code: &Code<'_>) -> Result<Answers, Failure> {
-    let mut memory = fresh_memory(alloc, code)?;
-    let copy = copy_memory(alloc, &memory)?;
-    put_place(&mut memory, &Nobody, 2);
-    let mut answers = Answers::new(alloc);
-    answers.count(u64::from(copy.place), b" is next")?;
-    answers.count(u64::from(memory.place), b" is next")?;
-    Ok(answers)
+/// Takes the scalar off its stash, and adds its value.
+fn take(memory: &mut Memory, answers: &mut Answers) -> Result<(), Failure> {
+    has_scalar(memory)?;
+    match take_scalar(memory, &mut Nobody, 0)? {
+        Some(number) => answers.count(u64::from(number), b""),
+        None => answers.say(b"none"),
+    }
+}
+
+/// Adds the odds of statements after each ABSTAIN and REINSTATE.
+fn abstains(code: &Code<'_>, memory: &mut Memory, answers: &mut Answers) -> Result<(), Failure>
+    requires { Fits code.now (view_of memory.old) }
+{
+    abstain_from_kind(code, memory, true, answers)?;
+    abstain_from_kind(code, memory, false, answers)?;
+    abstain_from_one(code, memory, 4, true, answers)?;
+    abstain_from_one(code, memory, 2, false, answers)
+}
+
+/// Abstains from READ OUT, or reinstates it. Adds the odds of the third statement.
+fn abstain_from_kind(
+    code: &Code<'_>,
+    memory: &mut Memory,
+    on: bool,
+    answers: &mut Answers,
+) -> Result<(), Failure>
+    requires { Fits code.now (view_of memory.old) }
+    ensures { OnOk result (Fits code.now (view_of memory.new)) }
+{
+    if code.count() < 3 {
+        return Err(Failure::NoStatement);
+    }
+    abstain_kind(code, memory, &mut Nobody, Gerund::ReadingOut, on)?;
+    answers.count(u64::from(odds(code, memory, 3)), b"%")
+}
+
+/// Abstains from a statement, or reinstates it. Adds its odds.
+fn abstain_from_one(
+    code: &Code<'_>,
+    memory: &mut Memory,
+    n: u32,
+    on: bool,
+    answers: &mut Answers,
+) -> Result<(), Failure>
+    requires { Fits code.now (view_of memory.old) }
+    ensures { OnOk result (Fits code.now (view_of memory.new)) }
+{
+    if n == 0 || n > code.count() {
+        return Err(Failure::NoStatement);
+    }
+    abstain_one(code, memory, &mut Nobody, n, on)?;
+    answers.count(u64::from(odds(code, memory, n)), b"%")
+}
+
+/// Copies a memory and changes it. Adds the next statement of the copy, then of the memory.
+fn copies(alloc: Global, memory: &mut Memory, answers: &mut Answers) -> Result<(), Failure> {
+    answers.count(copied_place(alloc, memory)?, b" is next")?;
+    tell_place(memory, answers)
+}
+
+/// Copies a memory and changes it. Returns the next statement of the copy.
+fn copied_place(alloc: Global, memory: &mut Memory) -> Result<u64, Failure> {
+    let copy = copy_memory(alloc, memory)?;
+    put_place(memory, &Nobody, 2);
+    Ok(u64::from(copy.place))
 }

@@ -62,22 +62,28 @@ const BODIES: [&[u8]; 48] = [
 ];
 
 /// Writes a program: arrays and stashes, and then four to twelve of the bodies, with labels from 1
-/// on. Every fourth statement is polite.
+/// on.
 pub fn source_of(alloc: Global, words: &mut Words) -> Result<Vec<u8>, Failure> {
     let mut source = Vec::from_slice(alloc, BEGINNING)?;
     let last = 4 + words.below(9);
     for label in 1..=last {
-        let body = words.below(48);
-        let head = if label % 4 == 0 {
-            b") PLEASE ".as_slice()
-        } else {
-            b") DO "
-        };
-        source.push(b'(')?;
-        append_decimal(&mut source, u64::from(label))?;
-        source.extend_from_slice(head)?;
-        source.extend_from_slice(BODIES[body as usize])?;
-        source.push(b'\n')?;
+        append_statement(&mut source, words, label)?;
     }
     Ok(source)
+}
+
+/// Appends a statement with a label. Every fourth statement is polite.
+fn append_statement(source: &mut Vec<u8>, words: &mut Words, label: u32) -> Result<(), Failure> {
+    let body = words.below(48);
+    let head = if label % 4 == 0 {
+        b") PLEASE ".as_slice()
+    } else {
+        b") DO "
+    };
+    source.push(b'(')?;
+    append_decimal(source, u64::from(label))?;
+    source.extend_from_slice(head)?;
+    source.extend_from_slice(BODIES[body as usize])?;
+    source.push(b'\n')?;
+    Ok(())
 }

@@ -11,52 +11,40 @@
 
 use crate::answers::Answers;
 use crate::failure::Failure;
-use crate::machines::{back, drop_mark, finish, go, step};
-use crate::programs::compiled;
-use ick_machine::{Asks, Copied, Trailed};
-use std::alloc::Global;
-use test_rows::Row;
+use crate::machines::{back, drop_mark, finish, go, mark, step};
+use crate::orders::{Order, order_of};
+use ick_machine::Asks;
 
-/// Returns the answers of both machines to a row's script.
-pub fn answer(alloc: Global, row: &Row) -> Result<Answers, Failure> {
-    let code = compiled(alloc, row.field(b"source"))?;
-    let input = row.field(b"input");
-    let script = row.field(b"script");
-    let mut copied = Copied::new(alloc, &code, input, 0)?;
-    let mut trailed = Trailed::new(alloc, &code, input, 0)?;
-    let answers = follow(alloc, &mut copied, script)?;
-    answers.agreed(follow(alloc, &mut trailed, script)?)
-}
-
-/// Returns the answers of a machine to the words of a script.
-fn follow<'c, M: Asks<'c>>(
-    alloc: Global,
+/// Adds the answers of a machine to the words of a script.
+pub fn follow<'c, M: Asks<'c>>(
     machine: &mut M,
     script: &[u8],
-) -> Result<Answers, Failure> {
-    let mut answers = Answers::new(alloc);
+    answers: &mut Answers,
+) -> Result<(), Failure> {
     for word in script.split(|byte| *byte == b' ') {
-        match word {
-            b"asks" => answers.ask(machine.asks())?,
-            b"output" => answers.quote(machine.output())?,
-            b"work" => answers.count(machine.work(), b" steps")?,
-            b"marks" => answers.count(machine.marks() as u64, b" marks")?,
-            _ => obey(machine, word)?,
-        }
+        obey(machine, order_of(word)?, answers)?;
     }
-    Ok(answers)
+    Ok(())
 }
 
-/// Does what a word orders. These words add no answer.
-fn obey<'c, M: Asks<'c>>(machine: &mut M, word: &[u8]) -> Result<(), Failure> {
-    match word {
-        b"do" => step(machine, true),
-        b"pass" => step(machine, false),
-        b"go" => go(machine),
-        b"finish" => finish(machine),
-        b"mark" => Ok(machine.mark()?),
-        b"back" => back(machine),
-        b"drop" => drop_mark(machine),
+/// Does what a word orders, or adds what it asks for.
+fn obey<'c, M: Asks<'c>>(
+    machine: &mut M,
+    order: Order,
+    answers: &mut Answers,
+) -> Result<(), Failure> {
+    match order {
+        Order::Do => step(machine, true),
+        Order::Pass => step(machine, false),
+        Order::Go => go(machine),
+        Order::Finish => finish(machine),
+        Order::Mark => mark(machine),
+        Order::Back => back(machine),
+        Order::Drop => drop_mark(machine),
+        Order::Asks => answers.ask(machine.asks()),
+        Order::Output => answers.quote(machine.output()),
+        Order::Work => answers.count(machine.work(), b" steps"),
+        Order::Marks => answers.count(machine.marks() as u64, b" marks"),
         _ => Err(Failure::NoSuchWord),
     }
 }

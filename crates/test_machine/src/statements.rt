@@ -2,45 +2,38 @@
 //! One makes steps by plans, the other by operations alone, and they must be alike after each
 //! step. The row's fields say how many statements of each kind there must be.
 
-use crate::alike::are_alike;
 use crate::answers::Answers;
 use crate::failure::Failure;
-use crate::machines::{back, drop_mark, goes_on, step};
-use crate::numbers::number;
+use crate::fields::number;
 use crate::planned::{Planned, count};
 use crate::programs::compiled;
 use crate::random_statements::{INPUT, source_of};
+use crate::sides::{Sides, sides_of};
 use crate::words::Words;
-use ick_code::Code;
-use ick_machine::{Ask, Asks, Backtrack, Copied, Trailed};
+use ick_machine::{Ask, Asks};
 use std::alloc::Global;
 use test_rows::Row;
 
-/// Returns whether the machines are alike, and whether there were enough statements of each kind.
-pub fn answer(alloc: Global, row: &Row) -> Result<Answers, Failure> {
+/// Adds `alike` and whether there were enough statements of each kind, unless the machines differ.
+pub fn answer(alloc: Global, row: &Row, answers: &mut Answers) -> Result<(), Failure> {
     let mut words = Words {
         state: u64::from(number(row, b"seed")),
     };
-    let mut done = 0u32;
     let mut counted = Planned {
+        done: 0,
         planned: 0,
         listed: 0,
         elements: 0,
     };
     for _ in 0..number(row, b"programs") {
         let source = source_of(alloc, &mut words)?;
-        let code = compiled(alloc, &source)?;
-        let mut sides = Sides::new(alloc, &code)?;
-        done = done.saturating_add(lead(&mut sides, &mut words)?);
-        counted = count(alloc, &code, counted)?;
+        lead(alloc, &source, &mut words, &mut counted)?;
     }
-    let mut answers = Answers::new(alloc);
     answers.say(b"alike")?;
-    enough(&mut answers, row, b"done", done)?;
-    enough(&mut answers, row, b"planned", counted.planned)?;
-    enough(&mut answers, row, b"listed", counted.listed)?;
-    enough(&mut answers, row, b"elements", counted.elements)?;
-    Ok(answers)
+    enough(answers, row, b"done", counted.done)?;
+    enough(answers, row, b"planned", counted.planned)?;
+    enough(answers, row, b"listed", counted.listed)?;
+    enough(answers, row, b"elements", counted.elements)
 }
 
 /// Adds `enough` if a number is above the field of the same name, and else the number.
@@ -54,101 +47,85 @@ fn enough(answers: &mut Answers, row: &Row, name: &[u8], met: u32) -> Result<(),
     Ok(())
 }
 
-/// Two machines side by side: the first makes steps by plans, the second by operations alone.
-#[derive(Drop)]
-struct Sides<'c, 'a> {
-    planned: Trailed<'c, 'a>,
-    worked: Copied<'c, 'a>,
+/// Compares both machines on the program of a source, and counts its statements. The one machine
+/// makes steps by plans.
+fn lead(
+    alloc: Global,
+    source: &[u8],
+    words: &mut Words,
+    counted: &mut Planned,
+) -> Result<(), Failure> {
+    let code = compiled(alloc, source)?;
+    run(sides_of(alloc, &code, INPUT, 0)?, words, counted)?;
+    count(alloc, &code, counted)
 }
 
-impl<'c, 'a> Sides<'c, 'a> {
-    fn new(alloc: Global, code: &'c Code<'a>) -> Result<Sides<'c, 'a>, Failure> {
-        Ok(Sides {
-            planned: Trailed::new(alloc, code, INPUT, 0)?,
-            worked: Copied::new(alloc, code, INPUT, 0)?,
-        })
-    }
-
-    fn mark(&mut self) -> Result<(), Failure> {
-        self.planned.mark()?;
-        self.worked.mark()?;
-        Ok(())
-    }
-
-    fn back(&mut self) -> Result<(), Failure> {
-        back(&mut self.planned)?;
-        back(&mut self.worked)?;
-        are_alike(&self.planned, &self.worked)
-    }
-
-    /// Drops the last mark, if there is one.
-    fn drop_mark(&mut self) -> Result<(), Failure> {
-        if self.planned.marks() == 0 {
-            return Ok(());
-        }
-        drop_mark(&mut self.planned)?;
-        drop_mark(&mut self.worked)
-    }
-
-    /// Makes a step on both machines: on the first by a plan or a list, if the statement has one.
-    fn run_on(&mut self) -> Result<(), Failure> {
-        if self.planned.work() >= u64::MAX {
-            return Err(Failure::TooManySteps);
-        }
-        if self.planned.run(1)? != 1 {
-            return Err(Failure::NoStep);
-        }
-        step(&mut self.worked, false)?;
-        are_alike(&self.planned, &self.worked)
-    }
-
-    /// Makes a step on both machines, unless the run has ended: on the first by a plan in short, if
-    /// the statement has one.
-    fn step(&mut self, done: bool) -> Result<(), Failure> {
-        if goes_on(&mut self.planned, done)? != goes_on(&mut self.worked, done)? {
-            return Err(Failure::GoesOnAlone);
-        }
-        are_alike(&self.planned, &self.worked)
-    }
-
-    /// Lets both programs print their state at a choice, goes back, and passes the choice over.
-    fn show(&mut self) -> Result<(), Failure> {
-        self.mark()?;
-        for _ in 0..16u32 {
-            self.step(true)?;
-        }
-        self.back()?;
-        self.step(false)
-    }
-}
-
-/// Compares both machines on one program. At most choices the tried statement is done. If it ends
-/// the run, the machines go back and pass it over. Returns how many statements were done.
-fn lead(sides: &mut Sides<'_, '_>, words: &mut Words) -> Result<u32, Failure> {
-    let mut done = 0u32;
+/// Runs both machines. At most choices the tried statement is done. If it ends the run, the
+/// machines go back and pass it over. Counts the statements that were done.
+fn run<'c, A: Asks<'c>, B: Asks<'c>>(
+    sides: Sides<A, B>,
+    words: &mut Words,
+    counted: &mut Planned,
+) -> Result<(), Failure> {
+    let mut sides = sides;
     for _ in 0..100_000u32 {
-        match sides.worked.asks() {
-            Ask::Plain => sides.run_on()?,
-            Ask::Choice(50) => {
-                sides.mark()?;
-                let passed = words.below(8) == 0;
-                sides.step(passed)?;
-                if !passed {
-                    done = done.saturating_add(1);
-                }
-            }
-            Ask::Choice(_) => {
-                sides.drop_mark()?;
-                sides.show()?;
-            }
-            Ask::Ended(_) => {
-                if sides.worked.marks() == 0 {
-                    return Ok(done);
-                }
-                sides.back()?;
-                sides.step(true)?;
-            }
+        if !goes_on(&mut sides, words, counted)? {
+            return Ok(());
         }
     }
     Err(Failure::NoEnd)
+}
+
+/// Makes a step on both machines. Returns whether the run goes on.
+fn goes_on<'c, A: Asks<'c>, B: Asks<'c>>(
+    sides: &mut Sides<A, B>,
+    words: &mut Words,
+    counted: &mut Planned,
+) -> Result<bool, Failure> {
+    match sides.asks() {
+        Ask::Plain => sides.run_one()?,
+        Ask::Choice(50) => try_next(sides, words, counted)?,
+        Ask::Choice(_) => show(sides)?,
+        Ask::Ended(_) => return pass_over(sides),
+    }
+    Ok(true)
+}
+
+/// Marks the choice before a tried statement, and makes the choice.
+fn try_next<'c, A: Asks<'c>, B: Asks<'c>>(
+    sides: &mut Sides<A, B>,
+    words: &mut Words,
+    counted: &mut Planned,
+) -> Result<(), Failure> {
+    sides.mark()?;
+    let is_passed = words.below(8) == 0;
+    if !is_passed {
+        counted.done = counted.done.saturating_add(1);
+    }
+    sides.step(is_passed)
+}
+
+/// Goes back to the choice before a statement that ended the run, and passes the statement over.
+/// Returns whether there was such a choice.
+fn pass_over<'c, A: Asks<'c>, B: Asks<'c>>(sides: &mut Sides<A, B>) -> Result<bool, Failure> {
+    if !sides.is_marked() {
+        return Ok(false);
+    }
+    sides.back()?;
+    sides.step(true)?;
+    Ok(true)
+}
+
+/// Drops the mark of a tried statement. Lets both programs print their state at a choice, goes
+/// back, and passes the choice over.
+fn show<'c, A: Asks<'c>, B: Asks<'c>>(sides: &mut Sides<A, B>) -> Result<(), Failure> {
+    if sides.is_marked() {
+        sides.drop_mark()?;
+    }
+    sides.mark()?;
+    for _ in 0..16u32 {
+        sides.step(true)?;
+    }
+    sides.back()?;
+    sides.step(false)
 }

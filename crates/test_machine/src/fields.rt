@@ -1,6 +1,16 @@
-//! Numbers in the fields of a row.
+//! Names and numbers in the fields of a row.
 
 use test_rows::Row;
+
+/// Returns whether a row makes the call of this name.
+pub fn calls(row: &Row, name: &[u8]) -> bool {
+    has(row, b"call", name)
+}
+
+/// Returns whether a field has this value.
+pub fn has(row: &Row, word: &[u8], value: &[u8]) -> bool {
+    row.field(word) == value
+}
 
 /// Returns the number in a field, or 0 if there is no such field.
 pub fn number(row: &Row, word: &[u8]) -> u32 {
