@@ -1,8 +1,8 @@
 //! The answer of each call that a row can name.
 
-use crate::counts::counts;
 use crate::cursors::cursor;
 use crate::cut_short::cut_short;
+use crate::fields::{calls, code_of};
 use crate::generated::generated;
 use crate::listings::runs;
 use crate::many::many;
@@ -10,41 +10,75 @@ use crate::order::order;
 use crate::seeds::{draw, listed_draws, streamed_draws, words};
 use crate::stop::Stop;
 use crate::streams::stream;
-use crate::texts::text_of;
+use crate::texts::append_stop;
 use crate::whole::{first, write};
 use ick_bits::NoMemory;
+use ick_code::Code;
 use std::alloc::Global;
 use test_rows::{Row, Tally, read_rows};
 
-/// Answers each row of a text, and returns a line for each that differs and the tally.
-pub fn report(alloc: Global, text: &[u8]) -> Result<Vec<u8>, NoMemory> {
+/// Answers each row of a text. Appends a line for each that differs, and the tally.
+pub fn report(alloc: Global, text: &[u8], out: &mut Vec<u8>) -> Result<(), NoMemory> {
+    let rows = read_rows(alloc, text)?;
     let mut tally = Tally::new();
-    let mut out = Vec::new(alloc);
-    for row in &read_rows(alloc, text)? {
-        let found = text_of(alloc, answer(alloc, row))?;
-        tally.check(&mut out, row, &found)?;
+    for row in &rows {
+        check(alloc, row, &mut tally, out)?;
     }
-    tally.append(&mut out)?;
-    Ok(out)
+    tally.append(out)
 }
 
-/// Makes the call of a row.
-fn answer(alloc: Global, row: &Row) -> Result<Vec<u8>, Stop> {
-    match row.field(b"call") {
-        b"runs" => runs(alloc, row),
-        b"counts" => counts(alloc, row),
-        b"many" => many(alloc, row),
-        b"cut short" => cut_short(alloc, row),
-        b"cursor" => cursor(alloc, row),
-        b"stream" => stream(alloc, row),
-        b"order" => order(alloc, row),
-        b"draw" => draw(alloc, row),
-        b"words" => words(alloc, row),
-        b"listed draws" => listed_draws(alloc, row),
-        b"streamed draws" => streamed_draws(alloc, row),
-        b"generated" => generated(alloc, row),
-        b"first" => first(alloc, row),
-        b"write" => write(alloc, row),
-        _ => Err(Stop::Call),
+/// Compares the answer to a row with the text that the row wants.
+fn check(alloc: Global, row: &Row, tally: &mut Tally, out: &mut Vec<u8>) -> Result<(), NoMemory> {
+    let mut found = Vec::new(alloc);
+    if let Err(stop) = answer(alloc, row, &mut found) {
+        found.clear();
+        append_stop(alloc, &mut found, stop)?;
+    }
+    tally.check(out, row, &found)
+}
+
+/// Appends the answer to a row.
+fn answer(alloc: Global, row: &Row, out: &mut Vec<u8>) -> Result<(), Stop> {
+    if calls(row, b"cursor") {
+        cursor(alloc, row, out)
+    } else if calls(row, b"draw") {
+        draw(row, out)
+    } else if calls(row, b"words") {
+        words(alloc, row, out)
+    } else if calls(row, b"generated") {
+        generated(alloc, row, out)
+    } else if calls(row, b"first") {
+        first(alloc, row, out)
+    } else if calls(row, b"write") {
+        write(alloc, row, out)
+    } else {
+        answer_by_code(alloc, row, out)
+    }
+}
+
+/// Appends the answer to a row that has a source.
+fn answer_by_code(alloc: Global, row: &Row, out: &mut Vec<u8>) -> Result<(), Stop> {
+    let code = code_of(alloc, row.field(b"source"))?;
+    answer_on(alloc, &code, row, out)
+}
+
+/// Appends the answer to a row on its source's code.
+fn answer_on(alloc: Global, code: &Code<'_>, row: &Row, out: &mut Vec<u8>) -> Result<(), Stop> {
+    if calls(row, b"runs") || calls(row, b"counts") {
+        runs(alloc, code, row, out)
+    } else if calls(row, b"many") {
+        many(alloc, code, row, out)
+    } else if calls(row, b"cut short") {
+        cut_short(alloc, code, row, out)
+    } else if calls(row, b"stream") {
+        stream(alloc, code, row, out)
+    } else if calls(row, b"order") {
+        order(alloc, code, row, out)
+    } else if calls(row, b"listed draws") {
+        listed_draws(alloc, code, row, out)
+    } else if calls(row, b"streamed draws") {
+        streamed_draws(alloc, code, row, out)
+    } else {
+        Err(Stop::Call)
     }
 }

@@ -7,14 +7,17 @@ use ick_runs::Cursor;
 use std::alloc::Global;
 use test_rows::Row;
 
-/// Reads the text of a cursor, and returns its choices in quotes and its text as it is printed.
-pub fn cursor(alloc: Global, row: &Row) -> Result<Vec<u8>, Stop> {
+/// Reads the text of a cursor, and appends its choices in quotes and its text as it is printed.
+pub fn cursor(alloc: Global, row: &Row, out: &mut Vec<u8>) -> Result<(), Stop> {
     let limit = short_number(row, b"limit", 100)?;
     let cursor = Cursor::from_text(alloc, row.field(b"text"), limit)?;
-    let mut out = Vec::new(alloc);
+    append_cursor(out, &cursor)
+}
+
+/// Appends the choices of a cursor in quotes and its text.
+fn append_cursor(out: &mut Vec<u8>, cursor: &Cursor) -> Result<(), Stop> {
     out.push(b'"')?;
-    append_choices(&mut out, cursor.choices())?;
+    append_choices(out, cursor.choices())?;
     out.extend_from_slice(b"\" ")?;
-    cursor.append_text(&mut out)?;
-    Ok(out)
+    Ok(cursor.append_text(out)?)
 }

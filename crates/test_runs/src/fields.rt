@@ -1,10 +1,15 @@
-//! Numbers, choices and code from the fields of a row.
+//! Names, numbers, choices and code from the fields of a row.
 
 use crate::stop::Stop;
 use ick_code::{Code, compile};
 use ick_source::read_source;
 use std::alloc::Global;
 use test_rows::Row;
+
+/// Returns whether a row makes the call of this name.
+pub fn calls(row: &Row, name: &[u8]) -> bool {
+    row.field(b"call") == name
+}
 
 /// Returns the number in a field, or `otherwise` if the row has no such field.
 pub fn number(row: &Row, word: &[u8], otherwise: u64) -> Result<u64, Stop> {

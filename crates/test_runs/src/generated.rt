@@ -1,14 +1,13 @@
 //! Random programs: what an explorer lists is what comes of trying every list of choices.
 
-ghost use Rattle.std.specs.Prelude.{◌≡◌, []};
-
+use crate::explorers::{explorer_of, next};
 use crate::fields::{code_of, number};
 use crate::same::{ended, is_same};
 use crate::stop::Stop;
 use crate::texts::{append_choices, append_number};
 use ick_bits::append_decimal;
 use ick_code::Code;
-use ick_machine::{Asks, Copied, Trailed};
+use ick_machine::{Asks, Copied};
 use ick_runs::{Cursor, Explorer, Ran, Run, RunsError, run_with};
 use rand_core::SeedableRng;
 use rand_core::utils::NextWord;
@@ -91,17 +90,28 @@ fn choices_of(alloc: Global, number: u32) -> Result<Vec<bool>, Stop> {
     Ok(choices)
 }
 
-/// Returns the runs that are found by trying each list of choices in turn, each with the choices
-/// that it used. There are none if a run wants more choices than it has steps.
+/// Returns what a program does with these choices.
+fn outcome<'c, 'a>(alloc: Global, code: &'c Code<'a>, choices: &[bool]) -> Result<Ran<'c>, Stop> {
+    Ok(run_with(alloc, code, INPUT, LIMIT, choices)?)
+}
+
+/// Returns the run with the list of this number, and with the choices that it used. There is none
+/// if it wants more choices.
+fn run_of<'c, 'a>(alloc: Global, code: &'c Code<'a>, number: u32) -> Result<Option<Run<'c>>, Stop> {
+    let mut choices = choices_of(alloc, number)?;
+    let ran = outcome(alloc, code, &choices)?;
+    if let Ran::Ended { used, .. } = &ran {
+        choices.truncate(*used);
+    }
+    Ok(ended(choices, ran))
+}
+
+/// Returns the runs that are found by trying each list of choices in turn. There are none if a run
+/// wants more choices than it has steps.
 fn tried<'c, 'a>(alloc: Global, code: &'c Code<'a>) -> Result<Option<Vec<Run<'c>>>, Stop> {
     let mut runs: Vec<Run<'c>> = Vec::new(alloc);
     for number in 0..LISTS {
-        let mut choices = choices_of(alloc, number)?;
-        let ran = run_with(alloc, code, INPUT, LIMIT, &choices)?;
-        if let Ran::Ended { used, .. } = &ran {
-            choices.truncate(*used);
-        }
-        let Some(run) = ended(choices, ran) else {
+        let Some(run) = run_of(alloc, code, number)? else {
             return Ok(None);
         };
         if !runs.last().is_some_and(|last| last.choices == run.choices) {
@@ -112,49 +122,85 @@ fn tried<'c, 'a>(alloc: Global, code: &'c Code<'a>) -> Result<Option<Vec<Run<'c>
 }
 
 /// Whether an explorer gives these runs and then none.
-fn gives<'c, M: Asks<'c>>(explorer: &mut Explorer<M>, runs: &[Run<'c>]) -> Result<bool, Stop> {
+fn gives<'c, M: Asks<'c>>(explorer: Explorer<M>, runs: &[Run<'c>]) -> Result<bool, Stop> {
+    let mut explorer = explorer;
     for wanted in runs {
-        match explorer.next()? {
-            Some(found) if is_same(&found, wanted) => {}
-            _ => return Ok(false),
+        if !gives_one(&mut explorer, wanted)? {
+            return Ok(false);
         }
     }
-    Ok(!explorer.more() && explorer.next()?.is_none())
+    ends(&mut explorer)
 }
 
-/// Whether a machine's program has these runs.
-fn lists<'c, M: Asks<'c>>(alloc: Global, machine: M, runs: &[Run<'c>]) -> Result<bool, Stop>
-    requires { (M.seen machine).marks ≡ [] }
-{
-    let mut explorer = Explorer::start(alloc, machine, LIMIT);
-    gives(&mut explorer, runs)
+/// Whether an explorer gives no further run.
+fn ends<'c, M: Asks<'c>>(explorer: &mut Explorer<M>) -> Result<bool, Stop> {
+    Ok(!explorer.more() && next(explorer)?.is_none())
+}
+
+/// Whether an explorer gives this run.
+fn gives_one<'c, M: Asks<'c>>(explorer: &mut Explorer<M>, wanted: &Run<'c>) -> Result<bool, Stop> {
+    match next(explorer)? {
+        Some(found) => Ok(is_same(&found, wanted)),
+        None => Ok(false),
+    }
+}
+
+/// Whether the machine that copies what it marks lists these runs of a program.
+fn lists<'c, 'a>(alloc: Global, code: &'c Code<'a>, runs: &[Run<'c>]) -> Result<bool, Stop> {
+    let machine = Copied::new(alloc, code, INPUT, 0)?;
+    gives(Explorer::start(alloc, machine, LIMIT), runs)
 }
 
 /// Whether after each run come those behind it.
-fn goes_on<'c, 'a>(alloc: Global, code: &'c Code<'a>, runs: &[Run<'c>]) -> Result<bool, Stop> {
+fn go_on<'c, 'a>(alloc: Global, code: &'c Code<'a>, runs: &[Run<'c>]) -> Result<bool, Stop> {
     for (at, run) in runs.iter().enumerate() {
-        let Some(cursor) = cursor_of(alloc, &run.choices)? else {
-            return Ok(false);
-        };
-        let machine = Trailed::new(alloc, code, INPUT, 0)?;
-        let mut explorer = Explorer::after(alloc, machine, LIMIT, &cursor)?;
-        if !gives(&mut explorer, &runs[at + 1..])? {
+        if !goes_on(alloc, code, run, &runs[at + 1..])? {
             return Ok(false);
         }
     }
     Ok(true)
 }
 
+/// Whether after a run come these.
+fn goes_on<'c, 'a>(
+    alloc: Global,
+    code: &'c Code<'a>,
+    run: &Run<'c>,
+    later: &[Run<'c>],
+) -> Result<bool, Stop> {
+    match text_of(alloc, &run.choices)? {
+        Some(text) => lists_after(alloc, code, &text, later),
+        None => Ok(false),
+    }
+}
+
+/// Whether the machine that notes its changes lists these runs after the run of a cursor, or from
+/// the start.
+fn lists_after<'c, 'a>(
+    alloc: Global,
+    code: &'c Code<'a>,
+    from: &[u8],
+    runs: &[Run<'c>],
+) -> Result<bool, Stop> {
+    gives(explorer_of(alloc, code, INPUT, LIMIT, from)?, runs)
+}
+
 /// Whether these choices are not those of a run.
 fn is_no_run<'c, 'a>(alloc: Global, code: &'c Code<'a>, choices: &[bool]) -> Result<bool, Stop> {
-    let Some(cursor) = cursor_of(alloc, choices)? else {
+    let Some(text) = text_of(alloc, choices)? else {
         return Ok(false);
     };
-    let machine = Trailed::new(alloc, code, INPUT, 0)?;
-    match Explorer::after(alloc, machine, LIMIT, &cursor) {
+    match explorer_of(alloc, code, INPUT, LIMIT, &text) {
+        Err(Stop::Runs(RunsError::NoSuchRun)) => Ok(true),
+        Err(stop) => Err(stop),
         Ok(_) => Ok(false),
-        Err(error) => Ok(error == RunsError::NoSuchRun),
     }
+}
+
+/// Whether no run has these choices alone, and with them a further choice is wanted.
+fn is_prefix<'c, 'a>(alloc: Global, code: &'c Code<'a>, choices: &[bool]) -> Result<bool, Stop> {
+    let ran = outcome(alloc, code, choices)?;
+    Ok(matches!(ran, Ran::Wants { .. }) && is_no_run(alloc, code, choices)?)
 }
 
 /// Whether no shorter prefix of a run's choices is a run, and each wants a choice; and whether the
@@ -166,8 +212,7 @@ fn has_no_neighbours<'c, 'a>(
 ) -> Result<bool, Stop> {
     let mut choices = Vec::new(alloc);
     for choice in &run.choices {
-        let ran = run_with(alloc, code, INPUT, LIMIT, &choices)?;
-        if !matches!(ran, Ran::Wants { .. }) || !is_no_run(alloc, code, &choices)? {
+        if !is_prefix(alloc, code, &choices)? {
             return Ok(false);
         }
         choices.push(*choice)?;
@@ -176,52 +221,85 @@ fn has_no_neighbours<'c, 'a>(
     is_no_run(alloc, code, &choices)
 }
 
-/// Returns the cursor of these choices, if it has them and its text is printed as it was read.
-fn cursor_of(alloc: Global, choices: &[bool]) -> Result<Option<Cursor>, Stop> {
+/// Whether no run has a neighbour that is a run.
+fn have_no_neighbours<'c, 'a>(
+    alloc: Global,
+    code: &'c Code<'a>,
+    runs: &[Run<'c>],
+) -> Result<bool, Stop> {
+    for run in runs {
+        if !has_no_neighbours(alloc, code, run)? {
+            return Ok(false);
+        }
+    }
+    Ok(true)
+}
+
+/// Returns the text of a cursor with these choices, if it has them and its text is printed as it
+/// was read.
+fn text_of(alloc: Global, choices: &[bool]) -> Result<Option<Vec<u8>>, Stop> {
     let mut text = Vec::new(alloc);
     append_choices(&mut text, choices)?;
     if text.is_empty() {
         text.push(b'-')?;
     }
-    let cursor = Cursor::from_text(alloc, &text, u32::MAX)?;
+    if is_kept(alloc, &text, choices)? {
+        Ok(Some(text))
+    } else {
+        Ok(None)
+    }
+}
+
+/// Whether the cursor of a text has these choices, and is printed as it was read.
+fn is_kept(alloc: Global, text: &[u8], choices: &[bool]) -> Result<bool, Stop> {
+    let cursor = Cursor::from_text(alloc, text, u32::MAX)?;
     let mut printed = Vec::new(alloc);
     cursor.append_text(&mut printed)?;
-    let is_same = cursor.choices() == choices && printed == text;
-    Ok(if is_same { Some(cursor) } else { None })
+    Ok(cursor.choices() == choices && printed.as_slice() == text)
 }
 
 /// Whether what is listed of a program is what comes of trying every list of choices.
 fn holds(alloc: Global, code: &Code<'_>) -> Result<bool, Stop> {
-    let Some(runs) = tried(alloc, code)? else {
-        return Ok(false);
-    };
-    let copied = Copied::new(alloc, code, INPUT, 0)?;
-    let trailed = Trailed::new(alloc, code, INPUT, 0)?;
-    if !lists(alloc, copied, &runs)? || !lists(alloc, trailed, &runs)? {
-        return Ok(false);
+    match tried(alloc, code)? {
+        Some(runs) => hold(alloc, code, &runs),
+        None => Ok(false),
     }
-    for run in &runs {
-        if !has_no_neighbours(alloc, code, run)? {
-            return Ok(false);
-        }
-    }
-    goes_on(alloc, code, &runs)
 }
 
-/// Counts the random programs for which this holds, and tells the first other one.
-pub fn generated(alloc: Global, row: &Row) -> Result<Vec<u8>, Stop> {
+/// Whether these are the listed runs of a program.
+fn hold<'c, 'a>(alloc: Global, code: &'c Code<'a>, runs: &[Run<'c>]) -> Result<bool, Stop> {
+    Ok(
+        lists(alloc, code, runs)?
+            && lists_after(alloc, code, b"", runs)?
+            && have_no_neighbours(alloc, code, runs)?
+            && go_on(alloc, code, runs)?,
+    )
+}
+
+/// Counts the random programs for which this holds, and appends the first other one.
+pub fn generated(alloc: Global, row: &Row, out: &mut Vec<u8>) -> Result<(), Stop> {
     let mut words = Pcg32::seed_from_u64(number(row, b"seed", 0)?);
-    let mut out = Vec::new(alloc);
     let mut count = 0u64;
     for _ in 0..number(row, b"programs", 0)? {
-        let source = source_of(alloc, &mut words)?;
-        let code = code_of(alloc, &source)?;
-        if holds(alloc, &code)? {
+        if next_holds(alloc, &mut words, out)? {
             count = count.saturating_add(1);
-        } else if out.is_empty() {
-            out.extend_from_slice(&source)?;
         }
     }
-    append_number(&mut out, b"programs ", count)?;
-    Ok(out)
+    Ok(append_number(out, b"programs ", count)?)
+}
+
+/// Whether this holds for the next random program. If it is the first other one, it is appended.
+fn next_holds(alloc: Global, words: &mut Pcg32, out: &mut Vec<u8>) -> Result<bool, Stop> {
+    let source = source_of(alloc, words)?;
+    let is_right = holds_of(alloc, &source)?;
+    if !is_right && out.is_empty() {
+        out.extend_from_slice(&source)?;
+    }
+    Ok(is_right)
+}
+
+/// Whether this holds for the program of a source.
+fn holds_of(alloc: Global, source: &[u8]) -> Result<bool, Stop> {
+    let code = code_of(alloc, source)?;
+    holds(alloc, &code)
 }

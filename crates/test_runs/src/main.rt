@@ -8,6 +8,7 @@
 //! | `fields` | numbers, choices and code from the fields of a row |
 //! | `texts` | answers as text |
 //! | `listings`, `counts`, `many` | listings, and the work that they take |
+//! | `explorers` | explorers and their runs |
 //! | `cut_short` | listings on a writer that fails |
 //! | `cursors` | texts of cursors |
 //! | `devices` | a reader and a writer that fail after so many bytes |
@@ -23,6 +24,7 @@ mod counts;
 mod cursors;
 mod cut_short;
 mod devices;
+mod explorers;
 mod fields;
 mod generated;
 mod listings;
@@ -42,8 +44,9 @@ use std::io::{ErrorKind, Write};
 fn main(rt: HostRuntime) -> io::Result<()> {
     let alloc = rt.alloc();
     let text = io::read_to_string(alloc, rt.stdin())?;
-    let Ok(out) = report(alloc, text.as_bytes()) else {
+    let mut out = Vec::new(alloc);
+    if report(alloc, text.as_bytes(), &mut out).is_err() {
         return Err(ErrorKind::OutOfMemory.into());
-    };
+    }
     rt.stdout().write_all(&out)
 }

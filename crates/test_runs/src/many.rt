@@ -1,9 +1,11 @@
 //! A listing that nobody could make who began each run anew.
 
-use crate::fields::{code_of, short_number};
+use crate::explorers::{explorer_of, next};
+use crate::fields::short_number;
 use crate::stop::Stop;
 use crate::texts::append_number;
-use ick_machine::Trailed;
+use ick_code::Code;
+use ick_machine::Asks;
 use ick_runs::Explorer;
 use std::alloc::Global;
 use test_rows::Row;
@@ -11,25 +13,41 @@ use test_rows::Row;
 /// More runs than any row lists.
 const MOST: u32 = 2_000_000;
 
-/// Counts the runs of a row's program that make so many steps, and the others.
-pub fn many(alloc: Global, row: &Row) -> Result<Vec<u8>, Stop> {
-    let code = code_of(alloc, row.field(b"source"))?;
+/// Appends how many runs of a row's program make so many steps, and how many others there are.
+pub fn many(alloc: Global, code: &Code<'_>, row: &Row, out: &mut Vec<u8>) -> Result<(), Stop> {
     let limit = short_number(row, b"limit", 10_000)?;
     let steps = short_number(row, b"steps", 0)?;
-    let machine = Trailed::new(alloc, &code, b"", 0)?;
-    let mut explorer = Explorer::start(alloc, machine, limit);
+    append_many(out, explorer_of(alloc, code, b"", limit, b"")?, steps)
+}
+
+/// Appends how many runs make so many steps, how many others there are, and the work.
+fn append_many<'c, M: Asks<'c>>(
+    out: &mut Vec<u8>,
+    explorer: Explorer<M>,
+    steps: u32,
+) -> Result<(), Stop> {
+    let mut explorer = explorer;
+    let (same, others) = counted(&mut explorer, steps)?;
+    append_counts(out, same, others, explorer.work())
+}
+
+/// Appends a number of runs that make so many steps, of others, and the work.
+fn append_counts(out: &mut Vec<u8>, same: u64, others: u64, work: u64) -> Result<(), Stop> {
+    append_number(out, b"", same)?;
+    append_number(out, b" runs, ", others)?;
+    Ok(append_number(out, b" others, work ", work)?)
+}
+
+/// Counts the runs that make so many steps, and the others.
+fn counted<'c, M: Asks<'c>>(explorer: &mut Explorer<M>, steps: u32) -> Result<(u64, u64), Stop> {
     let mut same = 0u64;
     let mut others = 0u64;
     for _ in 0..MOST {
-        match explorer.next()? {
+        match next(explorer)? {
             Some(run) if run.steps == steps => same = same.saturating_add(1),
             Some(_) => others = others.saturating_add(1),
             None => break,
         }
     }
-    let mut out = Vec::new(alloc);
-    append_number(&mut out, b"", same)?;
-    append_number(&mut out, b" runs, ", others)?;
-    append_number(&mut out, b" others, work ", explorer.work())?;
-    Ok(out)
+    Ok((same, others))
 }

@@ -2,9 +2,9 @@
 
 ghost use Rattle.std.specs.Prelude.{[], false};
 
-use crate::fields::code_of;
 use crate::stop::Stop;
 use crate::texts::append_number;
+use ick_code::Code;
 use ick_runs::{ByteSink, ByteSource, Chooser, DeviceFault, SliceSource, run_stream};
 use std::alloc::Global;
 use std::cell::Cell;
@@ -61,10 +61,9 @@ impl ByteSource for WatchingSource<'_> {
     }
 }
 
-/// Runs the program of a row, and returns how many bytes the writer had taken before the first read
+/// Runs the program of a row, and appends how many bytes the writer had taken before the first read
 /// and at the end.
-pub fn order(alloc: Global, row: &Row) -> Result<Vec<u8>, Stop> {
-    let code = code_of(alloc, row.field(b"source"))?;
+pub fn order(alloc: Global, code: &Code<'_>, row: &Row, out: &mut Vec<u8>) -> Result<(), Stop> {
     let taken = Cell::new(0);
     let mut reader = WatchingSource {
         rest: SliceSource::new(row.field(b"input")),
@@ -73,10 +72,8 @@ pub fn order(alloc: Global, row: &Row) -> Result<Vec<u8>, Stop> {
     };
     let mut writer = CountingSink { taken: &taken };
     let chooser = Chooser::Listed(&[]);
-    run_stream(alloc, &code, &mut reader, &mut writer, 10, chooser)?;
-    let mut out = Vec::new(alloc);
-    append_number(&mut out, b"", reader.taken_first.unwrap_or(u64::MAX))?;
-    append_number(&mut out, b" before the first read, ", taken.get())?;
-    out.extend_from_slice(b" at the end")?;
-    Ok(out)
+    run_stream(alloc, code, &mut reader, &mut writer, 10, chooser)?;
+    append_number(out, b"", reader.taken_first.unwrap_or(u64::MAX))?;
+    append_number(out, b" before the first read, ", taken.get())?;
+    Ok(out.extend_from_slice(b" at the end")?)
 }

@@ -3,7 +3,7 @@
 use crate::stop::Stop;
 use ick_code::Code;
 use ick_machine::{End, EndKind};
-use ick_runs::{Ran, Run, run_with};
+use ick_runs::{Drawn, Ran, Run, run_seeded, run_with};
 use std::alloc::Global;
 
 /// Returns the run that came to its end with all of its choices used.
@@ -22,6 +22,18 @@ pub fn ended<'c>(choices: Vec<bool>, ran: Ran<'c>) -> Option<Run<'c>> {
         }),
         _ => None,
     }
+}
+
+/// Returns the run that a seed draws, if it came to its end.
+pub fn drawn_run<'c, 'a>(
+    alloc: Global,
+    code: &'c Code<'a>,
+    input: &'c [u8],
+    limit: u32,
+    seed: u64,
+) -> Result<Option<Run<'c>>, Stop> {
+    let Drawn { choices, ran } = run_seeded(alloc, code, input, limit, seed)?;
+    Ok(ended(choices, ran))
 }
 
 /// Runs a program with these choices, which must be all that it asks.

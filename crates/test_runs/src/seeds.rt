@@ -2,12 +2,13 @@
 
 ghost use Rattle.std.specs.Prelude.{◌<◌, IfSome};
 
+use crate::explorers::{explorer_of, next};
 use crate::fields::{code_of, number, short_number};
-use crate::same::{ended, ended_with, is_end, is_same};
+use crate::same::{drawn_run, ended_with, is_end, is_same};
 use crate::stop::Stop;
 use crate::texts::append_number;
 use ick_code::Code;
-use ick_machine::Trailed;
+use ick_machine::Asks;
 use ick_runs::{
     Chooser, Drawn, Explorer, Run, SliceSource, Streamed, VecSink, drawn, run_seeded, run_stream,
 };
@@ -20,8 +21,8 @@ use test_rows::Row;
 /// More runs than any row lists.
 const MOST: u32 = 10;
 
-/// Answers whether a statement of a chance is done by a word.
-pub fn draw(alloc: Global, row: &Row) -> Result<Vec<u8>, Stop> {
+/// Appends whether a statement of a chance is done by a word.
+pub fn draw(row: &Row, out: &mut Vec<u8>) -> Result<(), Stop> {
     let word = short_number(row, b"word", 0)?;
     let chance = number(row, b"chance", 0)?;
     let Some(chance) = chance_of(chance) else {
@@ -32,7 +33,7 @@ pub fn draw(alloc: Global, row: &Row) -> Result<Vec<u8>, Stop> {
     } else {
         b"not done"
     };
-    Ok(Vec::from_slice(alloc, answer)?)
+    Ok(out.extend_from_slice(answer)?)
 }
 
 /// Returns a number as a chance between 0 and 100.
@@ -57,16 +58,27 @@ fn words_of(alloc: Global, seed: u64, count: u32) -> Result<Vec<u32>, Stop> {
     Ok(words)
 }
 
-/// Returns what a seed draws for three statements of this chance.
-fn drawn_by(alloc: Global, seed: u64, chance: u8) -> Result<Vec<bool>, Stop> {
+/// Writes three statements of this chance.
+fn source_of(alloc: Global, chance: u8) -> Result<Vec<u8>, Stop> {
     let line = format!(in alloc; "DO %{chance} FORGET #0\n")?;
     let mut source = Vec::new(alloc);
     for _ in 0..3u32 {
         source.extend_from_slice(line.as_bytes())?;
     }
     source.extend_from_slice(b"PLEASE GIVE UP\n")?;
+    Ok(source)
+}
+
+/// Returns what a seed draws for three statements of this chance.
+fn drawn_by(alloc: Global, seed: u64, chance: u8) -> Result<Vec<bool>, Stop> {
+    let source = source_of(alloc, chance)?;
     let code = code_of(alloc, &source)?;
-    let Drawn { choices, .. } = run_seeded(alloc, &code, b"", 10, seed)?;
+    drawn_on(alloc, &code, seed)
+}
+
+/// Returns what a seed draws for a program.
+fn drawn_on(alloc: Global, code: &Code<'_>, seed: u64) -> Result<Vec<bool>, Stop> {
+    let Drawn { choices, .. } = run_seeded(alloc, code, b"", 10, seed)?;
     Ok(choices)
 }
 
@@ -82,122 +94,128 @@ fn is_meant(choices: &[bool], words: &[u32], chance: u8) -> bool
             .all(|(choice, word)| *choice == drawn(*word, chance))
 }
 
-/// Returns the first three words of a seed, and each chance at which a run draws something else.
-pub fn words(alloc: Global, row: &Row) -> Result<Vec<u8>, Stop> {
+/// Appends the first three words of a seed, and each chance at which a run draws something else.
+pub fn words(alloc: Global, row: &Row, out: &mut Vec<u8>) -> Result<(), Stop> {
     let seed = number(row, b"seed", 0)?;
     let words = words_of(alloc, seed, 3)?;
-    let mut out = Vec::from_slice(alloc, b"words")?;
+    out.extend_from_slice(b"words")?;
     for word in &words {
-        append_number(&mut out, b" ", u64::from(*word))?;
+        append_number(out, b" ", u64::from(*word))?;
     }
-    for chance in 1..100u8 {
-        let choices = drawn_by(alloc, seed, chance)?;
-        if !is_meant(&choices, &words, chance) {
-            append_number(&mut out, b", else at ", u64::from(chance))?;
-        }
-    }
-    Ok(out)
+    append_other_chances(alloc, out, seed, &words)
 }
 
-/// Returns the run of a program that is listed with these choices.
-fn listed<'c, 'a>(
+/// Appends each chance at which a run draws something else than the words mean.
+fn append_other_chances(
     alloc: Global,
-    code: &'c Code<'a>,
-    limit: u32,
-    choices: &[bool],
-) -> Result<Option<Run<'c>>, Stop> {
-    let machine = Trailed::new(alloc, code, b"", 0)?;
-    let mut explorer = Explorer::start(alloc, machine, limit);
-    for _ in 0..MOST {
-        match explorer.next()? {
-            Some(run) if run.choices.as_slice() == choices => return Ok(Some(run)),
-            Some(_) => {}
-            None => return Ok(None),
+    out: &mut Vec<u8>,
+    seed: u64,
+    words: &[u32],
+) -> Result<(), Stop> {
+    for chance in 1..100u8 {
+        let choices = drawn_by(alloc, seed, chance)?;
+        if !is_meant(&choices, words, chance) {
+            append_number(out, b", else at ", u64::from(chance))?;
         }
     }
-    Ok(None)
+    Ok(())
+}
+
+/// Counts the seeds whose runs are listed, and are the runs with their choices.
+pub fn listed_draws(
+    alloc: Global,
+    code: &Code<'_>,
+    row: &Row,
+    out: &mut Vec<u8>,
+) -> Result<(), Stop> {
+    let limit = short_number(row, b"limit", 10_000)?;
+    let mut count = 0u64;
+    for seed in 0..number(row, b"seeds", 0)? {
+        if is_listed(alloc, code, limit, seed)? {
+            count = count.saturating_add(1);
+        }
+    }
+    Ok(append_number(out, b"seeds ", count)?)
 }
 
 /// Whether the run that a seed draws is listed, and is the run with its choices.
 fn is_listed(alloc: Global, code: &Code<'_>, limit: u32, seed: u64) -> Result<bool, Stop> {
-    let Drawn { choices, ran } = run_seeded(alloc, code, b"", limit, seed)?;
-    let Some(drawn) = ended(choices, ran) else {
-        return Ok(false);
-    };
-    let Some(found) = listed(alloc, code, limit, &drawn.choices)? else {
-        return Ok(false);
-    };
-    let Some(given) = ended_with(alloc, code, b"", limit, &drawn.choices)? else {
-        return Ok(false);
-    };
-    Ok(is_same(&found, &drawn) && is_same(&given, &drawn))
+    match drawn_run(alloc, code, b"", limit, seed)? {
+        Some(run) => Ok(is_found(alloc, code, limit, &run)? && is_given(alloc, code, limit, &run)?),
+        None => Ok(false),
+    }
 }
 
-/// Counts the seeds whose runs are listed, and are the runs with their choices.
-pub fn listed_draws(alloc: Global, row: &Row) -> Result<Vec<u8>, Stop> {
-    let code = code_of(alloc, row.field(b"source"))?;
-    let limit = short_number(row, b"limit", 10_000)?;
+/// Whether a run is that with its choices.
+fn is_given(alloc: Global, code: &Code<'_>, limit: u32, run: &Run<'_>) -> Result<bool, Stop> {
+    match ended_with(alloc, code, b"", limit, &run.choices)? {
+        Some(given) => Ok(is_same(&given, run)),
+        None => Ok(false),
+    }
+}
+
+/// Whether a run is listed.
+fn is_found(alloc: Global, code: &Code<'_>, limit: u32, run: &Run<'_>) -> Result<bool, Stop> {
+    finds(explorer_of(alloc, code, b"", limit, b"")?, run)
+}
+
+/// Whether an explorer gives a run.
+fn finds<'c, M: Asks<'c>>(explorer: Explorer<M>, run: &Run<'_>) -> Result<bool, Stop> {
+    let mut explorer = explorer;
+    for _ in 0..MOST {
+        match next(&mut explorer)? {
+            Some(found) if found.choices == run.choices => return Ok(is_same(&found, run)),
+            Some(_) => {}
+            None => return Ok(false),
+        }
+    }
+    Ok(false)
+}
+
+/// Counts the seeds whose runs are streamed, by the seed and by their choices.
+pub fn streamed_draws(
+    alloc: Global,
+    code: &Code<'_>,
+    row: &Row,
+    out: &mut Vec<u8>,
+) -> Result<(), Stop> {
     let mut count = 0u64;
     for seed in 0..number(row, b"seeds", 0)? {
-        if is_listed(alloc, &code, limit, seed)? {
+        if is_streamed_by(alloc, code, row.field(b"input"), seed)? {
             count = count.saturating_add(1);
         }
     }
-    let mut out = Vec::new(alloc);
-    append_number(&mut out, b"seeds ", count)?;
-    Ok(out)
+    Ok(append_number(out, b"seeds ", count)?)
 }
 
-/// Makes a streamed run, and returns it with what it wrote.
-fn streamed(
+/// Whether the run that a seed draws is streamed, by the seed and by its choices.
+fn is_streamed_by(alloc: Global, code: &Code<'_>, input: &[u8], seed: u64) -> Result<bool, Stop> {
+    let Some(run) = drawn_run(alloc, code, input, 100, seed)? else {
+        return Ok(false);
+    };
+    let by_seed = is_streamed(alloc, code, input, Chooser::Seeded(seed), &run)?;
+    let by_choices = is_streamed(alloc, code, input, Chooser::Listed(&run.choices), &run)?;
+    Ok(by_seed && by_choices)
+}
+
+/// Whether what a chooser streams is this run.
+fn is_streamed(
     alloc: Global,
     code: &Code<'_>,
     input: &[u8],
     chooser: Chooser<'_>,
-) -> Result<(Streamed, VecSink), Stop> {
+    run: &Run<'_>,
+) -> Result<bool, Stop> {
     let mut source = SliceSource::new(input);
     let mut sink = VecSink::new(alloc);
-    let answer = run_stream(alloc, code, &mut source, &mut sink, 100, chooser)?;
-    Ok((answer, sink))
+    let streamed = run_stream(alloc, code, &mut source, &mut sink, 100, chooser)?;
+    Ok(is_alike(&streamed, sink.bytes(), run))
 }
 
-/// Whether a streamed run is this run.
-fn is_streamed(streamed: &Streamed, sink: &VecSink, run: &Run<'_>) -> bool {
+/// Whether a streamed run and what it wrote are this run.
+fn is_alike(streamed: &Streamed, written: &[u8], run: &Run<'_>) -> bool {
     streamed.choices == run.choices
-        && sink.bytes() == run.output.as_slice()
+        && written == run.output.as_slice()
         && streamed.steps == run.steps
         && is_end(&run.end, streamed.end)
-}
-
-/// Whether the run that a seed draws is streamed, by the seed and by its choices.
-fn is_streamed_by<'c, 'a>(
-    alloc: Global,
-    code: &'c Code<'a>,
-    input: &'c [u8],
-    seed: u64,
-) -> Result<bool, Stop> {
-    let Drawn { choices, ran } = run_seeded(alloc, code, input, 100, seed)?;
-    let Some(run) = ended(choices, ran) else {
-        return Ok(false);
-    };
-    let (by_seed, sink) = streamed(alloc, code, input, Chooser::Seeded(seed))?;
-    if !is_streamed(&by_seed, &sink, &run) {
-        return Ok(false);
-    }
-    let (by_choices, sink) = streamed(alloc, code, input, Chooser::Listed(&run.choices))?;
-    Ok(is_streamed(&by_choices, &sink, &run))
-}
-
-/// Counts the seeds whose runs are streamed, by the seed and by their choices.
-pub fn streamed_draws(alloc: Global, row: &Row) -> Result<Vec<u8>, Stop> {
-    let code = code_of(alloc, row.field(b"source"))?;
-    let mut count = 0u64;
-    for seed in 0..number(row, b"seeds", 0)? {
-        if is_streamed_by(alloc, &code, row.field(b"input"), seed)? {
-            count = count.saturating_add(1);
-        }
-    }
-    let mut out = Vec::new(alloc);
-    append_number(&mut out, b"seeds ", count)?;
-    Ok(out)
 }

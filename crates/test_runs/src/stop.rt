@@ -5,7 +5,7 @@ use ick_runs::RunsError;
 use std::alloc::{AllocError, AllocFailed};
 
 /// Why a call of a row stopped before it had an answer.
-#[derive(Clone, Copy, Debug)]
+#[derive(Clone, Copy)]
 pub enum Stop {
     /// A call of the crate refused.
     Runs(RunsError),

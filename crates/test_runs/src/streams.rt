@@ -1,10 +1,13 @@
 //! Runs whose input and output are streams.
 
+ghost use Rattle.std.specs.Prelude.{◌≡◌};
+
 use crate::devices::{WornSink, WornSource};
-use crate::fields::{choices, code_of, number, short_number};
+use crate::fields::{choices, number, short_number};
 use crate::stop::Stop;
-use crate::texts::{append_choices, append_end, append_number, text_of};
+use crate::texts::{append_choices, append_end, append_error, append_number};
 use ick_bits::{NoMemory, append_quoted};
+use ick_code::Code;
 use ick_runs::{Chooser, Streamed, run_stream};
 use std::alloc::Global;
 use test_rows::Row;
@@ -12,14 +15,20 @@ use test_rows::Row;
 /// Appends how a run came out: its end, its message if it has one, its steps and its choices.
 fn append_streamed(out: &mut Vec<u8>, streamed: &Streamed) -> Result<(), NoMemory> {
     append_end(out, streamed.end)?;
-    if !streamed.message.is_empty() {
-        out.push(b' ')?;
-        append_quoted(out, &streamed.message)?;
-    }
+    append_message(out, &streamed.message)?;
     append_number(out, b" after ", u64::from(streamed.steps))?;
     out.extend_from_slice(b" steps by \"")?;
     append_choices(out, &streamed.choices)?;
     Ok(out.push(b'"')?)
+}
+
+/// Appends a message in quotes, unless it is empty.
+fn append_message(out: &mut Vec<u8>, message: &[u8]) -> Result<(), NoMemory> {
+    if message.is_empty() {
+        return Ok(());
+    }
+    out.push(b' ')?;
+    append_quoted(out, message)
 }
 
 /// Appends what a run wrote and what it left of its input.
@@ -38,10 +47,7 @@ fn append_devices(
 
 /// Runs the program of a row over a reader that fails after `reads` reads and a writer that fails
 /// after `room` bytes, or that never fail.
-pub fn stream(alloc: Global, row: &Row) -> Result<Vec<u8>, Stop> {
-    let code = code_of(alloc, row.field(b"source"))?;
-    let choices = choices(alloc, row.field(b"choices"))?;
-    let limit = short_number(row, b"limit", 100)?;
+pub fn stream(alloc: Global, code: &Code<'_>, row: &Row, out: &mut Vec<u8>) -> Result<(), Stop> {
     let mut reader = WornSource {
         rest: row.field(b"input"),
         good: number(row, b"reads", u64::MAX)?,
@@ -52,12 +58,33 @@ pub fn stream(alloc: Global, row: &Row) -> Result<Vec<u8>, Stop> {
         room: number(row, b"room", u64::MAX)?,
         failures: 0,
     };
-    let chooser = Chooser::Listed(&choices);
-    let mut out = Vec::new(alloc);
-    match run_stream(alloc, &code, &mut reader, &mut writer, limit, chooser) {
-        Ok(streamed) => append_streamed(&mut out, &streamed)?,
-        Err(error) => out = text_of(alloc, Err(Stop::Runs(error)))?,
+    stream_over(alloc, code, row, &mut reader, &mut writer, out)?;
+    Ok(append_devices(out, &reader, &writer)?)
+}
+
+/// Runs the program of a row over a reader and a writer, and appends how the run came out.
+fn stream_over(
+    alloc: Global,
+    code: &Code<'_>,
+    row: &Row,
+    reader: &mut WornSource<'_>,
+    writer: &mut WornSink,
+    out: &mut Vec<u8>,
+) -> Result<(), Stop>
+    requires reads { reader.old.failures ≡ 0 }
+    requires writes { writer.old.failures ≡ 0 }
+{
+    let limit = short_number(row, b"limit", 100)?;
+    let choices = choices(alloc, row.field(b"choices"))?;
+    match run_stream(
+        alloc,
+        code,
+        reader,
+        writer,
+        limit,
+        Chooser::Listed(&choices),
+    ) {
+        Ok(streamed) => Ok(append_streamed(out, &streamed)?),
+        Err(error) => Ok(append_error(alloc, out, error)?),
     }
-    append_devices(&mut out, &reader, &writer)?;
-    Ok(out)
 }

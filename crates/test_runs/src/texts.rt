@@ -3,39 +3,23 @@
 use crate::stop::Stop;
 use ick_bits::{FaultKind, NoMemory, append_decimal};
 use ick_machine::EndKind;
+use ick_runs::RunsError;
 use std::alloc::Global;
 
-/// Returns the text of an answer, or of why the call stopped.
-pub fn text_of(alloc: Global, answer: Result<Vec<u8>, Stop>) -> Result<Vec<u8>, NoMemory> {
-    let stop = match answer {
-        Ok(text) => return Ok(text),
-        Err(stop) => stop,
-    };
-    let text = match stop {
-        Stop::Runs(error) => format!(in alloc; "{error}")?,
-        Stop::Source => format!(in alloc; "the source is refused")?,
-        Stop::Number => format!(in alloc; "a field is no number")?,
-        Stop::Call => format!(in alloc; "no such call")?,
-    };
-    Ok(Vec::from_slice(alloc, text.as_bytes())?)
+/// Appends why a call stopped.
+pub fn append_stop(alloc: Global, out: &mut Vec<u8>, stop: Stop) -> Result<(), NoMemory> {
+    match stop {
+        Stop::Runs(error) => append_error(alloc, out, error),
+        Stop::Source => Ok(out.extend_from_slice(b"the source is refused")?),
+        Stop::Number => Ok(out.extend_from_slice(b"a field is no number")?),
+        Stop::Call => Ok(out.extend_from_slice(b"no such call")?),
+    }
 }
 
-/// Returns the answer that both machines give, or both answers where they differ.
-pub fn both(
-    alloc: Global,
-    copied: Result<Vec<u8>, Stop>,
-    trailed: Result<Vec<u8>, Stop>,
-) -> Result<Vec<u8>, Stop> {
-    let copied = text_of(alloc, copied)?;
-    let trailed = text_of(alloc, trailed)?;
-    if copied == trailed {
-        return Ok(copied);
-    }
-    let mut out = Vec::from_slice(alloc, b"copied: ")?;
-    out.extend_from_slice(&copied)?;
-    out.extend_from_slice(b" trailed: ")?;
-    out.extend_from_slice(&trailed)?;
-    Ok(out)
+/// Appends the refusal of a call of the crate.
+pub fn append_error(alloc: Global, out: &mut Vec<u8>, error: RunsError) -> Result<(), NoMemory> {
+    let text = format!(in alloc; "{error}")?;
+    Ok(out.extend_from_slice(text.as_bytes())?)
 }
 
 /// Appends choices as digits.
