@@ -10,7 +10,7 @@ mod counts;
 
 use counts::Counts;
 use ick_code::{Code, compile};
-use ick_lowering::{Lowered, lower};
+use ick_lowering::{Lowered, Operation, lower};
 use ick_source::read_source;
 use std::io::ErrorKind;
 use std::{env, io};
@@ -53,10 +53,8 @@ fn print_instructions(rt: &HostRuntime, source: &[u8]) -> io::Result<()> {
         return Err(ErrorKind::OutOfMemory.into());
     };
     let (base, first) = (lowered.layout.base, lowered.layout.first);
-    println!(rt;
-        "scalars below {base}, temporaries below {first}, constants {:?}",
-        lowered.constants
-    )?;
+    println!(rt; "scalars below {base}, temporaries below {first}")?;
+    print_constants(rt, &lowered)?;
     println!(rt; "subscripts {:?}", lowered.subscripts)?;
     let mut statement: u32 = 0;
     let mut starts = true;
@@ -70,4 +68,28 @@ fn print_instructions(rt: &HostRuntime, source: &[u8]) -> io::Result<()> {
         starts = i.last;
     }
     Ok(())
+}
+
+/// Prints the constants that are in no table, and their registers.
+fn print_constants(rt: &HostRuntime, lowered: &Lowered) -> io::Result<()> {
+    let mut register = lowered.layout.first;
+    for number in lowered.constants.iter() {
+        if !is_tabled(lowered, register) {
+            println!(rt; "constant {register} is {number}")?;
+        }
+        register = register.saturating_add(1);
+    }
+    Ok(())
+}
+
+/// Returns whether the constant in a register is part of a table, of 1,024 constants.
+fn is_tabled(lowered: &Lowered, register: u32) -> bool {
+    for i in lowered.instructions.iter() {
+        if let Operation::LookUp = i.operation {
+            if register >= i.right && register.saturating_sub(i.right) < 1024 {
+                return true;
+            }
+        }
+    }
+    false
 }
