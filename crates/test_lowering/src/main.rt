@@ -82,13 +82,16 @@ fn print_constants(rt: &HostRuntime, lowered: &Lowered) -> io::Result<()> {
     Ok(())
 }
 
-/// Returns whether the constant in a register is part of a table, of 1,024 constants.
+/// Returns whether the constant in a register is part of a table, of 1,024 constants or of 16.
 fn is_tabled(lowered: &Lowered, register: u32) -> bool {
     for i in lowered.instructions.iter() {
-        if let Operation::LookUp = i.operation {
-            if register >= i.right && register.saturating_sub(i.right) < 1024 {
-                return true;
-            }
+        let size = match i.operation {
+            Operation::LookUp => 1024,
+            Operation::Pick => 16,
+            _ => 0,
+        };
+        if register >= i.right && register.saturating_sub(i.right) < size {
+            return true;
         }
     }
     false
