@@ -70,16 +70,31 @@ fn print_instructions(rt: &HostRuntime, source: &[u8]) -> io::Result<()> {
     Ok(())
 }
 
-/// Prints the constants that are in no table, and their registers.
+/// Prints the constants that instructions read and that are in no table, and their registers.
 fn print_constants(rt: &HostRuntime, lowered: &Lowered) -> io::Result<()> {
     let mut register = lowered.layout.first;
     for number in lowered.constants.iter() {
-        if !is_tabled(lowered, register) {
+        if is_read(lowered, register) && !is_tabled(lowered, register) {
             println!(rt; "constant {register} is {number}")?;
         }
         register = register.saturating_add(1);
     }
     Ok(())
+}
+
+/// Returns whether an instruction may read a register by itself or as a subscript.
+fn is_read(lowered: &Lowered, register: u32) -> bool {
+    for i in lowered.instructions.iter() {
+        if i.left == register || i.right == register {
+            return true;
+        }
+    }
+    for subscript in lowered.subscripts.iter() {
+        if *subscript == register {
+            return true;
+        }
+    }
+    false
 }
 
 /// Returns whether the constant in a register is part of a table, of 1,024 constants or of 16.
