@@ -21,7 +21,8 @@ pub data IsLeftByRuns (program : Program) (input : List ℕ) : Runs → List ℕ
   left_by_given : (choices : Option (List Bool)) (limit : ℕ)
       → IsLeftByRuns program input (Given choices limit)
       (run program (first_state program input) limit (unwrap_or choices [])).last.input
-  left_by_drawn : (seed limit : ℕ) (c : List Bool) → IsDrawn program (first_state program input) limit (word_of seed) c
+  left_by_drawn : (seed limit : ℕ) (c : List Bool)
+      → IsDrawn program (first_state program input) limit (word_of seed) c
       → IsLeftByRuns program input (Drawn seed limit) (run program (first_state program input) limit c).last.input
   left_by_listed : (from : Option (List Bool)) (count limit : ℕ)
       → IsLeftByRuns program input (Listed from count limit) (drop (longest_input + 1) input)
@@ -42,7 +43,9 @@ pub data IsLeftBySource (plan : Plan) (source input : List ℕ) : List ℕ → T
 -- is read to its end, and up to one byte more than the longest source.
 pub data IsLeft (asked : Asked) (named : List ℕ → List ℕ) (before : List ℕ) : List ℕ → Type 0 where
   left_unplanned : (line : Notice) → IsUnplanned asked.task line → IsLeft asked named before before
-  left_with_file : (name : List ℕ) (plan : Plan) (left : List ℕ) → asked.file ≡ Some name → IsPlanned asked.task plan
+  left_with_file : (name : List ℕ) (plan : Plan) (left : List ℕ)
+      → asked.file ≡ Some name
+      → IsPlanned asked.task plan
       → IsLeftBySource plan (named name) before left → IsLeft asked named before left
   left_without_file : (plan : Plan) → asked.file ≡ None → IsPlanned asked.task plan
       → IsLeft asked named before (drop (longest + 1) before)
