@@ -3,9 +3,11 @@
 
   uses.py [PROGRAM] [TOOL..]
 
-PROGRAM is ./ick unless it is given, and the tools are all of them unless some are named. The last line is 'N passed, M
-failed'. The lines in front of it say what was not tried, because a package isn't installed.
+PROGRAM is the argument, or else the one that the environment variable ICK names, or else the one that `rt ci` leaves in
+crates/ick/out. The tools are all of them unless some are named. The last line is 'N passed, M failed'. The lines in
+front of it say what was not tried, because a package isn't installed.
 """
+import os
 import sys
 import tempfile
 
@@ -22,7 +24,7 @@ TRIED = {"advice": advice, "tree": tree, "filters": filters, "convert": convert,
 
 
 def main():
-    program = sys.argv[1] if len(sys.argv) > 1 else f"{common.TOP}/ick"
+    program = sys.argv[1] if len(sys.argv) > 1 else os.environ.get("ICK") or f"{common.TOP}/crates/ick/out/ick"
     tally = common.Tally(program)
     for name in sys.argv[2:] or TRIED:
         with tempfile.TemporaryDirectory() as tally.folder:
