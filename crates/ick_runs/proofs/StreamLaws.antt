@@ -2,7 +2,7 @@
 use Rattle.std.proofs.Common.{◌≡◌, ℕ, zero, suc, ◌+◌, ◌-◌, ◌<◌, ◌≤◌, le_refl, Bool, true}
 use Rattle.std.proofs.Common.{false, List, [], ◌∷◌, ◌++◌, length}
 use Rattle.std.proofs.Common.{take, drop, refl, ap, sym, ◌∙◌, subst, arith, append_assoc}
-use Rattle.std.specs.Prelude.{Result, Ok, Err, IfOk, Some, if◌then◌else◌}
+use Rattle.std.specs.Prelude.{Result, Ok, Err, Some, if◌then◌else◌}
 use Rattle.std.proofs.lemmas.Bool.{false≢true}
 use Rattle.std.proofs.Math.Seq.{take-append-add}
 use Rattle.std.proofs.lemmas.List.{append-nil, take-append-drop, take-append-le}
@@ -21,12 +21,12 @@ use Rattle.ick_machine.specs.declared.live_ask.LiveAsk.{LiveAsk}
 use Rattle.ick_machine.specs.declared.live_ask.LiveAsk.TheVariants.{Choice, Ended, Failed}
 use Rattle.ick_machine.specs.declared.live_ask.EndKind.{EndKind}
 use Rattle.ick_machine.specs.declared.live_ask.EndKind.TheVariants.{Wants, Limit}
-use Rattle.ick_runs.specs.Runs.{ends, wants, run}
+use Rattle.ick_runs.specs.Runs.{ends, wants, run, Execution}
 use Rattle.ick_runs.specs.Paths.{Leads}
 use Rattle.ick_runs.specs.Walks.{EndsHere}
 use Rattle.ick_runs.specs.Chosen.{Chosen, IsChosen, answer_of}
-use Rattle.ick_runs.specs.Streams.{finish_kind, finish_message, stop_kind, stop_message, HasStreamed, Streams}
-use Rattle.ick_runs.specs.Streaming.{Turns, Strides, IsAlong, AreTaken}
+use Rattle.ick_runs.specs.Streams.{finish_kind, finish_message, stop_kind, stop_message, HasStreamed}
+use Rattle.ick_runs.specs.Streaming.{Turns, Strides, IsAlong, AreTaken, HasStopped, IsCutOff}
 use Rattle.ick_runs.specs.declared.streamed.Streamed.{Streamed}
 use Rattle.ick_runs.specs.declared.errors.RunsError.{RunsError}
 use Rattle.ick_runs.proofs.RunLaws.{Leads-start, Leads-plain, Leads-choice, Leads-wants, Leads-ends}
@@ -46,6 +46,10 @@ taken_split c taken f = ap (λ x. x ++ drop (length taken) c) f.same ∙ take-ap
 
 pub none_taken : (c : List Bool) → AreTaken c []
 none_taken c = record { within = omega arith; same = refl }
+
+take_whole : (text : List ℕ) → take (length text) text ≡ text
+take_whole [] = refl
+take_whole (x ∷ text) = ap (λ r. x ∷ r) (take_whole text)
 
 -- the beginning of a longer text
 part_of : (before sent out rest whole after : List ℕ) (k : ℕ) → k ≤ length out →
@@ -87,6 +91,12 @@ still_going : (a : Asking) (r : LiveAsk) → live_asked a ≡ r → ((kind : End
 still_going plain r h j = tt
 still_going (choice k) r h j = tt
 still_going (ended e) r h j = absurd (j (end_kind_of e) (sym h))
+
+-- a run that goes on has no message
+no_message : (a : Asking) → IsGoing a → asked_message a ≡ []
+no_message plain h = refl
+no_message (choice k) h = refl
+no_message (ended e) h = absurd h
 
 asked_by : (m : LiveMachine) (r : LiveAsk) → r ≡ live_ask m → m.failed ≡ false →
     live_asked (ask m.program m.state) ≡ r
@@ -130,6 +140,25 @@ no_stride told p s now l written error =
     stride_refused told p s now l 0 s written written error (omega arith) none
     (λ tells. (0, omega arith, sym (append-nil written)))
 
+-- the answer of a run that has stopped, and its refusal
+pub stopped_streams : (told : Bool) (x : Execution) (c taken : List Bool) (message w w' left : List ℕ)
+    (kind : EndKind) (n : ℕ) → HasStopped told x c taken message w w' left kind n → (answer : Streamed) →
+    answer.end ≡ kind → answer.message.items ≡ message → answer.choices.items ≡ taken → answer.steps ≡ n →
+    HasStreamed told x c w w' left answer
+stopped_streams told x c taken message w w' left kind n h answer is same_text same_list same_count = record {
+  end = is ∙ h.end;
+  message = same_text ∙ h.message_is;
+  steps = same_count ∙ h.steps_are;
+  choices = ap (λ t. t ++ x.unused) same_list ∙ h.choices;
+  input = h.input;
+  output = h.output;
+}
+
+pub stopped_cut : (told : Bool) (x : Execution) (c taken : List Bool) (message w w' left : List ℕ)
+    (kind : EndKind) (n : ℕ) → HasStopped told x c taken message w w' left kind n → IsCutOff told x w w'
+stopped_cut told x c taken message w w' left kind n h =
+    (length x.last.output, λ t. h.output t ∙ ap (λ o. w ++ o) (sym (take_whole x.last.output)))
+
 -- a streamed run: whether its writer is told, its program, first state and limit
 module _ (told : Bool) (p : Program) (s : State) (l : ℕ) where
   -- the start
@@ -141,11 +170,11 @@ module _ (told : Bool) (p : Program) (s : State) (l : ℕ) where
   }
 
   -- a run that was refused where it had come to u, of whose output k bytes left
-  refused : (c taken : List Bool) (u : State) (sent before mid after left : List ℕ) (n k : ℕ) (e : RunsError) →
+  refused : (c taken : List Bool) (u : State) (sent before mid after : List ℕ) (n k : ℕ) →
       AreTaken c taken → Leads p s l taken (after_output sent u) n → (told ≡ true → mid ≡ before ++ sent) →
       k ≤ length u.output → (told ≡ true → after ≡ mid ++ take k u.output) →
-      Streams told (run p s l c) c before after left (Err e)
-  refused c taken u sent before mid after left n k e f w so_far le wrote =
+      IsCutOff told (run p s l c) before after
+  refused c taken u sent before mid after n k f w so_far le wrote =
       let r = leads_grows p s l taken (drop (length taken) c) (after_output sent u) n w in (
         length sent + k,
         λ t. part_of before sent u.output r.0 (run p s l c).last.output after k le
@@ -194,15 +223,14 @@ module _ (told : Bool) (p : Program) (s : State) (l : ℕ) where
     text = λ t. wrote t ∙ (ap (λ x. x ++ u.output) (so_far t) ∙ append_assoc before sent u.output);
   }
 
-  -- the answer at an end
-  streamed_end : (c taken : List Bool) (now : State) (before after left : List ℕ) (n : ℕ) (f : Finish) (m : Machine)
-      (r : Streamed) (along : IsAlong told p s l taken now before after n) → AreTaken c taken →
+  -- the run has stopped at an end
+  stopped_end : (c taken : List Bool) (now : State) (message before after left : List ℕ) (n : ℕ) (f : Finish)
+      (m : Machine) (kind : EndKind) (along : IsAlong told p s l taken now before after n) → AreTaken c taken →
       now.output ≡ [] →
       now.input ≡ left → m.program ≡ p → m.state ≡ after_output along.sent now → EndsHere l m n f →
-      r.end ≡ finish_kind f → r.message.items ≡ finish_message f → r.choices.items ≡ taken →
-      r.steps ≡ n →
-      HasStreamed told (run p s l c) c before after left r
-  streamed_end c taken now before after left n f m r along first empty input same state here is message choices steps =
+      kind ≡ finish_kind f → message ≡ finish_message f →
+      HasStopped told (run p s l c) c taken message before after left kind n
+  stopped_end c taken now message before after left n f m kind along first empty input same state here is same_text =
       let sent = along.sent in
       let whole : run p s l c ≡ record {
         last = after_output sent now;
@@ -219,31 +247,29 @@ module _ (told : Bool) (p : Program) (s : State) (l : ℕ) where
       ∙ ap (λ x. record { last = x; stop = ends f; steps = n; unused = drop (length taken) c }) state) in
       record {
         end = is ∙ sym (ap (λ x. stop_kind x.stop) whole);
-        message = message ∙ sym (ap (λ x. stop_message x.stop) whole);
-        steps = steps ∙ sym (ap (λ x. x.steps) whole);
-        choices = ap (λ x. x ++ (run p s l c).unused) choices
-            ∙ (ap (λ x. taken ++ x.unused) whole ∙ taken_split c taken first);
+        message_is = same_text ∙ sym (ap (λ x. stop_message x.stop) whole);
+        steps_are = sym (ap (λ x. x.steps) whole);
+        choices = ap (λ x. taken ++ x.unused) whole ∙ taken_split c taken first;
         input = sym input ∙ sym (ap (λ x. x.last.input) whole);
         output = λ t. along.text t
             ∙ ap (λ x. before ++ x) (sym (ap (λ x. x.last.output) whole ∙ last_of sent now empty));
       }
 
   -- and where a choice is wanted
-  streamed_wants : (c taken : List Bool) (now : State) (before after left : List ℕ) (n chance : ℕ)
-      (r : Streamed) → IsAlong told p s l taken now before after n → taken ≡ c → now.output ≡ [] →
-      now.input ≡ left → ask p now ≡ choice chance → n < l → r.end ≡ Wants → r.message.items ≡ [] →
-      r.choices.items ≡ taken → r.steps ≡ n → HasStreamed told (run p s l c) c before after left r
-  streamed_wants c taken now before after left n chance r along all empty input a lt is message choices steps =
+  stopped_wants : (c taken : List Bool) (now : State) (message before after left : List ℕ) (n chance : ℕ) →
+      IsAlong told p s l taken now before after n → taken ≡ c → now.output ≡ [] →
+      now.input ≡ left → ask p now ≡ choice chance → n < l → message ≡ [] →
+      HasStopped told (run p s l c) c taken message before after left Wants n
+  stopped_wants c taken now message before after left n chance along all empty input a lt no_text =
       let sent = along.sent in
       let whole : run p s l c ≡ record { last = after_output sent now; stop = wants; steps = n; unused = [] } =
       ap (run p s l) (sym all)
       ∙ Leads-wants p s l taken (after_output sent now) n chance along.leads (ask_after p now sent ∙ a) lt in
       record {
-        end = is ∙ sym (ap (λ x. stop_kind x.stop) whole);
-        message = message ∙ sym (ap (λ x. stop_message x.stop) whole);
-        steps = steps ∙ sym (ap (λ x. x.steps) whole);
-        choices = ap (λ x. x ++ (run p s l c).unused) choices
-            ∙ (ap (λ x. taken ++ x.unused) whole ∙ (append-nil taken ∙ all));
+        end = sym (ap (λ x. stop_kind x.stop) whole);
+        message_is = no_text ∙ sym (ap (λ x. stop_message x.stop) whole);
+        steps_are = sym (ap (λ x. x.steps) whole);
+        choices = ap (λ x. taken ++ x.unused) whole ∙ (append-nil taken ∙ all);
         input = sym input ∙ sym (ap (λ x. x.last.input) whole);
         output = λ t. along.text t
             ∙ ap (λ x. before ++ x) (sym (ap (λ x. x.last.output) whole ∙ last_of sent now empty));
@@ -261,10 +287,9 @@ module _ (told : Bool) (p : Program) (s : State) (l : ℕ) where
     asks_fed : ask p (fed left m.state) ≡ ask m.program m.state
     asks_fed = ask_fed p m.state left ∙ ap (λ x. ask x m.state) (sym h.program)
 
-    pub here_stays : (c : List Bool) → AreTaken c taken → (left' : List ℕ) (e : RunsError) →
-        Streams told (run p s l c) c before mid left' (Err e)
-    here_stays c f left' e =
-        refused c taken (fed left m.state) h.along.sent before mid mid left' n 0 e f h.along.leads h.along.text
+    pub here_stays : (c : List Bool) → AreTaken c taken → IsCutOff told (run p s l c) before mid
+    here_stays c f =
+        refused c taken (fed left m.state) h.along.sent before mid mid n 0 f h.along.leads h.along.text
         (omega arith) (λ t. sym (append-nil mid))
 
     abbrev machine_here : Machine
@@ -274,37 +299,33 @@ module _ (told : Bool) (p : Program) (s : State) (l : ℕ) where
     asks_here = ask_after p (fed left m.state) h.along.sent ∙ asks_fed
 
     pub here_ended : (c : List Bool) → AreTaken c taken → (r : LiveAsk) (kind : EndKind) → r ≡ live_ask m →
-        r ≡ Ended kind → (answer : Result Streamed RunsError) → IfOk answer (λ a. a.end ≡ kind) →
-        IfOk answer (λ a. a.message.items ≡ fault_message m) → IfOk answer (λ a. a.choices.items ≡ taken) →
-        IfOk answer (λ a. a.steps ≡ n) → Streams told (run p s l c) c before mid left answer
-    here_ended c f r kind e g (Ok a) is message choices steps =
+        r ≡ Ended kind → HasStopped told (run p s l c) c taken (fault_message m) before mid left kind n
+    here_ended c f r kind e g =
         let (end, asks, same) = same_end (ask m.program m.state) kind (asked_by m r e h.sound ∙ g) in
-        streamed_end c taken (fed left m.state) before mid left n (finished end) machine_here a h.along f h.empty
-        refl refl refl (ends_finished l machine_here n end (asks_here ∙ asks))
-        (is ∙ sym same) (message ∙ ap asked_message asks) choices steps
-    here_ended c f r kind e g (Err x) is message choices steps = here_stays c f left x
+        stopped_end c taken (fed left m.state) (fault_message m) before mid left n (finished end) machine_here kind
+        h.along f h.empty refl refl refl (ends_finished l machine_here n end (asks_here ∙ asks))
+        (sym same) (ap asked_message asks)
 
-    pub here_limit : (c : List Bool) → AreTaken c taken → (r : LiveAsk) (a : Streamed) → r ≡ live_ask m →
-        ((kind : EndKind) → r ≡ Ended kind → ⊥) → n ≡ l → a.end ≡ Limit → a.message.items ≡ [] →
-        a.choices.items ≡ taken → a.steps ≡ n → HasStreamed told (run p s l c) c before mid left a
-    here_limit c f r a e g all is message choices steps =
-        streamed_end c taken (fed left m.state) before mid left n at_limit machine_here a h.along f h.empty
-        refl refl refl
-        (ends_limit l machine_here n all
-        (subst IsGoing (sym asks_here) (still_going (ask m.program m.state) r (asked_by m r e h.sound) g)))
-        is message choices steps
+    pub here_limit : (c : List Bool) → AreTaken c taken → (r : LiveAsk) → r ≡ live_ask m →
+        ((kind : EndKind) → r ≡ Ended kind → ⊥) → n ≡ l →
+        HasStopped told (run p s l c) c taken (fault_message m) before mid left Limit n
+    here_limit c f r e g all =
+        let going = still_going (ask m.program m.state) r (asked_by m r e h.sound) g in
+        stopped_end c taken (fed left m.state) (fault_message m) before mid left n at_limit machine_here Limit
+        h.along f h.empty refl refl refl
+        (ends_limit l machine_here n all (subst IsGoing (sym asks_here) going))
+        refl (no_message (ask m.program m.state) going)
 
     -- where a choice is asked
     module _ {r : LiveAsk} {chance : ℕ} (e : r ≡ live_ask m) (g : r ≡ Choice chance) (lt : n < l) where
       asks_choice : ask p (fed left m.state) ≡ choice chance
       asks_choice = asks_fed ∙ asks_chance m r chance h.sound e g
 
-      pub here_wants : (c : List Bool) → taken ≡ c → (a : Streamed) → a.end ≡ Wants →
-          a.message.items ≡ [] → a.choices.items ≡ taken → a.steps ≡ n →
-          HasStreamed told (run p s l c) c before mid left a
-      here_wants c all a is message choices steps =
-          streamed_wants c taken (fed left m.state) before mid left n chance a h.along all h.empty refl asks_choice lt
-          is message choices steps
+      pub here_wants : (c : List Bool) → taken ≡ c →
+          HasStopped told (run p s l c) c taken (fault_message m) before mid left Wants n
+      here_wants c all =
+          stopped_wants c taken (fed left m.state) (fault_message m) before mid left n chance h.along all h.empty refl
+          asks_choice lt (ap asked_message (asks_chance m r chance h.sound e g))
 
       pub taken_choice : (chosen : Chosen) (c taken' : List Bool) (b : Bool) → IsChosen p s l chosen c →
           AreTaken c taken → Some b ≡ answer_of chosen (length taken) chance → taken' ≡ taken ++ b ∷ [] →
@@ -329,13 +350,13 @@ module _ (told : Bool) (p : Program) (s : State) (l : ℕ) where
           turned taken' (advance m.program (fed left m.state) b) now' h.along.sent before mid after (n + 1)
           (leads_by_choice taken' b x) h.along.text turns.0 turns.1
 
-      pub choice_refused : (c taken' : List Bool) (b : Bool) (now' : State) (after left' : List ℕ)
-          (error : RunsError) → AreTaken c taken' → taken' ≡ taken ++ b ∷ [] →
+      pub choice_refused : (c taken' : List Bool) (b : Bool) (now' : State) (after : List ℕ) (error : RunsError) →
+          AreTaken c taken' → taken' ≡ taken ++ b ∷ [] →
           Turns {T = Unit {0}} told (advance m.program (fed left m.state) b) now' mid after (Err error) →
-          Streams told (run p s l c) c before after left' (Err error)
-      choice_refused c taken' b now' after left' error f x (k, le, wrote) =
-          refused c taken' (advance m.program (fed left m.state) b) h.along.sent before mid after left' (n + 1) k
-          error f (leads_by_choice taken' b x) h.along.text le wrote
+          IsCutOff told (run p s l c) before after
+      choice_refused c taken' b now' after error f x (k, le, wrote) =
+          refused c taken' (advance m.program (fed left m.state) b) h.along.sent before mid after (n + 1) k
+          f (leads_by_choice taken' b x) h.along.text le wrote
 
     -- and where nothing is asked
     module _ {r : LiveAsk} (e : r ≡ live_ask m) (i : (k : ℕ) → r ≡ Choice k → ⊥)
@@ -357,10 +378,10 @@ module _ (told : Bool) (p : Program) (s : State) (l : ℕ) where
           (turned taken strides.state now' h.along.sent before mid after (n + strides.steps)
           (leads_by_itself (Ok k) now' after strides) h.along.text strides.turns.0 strides.turns.1)
 
-      pub plain_refused : (c : List Bool) (now' : State) (after left' : List ℕ) (error : RunsError) →
+      pub plain_refused : (c : List Bool) (now' : State) (after : List ℕ) (error : RunsError) →
           AreTaken c taken → Strides told m.program (fed left m.state) (l - n) now' mid after (Err error) →
-          Streams told (run p s l c) c before after left' (Err error)
-      plain_refused c now' after left' error f strides =
+          IsCutOff told (run p s l c) before after
+      plain_refused c now' after error f strides =
           let (k, le, wrote) = strides.turns in
-          refused c taken strides.state h.along.sent before mid after left' (n + strides.steps) k
-          error f (leads_by_itself (Err error) now' after strides) h.along.text le wrote
+          refused c taken strides.state h.along.sent before mid after (n + strides.steps) k
+          f (leads_by_itself (Err error) now' after strides) h.along.text le wrote

@@ -1,11 +1,12 @@
 -- The text of a listing grows line by line.
-use Rattle.std.proofs.Common.{◌≡◌, ℕ, suc, zero, ◌+◌, ◌*◌, ◌<◌, ◌≤◌, ◌^◌, Bool, true}
+use Rattle.std.proofs.Common.{◌≡◌, ◌⊎◌, ℕ, suc, zero, ◌+◌, ◌*◌, ◌<◌, ◌≤◌, ◌^◌, Bool, true}
 use Rattle.std.proofs.Common.{false, List, [], ◌∷◌, ◌++◌, length, take, drop, nat_lt, refl, ap, sym}
 use Rattle.std.proofs.Common.{◌∙◌, subst, arith, append_assoc, if◌then◌else◌}
 use Rattle.std.specs.Prelude.{Option, Some, IfSome, Result, Ok, Err, OnOk, IfOk, IfErr}
 use Rattle.std.specs.List.{Contains}
 use Rattle.std.proofs.lemmas.Bool.Decides.{nat_tests}
 use Rattle.std.proofs.lemmas.Grind.{flat_map-append}
+use Rattle.std.proofs.Math.Nat.{mul-le-mul_right}
 use Rattle.std.proofs.Math.Seq.{take-add}
 use Rattle.std.proofs.lemmas.List.{append-nil}
 use Rattle.ick_machine.specs.Machine.{Program}
@@ -14,13 +15,13 @@ use Rattle.ick_machine.specs.Asked.{Finish}
 use Rattle.ick_runs.specs.declared.errors.RunsError.{RunsError}
 use Rattle.ick_runs.specs.declared.errors.RunsError.TheVariants.{NoMemory, NoSuchRun, WorkFull, Failed, BadCursor, Read}
 use Rattle.ick_runs.specs.declared.errors.RunsError.TheVariants.{Write}
-use Rattle.ick_runs.specs.Runs.{run, IsWhole}
+use Rattle.ick_runs.specs.Runs.{IsWhole}
 use Rattle.ick_runs.specs.Listings.{IsListing, IsLast, IsAfter, IsLeastAfter}
-use Rattle.ick_runs.specs.Standing.{Explored, Stands, IsFull}
+use Rattle.ick_runs.specs.Standing.{Explored, IsFull, HasFailed}
 use Rattle.ick_runs.specs.Walks.{Arrives, Reaches}
 use Rattle.ick_runs.specs.Lines.{line_of, compiled_at, line_next, last_line, listed_of, run_line, run_lines}
 use Rattle.ick_runs.specs.Writes.{place_after, Counts, Gave, Wrote, WroteInPart, Writes}
-use Rattle.ick_runs.specs.WritingSteps.{WritesOne, WritesNone, WritesPart, Along, WritesNext}
+use Rattle.ick_runs.specs.WritingSteps.{WritesOne, WritesNone, WritesPart, Along, WritesNext, Moves, AtEnd}
 use Rattle.ick_runs.specs.declared.listing.Listed2.{Listed2}
 use Rattle.ick_runs.specs.declared.listing.Listed2.TheVariants.{More, Done}
 use Rattle.ick_runs.proofs.ListingLaws.{listing-least, listing-last, listing_unique, contains-nil}
@@ -34,6 +35,13 @@ contains-some (y ∷ xs) x h = omega arith
 pub one_more_limit : (old mid new i l l' : ℕ) → mid ≤ old + i * l → new ≤ mid + l' → l' ≡ l →
     new ≤ old + (i + 1) * l
 one_more_limit old mid new i l l' h k e = omega arith
+
+-- a count that is full at a run is full after this run
+full_in : (most first limit now l i count : ℕ) → most ≤ now + l → l ≡ limit → now ≤ first + i * limit → i < count →
+    most ≤ first + count * limit
+full_in most first limit now l i count full same within lt =
+    let more : (i + 1) * limit ≤ count * limit = mul-le-mul_right limit (let le : i + 1 ≤ count = omega arith in le) in
+    omega (arith, more)
 
 -- what an option holds
 pub some_of : {R : Type 0} (found : Option R) (r : R) (P : R → Type 0) → found ≡ Some r → IfSome found P → P r
@@ -200,13 +208,6 @@ pub told_part : (told : Bool) (w w' text : List ℕ) → (told ≡ true →
     (n : ℕ) × (told ≡ true → w' ≡ w ++ take n text)
 told_part true w w' text f = let r = f refl in (r.0, λ t. r.2)
 told_part false w w' text f = (0, λ t. cc)
-
--- the lines of the runs are written, and the last line is due
-pub record AtEnd (told : Bool) (s : State) (cs : List (List Bool)) (count : ℕ) (old now : Explored) (w w' : List ℕ)
-    (listed : Listed2) : Type 0 where
-  pub gave : Gave s old (take count cs) now
-  pub says : listed ≡ listed_of cs count
-  pub text : told ≡ true → w' ≡ w ++ run_lines old.program s old.limit (take count cs)
 
 drop_none : (i : ℕ) (cs : List (List Bool)) → i ≤ length cs → drop i cs ≡ [] → length cs ≡ i
 drop_none zero [] h e = refl
@@ -399,3 +400,38 @@ pub is_none : (told : Bool) (s : State) (xs : List (List Bool)) (old new : Explo
     some ≡ false → WritesNext told s xs old new w w' (Ok some) → WritesNone told xs old new w w'
 is_none told s xs old new w w' false n h = h
 is_none told s xs old new w w' true n h = cc
+
+-- the explorer after a move that was refused
+pub move_refused : {T : Type 0} (old new : Explored) (e : RunsError) → old.failed ≡ false →
+    (◌≡◌ {A = Result T RunsError} (Err e) (Err Failed) → old.failed ≡ true) →
+    (◌≡◌ {A = Result T RunsError} (Err e) (Err WorkFull) → IsFull old) →
+    (◌≡◌ {A = Result T RunsError} (Err e) (Err NoMemory) → HasFailed new) →
+    (e ≡ NoMemory) ⊎ ((e ≡ Failed) ⊎ (e ≡ WorkFull)) → Moves old new (Err e)
+move_refused old new NoMemory sound failed full no_memory some = no_memory refl
+move_refused old new WorkFull sound failed full no_memory some = full refl
+move_refused old new Write sound failed full no_memory some = tt
+move_refused old new Failed sound failed full no_memory some = let f = failed refl in cc
+move_refused old new NoSuchRun sound failed full no_memory some = absurd (grind arith)
+move_refused old new BadCursor sound failed full no_memory some = absurd (grind arith)
+move_refused old new Read sound failed full no_memory some = absurd (grind arith)
+
+-- what a refused line says of the listing
+pub refused_errors : (old new : Explored) (e : RunsError) → Moves old new (Err e) →
+    (e ≡ NoMemory) ⊎ ((e ≡ WorkFull) ⊎ (e ≡ Write))
+refused_errors old new NoMemory h = grind arith
+refused_errors old new WorkFull h = grind arith
+refused_errors old new Write h = grind arith
+refused_errors old new Failed h = absurd h
+refused_errors old new NoSuchRun h = absurd h
+refused_errors old new BadCursor h = absurd h
+refused_errors old new Read h = absurd h
+
+pub refused_memory : (old new : Explored) (e : RunsError) → Moves old new (Err e) → e ≡ NoMemory → HasFailed new
+refused_memory old new e h is = subst (λ x. Moves old new (Err x)) is h
+
+pub refused_full : (first old new : Explored) (i count : ℕ) (e : RunsError) → Moves old new (Err e) →
+    old.limit ≡ first.limit → old.work ≤ first.work + i * first.limit → i < count → e ≡ WorkFull →
+    2 ^ 64 ≤ first.work + count * first.limit
+refused_full first old new i count e h same within lt is =
+    let full : IsFull old = subst (λ x. Moves old new (Err x)) is h in
+    full_in (2 ^ 64) first.work first.limit old.work old.limit i count full same within lt

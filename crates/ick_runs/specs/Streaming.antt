@@ -6,7 +6,10 @@ use Rattle.ick_code.specs.Laws.{after_output}
 use Rattle.ick_machine.specs.Machine.{Program}
 use Rattle.ick_machine.specs.Live.{cleared}
 use Rattle.ick_machine.specs.Steps.{IsQuiet, RunsOn}
+use Rattle.ick_machine.specs.declared.live_ask.EndKind.{EndKind}
 use Rattle.ick_runs.specs.Paths.{Leads}
+use Rattle.ick_runs.specs.Runs.{Execution}
+use Rattle.ick_runs.specs.Streams.{stop_kind, stop_message}
 use Rattle.ick_machine.specs.declared.feed.FeedFault.{FeedFault}
 use Rattle.ick_machine.specs.declared.feed.FeedFault.TheVariants.{NoMemory as FeedOutOfMemory, Read as ReadFailed}
 use Rattle.ick_runs.specs.declared.errors.RunsError.{RunsError}
@@ -49,3 +52,25 @@ pub record IsAlong (told : Bool) (p : Program) (s : State) (limit : ℕ) (c : Li
 pub record AreTaken (c taken : List Bool) : Type 0 where
   pub within : length taken ≤ length c
   pub same : taken ≡ take (length taken) c
+
+-- the run x with the choices c stopped after these taken choices: all its output is written, and exactly its input is
+-- taken
+pub record HasStopped (told : Bool) (x : Execution) (c taken : List Bool)
+    (message written written' left : List ℕ) (kind : EndKind) (steps : ℕ) : Type 0 where
+  pub end : kind ≡ stop_kind x.stop
+  pub message_is : message ≡ stop_message x.stop
+  pub steps_are : steps ≡ x.steps
+  pub choices : taken ++ x.unused ≡ c
+  pub input : left ≡ x.last.input
+  pub output : told ≡ true → written' ≡ written ++ x.last.output
+
+-- after a refusal the written bytes are a prefix of the output of the run x
+abbrev pub IsCutOff : Bool → Execution → List ℕ → List ℕ → Type 0
+IsCutOff told x written written' = (n : ℕ) × (told ≡ true → written' ≡ written ++ take n x.last.output)
+
+-- the facts that hold after each answer
+abbrev pub Stops : Bool → Execution → List Bool → List Bool → List ℕ → List ℕ → List ℕ → List ℕ →
+    Result (EndKind × ℕ) RunsError → Type 0
+Stops told x c taken message written written' left (Ok stopped) =
+    HasStopped told x c taken message written written' left stopped.0 stopped.1
+Stops told x c taken message written written' left (Err error) = IsCutOff told x written written'

@@ -7,8 +7,9 @@ use Rattle.ick_runs.specs.declared.errors.RunsError.TheVariants.{NoMemory, NoSuc
 use Rattle.ick_runs.specs.declared.errors.RunsError.TheVariants.{Write}
 use Rattle.ick_runs.specs.Listings.{IsListing}
 use Rattle.ick_runs.specs.Standing.{Explored, HasFailed, IsFull}
-use Rattle.ick_runs.specs.Lines.{run_lines}
-use Rattle.ick_runs.specs.Writes.{Gave}
+use Rattle.ick_runs.specs.Lines.{run_lines, listed_of}
+use Rattle.ick_runs.specs.Writes.{Gave, Writes}
+use Rattle.ick_runs.specs.declared.listing.Listed2.{Listed2}
 
 -- one more line is written, and xs is the listing from the position of old
 pub record WritesOne (told : Bool) (s : State) (xs : List (List Bool)) (old new : Explored)
@@ -58,6 +59,23 @@ WritesNext told s xs old new w w' (Err NoSuchRun) = ⊥
 WritesNext told s xs old new w w' (Err BadCursor) = ⊥
 WritesNext told s xs old new w w' (Err Read) = ⊥
 
+-- one more run at most was made within the limit, and the explorer has not failed
+pub record IsWithin (old new : Explored) : Type 0 where
+  pub sound : new.failed ≡ false
+  pub limit : new.limit ≡ old.limit
+  pub work : new.work ≤ old.work + old.limit
+
+-- the explorer after each answer
+abbrev pub Moves : Explored → Explored → Result Bool RunsError → Type 0
+Moves old new (Ok some) = IsWithin old new
+Moves old new (Err NoMemory) = HasFailed new
+Moves old new (Err WorkFull) = IsFull old
+Moves old new (Err Write) = Unit {0}
+Moves old new (Err Failed) = ⊥
+Moves old new (Err NoSuchRun) = ⊥
+Moves old new (Err BadCursor) = ⊥
+Moves old new (Err Read) = ⊥
+
 -- the first i runs of the listing cs were written
 pub record Along (told : Bool) (s : State) (cs : List (List Bool)) (i : ℕ) (old now : Explored)
     (w w' : List ℕ) : Type 0 where
@@ -65,3 +83,16 @@ pub record Along (told : Bool) (s : State) (cs : List (List Bool)) (i : ℕ) (ol
   pub gave : Gave s old (take i cs) now
   pub rest : IsListing now.program s now.limit now.from (drop i cs)
   pub text : told ≡ true → w' ≡ w ++ run_lines old.program s old.limit (take i cs)
+
+-- the lines of the runs are written, and the last line is expected
+pub record AtEnd (told : Bool) (s : State) (cs : List (List Bool)) (count : ℕ) (old now : Explored) (w w' : List ℕ)
+    (listed : Listed2) : Type 0 where
+  pub gave : Gave s old (take count cs) now
+  pub says : listed ≡ listed_of cs count
+  pub text : told ≡ true → w' ≡ w ++ run_lines old.program s old.limit (take count cs)
+
+-- the facts that hold after each answer, before the last line is written
+abbrev pub WritesLines : Bool → State → List (List Bool) → ℕ → Explored → Explored → List ℕ → List ℕ →
+    Result Listed2 RunsError → Type 0
+WritesLines told s cs count old new w w' (Ok listed) = AtEnd told s cs count old new w w' listed
+WritesLines told s cs count old new w w' (Err error) = Writes told s cs count old new w w' (Err error)

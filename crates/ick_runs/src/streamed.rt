@@ -1,13 +1,14 @@
 //! Runs a program whose input and output are streams.
 
-ghost use Rattle.std.specs.Prelude.{◌≡◌, ◌+◌, ◌<◌, ◌^◌, ◌⊎◌, List, Bool};
-ghost use Rattle.std.specs.Prelude.{[], true, false, IfOk, IfErr};
+ghost use Rattle.std.specs.Prelude.{◌≡◌, ◌+◌, ◌<◌, ◌^◌, ◌⊎◌};
+ghost use Rattle.std.specs.Prelude.{ℕ, List, Bool, [], true, false, IfOk, IfErr};
 ghost use Rattle.ick_code.specs.meaning.Move.{first_state};
 ghost use Rattle.ick_code.specs.Compiled.{code_program};
 ghost use Rattle.ick_machine.specs.Live.{seen, fed, fault_message};
-ghost use Rattle.ick_runs.specs.Runs.{run};
-ghost use Rattle.ick_runs.specs.Chosen.{IsChosen, chosen_of};
+ghost use Rattle.ick_runs.specs.Runs.{run, Execution};
+ghost use Rattle.ick_runs.specs.Chosen.{Chosen, IsChosen, Picks, chosen_of};
 ghost use Rattle.ick_runs.specs.Streams.{Streams, source_failures};
+ghost use Rattle.ick_runs.specs.Streaming.{Stops};
 ghost use Rattle.ick_runs.specs.Writes.{write_failures};
 
 use crate::chooser::{Chooser, Picker};
@@ -31,21 +32,26 @@ pub struct Streamed {
     pub steps: u32,
 }
 
-/// Returns the result of the run that has ended in the machine's state. Refuses with `NoMemory` if
-/// the message can't grow.
+/// Returns the result of a run, or the refusal of this run. `ran` tells how the run stopped in the
+/// machine's state, and its number of steps. Refuses with `NoMemory` if the message of the fault
+/// that ended the run can't grow.
 fn finish(
     alloc: Global,
     machine: &Live<'_, '_>,
-    end: EndKind,
+    ran: Result<(EndKind, u32), RunsError>,
     choices: Vec<bool>,
-    steps: u32,
 ) -> Result<Streamed, RunsError>
-    ensures errors { IfErr result (λ e. e ≡ RunsError.NoMemory) }
-    ensures end { IfOk result (λ r. r.end ≡ end) }
-    ensures message { IfOk result (λ r. r.message.items ≡ fault_message (seen machine.now)) }
-    ensures choices { IfOk result (λ r. r.choices.items ≡ choices.items) }
-    ensures steps { IfOk result (λ r. r.steps ≡ steps) }
+    ensures run { (told : Bool) (run : Execution) (c : List Bool) (before after left : List ℕ) →
+        Stops told run c choices.items (fault_message (seen machine.now)) before after left ran →
+        Streams told run c before after left result }
+    ensures reads { source_failures result ≡ source_failures ran }
+    ensures writes { write_failures result ≡ write_failures ran }
+    ensures errors { IfErr ran (λ e. (e ≡ RunsError.NoMemory)
+        ⊎ ((e ≡ RunsError.Read) ⊎ (e ≡ RunsError.Write))) →
+        IfErr result (λ e. (e ≡ RunsError.NoMemory)
+        ⊎ ((e ≡ RunsError.Read) ⊎ (e ≡ RunsError.Write))) }
 {
+    let (end, steps) = ran?;
     let mut message = Vec::new(alloc);
     machine.append_fault(&mut message)?;
     Ok(Streamed {
@@ -56,67 +62,54 @@ fn finish(
     })
 }
 
-/// Returns the result of a run that stops without a fault.
-fn stop(alloc: Global, end: EndKind, choices: Vec<bool>, steps: u32) -> Streamed
-    ensures end { result.end ≡ end }
-    ensures message { result.message.items ≡ [] }
-    ensures choices { result.choices.items ≡ choices.items }
-    ensures steps { result.steps ≡ steps }
-{
-    Streamed {
-        end,
-        message: Vec::new(alloc),
-        choices,
-        steps,
-    }
-}
-
-/// Runs a machine from its state for at most `limit` steps. The machine must hold no output and
-/// must not have failed. The answer is `NoMemory`, `Read` or `Write` if that part fails.
-fn stream_from<R: ByteSource, W: ByteSink>(
-    alloc: Global,
-    machine: Live<'_, '_>,
+/// Runs a machine from its state for at most `limit` steps, and lists the choices that the run used
+/// in `choices`. Returns how the run stopped and its number of steps. The machine must hold no
+/// output and must not have failed, and `choices` must be empty. The answer is `NoMemory`, `Read`
+/// or `Write` if that part fails.
+fn run_on<R: ByteSource, W: ByteSink>(
+    machine: &mut Live<'_, '_>,
     reader: &mut R,
     writer: &mut W,
     limit: u32,
-    chooser: Chooser<'_>,
-) -> Result<Streamed, RunsError>
-    requires sound { (seen machine).failed ≡ false }
-    requires empty { (seen machine).state.output ≡ [] }
+    picker: &mut Picker<'_>,
+    choices: &mut Vec<bool>,
+) -> Result<(EndKind, u32), RunsError>
+    requires sound { (seen machine.old).failed ≡ false }
+    requires empty { (seen machine.old).state.output ≡ [] }
+    requires unused { choices.old.items ≡ [] }
     requires reads { R.failed reader.old + 1 < 2 ^ 64 }
     requires writes { W.failed writer.old + 1 < 2 ^ 64 }
-    ensures run { R.told ≡ true → let program = (seen machine.entry).program in
-        let state = fed (R.left reader.old) (seen machine.entry).state in
-        (c : List Bool) → IsChosen program state limit (chosen_of chooser.entry) c →
-        Streams W.told (run program state limit c) c
+    ensures run { R.told ≡ true → let program = (seen machine.old).program in
+        let state = fed (R.left reader.old) (seen machine.old).state in
+        (chosen : Chosen) → Picks chosen 0 picker.old →
+        (c : List Bool) → IsChosen program state limit chosen c →
+        Stops W.told (run program state limit c) c choices.new.items
+        (fault_message (seen machine.new))
         (W.written writer.old) (W.written writer.new) (R.left reader.new) result }
     ensures reads { R.failed reader.new ≡ R.failed reader.old + source_failures result }
     ensures writes { W.failed writer.new ≡ W.failed writer.old + write_failures result }
     ensures errors { IfErr result (λ e. (e ≡ RunsError.NoMemory)
         ⊎ ((e ≡ RunsError.Read) ⊎ (e ≡ RunsError.Write))) }
 {
-    let mut machine = machine;
-    let mut picker = Picker::new(chooser);
-    let mut choices = Vec::new(alloc);
     let mut steps = 0;
     'along: loop {
         let asked = machine.asks();
         if let LiveAsk::Ended(end) = asked {
-            return finish(alloc, &machine, end, choices, steps);
+            return Ok((end, steps));
         }
         if steps == limit {
-            return Ok(stop(alloc, EndKind::Limit, choices, steps));
+            return Ok((EndKind::Limit, steps));
         }
         if let LiveAsk::Choice(chance) = asked {
             let Some(done) = picker.pick(choices.len(), chance) else {
-                return Ok(stop(alloc, EndKind::Wants, choices, steps));
+                return Ok((EndKind::Wants, steps));
             };
             choices.push(done)?;
-            turn(&mut machine, reader, writer, done)?;
+            turn(machine, reader, writer, done)?;
             steps += 1;
             continue;
         }
-        let made = stride(&mut machine, reader, writer, limit - steps)?;
+        let made = stride(machine, reader, writer, limit - steps)?;
         steps += made;
     }
 }
@@ -153,6 +146,16 @@ pub fn run_stream<R: ByteSource, W: ByteSink>(
     ensures errors { IfErr result (λ e. (e ≡ RunsError.NoMemory)
         ⊎ ((e ≡ RunsError.Read) ⊎ (e ≡ RunsError.Write))) }
 {
-    let machine = Live::new(alloc, code)?;
-    stream_from(alloc, machine, reader, writer, limit, chooser)
+    let mut machine = Live::new(alloc, code)?;
+    let mut picker = Picker::new(chooser);
+    let mut choices = Vec::new(alloc);
+    let ran = run_on(
+        &mut machine,
+        reader,
+        writer,
+        limit,
+        &mut picker,
+        &mut choices,
+    );
+    finish(alloc, &machine, ran, choices)
 }

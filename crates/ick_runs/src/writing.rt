@@ -4,11 +4,11 @@ ghost use Rattle.std.specs.Prelude.{◌≡◌, ◌↔◌, ◌+◌, ◌*◌, ◌<
 ghost use Rattle.std.specs.Prelude.{◌^◌, ◌⊎◌, ℕ, List, Bool, true};
 ghost use Rattle.std.specs.Prelude.{false, ◌++◌, take, Err, IfOk, IfErr, OnOk};
 ghost use Rattle.ick_code.specs.meaning.State.{State};
-ghost use Rattle.ick_runs.specs.Standing.{Stands, IsListingAt, HasFailed, IsFull};
+ghost use Rattle.ick_runs.specs.Standing.{Stands, IsListingAt, HasFailed};
 ghost use Rattle.ick_runs.specs.Explorers.{explored};
 ghost use Rattle.ick_runs.specs.Lines.{last_line};
 ghost use Rattle.ick_runs.specs.Writes.{Writes, write_failures};
-ghost use Rattle.ick_runs.specs.WritingSteps.{WritesNext};
+ghost use Rattle.ick_runs.specs.WritingSteps.{Moves, WritesNext, WritesLines};
 
 use crate::devices::{ByteSink, write_whole};
 use crate::errors::RunsError;
@@ -28,15 +28,8 @@ fn write_next<'c, M: Asks<'c>, W: ByteSink>(
 ) -> Result<bool, RunsError>
     requires sound { (explored explorer.old).failed ≡ false }
     requires room { W.failed writer.old + 1 < 2 ^ 64 }
-    ensures sound { IfOk result (λ _. (explored explorer.new).failed ≡ false) }
-    ensures limit { (explored explorer.new).limit ≡ (explored explorer.old).limit }
-    ensures within { let old = explored explorer.old in
-        IfOk result (λ _. (explored explorer.new).work ≤ old.work + old.limit) }
-    ensures full { result ≡ Err RunsError.WorkFull → IsFull (explored explorer.old) }
-    ensures errors { IfErr result (λ e. (e ≡ RunsError.NoMemory)
-        ⊎ ((e ≡ RunsError.WorkFull) ⊎ (e ≡ RunsError.Write))) }
+    ensures moves { Moves (explored explorer.old) (explored explorer.new) result }
     ensures count { W.failed writer.new ≡ W.failed writer.old + write_failures result }
-    ensures no_memory { result ≡ Err RunsError.NoMemory → HasFailed (explored explorer.new) }
     ensures next { (s : State) (xs : List (List Bool)) → Stands s (explored explorer.old) →
         IsListingAt s (explored explorer.old) xs →
         WritesNext W.told s xs (explored explorer.old) (explored explorer.new)
@@ -78,6 +71,40 @@ fn write_last<W: ByteSink>(writer: &mut W, listed: Listed2) -> Result<Listed2, R
         Ok(()) => Ok(listed),
         Err(_) => Err(RunsError::Write),
     }
+}
+
+/// Writes the lines of the next `count` runs, or of all runs if fewer are left. Returns the last
+/// line that the listing then has. The answer is `WorkFull`, `NoMemory` or `Write` if that part
+/// fails. The explorer must not have failed.
+fn write_lines<'c, M: Asks<'c>, W: ByteSink>(
+    lines: &mut LineBuilder<'c>,
+    explorer: &mut Explorer<M>,
+    count: u32,
+    writer: &mut W,
+) -> Result<Listed2, RunsError>
+    requires sound { (explored explorer.old).failed ≡ false }
+    requires room { W.failed writer.old + 1 < 2 ^ 64 }
+    ensures errors { IfErr result (λ e. (e ≡ RunsError.NoMemory)
+        ⊎ ((e ≡ RunsError.WorkFull) ⊎ (e ≡ RunsError.Write))) }
+    ensures count { W.failed writer.new ≡ W.failed writer.old + write_failures result }
+    ensures no_memory { result ≡ Err RunsError.NoMemory → HasFailed (explored explorer.new) }
+    ensures enough { result ≡ Err RunsError.WorkFull →
+        2 ^ 64 ≤ (explored explorer.old).work + count * (explored explorer.old).limit }
+    ensures listing { (s : State) (cs : List (List Bool)) → Stands s (explored explorer.old) →
+        IsListingAt s (explored explorer.old) cs →
+        WritesLines W.told s cs count (explored explorer.old) (explored explorer.new)
+        (W.written writer.old) (W.written writer.new) result }
+{
+    'each: for _i in 0..count {
+        let some = write_next(lines, explorer, writer)?;
+        if !some {
+            return Ok(Listed2::Done);
+        }
+    }
+    if explorer.more() {
+        return Ok(Listed2::More);
+    }
+    Ok(Listed2::Done)
 }
 
 /// Writes the listing from the explorer's position (this profile). The listing has a line for each
@@ -122,14 +149,6 @@ pub fn write_runs<'c, M: Asks<'c>, W: ByteSink>(
         return Err(RunsError::Failed);
     }
     let mut lines = LineBuilder::new(alloc);
-    'each: for _i in 0..count {
-        let some = write_next(&mut lines, explorer, writer)?;
-        if !some {
-            return write_last(writer, Listed2::Done);
-        }
-    }
-    if explorer.more() {
-        return write_last(writer, Listed2::More);
-    }
-    write_last(writer, Listed2::Done)
+    let listed = write_lines(&mut lines, explorer, count, writer)?;
+    write_last(writer, listed)
 }

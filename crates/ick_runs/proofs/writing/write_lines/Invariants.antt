@@ -4,7 +4,7 @@ use Rattle.ick_runs.specs.Listings.{IsListing}
 use Rattle.ick_runs.specs.Standing.{Stands}
 use Rattle.ick_runs.specs.WritingSteps.{Along}
 use Rattle.ick_runs.specs.Explorers.{explored}
-use Rattle.ick_runs.proofs.writing.write_runs.Given as goal
+use Rattle.ick_runs.proofs.writing.write_lines.Given as goal
 
 abbrev pub invariant-each : goal.invariant-each
 invariant-each g l = record {

@@ -2,24 +2,23 @@ use Rattle.std.proofs.Common.{◌≡◌, ◌<◌, length, rules, refl, ap, sym, 
 use Rattle.std.specs.Prelude.{Err, Some, None}
 use Rattle.std.proofs.lemmas.Grind.{common_steps}
 use Rattle.ick_code.proofs.AskLaws.{chance_between}
-use Rattle.ick_machine.specs.Live.{seen, fed}
+use Rattle.ick_machine.specs.Live.{seen, fed, fault_message}
 use Rattle.ick_runs.specs.declared.errors.RunsError.TheVariants.{NoMemory}
 use Rattle.ick_runs.specs.Runs.{run}
-use Rattle.ick_runs.specs.Chosen.{chosen_of, Picks, answer_of}
-use Rattle.ick_runs.specs.Streams.{Streams}
-use Rattle.ick_runs.specs.Streaming.{IsAlong, AreTaken}
+use Rattle.ick_runs.specs.Chosen.{Picks, answer_of}
+use Rattle.ick_runs.specs.Streaming.{IsAlong, AreTaken, Stops}
 use Rattle.ick_runs.proofs.ChosenLaws.{all_taken, picked, one_more}
 use Rattle.ick_runs.proofs.StreamLaws.{along_start, none_taken, asks_chance, here_stays, here_ended, here_limit}
 use Rattle.ick_runs.proofs.StreamLaws.{here_wants, taken_choice, choice_turned, choice_refused, plain_turned}
 use Rattle.ick_runs.proofs.StreamLaws.{plain_refused, goes_by_itself}
-use Rattle.ick_runs.proofs.streamed.stream_from.Goals as goal
+use Rattle.ick_runs.proofs.streamed.run_on.Goals as goal
 
 pub along-init : goal.along-init
 along-init g c =
-    let first = seen c.args.machine in
+    let first = seen c.args.machine.now in
     let begin = fed (g.R.ByteSource.left c.args.reader.now) first.state in
     let start = g.W.ByteSink.written c.args.writer.now in
-    let none = c.new-choices.ensures.items in
+    let none = c.requires.unused in
     record {
       reads = refl;
       writes = refl;
@@ -27,8 +26,7 @@ along-init g c =
       program = refl;
       empty = c.requires.empty;
       within = omega arith;
-      picks = subst (λ k. Picks (chosen_of c.args.chooser) k c.new-picker.result) (sym (ap length none))
-          c.new-picker.ensures;
+      picks = λ chosen at. subst (λ k. Picks chosen k c.args.picker.now) (sym (ap length none)) at;
       here = λ _. record {
         along = subst (λ x. IsAlong g.W.ByteSink.told first.program begin c.args.limit x begin start start 0)
             (sym none) (along_start g.W.ByteSink.told first.program begin c.args.limit start);
@@ -36,33 +34,25 @@ along-init g c =
         sound = c.requires.sound;
         empty = c.requires.empty;
       };
-      taken = λ _ c' _. subst (λ x. AreTaken c' x) (sym none) (none_taken c');
+      taken = λ _ _ _ c' _. subst (λ x. AreTaken c' x) (sym none) (none_taken c');
     }
 
 pub returns-in-Ended-clause-run : goal.returns-in-Ended-clause-run
-returns-in-Ended-clause-run g c = λ t c' chosen.
+returns-in-Ended-clause-run g c = λ t chosen at c' is_chosen.
     let i = c.along.invariant in
-    let told = g.W.ByteSink.told in
-    let left = g.R.ByteSource.left in
-    let first = seen c.args.machine in
-    let begin = fed (left c.args.reader.now) first.state in
-    let limit = c.args.limit in
-    here_ended told first.program begin limit (i.here t) c' (i.taken t c' chosen) c.asks-asked.result c.in-Ended.end
-    c.asks-asked.ensures c.in-Ended.is c.finish.result c.finish.ensures.end c.finish.ensures.message
-    c.finish.ensures.choices c.finish.ensures.steps
+    let first = seen c.args.machine.now in
+    let begin = fed (g.R.ByteSource.left c.args.reader.now) first.state in
+    here_ended g.W.ByteSink.told first.program begin c.args.limit (i.here t) c' (i.taken t chosen at c' is_chosen)
+    c.asks-asked.result c.in-Ended.end c.asks-asked.ensures c.in-Ended.is
 
 pub returns-then-steps-limit-clause-run : goal.returns-then-steps-limit-clause-run
-returns-then-steps-limit-clause-run g c = λ t c' chosen.
+returns-then-steps-limit-clause-run g c = λ t chosen at c' is_chosen.
     let i = c.along.invariant in
-    let told = g.W.ByteSink.told in
-    let left = g.R.ByteSource.left in
-    let first = seen c.args.machine in
-    let begin = fed (left c.args.reader.now) first.state in
-    let limit = c.args.limit in
-    let all : c.along.steps ≡ limit = grind (arith, common_steps) in
-    here_limit told first.program begin limit (i.here t) c' (i.taken t c' chosen) c.asks-asked.result c.stop.result
-    c.asks-asked.ensures c.in_default.not-Ended all c.stop.ensures.end c.stop.ensures.message c.stop.ensures.choices
-    c.stop.ensures.steps
+    let first = seen c.args.machine.now in
+    let begin = fed (g.R.ByteSource.left c.args.reader.now) first.state in
+    let all : c.along.steps ≡ c.args.limit = grind (arith, common_steps) in
+    here_limit g.W.ByteSink.told first.program begin c.args.limit (i.here t) c' (i.taken t chosen at c' is_chosen)
+    c.asks-asked.result c.asks-asked.ensures c.in_default.not-Ended all
 
 pub pick-requires : goal.pick-requires
 pick-requires g c =
@@ -73,65 +63,62 @@ pick-requires g c =
     record { low = between.0; high = between.1 }
 
 pub returns-in_default-pick-clause-run : goal.returns-in_default-pick-clause-run
-returns-in_default-pick-clause-run g c = λ t c' is_chosen.
+returns-in_default-pick-clause-run g c = λ t chosen at c' is_chosen.
     let i = c.along.invariant in
-    let told = g.W.ByteSink.told in
-    let left = g.R.ByteSource.left in
-    let first = seen c.args.machine in
-    let begin = fed (left c.args.reader.now) first.state in
+    let first = seen c.args.machine.now in
+    let begin = fed (g.R.ByteSource.left c.args.reader.now) first.state in
     let limit = c.args.limit in
     let taken = c.along.choices.items in
     let lt : c.along.steps < limit = grind (arith, common_steps) in
-    let chosen = chosen_of c.args.chooser in
     let size : length taken ≡ c.len.result = omega (arith, c.len.ensures, c.along.choices.ok.0) in
     let none : None ≡ answer_of chosen (length taken) c.in-Choice.chance =
-    picked chosen c.along.picker c.len.result (length taken) c.in-Choice.chance None size i.picks
+    picked chosen c.along.picker c.len.result (length taken) c.in-Choice.chance None size (i.picks chosen at)
     (c.in_default-pick.ensures.answer chosen) in
-    let all = all_taken first.program begin limit chosen c' taken c.in-Choice.chance is_chosen (i.taken t c' is_chosen)
-    none in
-    here_wants told first.program begin limit (i.here t) c.asks-asked.ensures c.in-Choice.is lt c' all
-    c.stop-in_default-pick.result c.stop-in_default-pick.ensures.end c.stop-in_default-pick.ensures.message
-    c.stop-in_default-pick.ensures.choices c.stop-in_default-pick.ensures.steps
+    let all = all_taken first.program begin limit chosen c' taken c.in-Choice.chance is_chosen
+    (i.taken t chosen at c' is_chosen) none in
+    here_wants g.W.ByteSink.told first.program begin limit (i.here t) c.asks-asked.ensures c.in-Choice.is lt c' all
 
 pub returns-in_err-push-clause-run : goal.returns-in_err-push-clause-run
-returns-in_err-push-clause-run g c = λ t c' chosen.
+returns-in_err-push-clause-run g c = λ t chosen at c' is_chosen.
     let i = c.along.invariant in
     let told = g.W.ByteSink.told in
     let left = g.R.ByteSource.left in
     let written = g.W.ByteSink.written in
-    let first = seen c.args.machine in
+    let first = seen c.args.machine.now in
     let begin = fed (left c.args.reader.now) first.state in
     let limit = c.args.limit in
     let e : c.from_residual.result ≡ Err NoMemory = search rules in
-    subst (λ r. Streams told (run first.program begin limit c') c' (written c.args.writer.now) (written c.along.writer)
+    subst (λ r. Stops told (run first.program begin limit c') c' c.push.new.self.items
+    (fault_message (seen c.along.machine)) (written c.args.writer.now) (written c.along.writer)
     (left c.along.reader) r) (sym e)
-    (here_stays told first.program begin limit (i.here t) c' (i.taken t c' chosen) (left c.along.reader) NoMemory)
+    (here_stays told first.program begin limit (i.here t) c' (i.taken t chosen at c' is_chosen))
 
 pub returns-in_err-turn-clause-run : goal.returns-in_err-turn-clause-run
-returns-in_err-turn-clause-run g c = λ t c' is_chosen.
+returns-in_err-turn-clause-run g c = λ t chosen at c' is_chosen.
     let i = c.along.invariant in
     let told = g.W.ByteSink.told in
     let left = g.R.ByteSource.left in
     let written = g.W.ByteSink.written in
-    let first = seen c.args.machine in
+    let first = seen c.args.machine.now in
     let begin = fed (left c.args.reader.now) first.state in
     let limit = c.args.limit in
     let taken = c.along.choices.items in
     let lt : c.along.steps < limit = grind (arith, common_steps) in
-    let chosen = chosen_of c.args.chooser in
     let size : length taken ≡ c.len.result = omega (arith, c.len.ensures, c.along.choices.ok.0) in
     let some : Some c.in-Some.done ≡ answer_of chosen (length taken) c.in-Choice.chance =
-    picked chosen c.along.picker c.len.result (length taken) c.in-Choice.chance (Some c.in-Some.done) size i.picks
-    (c.in-Some.ensures.answer chosen) in
+    picked chosen c.along.picker c.len.result (length taken) c.in-Choice.chance (Some c.in-Some.done) size
+    (i.picks chosen at) (c.in-Some.ensures.answer chosen) in
     let are_taken =
     taken_choice told first.program begin limit (i.here t) c.asks-asked.ensures c.in-Choice.is lt chosen c'
-    c.push.new.self.items c.in-Some.done is_chosen (i.taken t c' is_chosen) some c.in_ok-push.ensures.items in
+    c.push.new.self.items c.in-Some.done is_chosen (i.taken t chosen at c' is_chosen) some
+    c.in_ok-push.ensures.items in
     let e : c.from_residual-in_err-turn.result ≡ Err c.in_err-turn.field-0.0 = search rules in
-    subst (λ r. Streams told (run first.program begin limit c') c' (written c.args.writer.now)
+    subst (λ r. Stops told (run first.program begin limit c') c' c.push.new.self.items
+    (fault_message (seen c.turn.new.machine)) (written c.args.writer.now)
     (written c.turn.new.writer) (left c.turn.new.reader) r) (sym e)
     (choice_refused told first.program begin limit (i.here t) c.asks-asked.ensures c.in-Choice.is lt c'
     c.push.new.self.items c.in-Some.done (fed (left c.turn.new.reader) (seen c.turn.new.machine).state)
-    (written c.turn.new.writer) (left c.turn.new.reader) c.in_err-turn.field-0.0 are_taken
+    (written c.turn.new.writer) c.in_err-turn.field-0.0 are_taken
     c.in_ok-push.ensures.items (c.in_err-turn.ensures.moved t))
 
 pub along-preserved-in-Choice : goal.along-preserved-in-Choice
@@ -140,14 +127,12 @@ along-preserved-in-Choice g c =
     let told = g.W.ByteSink.told in
     let left = g.R.ByteSource.left in
     let written = g.W.ByteSink.written in
-    let first = seen c.args.machine in
+    let first = seen c.args.machine.now in
     let begin = fed (left c.args.reader.now) first.state in
     let limit = c.args.limit in
     let taken = c.along.choices.items in
     let lt : c.along.steps < limit = grind (arith, common_steps) in
-    let chosen = chosen_of c.args.chooser in
     let size : length taken ≡ c.len.result = omega (arith, c.len.ensures, c.along.choices.ok.0) in
-    let picks = subst (λ k. Picks chosen k c.along.picker) size i.picks in
     let more = one_more taken c.push.new.self.items c.in-Some.done c.len.result c.in_ok-push.ensures.items size in
     record {
       reads = search rules;
@@ -156,7 +141,8 @@ along-preserved-in-Choice g c =
       program = c.in_ok-turn.ensures.program ∙ i.program;
       empty = c.in_ok-turn.ensures.empty;
       within = omega arith;
-      picks = subst (λ k. Picks chosen k c.pick.new.self) more (c.in-Some.ensures.on chosen picks);
+      picks = λ chosen at. subst (λ k. Picks chosen k c.pick.new.self) more
+          (c.in-Some.ensures.on chosen (subst (λ k. Picks chosen k c.along.picker) size (i.picks chosen at)));
       here = λ t. record {
         along =
             choice_turned told first.program begin limit (i.here t) c.asks-asked.ensures c.in-Choice.is lt
@@ -166,12 +152,13 @@ along-preserved-in-Choice g c =
         sound = c.in_ok-turn.ensures.sound;
         empty = c.in_ok-turn.ensures.empty;
       };
-      taken = λ t c' is_chosen.
+      taken = λ t chosen at c' is_chosen.
           let some : Some c.in-Some.done ≡ answer_of chosen (length taken) c.in-Choice.chance =
-          picked chosen c.along.picker c.len.result (length taken) c.in-Choice.chance (Some c.in-Some.done) size i.picks
-          (c.in-Some.ensures.answer chosen) in
+          picked chosen c.along.picker c.len.result (length taken) c.in-Choice.chance (Some c.in-Some.done) size
+          (i.picks chosen at) (c.in-Some.ensures.answer chosen) in
           taken_choice told first.program begin limit (i.here t) c.asks-asked.ensures c.in-Choice.is lt chosen c'
-          c.push.new.self.items c.in-Some.done is_chosen (i.taken t c' is_chosen) some c.in_ok-push.ensures.items;
+          c.push.new.self.items c.in-Some.done is_chosen (i.taken t chosen at c' is_chosen) some
+          c.in_ok-push.ensures.items;
     }
 
 pub stride-requires-clause-quiet : goal.stride-requires-clause-quiet
@@ -181,22 +168,23 @@ stride-requires-clause-quiet g c =
     c.in_default-asked.not-Choice c.in_default.not-Ended i.empty
 
 pub returns-in_err-made-clause-run : goal.returns-in_err-made-clause-run
-returns-in_err-made-clause-run g c = λ t c' chosen.
+returns-in_err-made-clause-run g c = λ t chosen at c' is_chosen.
     let i = c.along.invariant in
     let told = g.W.ByteSink.told in
     let left = g.R.ByteSource.left in
     let written = g.W.ByteSink.written in
-    let first = seen c.args.machine in
+    let first = seen c.args.machine.now in
     let begin = fed (left c.args.reader.now) first.state in
     let limit = c.args.limit in
     let lt : c.along.steps < limit = grind (arith, common_steps) in
     let e : c.from_residual-in_err-made.result ≡ Err c.in_err-made.field-0.0 = search rules in
-    subst (λ r. Streams told (run first.program begin limit c') c' (written c.args.writer.now)
+    subst (λ r. Stops told (run first.program begin limit c') c' c.along.choices.items
+    (fault_message (seen c.stride.new.machine)) (written c.args.writer.now)
     (written c.stride.new.writer) (left c.stride.new.reader) r) (sym e)
     (plain_refused told first.program begin limit (i.here t) c.asks-asked.ensures c.in_default-asked.not-Choice
     c.in_default.not-Ended lt c' (fed (left c.stride.new.reader) (seen c.stride.new.machine).state)
-    (written c.stride.new.writer) (left c.stride.new.reader) c.in_err-made.field-0.0
-    (i.taken t c' chosen) (c.in_err-made.ensures.moved t))
+    (written c.stride.new.writer) c.in_err-made.field-0.0
+    (i.taken t chosen at c' is_chosen) (c.in_err-made.ensures.moved t))
 
 pub along-preserved : goal.along-preserved
 along-preserved g c =
@@ -204,7 +192,7 @@ along-preserved g c =
     let told = g.W.ByteSink.told in
     let left = g.R.ByteSource.left in
     let written = g.W.ByteSink.written in
-    let first = seen c.args.machine in
+    let first = seen c.args.machine.now in
     let begin = fed (left c.args.reader.now) first.state in
     let limit = c.args.limit in
     let lt : c.along.steps < limit = grind (arith, common_steps) in
