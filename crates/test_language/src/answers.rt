@@ -2,64 +2,107 @@
 
 use crate::appended::{decimal, growth, quoted};
 use crate::bodies::body;
-use crate::code::{compiled, compiled_statements, slots};
 use crate::digits::{digits, white};
 use crate::messages::message;
 use crate::numerals::{letters, numeral};
 use crate::operators::{mingled, selected, unary, width};
-use crate::sources::{gerunds, kind, listing, politeness, refusal};
+use crate::programs::answer_by_program;
+use crate::sources::refusal;
 use crate::stop::Stop;
 use crate::tape::{tape_byte, tape_number};
-use crate::texts::text_of;
+use crate::texts::{Text, append_stop};
 use ick_bits::NoMemory;
 use std::alloc::Global;
 use test_rows::{Row, Tally, read_rows};
 
-/// Answers each row of a text, and returns a line for each that differs and the tally.
-pub fn report(alloc: Global, text: &[u8]) -> Result<Vec<u8>, NoMemory> {
+/// Answers each row of a text. Appends a line for each that differs, and the tally.
+pub fn report(alloc: Global, text: &[u8], out: &mut Vec<u8>) -> Result<(), NoMemory> {
+    let rows = read_rows(alloc, text)?;
+    report_on(alloc, &rows, out)
+}
+
+/// Answers each row. Appends a line for each that differs, and the tally.
+fn report_on(alloc: Global, rows: &[Row], out: &mut Vec<u8>) -> Result<(), NoMemory> {
     let mut tally = Tally::new();
-    let mut out = Vec::new(alloc);
-    for row in &read_rows(alloc, text)? {
-        let found = text_of(alloc, answer(alloc, row))?;
-        tally.check(&mut out, row, &found)?;
+    for row in rows {
+        check(alloc, row, &mut tally, out)?;
     }
-    tally.append(&mut out)?;
-    Ok(out)
+    tally.append(out)
 }
 
-/// Makes the call of a row about numbers and texts, or looks for it among those about sources.
-fn answer(alloc: Global, row: &Row) -> Result<Vec<u8>, Stop> {
-    match row.field(b"call") {
-        b"value" => width(alloc, row),
-        b"mingle" => mingled(alloc, row),
-        b"select" => selected(alloc, row),
-        b"unary" => unary(alloc, row),
-        b"numeral" => numeral(alloc, row),
-        b"letters" => letters(alloc, row),
-        b"digits" => digits(alloc, row),
-        b"white" => white(alloc, row),
-        b"message" => message(alloc, row),
-        b"quoted" => quoted(alloc, row),
-        b"decimal" => decimal(alloc, row),
-        b"growth" => growth(alloc),
-        b"tape out" => tape_byte(alloc, row),
-        b"tape in" => tape_number(alloc, row),
-        _ => answer_of_source(alloc, row),
+/// Compares the answer to a row with the text that the row wants.
+fn check(alloc: Global, row: &Row, tally: &mut Tally, out: &mut Vec<u8>) -> Result<(), NoMemory> {
+    let mut found = Text::new(alloc);
+    find(alloc, row, &mut found);
+    tally.check(out, row, found.bytes()?)
+}
+
+/// Appends the answer to a row to an empty text, or why its call stopped.
+fn find(alloc: Global, row: &Row, found: &mut Text) {
+    if let Err(stop) = whole_answer(alloc, row, found) {
+        found.clear();
+        append_stop(found, stop);
     }
 }
 
-/// Makes the call of a row about sources and code.
-fn answer_of_source(alloc: Global, row: &Row) -> Result<Vec<u8>, Stop> {
-    match row.field(b"call") {
-        b"listing" => listing(alloc, row),
-        b"kind" => kind(alloc, row),
-        b"gerunds" => gerunds(alloc, row),
-        b"refusal" => refusal(alloc, row),
-        b"politeness" => politeness(alloc, row),
-        b"body" => body(alloc, row),
-        b"compile" => compiled(alloc, row),
-        b"code" => compiled_statements(alloc, row),
-        b"slots" => slots(alloc, row),
-        _ => Err(Stop::Call),
+/// Appends the answer to a row, and stops if the text ran out of memory.
+fn whole_answer(alloc: Global, row: &Row, out: &mut Text) -> Result<(), Stop> {
+    let answered = answer(alloc, row, out);
+    match out.bytes() {
+        Ok(_) => answered,
+        Err(_) => Err(Stop::NoMemory),
+    }
+}
+
+/// Appends the answer to a row about numbers, or looks for its call among those about texts.
+fn answer(alloc: Global, row: &Row, out: &mut Text) -> Result<(), Stop> {
+    if row.calls(b"value") {
+        width(row, out)
+    } else if row.calls(b"mingle") {
+        mingled(row, out)
+    } else if row.calls(b"select") {
+        selected(row, out)
+    } else if row.calls(b"unary") {
+        unary(row, out)
+    } else if row.calls(b"tape out") {
+        tape_byte(row, out)
+    } else if row.calls(b"tape in") {
+        tape_number(row, out)
+    } else {
+        answer_of_text(alloc, row, out)
+    }
+}
+
+/// Appends the answer to a row about texts, or looks for its call among those about sources.
+fn answer_of_text(alloc: Global, row: &Row, out: &mut Text) -> Result<(), Stop> {
+    if row.calls(b"numeral") {
+        numeral(row, out)
+    } else if row.calls(b"letters") {
+        letters(row, out)
+    } else if row.calls(b"digits") {
+        digits(row, out)
+    } else if row.calls(b"white") {
+        white(row, out)
+    } else if row.calls(b"message") {
+        message(alloc, row, out)
+    } else if row.calls(b"quoted") {
+        quoted(row, out)
+    } else if row.calls(b"decimal") {
+        decimal(row, out)
+    } else if row.calls(b"growth") {
+        growth(alloc, out)
+    } else {
+        answer_of_source(alloc, row, out)
+    }
+}
+
+/// Appends the answer to a row about a source, or looks for its call among those about programs.
+fn answer_of_source(alloc: Global, row: &Row, out: &mut Text) -> Result<(), Stop> {
+    if row.calls(b"refusal") {
+        refusal(alloc, row, out)
+    } else if row.calls(b"body") {
+        body(alloc, row, out)
+    } else {
+        answer_by_program(alloc, row, out)
     }
 }

@@ -2,24 +2,23 @@
 
 use crate::fields::number;
 use crate::stop::Stop;
+use crate::texts::{Text, append_number};
 use ick_bits::{
     Fault, FaultKind, NoMemory, append_decimal, append_message, append_numeral, append_quoted,
 };
 use std::alloc::Global;
 use test_rows::Row;
 
-/// Returns a text in double quotes.
-pub fn quoted(alloc: Global, row: &Row) -> Result<Vec<u8>, Stop> {
-    let mut out = Vec::new(alloc);
-    append_quoted(&mut out, row.field(b"text"))?;
-    Ok(out)
+/// Appends a text in double quotes.
+pub fn quoted(row: &Row, out: &mut Text) -> Result<(), Stop> {
+    out.append_quoted(row.field(b"text"));
+    Ok(())
 }
 
-/// Returns a text with a decimal number behind it.
-pub fn decimal(alloc: Global, row: &Row) -> Result<Vec<u8>, Stop> {
-    let mut out = Vec::from_slice(alloc, row.field(b"before"))?;
-    append_decimal(&mut out, number(row, b"number")?)?;
-    Ok(out)
+/// Appends a text with a decimal number behind it.
+pub fn decimal(row: &Row, out: &mut Text) -> Result<(), Stop> {
+    append_number(out, row.field(b"before"), number(row, b"number")?);
+    Ok(())
 }
 
 /// Appends one of four texts.
@@ -37,18 +36,24 @@ fn append_turn(out: &mut Vec<u8>, turn: u32) -> Result<(), NoMemory> {
     }
 }
 
-/// Appends twelve texts, and says whether a text that could not grow stayed as it was. `rt try
-/// --fail-alloc N` makes a growth fail: later calls succeed.
-pub fn growth(alloc: Global) -> Result<Vec<u8>, Stop> {
-    let mut out = Vec::new(alloc);
+/// Appends whether a text that could not grow stayed as it was. `rt try --fail-alloc N` makes a
+/// growth fail: later calls succeed.
+pub fn growth(alloc: Global, out: &mut Text) -> Result<(), Stop> {
+    let mut grown = Vec::new(alloc);
+    out.append(grow(&mut grown));
+    Ok(())
+}
+
+/// Appends twelve texts, and says whether a text that could not grow stayed as it was.
+fn grow(grown: &mut Vec<u8>) -> &'static [u8] {
     for turn in 0..12 {
-        let before = out.len();
-        if append_turn(&mut out, turn).is_err() && out.len() != before {
-            return Ok(Vec::from_slice(alloc, b"changed by a call that failed")?);
+        let before = grown.len();
+        if append_turn(grown, turn).is_err() && grown.len() != before {
+            return b"changed by a call that failed";
         }
     }
-    if out.is_empty() {
-        return Ok(Vec::from_slice(alloc, b"nothing was appended")?);
+    if grown.is_empty() {
+        return b"nothing was appended";
     }
-    Ok(Vec::from_slice(alloc, b"unchanged by calls that failed")?)
+    b"unchanged by calls that failed"
 }

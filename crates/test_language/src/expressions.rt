@@ -1,74 +1,61 @@
 //! Expressions as text: `(op a b)` for an operator, `[name subscripts]` for an element.
 
-use crate::texts::{append_name, append_number};
-use ick_bits::NoMemory;
+use crate::texts::{Text, append_name, append_number};
 use ick_source::{BinaryOp, Element, Expr, UnaryOp};
 
-/// Appends an expression.
-pub fn append_expression(out: &mut Vec<u8>, expression: &Expr) -> Result<(), NoMemory> {
+/// Appends an expression with a space before it.
+pub fn append_expression(out: &mut Text, expression: &Expr) {
     match expression {
-        Expr::Mesh(number) => append_number(out, b"#", u64::from(*number)),
-        Expr::Scalar(name) => append_name(out, name),
+        Expr::Mesh(number) => append_number(out, b" #", u64::from(*number)),
+        Expr::Scalar(name) => append_name(out, b" ", name),
         Expr::Element(element) => {
-            out.push(b'[')?;
-            append_name(out, &element.array)?;
+            append_name(out, b" [", &element.array);
             for sub in &element.subs {
-                out.push(b' ')?;
-                append_expression(out, sub)?;
+                append_expression(out, sub);
             }
-            out.push(b']')?;
-            Ok(())
+            out.push(b']');
         }
         Expr::Unary(op, inner) => {
-            append_unary(out, *op)?;
-            append_expression(out, inner)?;
-            out.push(b')')?;
-            Ok(())
+            append_unary(out, *op);
+            append_expression(out, inner);
+            out.push(b')');
         }
         Expr::Binary(op, left, right) => {
-            append_binary(out, *op)?;
-            append_expression(out, left)?;
-            out.push(b' ')?;
-            append_expression(out, right)?;
-            out.push(b')')?;
-            Ok(())
+            append_binary(out, *op);
+            append_expression(out, left);
+            append_expression(out, right);
+            out.push(b')');
         }
     }
 }
 
-/// Appends the opening parenthesis and the sign of a unary operator.
-fn append_unary(out: &mut Vec<u8>, op: UnaryOp) -> Result<(), NoMemory> {
-    let begin: &[u8] = match op {
-        UnaryOp::And => b"(& ",
-        UnaryOp::Or => b"(V ",
-        UnaryOp::Xor => b"(? ",
-    };
-    Ok(out.extend_from_slice(begin)?)
+/// Appends the opening parenthesis and the sign of a unary operator, with a space before them.
+fn append_unary(out: &mut Text, op: UnaryOp) {
+    match op {
+        UnaryOp::And => out.append(b" (&"),
+        UnaryOp::Or => out.append(b" (V"),
+        UnaryOp::Xor => out.append(b" (?"),
+    }
 }
 
-/// Appends the opening parenthesis and the sign of a binary operator.
-fn append_binary(out: &mut Vec<u8>, op: BinaryOp) -> Result<(), NoMemory> {
-    let begin: &[u8] = match op {
-        BinaryOp::Mingle => b"($ ",
-        BinaryOp::Select => b"(~ ",
-    };
-    Ok(out.extend_from_slice(begin)?)
+/// Appends the opening parenthesis and the sign of a binary operator, with a space before them.
+fn append_binary(out: &mut Text, op: BinaryOp) {
+    match op {
+        BinaryOp::Mingle => out.append(b" ($"),
+        BinaryOp::Select => out.append(b" (~"),
+    }
 }
 
-/// Appends an element.
-pub fn append_element(out: &mut Vec<u8>, element: &Element) -> Result<(), NoMemory> {
-    out.push(b'[')?;
-    append_name(out, &element.array)?;
-    append_expressions(out, element.subs.as_slice())?;
-    out.push(b']')?;
-    Ok(())
+/// Appends an element with a space before it.
+pub fn append_element(out: &mut Text, element: &Element) {
+    append_name(out, b" [", &element.array);
+    append_expressions(out, element.subs.as_slice());
+    out.push(b']');
 }
 
 /// Appends expressions with a space before each.
-pub fn append_expressions(out: &mut Vec<u8>, expressions: &[Expr]) -> Result<(), NoMemory> {
+pub fn append_expressions(out: &mut Text, expressions: &[Expr]) {
     for expression in expressions {
-        out.push(b' ')?;
-        append_expression(out, expression)?;
+        append_expression(out, expression);
     }
-    Ok(())
 }

@@ -4,9 +4,10 @@
 //! | Module | What it has |
 //! |---|---|
 //! | `answers` | the answer of each call that a row can name |
+//! | `programs` | the answer of each call that works on the program of a row's source |
 //! | `stop` | why a call stopped |
 //! | `fields` | numbers and values from the fields of a row |
-//! | `texts` | numbers, values, names and faults as text |
+//! | `texts` | the text of an answer, and the numbers, values, names, faults and stops in it |
 //! | `operators` | mingle, select and the unary operators |
 //! | `numerals` | numerals, and the letters that they have |
 //! | `digits` | lines of digit names, and white bytes |
@@ -15,7 +16,7 @@
 //! | `tape` | bytes as arrays hold them |
 //! | `sources` | how sources are cut, listed and refused |
 //! | `expressions`, `bodies` | bodies of statements as text |
-//! | `code` | sources and the operations that they are compiled to |
+//! | `code` | the operations that programs are compiled to |
 #![tactic(auto)]
 
 mod answers;
@@ -28,6 +29,7 @@ mod fields;
 mod messages;
 mod numerals;
 mod operators;
+mod programs;
 mod sources;
 mod stop;
 mod tape;
@@ -40,8 +42,9 @@ use std::io::{ErrorKind, Write};
 fn main(rt: HostRuntime) -> io::Result<()> {
     let alloc = rt.alloc();
     let text = io::read_to_string(alloc, rt.stdin())?;
-    let Ok(out) = report(alloc, text.as_bytes()) else {
+    let mut out = Vec::new(alloc);
+    if report(alloc, text.as_bytes(), &mut out).is_err() {
         return Err(ErrorKind::OutOfMemory.into());
-    };
+    }
     rt.stdout().write_all(&out)
 }

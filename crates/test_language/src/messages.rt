@@ -2,8 +2,8 @@
 
 use crate::fields::number_32;
 use crate::stop::Stop;
-use crate::texts::append_number;
-use ick_bits::{Fault, FaultKind, append_message};
+use crate::texts::Text;
+use ick_bits::{Fault, FaultKind};
 use std::alloc::Global;
 use test_rows::Row;
 
@@ -33,26 +33,31 @@ const KINDS: [FaultKind; 20] = [
 
 /// Returns the kind of fault that a field names.
 fn kind_named(alloc: Global, row: &Row) -> Result<FaultKind, Stop> {
-    for kind in KINDS {
-        let name = format!(in alloc; "{kind:?}")?;
-        if name.as_bytes() == row.field(b"kind") {
-            return Ok(kind);
+    for kind in &KINDS {
+        if is_named(alloc, *kind, row.field(b"kind"))? {
+            return Ok(*kind);
         }
     }
     Err(Stop::Field)
 }
 
-/// Returns the number of a kind of fault, and the message of a fault of this kind.
-pub fn message(alloc: Global, row: &Row) -> Result<Vec<u8>, Stop> {
-    let kind = kind_named(alloc, row)?;
+/// Whether a kind of fault has this name.
+fn is_named(alloc: Global, kind: FaultKind, name: &[u8]) -> Result<bool, Stop> {
+    match format!(in alloc; "{kind:?}") {
+        Ok(shown) => Ok(shown.as_bytes() == name),
+        Err(_) => Err(Stop::NoMemory),
+    }
+}
+
+/// Appends the number of a kind of fault, and the message of a fault of this kind.
+pub fn message(alloc: Global, row: &Row, out: &mut Text) -> Result<(), Stop> {
     let fault = Fault {
-        kind,
+        kind: kind_named(alloc, row)?,
         statement: number_32(row, b"statement")?,
         subject: row.field(b"subject"),
     };
-    let mut out = Vec::new(alloc);
-    append_number(&mut out, b"", u64::from(kind.number()))?;
-    out.extend_from_slice(b": ")?;
-    append_message(&mut out, &fault)?;
-    Ok(out)
+    out.append_decimal(u64::from(fault.kind.number()));
+    out.append(b": ");
+    out.append_message(&fault);
+    Ok(())
 }

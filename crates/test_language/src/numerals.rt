@@ -2,29 +2,32 @@
 
 use crate::fields::number_32;
 use crate::stop::Stop;
-use ick_bits::{append_decimal, append_numeral};
-use std::alloc::Global;
+use crate::texts::Text;
+use ick_bits::Symbol;
 use test_rows::Row;
 
-/// Returns the two lines of a numeral.
-pub fn numeral(alloc: Global, row: &Row) -> Result<Vec<u8>, Stop> {
-    let mut out = Vec::new(alloc);
-    append_numeral(&mut out, number_32(row, b"number")?)?;
-    Ok(out)
+/// Appends the two lines of a numeral.
+pub fn numeral(row: &Row, out: &mut Text) -> Result<(), Stop> {
+    out.append_numeral(number_32(row, b"number")?);
+    Ok(())
 }
 
-/// Returns how many letters a numeral has, and which. `_` marks a letter with a bar.
-pub fn letters(alloc: Global, row: &Row) -> Result<Vec<u8>, Stop> {
+/// Appends how many letters a numeral has, and which.
+pub fn letters(row: &Row, out: &mut Text) -> Result<(), Stop> {
     let symbols = ick_bits::numeral(number_32(row, b"number")?);
-    let mut out = Vec::new(alloc);
-    append_decimal(&mut out, symbols.len() as u64)?;
-    out.extend_from_slice(b" letters:")?;
-    for symbol in symbols.as_slice() {
-        out.push(b' ')?;
+    append_symbols(out, symbols.as_slice());
+    Ok(())
+}
+
+/// Appends how many letters there are, and which. `_` marks a letter with a bar.
+fn append_symbols(out: &mut Text, symbols: &[Symbol]) {
+    out.append_decimal(symbols.len() as u64);
+    out.append(b" letters:");
+    for symbol in symbols {
+        out.push(b' ');
         if symbol.barred {
-            out.push(b'_')?;
+            out.push(b'_');
         }
-        out.push(symbol.letter)?;
+        out.push(symbol.letter);
     }
-    Ok(out)
 }

@@ -1,65 +1,62 @@
 //! How sources are cut, listed and refused.
 
 use crate::stop::Stop;
-use crate::texts::{append_number, refusal_text};
-use ick_source::{Body, append_listing, read_source};
+use crate::texts::{Text, append_number, append_refusal, append_shown};
+use ick_source::{Body, Program, Refusal, read_source};
 use std::alloc::Global;
 use test_rows::Row;
 
-/// Returns the listing of a source.
-pub fn listing(alloc: Global, row: &Row) -> Result<Vec<u8>, Stop> {
-    let program = read_source(alloc, row.field(b"source"))?;
-    let mut out = Vec::new(alloc);
-    append_listing(&mut out, &program)?;
-    Ok(out)
+/// Appends the listing of a source.
+pub fn listing(program: &Program<'_>, out: &mut Text) -> Result<(), Stop> {
+    out.append_listing(program);
+    Ok(())
 }
 
-/// Returns the kind of the one statement of a source.
-pub fn kind(alloc: Global, row: &Row) -> Result<Vec<u8>, Stop> {
-    let program = read_source(alloc, row.field(b"source"))?;
+/// Appends the kind of the one statement of a source.
+pub fn kind(alloc: Global, program: &Program<'_>, out: &mut Text) -> Result<(), Stop> {
     let [statement] = program.statements() else {
         return Err(Stop::Statements);
     };
-    let kind = statement.body.kind();
-    let word = format!(in alloc; "{kind:?}")?;
-    Ok(Vec::from_slice(alloc, word.as_bytes())?)
+    append_shown(alloc, out, b"", &statement.body.kind());
+    Ok(())
 }
 
-/// Returns the kinds of statements that the one statement of a source abstains from.
-pub fn gerunds(alloc: Global, row: &Row) -> Result<Vec<u8>, Stop> {
-    let program = read_source(alloc, row.field(b"source"))?;
+/// Appends the kinds of statements that the one statement of a source abstains from.
+pub fn gerunds(program: &Program<'_>, out: &mut Text) -> Result<(), Stop> {
     let [statement] = program.statements() else {
         return Err(Stop::Statements);
     };
-    let mut out = Vec::new(alloc);
     if let Body::AbstainKinds(gerunds) = &statement.body {
         for gerund in gerunds {
             if !out.is_empty() {
-                out.push(b' ')?;
+                out.push(b' ');
             }
-            out.extend_from_slice(gerund.kind().word())?;
+            out.append(gerund.kind().word());
         }
     }
-    Ok(out)
+    Ok(())
 }
 
-/// Returns why a source is refused.
-pub fn refusal(alloc: Global, row: &Row) -> Result<Vec<u8>, Stop> {
-    match read_source(alloc, row.field(b"source")) {
-        Ok(_) => Ok(Vec::from_slice(alloc, b"not refused")?),
-        Err(refusal) => Ok(refusal_text(alloc, refusal)?),
+/// Appends why a source is refused.
+pub fn refusal(alloc: Global, row: &Row, out: &mut Text) -> Result<(), Stop> {
+    match refusal_of(alloc, row.field(b"source")) {
+        Some(refusal) => append_refusal(out, refusal),
+        None => out.append(b"not refused"),
+    }
+    Ok(())
+}
+
+/// Returns why a source is refused, if it is.
+fn refusal_of(alloc: Global, source: &[u8]) -> Option<Refusal> {
+    match read_source(alloc, source) {
+        Ok(_) => None,
+        Err(refusal) => Some(refusal),
     }
 }
 
-/// Returns how many statements a source has, and how many of them are polite.
-pub fn politeness(alloc: Global, row: &Row) -> Result<Vec<u8>, Stop> {
-    let program = read_source(alloc, row.field(b"source"))?;
-    let mut out = Vec::new(alloc);
-    append_number(&mut out, b"", program.statements().len() as u64)?;
-    append_number(
-        &mut out,
-        b" statements, polite ",
-        u64::from(program.polite()),
-    )?;
-    Ok(out)
+/// Appends how many statements a source has, and how many of them are polite.
+pub fn politeness(program: &Program<'_>, out: &mut Text) -> Result<(), Stop> {
+    out.append_decimal(program.statements().len() as u64);
+    append_number(out, b" statements, polite ", u64::from(program.polite()));
+    Ok(())
 }

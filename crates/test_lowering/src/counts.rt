@@ -34,6 +34,14 @@ impl Counts {
         Ok(())
     }
 
+    /// Prints each name and how often it occurs.
+    pub fn print(&self, rt: &HostRuntime) -> io::Result<()> {
+        for (name, count) in self.all.iter() {
+            println!(rt; "{name} {count}")?;
+        }
+        Ok(())
+    }
+
     fn add_operation(&mut self, alloc: Global, op: Op) -> io::Result<()> {
         match op {
             Op::And | Op::Or | Op::Xor | Op::Mingle | Op::Select => {

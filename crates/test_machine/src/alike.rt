@@ -3,7 +3,7 @@
 
 use crate::answers::Answers;
 use crate::failure::Failure;
-use crate::fields::{calls, number};
+use crate::fields::number;
 use crate::programs::compiled;
 use crate::random_programs::source_of;
 use crate::words::Words;
@@ -17,7 +17,7 @@ pub fn answer(alloc: Global, row: &Row, answers: &mut Answers) -> Result<(), Fai
     let mut words = Words {
         state: u64::from(number(row, b"seed")),
     };
-    let has_pairs = calls(row, b"pairs");
+    let has_pairs = row.calls(b"pairs");
     for _ in 0..number(row, b"programs") {
         let source = source_of(alloc, &mut words)?;
         lead(alloc, &source, has_pairs, &mut words)?;

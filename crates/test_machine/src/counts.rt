@@ -3,12 +3,13 @@
 //! `choices` choices. The count of steps begins at `from`.
 
 use crate::answers::Answers;
+use crate::both::{by_copied, by_trailed};
 use crate::failure::Failure;
 use crate::fields::{has, number};
 use crate::machines::{back, goes_on, mark, step};
 use crate::programs::compiled;
 use ick_code::Code;
-use ick_machine::{Ask, Asks, Copied, Trailed};
+use ick_machine::{Ask, Asks};
 use std::alloc::Global;
 use test_rows::Row;
 
@@ -36,11 +37,10 @@ fn count_on(
     row: &Row,
     answers: &mut Answers,
 ) -> Result<(), Failure> {
-    let from = u64::from(number(row, b"from"));
     if has(row, b"machine", b"copied") {
-        count(Copied::new(alloc, code, b"", from)?, answers)
+        by_copied(alloc, code, row, answers)
     } else if has(row, b"machine", b"trailed") {
-        count(Trailed::new(alloc, code, b"", from)?, answers)
+        by_trailed(alloc, code, row, answers)
     } else {
         Err(Failure::NoSuchMachine)
     }
@@ -60,9 +60,8 @@ fn source_of(alloc: Global, times: u32, choices: u32) -> Result<Vec<u8>, Failure
 }
 
 /// Makes all runs of a machine at its start, and adds the number of runs and of steps.
-fn count<'c, M: Asks<'c>>(machine: M, answers: &mut Answers) -> Result<(), Failure> {
-    let mut machine = machine;
-    let runs = runs_of(&mut machine)?;
+pub fn count<'c, M: Asks<'c>>(machine: &mut M, answers: &mut Answers) -> Result<(), Failure> {
+    let runs = runs_of(machine)?;
     tell_counts(runs, machine.work(), answers)
 }
 

@@ -2,11 +2,6 @@
 
 use test_rows::Row;
 
-/// Returns whether a row makes the call of this name.
-pub fn calls(row: &Row, name: &[u8]) -> bool {
-    has(row, b"call", name)
-}
-
 /// Returns whether a field has this value.
 pub fn has(row: &Row, word: &[u8], value: &[u8]) -> bool {
     row.field(word) == value

@@ -54,7 +54,7 @@ mod words;
 
 use answers::Answers;
 use failure::Failure;
-use fields::calls;
+use ick_code::Code;
 use programs::compiled;
 use std::alloc::Global;
 use std::io;
@@ -94,11 +94,11 @@ fn check(alloc: Global, row: &Row, tally: &mut Tally, out: &mut Vec<u8>) -> Resu
 
 /// Adds the answers to a row, by its field `call`.
 fn answer(alloc: Global, row: &Row, answers: &mut Answers) -> Result<(), Failure> {
-    if calls(row, b"count") {
+    if row.calls(b"count") {
         counts::answer(alloc, row, answers)
-    } else if calls(row, b"pairs") || calls(row, b"many steps") {
+    } else if row.calls(b"pairs") || row.calls(b"many steps") {
         alike::answer(alloc, row, answers)
-    } else if calls(row, b"statements") {
+    } else if row.calls(b"statements") {
         statements::answer(alloc, row, answers)
     } else {
         answer_by_code(alloc, row, answers)
@@ -108,13 +108,23 @@ fn answer(alloc: Global, row: &Row, answers: &mut Answers) -> Result<(), Failure
 /// Adds the answers to a row that has a source.
 fn answer_by_code(alloc: Global, row: &Row, answers: &mut Answers) -> Result<(), Failure> {
     let code = compiled(alloc, row.field(b"source"))?;
-    if calls(row, b"run") || calls(row, b"script") {
-        both::answer(alloc, &code, row, answers)
-    } else if calls(row, b"live") {
-        live::answer(alloc, &code, row, answers)
+    answer_on(alloc, &code, row, answers)
+}
+
+/// Adds the answers to a row on the code of its source.
+fn answer_on(
+    alloc: Global,
+    code: &Code<'_>,
+    row: &Row,
+    answers: &mut Answers,
+) -> Result<(), Failure> {
+    if row.calls(b"run") || row.calls(b"script") {
+        both::answer(alloc, code, row, answers)
+    } else if row.calls(b"live") {
+        live::answer(alloc, code, row, answers)
     } else if row.field(b"call").starts_with(b"memory ") {
-        memory::answer(alloc, &code, row, answers)
+        memory::answer(alloc, code, row, answers)
     } else {
-        plans::answer(alloc, &code, row, answers)
+        plans::answer(alloc, code, row, answers)
     }
 }

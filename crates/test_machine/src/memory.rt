@@ -5,7 +5,6 @@ ghost use Rattle.ick_memory.specs.View.{Fits, view_of};
 
 use crate::answers::Answers;
 use crate::failure::Failure;
-use crate::fields::calls;
 use ick_code::Code;
 use ick_memory::{
     Memory, Nobody, Trail, abstain_kind, abstain_one, copy_memory, fresh_memory, odds, put_numeral,
@@ -36,15 +35,15 @@ fn tell(
 ) -> Result<(), Failure>
     requires { Fits code.now (view_of memory.old) }
 {
-    if calls(row, b"memory begins") {
+    if row.calls(b"memory begins") {
         begins(code, memory, answers)
-    } else if calls(row, b"memory changes") {
+    } else if row.calls(b"memory changes") {
         changes(alloc, memory, answers)
-    } else if calls(row, b"memory stashes") {
+    } else if row.calls(b"memory stashes") {
         stashes(memory, answers)
-    } else if calls(row, b"memory abstains") {
+    } else if row.calls(b"memory abstains") {
         abstains(code, memory, answers)
-    } else if calls(row, b"memory copies") {
+    } else if row.calls(b"memory copies") {
         copies(alloc, memory, answers)
     } else {
         Err(Failure::NoSuchCall)

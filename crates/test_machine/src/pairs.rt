@@ -13,15 +13,15 @@ const TURNS: u32 = 120;
 
 /// Compares both machines on a program.
 pub fn lead(alloc: Global, code: &Code<'_>, words: &mut Words) -> Result<(), Failure> {
-    take_turns(sides_of(alloc, code, INPUT, 5)?, words)
+    take_turns(sides_of(alloc, code, INPUT, 5), words)
 }
 
-/// Makes random turns on both machines.
+/// Makes random turns on both machines, if there was memory for them.
 fn take_turns<'c, A: Asks<'c>, B: Asks<'c>>(
-    sides: Sides<A, B>,
+    sides: Result<Sides<A, B>, Failure>,
     words: &mut Words,
 ) -> Result<(), Failure> {
-    let mut sides = sides;
+    let mut sides = sides?;
     sides.are_alike()?;
     for _ in 0..TURNS {
         turn(&mut sides, words)?;

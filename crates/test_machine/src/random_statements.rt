@@ -131,8 +131,9 @@ const BODIES: [&[u8]; 33] = [
     b"REINSTATE IGNORING+REMEMBERING",
 ];
 
-/// Appends a number to a source.
-fn append_number(source: &mut Vec<u8>, number: u32) -> Result<(), NoMemory> {
+/// Appends a number to a source, with a text before it.
+fn append_number(source: &mut Vec<u8>, before: &[u8], number: u32) -> Result<(), NoMemory> {
+    source.extend_from_slice(before)?;
     append_decimal(source, u64::from(number))
 }
 
@@ -142,7 +143,7 @@ fn append_operand(source: &mut Vec<u8>, words: &mut Words) -> Result<(), NoMemor
     for byte in operand {
         if *byte == b'@' {
             let bound = 1 + words.below(65535);
-            append_number(source, words.below(bound))?;
+            append_number(source, b"", words.below(bound))?;
         } else {
             source.extend_from_slice(&[*byte])?;
         }
@@ -175,7 +176,7 @@ fn append_body(source: &mut Vec<u8>, words: &mut Words, label: u32) -> Result<()
             source.extend_from_slice(SMALL[words.below(8) as usize])?;
         } else if *byte == b'@' {
             let near = label % BLOCKS + BLOCKS - 5 + words.below(8);
-            append_number(source, 1 + near % BLOCKS)?;
+            append_number(source, b"", 1 + near % BLOCKS)?;
         } else {
             source.extend_from_slice(&[*byte])?;
         }
@@ -189,8 +190,7 @@ fn append_change(source: &mut Vec<u8>, words: &mut Words) -> Result<(), NoMemory
     for byte in change {
         if *byte == b'@' {
             let number = words.below(65536) >> words.below(16);
-            source.extend_from_slice(b"#")?;
-            append_number(source, number)?;
+            append_number(source, b"#", number)?;
         } else {
             source.extend_from_slice(&[*byte])?;
         }
@@ -203,14 +203,11 @@ fn append_change(source: &mut Vec<u8>, words: &mut Words) -> Result<(), NoMemory
 fn append_block(source: &mut Vec<u8>, words: &mut Words, label: u32) -> Result<(), NoMemory> {
     source.extend_from_slice(b"DO ")?;
     append_change(source, words)?;
-    source.extend_from_slice(b"\nDO %50 ABSTAIN FROM (")?;
-    append_number(source, label)?;
-    source.extend_from_slice(b")\n(")?;
-    append_number(source, label)?;
+    append_number(source, b"\nDO %50 ABSTAIN FROM (", label)?;
+    append_number(source, b")\n(", label)?;
     source.extend_from_slice(b") DO ")?;
     append_body(source, words, label)?;
-    source.extend_from_slice(b"\nPLEASE DO %60 (")?;
-    append_number(source, 901 + label % 2)?;
+    append_number(source, b"\nPLEASE DO %60 (", 901 + label % 2)?;
     source.extend_from_slice(b") NEXT\n")?;
     Ok(())
 }

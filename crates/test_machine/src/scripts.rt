@@ -22,7 +22,7 @@ pub fn follow<'c, M: Asks<'c>>(
     answers: &mut Answers,
 ) -> Result<(), Failure> {
     for word in script.split(|byte| *byte == b' ') {
-        obey(machine, order_of(word)?, answers)?;
+        obey(machine, word, answers)?;
     }
     Ok(())
 }
@@ -30,10 +30,10 @@ pub fn follow<'c, M: Asks<'c>>(
 /// Does what a word orders, or adds what it asks for.
 fn obey<'c, M: Asks<'c>>(
     machine: &mut M,
-    order: Order,
+    word: &[u8],
     answers: &mut Answers,
 ) -> Result<(), Failure> {
-    match order {
+    match order_of(word)? {
         Order::Do => step(machine, true),
         Order::Pass => step(machine, false),
         Order::Go => go(machine),

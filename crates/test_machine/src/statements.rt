@@ -10,6 +10,7 @@ use crate::programs::compiled;
 use crate::random_statements::{INPUT, source_of};
 use crate::sides::{Sides, sides_of};
 use crate::words::Words;
+use ick_code::Code;
 use ick_machine::{Ask, Asks};
 use std::alloc::Global;
 use test_rows::Row;
@@ -56,18 +57,39 @@ fn lead(
     counted: &mut Planned,
 ) -> Result<(), Failure> {
     let code = compiled(alloc, source)?;
-    run(sides_of(alloc, &code, INPUT, 0)?, words, counted)?;
-    count(alloc, &code, counted)
+    lead_on(alloc, &code, words, counted)
 }
 
-/// Runs both machines. At most choices the tried statement is done. If it ends the run, the
-/// machines go back and pass it over. Counts the statements that were done.
-fn run<'c, A: Asks<'c>, B: Asks<'c>>(
-    sides: Sides<A, B>,
+/// Compares both machines on a program, and counts its statements.
+fn lead_on(
+    alloc: Global,
+    code: &Code<'_>,
     words: &mut Words,
     counted: &mut Planned,
 ) -> Result<(), Failure> {
-    let mut sides = sides;
+    compare(alloc, code, words, counted)?;
+    count(alloc, code, counted)
+}
+
+/// Compares both machines on a program. The call of `run` stands alone here, because the proof of a
+/// call at two machines is dear.
+fn compare(
+    alloc: Global,
+    code: &Code<'_>,
+    words: &mut Words,
+    counted: &mut Planned,
+) -> Result<(), Failure> {
+    run(sides_of(alloc, code, INPUT, 0), words, counted)
+}
+
+/// Runs both machines, if there was memory for them. At most choices the tried statement is done.
+/// If it ends the run, the machines go back and pass it over. Counts the statements that were done.
+fn run<'c, A: Asks<'c>, B: Asks<'c>>(
+    sides: Result<Sides<A, B>, Failure>,
+    words: &mut Words,
+    counted: &mut Planned,
+) -> Result<(), Failure> {
+    let mut sides = sides?;
     for _ in 0..100_000u32 {
         if !goes_on(&mut sides, words, counted)? {
             return Ok(());

@@ -29,14 +29,28 @@ pub fn attempt(context: &mut Context<'_>, row: &Row, tally: &mut Tally) {
 
 /// Makes the calls of a row, by its field `call`.
 fn answer(context: &mut Context<'_>, row: &Row) -> Result<(), Stop> {
-    match row.field(b"call") {
-        [b'a', b'p', b'p', b'e', b'n', b'd', ..] => texts::answer(context, row),
-        b"script" | b"next" | b"write_runs" => machines::answer(context, row),
-        b"step Live" | b"run Live" => live::answer(context, row),
-        b"run_with" => runs::with_choices(context, row),
-        b"run_seeded" => runs::seeded(context, row),
-        b"run_stream" => runs::streamed(context, row),
-        b"serve" => served::answer(context, row),
-        _ => Err(Stop::Wrong(Wrong::NoSuchCall)),
+    if row.field(b"call").starts_with(b"append") {
+        texts::answer(context, row)
+    } else if row.calls(b"script") || row.calls(b"next") || row.calls(b"write_runs") {
+        machines::answer(context, row)
+    } else if row.calls(b"step Live") || row.calls(b"run Live") {
+        live::answer(context, row)
+    } else if row.calls(b"serve") {
+        served::answer(context, row)
+    } else {
+        answer_of_run(context, row)
+    }
+}
+
+/// Makes the call of a row that makes a whole run.
+fn answer_of_run(context: &mut Context<'_>, row: &Row) -> Result<(), Stop> {
+    if row.calls(b"run_with") {
+        runs::with_choices(context, row)
+    } else if row.calls(b"run_seeded") {
+        runs::seeded(context, row)
+    } else if row.calls(b"run_stream") {
+        runs::streamed(context, row)
+    } else {
+        Err(Stop::Wrong(Wrong::NoSuchCall))
     }
 }

@@ -21,15 +21,38 @@ pub fn explore<'c, M: Asks<'c>>(
     requires { (M.seen machine).marks ≡ [] }
 {
     let mut explorer = explorer_of(context, row, machine)?;
-    let count = number(row, b"count");
-    if row.field(b"call") == b"next".as_slice() {
-        list(context, &mut explorer, count)?;
-    } else {
-        write(context, &mut explorer, count)?;
-    }
+    explore_with(context, row, &mut explorer)
+}
+
+/// Lists the next runs of an explorer by the call of a row, and adds the explorer's counts.
+fn explore_with<'c, M: Asks<'c>>(
+    context: &mut Context<'_>,
+    row: &Row,
+    explorer: &mut Explorer<M>,
+) -> Result<(), Stop> {
+    list_or_write(context, row, explorer)?;
+    say_counts(context, explorer);
+    Ok(())
+}
+
+/// Adds the counts of an explorer: of the steps that it made, and of the points that it keeps.
+fn say_counts<'c, M: Asks<'c>>(context: &mut Context<'_>, explorer: &Explorer<M>) {
     context.answer.count(explorer.work(), b" steps ");
     context.answer.count(explorer.points() as u64, b" points\n");
-    Ok(())
+}
+
+/// Lists the next runs of an explorer by the call of a row.
+fn list_or_write<'c, M: Asks<'c>>(
+    context: &mut Context<'_>,
+    row: &Row,
+    explorer: &mut Explorer<M>,
+) -> Result<(), Stop> {
+    let count = number(row, b"count");
+    if row.calls(b"next") {
+        list(context, explorer, count)
+    } else {
+        write(context, explorer, count)
+    }
 }
 
 /// Returns an explorer at the place that a row names.
@@ -106,13 +129,26 @@ fn failed<'c, M: Asks<'c>>(
 ) -> Stop {
     let work = explorer.work();
     context.other.clear();
-    let written = write_runs(context.alloc(), explorer, 5, &mut context.other);
-    let has_failed = matches!(written, Err(RunsError::Failed))
-        && matches!(explorer.next(), Err(RunsError::Failed))
-        && matches!(explorer.next(), Err(RunsError::Failed));
-    let goes_on = explorer.points() > 0 || explorer.more() || explorer.work() != work;
-    if has_failed && !goes_on && context.other.bytes().is_empty() {
+    let has_failed = fails_to_write(context, explorer) && fails(explorer) && fails(explorer);
+    let is_kept = has_no_more(explorer) && explorer.work() == work;
+    if has_failed && is_kept && context.other.bytes().is_empty() {
         return Stop::Refused(call);
     }
     Stop::Wrong(Wrong::NotFailed)
+}
+
+/// Returns whether `write_runs` answers `Failed`. The bytes that it writes go to `other`.
+fn fails_to_write<'c, M: Asks<'c>>(context: &mut Context<'_>, explorer: &mut Explorer<M>) -> bool {
+    let written = write_runs(context.alloc(), explorer, 5, &mut context.other);
+    matches!(written, Err(RunsError::Failed))
+}
+
+/// Returns whether `next` answers `Failed`.
+fn fails<'c, M: Asks<'c>>(explorer: &mut Explorer<M>) -> bool {
+    matches!(explorer.next(), Err(RunsError::Failed))
+}
+
+/// Returns whether an explorer keeps no point and has no further run.
+fn has_no_more<'c, M: Asks<'c>>(explorer: &Explorer<M>) -> bool {
+    explorer.points() == 0 && !explorer.more()
 }

@@ -7,6 +7,7 @@ use crate::feeds::TextFeed;
 use crate::fields::code_of;
 use crate::stop::{Call, Stop, Wrong};
 use crate::texts::{Piece, append};
+use ick_code::Code;
 use ick_machine::{Live, LiveAsk};
 use test_rows::Row;
 
@@ -16,21 +17,31 @@ const MOST: u32 = 10_000;
 /// Adds the output of a row's program, its end, and the message of its fault behind the bytes AB.
 pub fn answer(context: &mut Context<'_>, row: &Row) -> Result<(), Stop> {
     let code = code_of(context.alloc(), row)?;
-    let Ok(mut live) = Live::new(context.alloc(), &code) else {
-        return Err(Stop::Refused(Call::NewLive));
-    };
+    answer_with(context, row, &code)
+}
+
+/// Makes the machine of a code, and adds its output, its end, and the message of its fault.
+fn answer_with(context: &mut Context<'_>, row: &Row, code: &Code<'_>) -> Result<(), Stop> {
+    match Live::new(context.alloc(), code) {
+        Ok(mut live) => answer_on(context, row, &mut live),
+        Err(_) => Err(Stop::Refused(Call::NewLive)),
+    }
+}
+
+/// Adds the output of a run from the machine's state on, its end, and the message of its fault.
+fn answer_on(context: &mut Context<'_>, row: &Row, live: &mut Live<'_, '_>) -> Result<(), Stop> {
     let mut feed = TextFeed {
         text: row.field(b"input"),
     };
-    if row.field(b"call") == b"step Live".as_slice() {
-        steps(context, &mut live, &mut feed)?;
+    if row.calls(b"step Live") {
+        steps(context, live, &mut feed)?;
     } else {
-        runs(context, &mut live, &mut feed)?;
+        runs(context, live, &mut feed)?;
     }
     if let LiveAsk::Ended(end) = live.asks() {
         say_kind(&mut context.answer, end);
     }
-    append(context, &Piece::End(&live))
+    append(context, &Piece::End(live))
 }
 
 /// Makes steps to the end of the run, and adds its output. Each choice is to do.

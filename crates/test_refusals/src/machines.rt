@@ -43,7 +43,7 @@ fn on_machine<'c, M: Asks<'c>>(
 ) -> Result<(), Stop>
     requires { (M.seen machine).marks ≡ [] }
 {
-    if row.field(b"call") != b"script".as_slice() {
+    if !row.calls(b"script") {
         return explore(context, row, machine);
     }
     let mut machine = machine;

@@ -42,24 +42,43 @@ use attempt::attempt;
 use context::Context;
 use std::io;
 use std::io::{ErrorKind, Write};
-use test_rows::{Tally, read_rows};
+use test_rows::{Row, Tally, read_rows};
 
 fn main(rt: HostRuntime) -> io::Result<()> {
-    let alloc = rt.alloc();
-    let text = io::read_to_string(alloc, rt.stdin())?;
-    let Ok(rows) = read_rows(alloc, text.as_bytes()) else {
+    let text = io::read_to_string(rt.alloc(), rt.stdin())?;
+    answer_text(&rt, text.as_bytes())
+}
+
+/// Makes the calls of a text of rows.
+fn answer_text(rt: &HostRuntime, text: &[u8]) -> io::Result<()> {
+    let Ok(rows) = read_rows(rt.alloc(), text) else {
         return Err(ErrorKind::OutOfMemory.into());
     };
-    let Ok(mut context) = Context::new(&rt) else {
+    answer_rows(rt, rows.as_slice())
+}
+
+/// Takes the room of the answers, and makes the calls of rows.
+fn answer_rows(rt: &HostRuntime, rows: &[Row]) -> io::Result<()> {
+    let Ok(mut context) = Context::new(rt) else {
         return Err(ErrorKind::OutOfMemory.into());
     };
+    print_rows(rt, &mut context, rows)
+}
+
+/// Makes the calls of rows, and prints a line for each row and the tally.
+fn print_rows(rt: &HostRuntime, context: &mut Context<'_>, rows: &[Row]) -> io::Result<()> {
     let mut tally = Tally::new();
-    rt.stdout().write_all(b"These rows hold:\n")?;
-    for row in rows.iter() {
-        attempt(&mut context, row, &mut tally);
-        rt.stdout().write_all(context.other.bytes())?;
+    print(rt, b"These rows hold:\n")?;
+    for row in rows {
+        attempt(context, row, &mut tally);
+        print(rt, context.other.bytes())?;
     }
     context.other.clear();
     context.other.say_tally(&tally);
-    rt.stdout().write_all(context.other.bytes())
+    print(rt, context.other.bytes())
+}
+
+/// Writes a text to standard output.
+fn print(rt: &HostRuntime, text: &[u8]) -> io::Result<()> {
+    rt.stdout().write_all(text)
 }

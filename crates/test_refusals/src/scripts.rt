@@ -25,15 +25,42 @@ pub fn follow<'c, M: Asks<'c>>(
     script: &[u8],
 ) -> Result<(), Stop> {
     for word in script.split(|byte| *byte == b' ') {
-        match word {
-            b"mark" => mark(context, machine, name)?,
-            b"do" => step(context, machine, name)?,
-            b"run" => run(context, machine, name)?,
-            b"back" => back(machine),
-            _ => say_machine(&mut context.answer, machine),
-        }
+        follow_word(context, machine, name, word)?;
     }
     Ok(())
+}
+
+/// Does what a word of a script says.
+fn follow_word<'c, M: Asks<'c>>(
+    context: &mut Context<'_>,
+    machine: &mut M,
+    name: &str,
+    word: &[u8],
+) -> Result<(), Stop> {
+    if is_word(word, b"mark") {
+        make_change(context, machine, name, Change::Mark)
+    } else if is_word(word, b"do") {
+        make_change(context, machine, name, Change::Step)
+    } else if is_word(word, b"run") {
+        run(context, machine, name)
+    } else {
+        go_back_or_say(context, machine, word);
+        Ok(())
+    }
+}
+
+/// Returns whether a word of a script is this one.
+fn is_word(word: &[u8], wanted: &[u8]) -> bool {
+    word == wanted
+}
+
+/// Goes back to the last mark if the word says so, and else adds what is seen of the machine.
+fn go_back_or_say<'c, M: Asks<'c>>(context: &mut Context<'_>, machine: &mut M, word: &[u8]) {
+    if is_word(word, b"back") {
+        back(machine);
+    } else {
+        say_machine(&mut context.answer, machine);
+    }
 }
 
 /// Adds everything that is seen of a machine: its question, output, steps and marks.
@@ -53,9 +80,26 @@ fn say_ask(out: &mut Buffer, ask: Ask<'_>) {
     }
 }
 
-/// Tells that a call of a machine was refused, if the same was seen of the machine before and after
-/// the call: the two halves of `other`.
-fn tell_kept(context: &Context<'_>, call: &str, name: &str) -> Result<(), Stop> {
+/// Puts what is seen of a machine into `other`.
+fn see<'c, M: Asks<'c>>(context: &mut Context<'_>, machine: &M) {
+    context.other.clear();
+    say_machine(&mut context.other, machine);
+}
+
+/// Tells that a call of a machine was refused, if the same is seen of the machine as before, which
+/// is in `other`.
+fn tell_kept<'c, M: Asks<'c>>(
+    context: &mut Context<'_>,
+    machine: &M,
+    call: &str,
+    name: &str,
+) -> Result<(), Stop> {
+    say_machine(&mut context.other, machine);
+    tell_same(context, call, name)
+}
+
+/// Tells that a call of a machine was refused, if the two halves of `other` are the same.
+fn tell_same(context: &Context<'_>, call: &str, name: &str) -> Result<(), Stop> {
     let seen = context.other.bytes();
     let (before, after) = seen.split_at(seen.len() / 2);
     if before != after {
@@ -65,45 +109,55 @@ fn tell_kept(context: &Context<'_>, call: &str, name: &str) -> Result<(), Stop> 
     Ok(())
 }
 
-/// Sets a mark.
-fn mark<'c, M: Asks<'c>>(
+/// A call that leaves a machine as before if it is refused.
+#[derive(Clone, Copy)]
+enum Change {
+    Mark,
+    Step,
+}
+
+impl Change {
+    /// Returns the name of the call.
+    fn name(self) -> &'static str {
+        match self {
+            Change::Mark => "mark",
+            Change::Step => "step",
+        }
+    }
+}
+
+/// Makes a call, and once more after a refusal.
+fn make_change<'c, M: Asks<'c>>(
     context: &mut Context<'_>,
     machine: &mut M,
     name: &str,
+    call: Change,
 ) -> Result<(), Stop> {
-    context.other.clear();
-    say_machine(&mut context.other, machine);
-    if machine.mark().is_ok() {
+    see(context, machine);
+    if !is_refused(machine, call) {
         return Ok(());
     }
-    say_machine(&mut context.other, machine);
-    tell_kept(context, "mark", name)?;
-    if machine.mark().is_err() {
+    tell_kept(context, machine, call.name(), name)?;
+    if is_refused(machine, call) {
         return Err(Stop::Wrong(Wrong::RefusedTwice));
     }
     Ok(())
 }
 
-/// Makes a step, unless the run has ended.
-fn step<'c, M: Asks<'c>>(
-    context: &mut Context<'_>,
-    machine: &mut M,
-    name: &str,
-) -> Result<(), Stop> {
-    context.other.clear();
-    say_machine(&mut context.other, machine);
+/// Makes a call, and returns whether it was refused.
+fn is_refused<'c, M: Asks<'c>>(machine: &mut M, call: Change) -> bool {
+    match call {
+        Change::Mark => machine.mark().is_err(),
+        Change::Step => is_step_refused(machine),
+    }
+}
+
+/// Makes a step unless the run has ended, and returns whether it was refused.
+fn is_step_refused<'c, M: Asks<'c>>(machine: &mut M) -> bool {
     if machine.work() > MOST || matches!(machine.asks(), Ask::Ended(_)) {
-        return Ok(());
+        return false;
     }
-    if machine.step(true).is_ok() {
-        return Ok(());
-    }
-    say_machine(&mut context.other, machine);
-    tell_kept(context, "step", name)?;
-    if machine.step(true).is_err() {
-        return Err(Stop::Wrong(Wrong::RefusedTwice));
-    }
-    Ok(())
+    machine.step(true).is_err()
 }
 
 /// Makes steps up to the next choice, at most 100.
@@ -112,14 +166,19 @@ fn run<'c, M: Asks<'c>>(
     machine: &mut M,
     name: &str,
 ) -> Result<(), Stop> {
-    if machine.work() > MOST || machine.run(100).is_ok() {
+    if machine.work() > MOST || has_run(machine) {
         return Ok(());
     }
     context.tell_refused_of("run", name);
-    if machine.work() > MOST || machine.run(100).is_err() {
+    if !has_run(machine) {
         return Err(Stop::Wrong(Wrong::RefusedTwice));
     }
     Ok(())
+}
+
+/// Makes steps up to the next choice, at most 100, and returns whether the machine did so.
+fn has_run<'c, M: Asks<'c>>(machine: &mut M) -> bool {
+    machine.work() <= MOST && machine.run(100).is_ok()
 }
 
 /// Goes back to the last mark, if there is one.

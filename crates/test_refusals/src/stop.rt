@@ -1,7 +1,7 @@
 //! Why a row has no whole answer.
 
 /// A call that can be refused memory, and after which a row can't go on.
-#[derive(Clone, Copy, Debug)]
+#[derive(Clone, Copy)]
 pub enum Call {
     Target,
     ReadSource,
@@ -46,7 +46,7 @@ impl Call {
 }
 
 /// Why a row has no whole answer.
-#[derive(Clone, Copy, Debug)]
+#[derive(Clone, Copy)]
 pub enum Stop {
     /// This call was refused memory, and all holds that must hold after that.
     Refused(Call),
@@ -55,7 +55,7 @@ pub enum Stop {
 }
 
 /// What does not hold.
-#[derive(Clone, Copy, Debug)]
+#[derive(Clone, Copy)]
 pub enum Wrong {
     NoSuchCall,
     OtherRefusal,

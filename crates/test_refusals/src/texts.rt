@@ -71,14 +71,20 @@ pub fn append(context: &mut Context<'_>, piece: &Piece<'_, '_, '_>) -> Result<()
 
 /// Appends what the call of a row names.
 pub fn answer(context: &mut Context<'_>, row: &Row) -> Result<(), Stop> {
-    match row.field(b"call") {
-        b"append_numeral" => append(context, &Piece::Numeral(number(row, b"number"))),
-        b"append_decimal" => append(context, &Piece::Decimal(number(row, b"number"))),
-        b"append_quoted" => append(context, &Piece::Quoted(row.field(b"text"))),
-        b"append_message" => message(context, row),
-        b"append_listing" => listing(context, row),
-        b"append_text" => cursor(context, row),
-        _ => Err(Stop::Wrong(Wrong::NoSuchCall)),
+    if row.calls(b"append_numeral") {
+        append(context, &Piece::Numeral(number(row, b"number")))
+    } else if row.calls(b"append_decimal") {
+        append(context, &Piece::Decimal(number(row, b"number")))
+    } else if row.calls(b"append_quoted") {
+        append(context, &Piece::Quoted(row.field(b"text")))
+    } else if row.calls(b"append_message") {
+        message(context, row)
+    } else if row.calls(b"append_listing") {
+        listing(context, row)
+    } else if row.calls(b"append_text") {
+        cursor(context, row)
+    } else {
+        Err(Stop::Wrong(Wrong::NoSuchCall))
     }
 }
 

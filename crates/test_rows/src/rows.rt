@@ -33,6 +33,11 @@ impl Row {
         }
         b""
     }
+
+    /// Returns whether the row makes the call of this name, by its field `call`.
+    pub fn calls(&self, name: &[u8]) -> bool {
+        self.field(b"call") == name
+    }
 }
 
 /// Returns the field that a line is written for.

@@ -2,7 +2,7 @@
 
 use crate::cursors::cursor;
 use crate::cut_short::cut_short;
-use crate::fields::{calls, code_of};
+use crate::fields::code_of;
 use crate::generated::generated;
 use crate::listings::runs;
 use crate::many::many;
@@ -39,17 +39,17 @@ fn check(alloc: Global, row: &Row, tally: &mut Tally, out: &mut Vec<u8>) -> Resu
 
 /// Appends the answer to a row.
 fn answer(alloc: Global, row: &Row, out: &mut Vec<u8>) -> Result<(), Stop> {
-    if calls(row, b"cursor") {
+    if row.calls(b"cursor") {
         cursor(alloc, row, out)
-    } else if calls(row, b"draw") {
+    } else if row.calls(b"draw") {
         draw(row, out)
-    } else if calls(row, b"words") {
+    } else if row.calls(b"words") {
         words(alloc, row, out)
-    } else if calls(row, b"generated") {
+    } else if row.calls(b"generated") {
         generated(alloc, row, out)
-    } else if calls(row, b"first") {
+    } else if row.calls(b"first") {
         first(alloc, row, out)
-    } else if calls(row, b"write") {
+    } else if row.calls(b"write") {
         write(alloc, row, out)
     } else {
         answer_by_code(alloc, row, out)
@@ -64,19 +64,26 @@ fn answer_by_code(alloc: Global, row: &Row, out: &mut Vec<u8>) -> Result<(), Sto
 
 /// Appends the answer to a row on its source's code.
 fn answer_on(alloc: Global, code: &Code<'_>, row: &Row, out: &mut Vec<u8>) -> Result<(), Stop> {
-    if calls(row, b"runs") || calls(row, b"counts") {
+    if row.calls(b"runs") || row.calls(b"counts") {
         runs(alloc, code, row, out)
-    } else if calls(row, b"many") {
+    } else if row.calls(b"many") {
         many(alloc, code, row, out)
-    } else if calls(row, b"cut short") {
+    } else if row.calls(b"cut short") {
         cut_short(alloc, code, row, out)
-    } else if calls(row, b"stream") {
+    } else {
+        answer_on_one(alloc, code, row, out)
+    }
+}
+
+/// Appends the answer to a row that makes one run at a time of its source's code.
+fn answer_on_one(alloc: Global, code: &Code<'_>, row: &Row, out: &mut Vec<u8>) -> Result<(), Stop> {
+    if row.calls(b"stream") {
         stream(alloc, code, row, out)
-    } else if calls(row, b"order") {
+    } else if row.calls(b"order") {
         order(alloc, code, row, out)
-    } else if calls(row, b"listed draws") {
+    } else if row.calls(b"listed draws") {
         listed_draws(alloc, code, row, out)
-    } else if calls(row, b"streamed draws") {
+    } else if row.calls(b"streamed draws") {
         streamed_draws(alloc, code, row, out)
     } else {
         Err(Stop::Call)

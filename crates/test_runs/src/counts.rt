@@ -1,6 +1,6 @@
 //! The work and the marks of a listing, run by run.
 
-use crate::explorers::next;
+use crate::explorers::pass;
 use crate::stop::Stop;
 use crate::texts::{append_number, append_stop};
 use ick_machine::{Asks, Backtrack};
@@ -17,12 +17,11 @@ pub fn append_all_counts<'c, M: Asks<'c>>(
     out: &mut Vec<u8>,
     explorer: &mut Explorer<M>,
 ) -> Result<(), Stop> {
-    append_counts(out, explorer)?;
+    append_counts(out, b"", explorer)?;
     if let Err(stop) = append_further_counts(out, explorer) {
         out.extend_from_slice(b", ")?;
         append_stop(alloc, out, stop)?;
-        out.extend_from_slice(b": ")?;
-        append_counts(out, explorer)?;
+        append_counts(out, b": ", explorer)?;
     }
     Ok(())
 }
@@ -33,19 +32,21 @@ fn append_further_counts<'c, M: Asks<'c>>(
     explorer: &mut Explorer<M>,
 ) -> Result<(), Stop> {
     for _ in 0..MOST {
-        let has_run = next(explorer)?.is_some();
-        out.extend_from_slice(b", ")?;
-        if !has_run {
-            return Ok(out.extend_from_slice(b"done")?);
+        if !pass(explorer)? {
+            return Ok(out.extend_from_slice(b", done")?);
         }
-        append_counts(out, explorer)?;
+        append_counts(out, b", ", explorer)?;
     }
     Ok(())
 }
 
-/// Appends the work and the marks, and whether a further run is due.
-fn append_counts<M: Backtrack>(out: &mut Vec<u8>, explorer: &Explorer<M>) -> Result<(), Stop> {
-    append_number(out, b"", explorer.work())?;
+/// Appends the work and the marks, with a text before them, and whether a further run is due.
+fn append_counts<M: Backtrack>(
+    out: &mut Vec<u8>,
+    before: &[u8],
+    explorer: &Explorer<M>,
+) -> Result<(), Stop> {
+    append_number(out, before, explorer.work())?;
     append_number(out, b"/", explorer.points() as u64)?;
     if explorer.more() {
         out.extend_from_slice(b" more")?;

@@ -3,10 +3,11 @@
 ghost use Rattle.std.specs.Prelude.{◌≡◌};
 
 use crate::devices::WornSink;
-use crate::explorers::explorer_of;
-use crate::fields::number;
+use crate::explorers::by_trailed;
+use crate::fields::{number, start_of};
 use crate::listings::append_listing;
 use crate::stop::Stop;
+use crate::tasks::Task;
 use crate::texts::{append_error, append_number};
 use ick_bits::append_quoted;
 use ick_code::Code;
@@ -22,32 +23,52 @@ pub fn cut_short(alloc: Global, code: &Code<'_>, row: &Row, out: &mut Vec<u8>) -
     let least = number(row, b"least", 0)?;
     let most = number(row, b"most", 0)?;
     for room in least..=most {
-        let mut rest = Vec::new(alloc);
-        if !list_in_parts(alloc, code, row.field(b"whole"), room, &mut rest)? {
-            return differs(out, room, &rest);
-        }
-        if room == least {
-            out.extend_from_slice(&rest)?;
-        } else if *out != rest {
-            return differs(out, room, &rest);
+        if !is_as_before(alloc, code, row, room, room == least, out)? {
+            return Ok(());
         }
     }
     Ok(())
 }
 
-/// Appends that a writer with this room took other bytes, or that another listing followed.
-fn differs(out: &mut Vec<u8>, room: u64, rest: &[u8]) -> Result<(), Stop> {
-    append_number(out, b" differs at ", room)?;
-    Ok(append_quoted(out, rest)?)
-}
-
-/// Lists the runs of a program on a writer that takes so many bytes, and appends to `rest` what is
-/// listed after that. Returns whether the writer took just those bytes of the whole listing.
-fn list_in_parts(
+/// Lists the runs of a program on a writer that takes so many bytes. Appends what came after its
+/// failure, if it is the first writer, or that another listing came than before. Returns whether
+/// the listing is right.
+fn is_as_before(
     alloc: Global,
     code: &Code<'_>,
-    whole: &[u8],
+    row: &Row,
     room: u64,
+    is_first: bool,
+    out: &mut Vec<u8>,
+) -> Result<bool, Stop> {
+    let start = start_of(row)?;
+    let task = Task::CutShort(room, row.field(b"whole"));
+    let mut rest = Vec::new(alloc);
+    let is_front = by_trailed(alloc, code, &start, &task, &mut rest)?;
+    if is_first && is_front {
+        out.extend_from_slice(&rest)?;
+    }
+    compare(out, room, is_front, &rest)
+}
+
+/// Appends that a writer with this room took other bytes, or that another listing followed, if one
+/// is so. Returns whether none is so.
+fn compare(out: &mut Vec<u8>, room: u64, is_front: bool, rest: &[u8]) -> Result<bool, Stop> {
+    if is_front && out.as_slice() == rest {
+        return Ok(true);
+    }
+    append_number(out, b" differs at ", room)?;
+    append_quoted(out, rest)?;
+    Ok(false)
+}
+
+/// Lists runs on a writer that takes so many bytes, and appends to `rest` what is listed after
+/// that. Returns whether the writer took just those bytes of the whole listing.
+pub fn list_cut_short<'c, M: Asks<'c>>(
+    alloc: Global,
+    explorer: &mut Explorer<M>,
+    room: u64,
+    whole: &[u8],
     rest: &mut Vec<u8>,
 ) -> Result<bool, Stop> {
     let mut worn = WornSink {
@@ -55,7 +76,6 @@ fn list_in_parts(
         room,
         failures: 0,
     };
-    let explorer = explorer_of(alloc, code, b"", 10_000, b"")?;
     list_on(alloc, explorer, &mut worn, rest)?;
     Ok(worn.bytes.as_slice() == &whole[..whole.len().min(room as usize)])
 }
@@ -63,17 +83,16 @@ fn list_in_parts(
 /// Lists runs on a writer, and if it fails, appends to `rest` the failure and what is listed then.
 fn list_on<'c, M: Asks<'c>>(
     alloc: Global,
-    explorer: Explorer<M>,
+    explorer: &mut Explorer<M>,
     worn: &mut WornSink,
     rest: &mut Vec<u8>,
 ) -> Result<(), Stop>
     requires { worn.old.failures ≡ 0 }
 {
-    let mut explorer = explorer;
-    if let Err(error) = write_runs(alloc, &mut explorer, 1000, worn) {
+    if let Err(error) = write_runs(alloc, explorer, 1000, worn) {
         append_error(alloc, rest, error)?;
         rest.extend_from_slice(b", ")?;
-        append_listing(alloc, rest, &mut explorer, 1000)?;
+        append_listing(alloc, rest, explorer, 1000)?;
     }
     Ok(())
 }

@@ -1,15 +1,11 @@
-//! Names, numbers, choices and code from the fields of a row.
+//! Numbers, choices and code from the fields of a row.
 
+use crate::explorers::Start;
 use crate::stop::Stop;
 use ick_code::{Code, compile};
 use ick_source::read_source;
 use std::alloc::Global;
 use test_rows::Row;
-
-/// Returns whether a row makes the call of this name.
-pub fn calls(row: &Row, name: &[u8]) -> bool {
-    row.field(b"call") == name
-}
 
 /// Returns the number in a field, or `otherwise` if the row has no such field.
 pub fn number(row: &Row, word: &[u8], otherwise: u64) -> Result<u64, Stop> {
@@ -34,6 +30,16 @@ pub fn short_number(row: &Row, word: &[u8], otherwise: u32) -> Result<u32, Stop>
         Ok(number) => Ok(number),
         Err(_) => Err(Stop::Number),
     }
+}
+
+/// Returns where the listing of a row starts, and the limit on the steps of its runs.
+pub fn start_of(row: &Row) -> Result<Start<'_>, Stop> {
+    Ok(Start {
+        input: row.field(b"input"),
+        limit: short_number(row, b"limit", 10_000)?,
+        work: number(row, b"work", 0)?,
+        from: row.field(b"from"),
+    })
 }
 
 /// Returns choices that are given as digits.

@@ -1,14 +1,14 @@
 //! Random programs: what an explorer lists is what comes of trying every list of choices.
 
-use crate::explorers::{explorer_of, next};
+use crate::explorers::{Start, by_copied, by_trailed};
 use crate::fields::{code_of, number};
-use crate::same::{ended, is_same};
+use crate::same::ended;
 use crate::stop::Stop;
+use crate::tasks::Task;
 use crate::texts::{append_choices, append_number};
 use ick_bits::append_decimal;
 use ick_code::Code;
-use ick_machine::{Asks, Copied};
-use ick_runs::{Cursor, Explorer, Ran, Run, RunsError, run_with};
+use ick_runs::{Cursor, Ran, Run, RunsError, run_with};
 use rand_core::SeedableRng;
 use rand_core::utils::NextWord;
 use rand_pcg::Pcg32;
@@ -121,34 +121,21 @@ fn tried<'c, 'a>(alloc: Global, code: &'c Code<'a>) -> Result<Option<Vec<Run<'c>
     Ok(Some(runs))
 }
 
-/// Whether an explorer gives these runs and then none.
-fn gives<'c, M: Asks<'c>>(explorer: Explorer<M>, runs: &[Run<'c>]) -> Result<bool, Stop> {
-    let mut explorer = explorer;
-    for wanted in runs {
-        if !gives_one(&mut explorer, wanted)? {
-            return Ok(false);
-        }
-    }
-    ends(&mut explorer)
-}
-
-/// Whether an explorer gives no further run.
-fn ends<'c, M: Asks<'c>>(explorer: &mut Explorer<M>) -> Result<bool, Stop> {
-    Ok(!explorer.more() && next(explorer)?.is_none())
-}
-
-/// Whether an explorer gives this run.
-fn gives_one<'c, M: Asks<'c>>(explorer: &mut Explorer<M>, wanted: &Run<'c>) -> Result<bool, Stop> {
-    match next(explorer)? {
-        Some(found) => Ok(is_same(&found, wanted)),
-        None => Ok(false),
-    }
-}
-
 /// Whether the machine that copies what it marks lists these runs of a program.
 fn lists<'c, 'a>(alloc: Global, code: &'c Code<'a>, runs: &[Run<'c>]) -> Result<bool, Stop> {
-    let machine = Copied::new(alloc, code, INPUT, 0)?;
-    gives(Explorer::start(alloc, machine, LIMIT), runs)
+    let task = Task::Compare(runs);
+    let mut unused = Vec::new(alloc);
+    by_copied(alloc, code, &start(b""), &task, &mut unused)
+}
+
+/// Returns the start of a listing, after the run of a cursor if its text is not empty.
+fn start(from: &[u8]) -> Start<'_> {
+    Start {
+        input: INPUT,
+        limit: LIMIT,
+        work: 0,
+        from,
+    }
 }
 
 /// Whether after each run come those behind it.
@@ -182,15 +169,22 @@ fn lists_after<'c, 'a>(
     from: &[u8],
     runs: &[Run<'c>],
 ) -> Result<bool, Stop> {
-    gives(explorer_of(alloc, code, INPUT, LIMIT, from)?, runs)
+    let task = Task::Compare(runs);
+    let mut unused = Vec::new(alloc);
+    by_trailed(alloc, code, &start(from), &task, &mut unused)
 }
 
 /// Whether these choices are not those of a run.
 fn is_no_run<'c, 'a>(alloc: Global, code: &'c Code<'a>, choices: &[bool]) -> Result<bool, Stop> {
-    let Some(text) = text_of(alloc, choices)? else {
-        return Ok(false);
-    };
-    match explorer_of(alloc, code, INPUT, LIMIT, &text) {
+    match text_of(alloc, choices)? {
+        Some(text) => is_of_no_run(alloc, code, &text),
+        None => Ok(false),
+    }
+}
+
+/// Whether the cursor of a text is refused, because its choices are not those of a run.
+fn is_of_no_run<'c, 'a>(alloc: Global, code: &'c Code<'a>, from: &[u8]) -> Result<bool, Stop> {
+    match lists_after(alloc, code, from, &[]) {
         Err(Stop::Runs(RunsError::NoSuchRun)) => Ok(true),
         Err(stop) => Err(stop),
         Ok(_) => Ok(false),
@@ -210,13 +204,17 @@ fn has_no_neighbours<'c, 'a>(
     code: &'c Code<'a>,
     run: &Run<'c>,
 ) -> Result<bool, Stop> {
-    let mut choices = Vec::new(alloc);
-    for choice in &run.choices {
-        if !is_prefix(alloc, code, &choices)? {
+    for count in 0..run.choices.len() {
+        if !is_prefix(alloc, code, &run.choices[..count])? {
             return Ok(false);
         }
-        choices.push(*choice)?;
     }
+    has_no_longer(alloc, code, run)
+}
+
+/// Whether the choices of a run with one more are no run.
+fn has_no_longer<'c, 'a>(alloc: Global, code: &'c Code<'a>, run: &Run<'c>) -> Result<bool, Stop> {
+    let mut choices = run.choices.clone()?;
     choices.push(false)?;
     is_no_run(alloc, code, &choices)
 }
@@ -253,9 +251,14 @@ fn text_of(alloc: Global, choices: &[bool]) -> Result<Option<Vec<u8>>, Stop> {
 /// Whether the cursor of a text has these choices, and is printed as it was read.
 fn is_kept(alloc: Global, text: &[u8], choices: &[bool]) -> Result<bool, Stop> {
     let cursor = Cursor::from_text(alloc, text, u32::MAX)?;
+    Ok(cursor.choices() == choices && is_printed(alloc, &cursor, text)?)
+}
+
+/// Whether a cursor is printed as this text.
+fn is_printed(alloc: Global, cursor: &Cursor, text: &[u8]) -> Result<bool, Stop> {
     let mut printed = Vec::new(alloc);
     cursor.append_text(&mut printed)?;
-    Ok(cursor.choices() == choices && printed.as_slice() == text)
+    Ok(printed.as_slice() == text)
 }
 
 /// Whether what is listed of a program is what comes of trying every list of choices.

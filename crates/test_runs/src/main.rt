@@ -8,7 +8,7 @@
 //! | `fields` | numbers, choices and code from the fields of a row |
 //! | `texts` | answers as text |
 //! | `listings`, `counts`, `many` | listings, and the work that they take |
-//! | `explorers` | explorers and their runs |
+//! | `explorers`, `tasks` | explorers over both machines, and what is done with them |
 //! | `cut_short` | listings on a writer that fails |
 //! | `cursors` | texts of cursors |
 //! | `devices` | a reader and a writer that fail after so many bytes |
@@ -34,6 +34,7 @@ mod same;
 mod seeds;
 mod stop;
 mod streams;
+mod tasks;
 mod texts;
 mod whole;
 

@@ -1,8 +1,9 @@
 //! A listing that nobody could make who began each run anew.
 
-use crate::explorers::{explorer_of, next};
-use crate::fields::short_number;
+use crate::explorers::{by_trailed, next};
+use crate::fields::{short_number, start_of};
 use crate::stop::Stop;
+use crate::tasks::Task;
 use crate::texts::append_number;
 use ick_code::Code;
 use ick_machine::Asks;
@@ -15,19 +16,18 @@ const MOST: u32 = 2_000_000;
 
 /// Appends how many runs of a row's program make so many steps, and how many others there are.
 pub fn many(alloc: Global, code: &Code<'_>, row: &Row, out: &mut Vec<u8>) -> Result<(), Stop> {
-    let limit = short_number(row, b"limit", 10_000)?;
     let steps = short_number(row, b"steps", 0)?;
-    append_many(out, explorer_of(alloc, code, b"", limit, b"")?, steps)
+    by_trailed(alloc, code, &start_of(row)?, &Task::Many(steps), out)?;
+    Ok(())
 }
 
 /// Appends how many runs make so many steps, how many others there are, and the work.
-fn append_many<'c, M: Asks<'c>>(
+pub fn append_many<'c, M: Asks<'c>>(
     out: &mut Vec<u8>,
-    explorer: Explorer<M>,
+    explorer: &mut Explorer<M>,
     steps: u32,
 ) -> Result<(), Stop> {
-    let mut explorer = explorer;
-    let (same, others) = counted(&mut explorer, steps)?;
+    let (same, others) = counted(explorer, steps)?;
     append_counts(out, same, others, explorer.work())
 }
 

@@ -73,7 +73,12 @@ pub fn order(alloc: Global, code: &Code<'_>, row: &Row, out: &mut Vec<u8>) -> Re
     let mut writer = CountingSink { taken: &taken };
     let chooser = Chooser::Listed(&[]);
     run_stream(alloc, code, &mut reader, &mut writer, 10, chooser)?;
-    append_number(out, b"", reader.taken_first.unwrap_or(u64::MAX))?;
-    append_number(out, b" before the first read, ", taken.get())?;
+    append_taken(out, reader.taken_first.unwrap_or(u64::MAX), taken.get())
+}
+
+/// Appends how many bytes the writer had taken before the first read and at the end.
+fn append_taken(out: &mut Vec<u8>, first: u64, all: u64) -> Result<(), Stop> {
+    append_number(out, b"", first)?;
+    append_number(out, b" before the first read, ", all)?;
     Ok(out.extend_from_slice(b" at the end")?)
 }

@@ -2,24 +2,21 @@
 
 ghost use Rattle.std.specs.Prelude.{◌<◌, IfSome};
 
-use crate::explorers::{explorer_of, next};
+use crate::explorers::{Start, by_trailed};
 use crate::fields::{code_of, number, short_number};
 use crate::same::{drawn_run, ended_with, is_end, is_same};
 use crate::stop::Stop;
+use crate::tasks::Task;
 use crate::texts::append_number;
 use ick_code::Code;
-use ick_machine::Asks;
 use ick_runs::{
-    Chooser, Drawn, Explorer, Run, SliceSource, Streamed, VecSink, drawn, run_seeded, run_stream,
+    Chooser, Drawn, Run, SliceSource, Streamed, VecSink, drawn, run_seeded, run_stream,
 };
 use rand_core::SeedableRng;
 use rand_core::utils::NextWord;
 use rand_pcg::Pcg32;
 use std::alloc::Global;
 use test_rows::Row;
-
-/// More runs than any row lists.
-const MOST: u32 = 10;
 
 /// Appends whether a statement of a chance is done by a word.
 pub fn draw(row: &Row, out: &mut Vec<u8>) -> Result<(), Stop> {
@@ -156,20 +153,14 @@ fn is_given(alloc: Global, code: &Code<'_>, limit: u32, run: &Run<'_>) -> Result
 
 /// Whether a run is listed.
 fn is_found(alloc: Global, code: &Code<'_>, limit: u32, run: &Run<'_>) -> Result<bool, Stop> {
-    finds(explorer_of(alloc, code, b"", limit, b"")?, run)
-}
-
-/// Whether an explorer gives a run.
-fn finds<'c, M: Asks<'c>>(explorer: Explorer<M>, run: &Run<'_>) -> Result<bool, Stop> {
-    let mut explorer = explorer;
-    for _ in 0..MOST {
-        match next(&mut explorer)? {
-            Some(found) if found.choices == run.choices => return Ok(is_same(&found, run)),
-            Some(_) => {}
-            None => return Ok(false),
-        }
-    }
-    Ok(false)
+    let start = Start {
+        input: b"",
+        limit,
+        work: 0,
+        from: b"",
+    };
+    let mut unused = Vec::new(alloc);
+    by_trailed(alloc, code, &start, &Task::Find(run), &mut unused)
 }
 
 /// Counts the seeds whose runs are streamed, by the seed and by their choices.
@@ -193,8 +184,19 @@ fn is_streamed_by(alloc: Global, code: &Code<'_>, input: &[u8], seed: u64) -> Re
     let Some(run) = drawn_run(alloc, code, input, 100, seed)? else {
         return Ok(false);
     };
-    let by_seed = is_streamed(alloc, code, input, Chooser::Seeded(seed), &run)?;
-    let by_choices = is_streamed(alloc, code, input, Chooser::Listed(&run.choices), &run)?;
+    is_streamed_twice(alloc, code, input, seed, &run)
+}
+
+/// Whether a run is streamed by its seed and by its choices.
+fn is_streamed_twice(
+    alloc: Global,
+    code: &Code<'_>,
+    input: &[u8],
+    seed: u64,
+    run: &Run<'_>,
+) -> Result<bool, Stop> {
+    let by_seed = is_streamed(alloc, code, input, Chooser::Seeded(seed), run)?;
+    let by_choices = is_streamed(alloc, code, input, Chooser::Listed(&run.choices), run)?;
     Ok(by_seed && by_choices)
 }
 

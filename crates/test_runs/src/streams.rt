@@ -8,7 +8,7 @@ use crate::stop::Stop;
 use crate::texts::{append_choices, append_end, append_error, append_number};
 use ick_bits::{NoMemory, append_quoted};
 use ick_code::Code;
-use ick_runs::{Chooser, Streamed, run_stream};
+use ick_runs::{Chooser, RunsError, Streamed, run_stream};
 use std::alloc::Global;
 use test_rows::Row;
 
@@ -76,15 +76,19 @@ fn stream_over(
 {
     let limit = short_number(row, b"limit", 100)?;
     let choices = choices(alloc, row.field(b"choices"))?;
-    match run_stream(
-        alloc,
-        code,
-        reader,
-        writer,
-        limit,
-        Chooser::Listed(&choices),
-    ) {
-        Ok(streamed) => Ok(append_streamed(out, &streamed)?),
-        Err(error) => Ok(append_error(alloc, out, error)?),
+    let chooser = Chooser::Listed(&choices);
+    let streamed = run_stream(alloc, code, reader, writer, limit, chooser);
+    Ok(append_outcome(alloc, out, streamed)?)
+}
+
+/// Appends how a run came out, or why it was refused.
+fn append_outcome(
+    alloc: Global,
+    out: &mut Vec<u8>,
+    streamed: Result<Streamed, RunsError>,
+) -> Result<(), NoMemory> {
+    match streamed {
+        Ok(streamed) => append_streamed(out, &streamed),
+        Err(error) => append_error(alloc, out, error),
     }
 }

@@ -23,13 +23,18 @@ pub fn report(alloc: Global, text: &[u8]) -> Result<Vec<u8>, NoMemory> {
 
 /// Makes the call of a row.
 fn answer(alloc: Global, row: &Row) -> Result<Vec<u8>, NoMemory> {
-    match row.field(b"call") {
-        b"serve" => served(alloc, row),
-        b"devices" => devices(alloc, row),
-        b"cut short" => cut_short(alloc, row),
-        b"arguments not text" => refused(alloc, WordsFault::NotText),
-        b"arguments out of memory" => refused(alloc, WordsFault::NoMemory),
-        _ => Ok(Vec::from_slice(alloc, b"no such call")?),
+    if row.calls(b"serve") {
+        served(alloc, row)
+    } else if row.calls(b"devices") {
+        devices(alloc, row)
+    } else if row.calls(b"cut short") {
+        cut_short(alloc, row)
+    } else if row.calls(b"arguments not text") {
+        refused(alloc, WordsFault::NotText)
+    } else if row.calls(b"arguments out of memory") {
+        refused(alloc, WordsFault::NoMemory)
+    } else {
+        Ok(Vec::from_slice(alloc, b"no such call")?)
     }
 }
 
