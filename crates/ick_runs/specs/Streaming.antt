@@ -69,8 +69,8 @@ abbrev pub IsCutOff : Bool → Execution → List ℕ → List ℕ → Type 0
 IsCutOff told x written written' = (n : ℕ) × (told ≡ true → written' ≡ written ++ take n x.last.output)
 
 -- the facts that hold after each answer
-abbrev pub Stops : Bool → Execution → List Bool → List Bool → List ℕ → List ℕ → List ℕ → List ℕ →
-    Result (EndKind × ℕ) RunsError → Type 0
+abbrev pub Stops : Bool → Execution → List Bool → List Bool →
+    List ℕ → List ℕ → List ℕ → List ℕ → Result (EndKind × ℕ) RunsError → Type 0
 Stops told x c taken message written written' left (Ok stopped) =
     HasStopped told x c taken message written written' left stopped.0 stopped.1
 Stops told x c taken message written written' left (Err error) = IsCutOff told x written written'

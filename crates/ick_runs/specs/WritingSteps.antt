@@ -92,7 +92,7 @@ pub record AtEnd (told : Bool) (s : State) (cs : List (List Bool)) (count : ℕ)
   pub text : told ≡ true → w' ≡ w ++ run_lines old.program s old.limit (take count cs)
 
 -- the facts that hold after each answer, before the last line is written
-abbrev pub WritesLines : Bool → State → List (List Bool) → ℕ → Explored → Explored → List ℕ → List ℕ →
-    Result Listed2 RunsError → Type 0
+abbrev pub WritesLines : Bool → State → List (List Bool) → ℕ → Explored → Explored →
+    List ℕ → List ℕ → Result Listed2 RunsError → Type 0
 WritesLines told s cs count old new w w' (Ok listed) = AtEnd told s cs count old new w w' listed
 WritesLines told s cs count old new w w' (Err error) = Writes told s cs count old new w w' (Err error)

@@ -88,7 +88,7 @@ fn print_code(rt: &HostRuntime, code: &Code<'_>) -> io::Result<()> {
     print_lowered(rt, &lowered)
 }
 
-/// Prints what a program is lowered to: constants, subscripts and instructions.
+/// Prints the constants, the subscripts and the instructions of a lowered program.
 fn print_lowered(rt: &HostRuntime, lowered: &Lowered) -> io::Result<()> {
     let (base, first) = (lowered.layout.base, lowered.layout.first);
     println!(rt; "scalars below {base}, temporaries below {first}")?;

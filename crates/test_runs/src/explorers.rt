@@ -1,6 +1,6 @@
-//! Explorers over both machines, and their runs. Most of these functions have no contract, so that
-//! the proofs of their callers don't carry what the contracts of an explorer say. Only `by_copied`
-//! and `by_trailed` name a machine: a call of a generic function at a machine is dear to prove.
+//! Explorers over both machines, and their runs. Most of these functions have no contract, because
+//! each clause makes the proofs of their callers longer. Two functions name a machine, `by_copied`
+//! and `by_trailed`, because a call of a generic function at a machine takes seconds to prove.
 
 ghost use Rattle.std.specs.Prelude.{◌≡◌, [], IfOk};
 

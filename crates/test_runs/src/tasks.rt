@@ -32,7 +32,7 @@ pub enum Task<'t> {
     Compare(&'t [Run<'t>]),
 }
 
-/// Does a task. Returns whether what it asks is so, or `true` if it asks nothing.
+/// Does a task. Returns the answer to the task's question, or `true` if the task asks nothing.
 pub fn done<'c, M: Asks<'c>>(
     alloc: Global,
     task: &Task<'_>,
