@@ -10,7 +10,7 @@ ghost use Rattle.ick_bits.specs.Digits.{begins_word, word_at, digit_of, line_ans
 use crate::white::is_white;
 
 /// Why a line is not a number.
-#[derive(Clone, Copy, Debug, PartialEq, Eq)]
+#[derive(Clone, Copy, Debug)]
 pub enum DigitFault {
     /// The first word that names no digit. It begins at byte `from` of the line and ends before
     /// byte `to`.

@@ -149,7 +149,7 @@ struct Text<'a> {
 }
 
 /// A fault of a statement.
-#[derive(Clone, Copy, Debug, PartialEq, Eq)]
+#[derive(Clone, Copy, Debug)]
 pub struct Fault<'a> {
     /// The kind of fault.
     pub kind: FaultKind,

@@ -6,7 +6,7 @@ ghost use Rattle.ick_bits.specs.Memory.{no_memory};
 use std::alloc::{AllocError, AllocFailed};
 
 /// A text, a list or a table cannot grow, because memory is refused.
-#[derive(Clone, Copy, Debug, PartialEq, Eq)]
+#[derive(Clone, Copy, Debug)]
 pub struct NoMemory;
 
 impl From<AllocError> for NoMemory {

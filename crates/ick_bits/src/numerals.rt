@@ -9,7 +9,7 @@ use itoa::Buffer;
 
 /// A letter of a numeral (Revised Manual, 4.4.13). A bar over it makes it worth a thousand times as
 /// much. A small letter is worth a million times its capital.
-#[derive(Clone, Copy, Debug, PartialEq, Eq, Default)]
+#[derive(Clone, Copy, Debug, Default)]
 pub struct Symbol {
     /// The letter, as an ASCII byte.
     pub letter: u8,

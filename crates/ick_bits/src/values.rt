@@ -18,7 +18,7 @@ pub enum Width {
 /// the width.
 ///
 /// Contracts see a value as `Narrow n` or `Wide n`.
-#[derive(Clone, Copy, Debug, PartialEq, Eq)]
+#[derive(Clone, Copy, Debug)]
 pub struct Value {
     number: u32,
     width: Width,

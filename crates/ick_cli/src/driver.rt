@@ -112,7 +112,7 @@ pub fn serve<F: Files, R: ByteSource, W: ByteSink, E: ByteSink>(
 }
 
 /// Why the arguments can't be read.
-#[derive(Clone, Copy, Debug, PartialEq, Eq)]
+#[derive(Clone, Copy, Debug)]
 pub enum WordsFault {
     /// Memory ran out.
     NoMemory,

@@ -4,7 +4,7 @@ ghost use Rattle.ick_cli.specs.Ending.{message_text};
 ghost use Rattle.ick_cli.specs.Notice.{notice_text};
 
 /// A line that the program has itself, so that it takes no memory.
-#[derive(Clone, Copy, Debug, PartialEq, Eq)]
+#[derive(Clone, Copy, Debug)]
 pub enum Notice {
     ChoicesAndSeed,
     BadCursor,

@@ -4,7 +4,7 @@ use ick_source::Gerund;
 use std::mem::size_of;
 
 /// The slot of a scalar or of an array.
-#[derive(Clone, Copy, Debug, PartialEq, Eq)]
+#[derive(Clone, Copy, Debug)]
 pub enum SlotName {
     /// The slot of a onespot or a twospot.
     Scalar(u32),
@@ -14,7 +14,7 @@ pub enum SlotName {
 
 /// One operation. It pops its operands off the operand stack, the last one first, changes the
 /// state, and pushes its result. If it raises one of its faults, the fault ends the statement.
-#[derive(Clone, Copy, Debug, PartialEq, Eq)]
+#[derive(Clone, Copy, Debug)]
 pub enum Op {
     /// `Constant(number)` pops nothing and pushes the mesh. No fault (Revised Manual, 3.2).
     Constant(u16),

@@ -11,7 +11,7 @@ use ick_bits::NoMemory;
 use std::alloc::{AllocError, AllocFailed};
 
 /// Why a feed answered neither a line, nor a byte, nor the end of the input.
-#[derive(Clone, Copy, Debug, PartialEq, Eq)]
+#[derive(Clone, Copy, Debug)]
 pub enum FeedFault {
     /// Memory for the line was refused.
     NoMemory,

@@ -7,7 +7,7 @@ ghost use Rattle.ick_machine.specs.declared.halt.Halt.TheVariants.{Fault as Faul
 use ick_bits::{FaultKind, NoMemory};
 
 /// Why the operations of a statement stop early.
-#[derive(Clone, Copy, Debug, PartialEq, Eq)]
+#[derive(Clone, Copy, Debug)]
 pub enum Halt {
     /// A fault without a subject.
     Fault(FaultKind),

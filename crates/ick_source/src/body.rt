@@ -32,7 +32,7 @@ pub enum Item {
 }
 
 /// A gerund, by which ABSTAIN and REINSTATE name statements of one kind (Revised Manual, 4.4.9).
-#[derive(Clone, Copy, Debug, PartialEq, Eq)]
+#[derive(Clone, Copy, Debug)]
 pub enum Gerund {
     /// Names calculations and dimensionings.
     Calculating,

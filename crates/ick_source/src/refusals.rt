@@ -8,7 +8,7 @@ use std::alloc::{AllocError, AllocFailed};
 use thiserror::Error;
 
 /// The reason why `read_source` refuses a source text.
-#[derive(Clone, Copy, Debug, PartialEq, Eq, Error)]
+#[derive(Clone, Copy, Debug, Error)]
 pub enum Refusal {
     /// Gives the first kind of fault that any statement has, in the order that `read_source` lists,
     /// and the number of the first statement that has it.

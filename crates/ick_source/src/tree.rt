@@ -17,7 +17,7 @@ pub enum NameKind {
 
 /// A variable or an array: its kind, and its number from 1 to 65,535 (Revised Manual, 3.1 and 3.3,
 /// after INTERCAL-72).
-#[derive(Clone, Copy, Debug, PartialEq, Eq)]
+#[derive(Clone, Copy, Debug)]
 pub struct Name {
     pub kind: NameKind,
     pub number: u16,

@@ -12,7 +12,7 @@ use clap::{ArgMatches, Error};
 use std::alloc::Global;
 
 /// What is to be done with a program.
-#[derive(Clone, Copy, Debug, PartialEq, Eq)]
+#[derive(Clone, Copy, Debug)]
 pub enum Subcommand<'a> {
     /// Its statements are counted.
     Check,

@@ -4,7 +4,7 @@ ghost use Rattle.std.specs.Prelude.{if◌then◌else◌, ℕ, List, Bool, [], tr
 ghost use Rattle.std.specs.Prelude.{is_ok, length, take};
 
 /// Tells that a call of a device failed.
-#[derive(Clone, Copy, Debug, PartialEq, Eq)]
+#[derive(Clone, Copy, Debug)]
 pub struct DeviceFault;
 
 /// Supplies bytes of input.

@@ -11,7 +11,7 @@ use std::alloc::Global;
 const BLOCK: usize = 4096;
 
 /// Tells why a source was not read.
-#[derive(Clone, Copy, Debug, PartialEq, Eq)]
+#[derive(Clone, Copy, Debug)]
 pub enum ReadFault {
     NoMemory,
     Failed,
