@@ -32,11 +32,11 @@ SECONDS = 300
 
 
 def rows_of(text):
-    """The rows of a text, by their names: paragraphs without comments. Large rows are left out."""
+    """The rows of a text, by their names: paragraphs without comments. Rows that are attempted once are left out."""
     found = {}
     for paragraph in text.split("\n\n"):
         lines = [line for line in paragraph.splitlines() if line and not line.startswith("-- ")]
-        if lines and "large" not in lines:
+        if lines and "once" not in lines:
             found[lines[0]] = "\n".join(lines)
     return found
 

@@ -35,10 +35,10 @@ fn answer(context: &mut Context<'_>, row: &Row) -> Result<(), Stop> {
         machines::answer(context, row)
     } else if row.calls(b"step Live") || row.calls(b"run Live") {
         live::answer(context, row)
-    } else if row.calls(b"serve") {
-        served::answer(context, row)
-    } else {
+    } else if row.field(b"call").starts_with(b"run_") {
         answer_of_run(context, row)
+    } else {
+        served::answer(context, row)
     }
 }
 

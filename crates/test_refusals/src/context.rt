@@ -1,16 +1,19 @@
 //! What an attempt at a row has at hand.
 
 use crate::buffer::Buffer;
+use crate::devices::WornSink;
 use std::alloc::{AllocError, Global};
 
-/// The runtime, the answer, and a further buffer.
+/// The runtime, the answer, a further buffer, and the streams of `serve`.
 #[derive(Drop)]
 pub struct Context<'r> {
     rt: &'r HostRuntime,
     /// The answer to the row so far.
     pub answer: Buffer,
-    /// What was seen before a call, the error text of `serve`, or the line for the row.
+    /// What was seen before a call, or the line for the row.
     pub other: Buffer,
+    pub output: WornSink,
+    pub errors: WornSink,
 }
 
 impl<'r> Context<'r> {
@@ -18,7 +21,15 @@ impl<'r> Context<'r> {
     pub fn new(rt: &'r HostRuntime) -> Result<Context<'r>, AllocError> {
         let answer = Buffer::new(rt.alloc())?;
         let other = Buffer::new(rt.alloc())?;
-        Ok(Context { rt, answer, other })
+        let output = WornSink::new(rt.alloc())?;
+        let errors = WornSink::new(rt.alloc())?;
+        Ok(Context {
+            rt,
+            answer,
+            other,
+            output,
+            errors,
+        })
     }
 
     /// Returns the allocator.

@@ -1,5 +1,7 @@
 //! The program `test_refusals`: makes the calls of rows, which come on standard input, and prints
-//! the name of each row that holds, and how each other row differs.
+//! the name of each row that holds, and how each other row differs. The calls are those that can be
+//! refused memory, and those of the command line over devices that fail. Calls of the command line
+//! whose devices don't fail are tried over the built program too, by the rows of tests/cli.
 //!
 //! If a call is refused memory, its name goes to standard error. The program then looks at what
 //! must hold after the refusal, and makes the same call again if it may. It takes no memory of its
@@ -19,22 +21,25 @@
 //! | `explorers` | listings of a machine's runs |
 //! | `live`, `feeds` | the machine that reads its input from a feed |
 //! | `runs` | whole runs |
-//! | `served`, `one_file` | the command line, over one file |
+//! | `served`, `cut_short` | the command line, also over a writer that fails at each byte |
+//! | `devices`, `shelf` | a reader, a writer and files that fail after so many calls or bytes |
 #![tactic(auto)]
 
 mod attempt;
 mod buffer;
 mod context;
+mod cut_short;
+mod devices;
 mod ends;
 mod explorers;
 mod feeds;
 mod fields;
 mod live;
 mod machines;
-mod one_file;
 mod runs;
 mod scripts;
 mod served;
+mod shelf;
 mod stop;
 mod texts;
 

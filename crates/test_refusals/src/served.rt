@@ -1,44 +1,138 @@
-//! The command line. After a refusal the status is 4, a prefix of the output was written, and the
-//! error text is `OUT OF MEMORY`.
+//! The command line, over devices that fail where a row says so. After a refusal the status is 4, a
+//! prefix of the output was written, and the error text is `OUT OF MEMORY`.
 
 use crate::context::Context;
-use crate::one_file::OneFile;
+use crate::cut_short::cut_short;
+use crate::devices::WornSource;
+use crate::fields::number;
+use crate::shelf::Shelf;
 use crate::stop::{Call, Stop, Wrong};
 use arrayvec::ArrayVec;
-use ick_cli::serve;
-use ick_runs::SliceSource;
+use ick_cli::{WordsFault, refuse_words, serve};
 use test_rows::Row;
 
 /// The most arguments of a row.
 const MOST: usize = 8;
 
-/// Adds the output of `serve` with the arguments of a row, its status and its error text. Each file
-/// has the bytes of the field `source`.
+/// How many bytes the streams take.
+#[derive(Clone, Copy)]
+pub struct Rooms {
+    pub output: u64,
+    pub errors: u64,
+}
+
+/// What a call left: its status, how often it opened a file, and how many bytes of the reader.
+#[derive(Clone, Copy)]
+pub struct Left {
+    pub code: u8,
+    opened: u64,
+    unread: u64,
+}
+
+/// Makes the call of a row that is about the command line.
 pub fn answer(context: &mut Context<'_>, row: &Row) -> Result<(), Stop> {
-    let mut files = OneFile {
+    if row.calls(b"serve") {
+        whole(context, row)
+    } else if row.calls(b"devices") {
+        of_devices(context, row)
+    } else if row.calls(b"cut short") {
+        cut_short(context, row)
+    } else if row.calls(b"arguments not text") {
+        refused(context, WordsFault::NotText);
+        Ok(())
+    } else if row.calls(b"arguments out of memory") {
+        refused(context, WordsFault::NoMemory);
+        Ok(())
+    } else {
+        Err(Stop::Wrong(Wrong::NoSuchCall))
+    }
+}
+
+/// Adds the output of `serve` with the arguments of a row, its status and its error text.
+fn whole(context: &mut Context<'_>, row: &Row) -> Result<(), Stop> {
+    let left = served(context, row, rooms_of(row))?;
+    say_status(context, left.code);
+    Ok(())
+}
+
+/// Adds a status and the error text.
+pub fn say_status(context: &mut Context<'_>, code: u8) {
+    context.answer.say(b"status ");
+    context.answer.count(u64::from(code), b"\n");
+    context.answer.say(context.errors.bytes());
+}
+
+/// Adds how many files `serve` opened with the arguments of a row, and how many bytes of the reader
+/// it left.
+fn of_devices(context: &mut Context<'_>, row: &Row) -> Result<(), Stop> {
+    let left = served(context, row, rooms_of(row));
+    context.answer.clear();
+    let left = left?;
+    context.answer.say(b"opened ");
+    context.answer.count(left.opened, b", unread ");
+    context.answer.count(left.unread, b"");
+    Ok(())
+}
+
+/// Adds the status and the error text that arguments get which can't be read.
+fn refused(context: &mut Context<'_>, fault: WordsFault) {
+    context.errors.begin(u64::MAX);
+    let status = refuse_words(fault, &mut context.errors);
+    say_status(context, status.code());
+}
+
+/// Returns how many bytes the streams of a row take.
+fn rooms_of(row: &Row) -> Rooms {
+    Rooms {
+        output: allowed(row, b"room"),
+        errors: allowed(row, b"errorroom"),
+    }
+}
+
+/// Returns the number in a field, or the greatest one if the row has no such field.
+fn allowed(row: &Row, word: &[u8]) -> u64 {
+    if row.field(word).is_empty() {
+        return u64::MAX;
+    }
+    u64::from(number(row, word))
+}
+
+/// Calls `serve` with the arguments of a row, over streams with these rooms, and adds the output.
+/// The file `f` has the field `source`, and the file `e` is empty.
+pub fn served(context: &mut Context<'_>, row: &Row, rooms: Rooms) -> Result<Left, Stop> {
+    let mut files = Shelf {
         bytes: row.field(b"source"),
         rest: b"",
+        good: allowed(row, b"filereads"),
+        opened: 0,
+        failures: 0,
     };
-    let mut reader = SliceSource::new(row.field(b"input"));
-    context.other.clear();
+    let mut reader = WornSource {
+        rest: row.field(b"input"),
+        piece: allowed(row, b"piece"),
+        good: allowed(row, b"reads"),
+        failures: 0,
+    };
+    context.output.begin(rooms.output);
+    context.errors.begin(rooms.errors);
     let status = serve(
         context.alloc(),
         &arguments(row),
         &mut files,
         &mut reader,
-        &mut context.answer,
-        &mut context.other,
+        &mut context.output,
+        &mut context.errors,
     );
-    if status.code() == 4 {
-        if context.other.bytes() != b"OUT OF MEMORY\n".as_slice() {
-            return Err(Stop::Wrong(Wrong::OtherRefusal));
-        }
+    context.answer.say(context.output.bytes());
+    let code = status.code();
+    if code == 4 && context.errors.bytes() == b"OUT OF MEMORY\n".as_slice() {
         return Err(Stop::Refused(Call::Serve));
     }
-    context.answer.say(b"status ");
-    context.answer.count(u64::from(status.code()), b"\n");
-    context.answer.say(context.other.bytes());
-    Ok(())
+    Ok(Left {
+        code,
+        opened: files.opened,
+        unread: reader.rest.len() as u64,
+    })
 }
 
 /// Returns the arguments of a row, which blanks part. There are none if they are no text.

@@ -1,8 +1,10 @@
 //! A reader and a writer that fail where a row says so.
 
-ghost use Rattle.std.specs.Prelude.{true};
+ghost use Rattle.std.specs.Prelude.{◌≡◌, [], false};
 
+use crate::buffer::Buffer;
 use ick_runs::{ByteSink, ByteSource, DeviceFault};
+use std::alloc::{AllocError, Global};
 
 /// A source that hands out `piece` bytes a call, and at least one, and fails once `good` calls were
 /// made.
@@ -15,9 +17,9 @@ pub struct WornSource<'a> {
 }
 
 impl ByteSource for WornSource<'_> {
-    ghost told = { true };
+    ghost told = { false };
 
-    ghost left = { λ s. s.rest.now };
+    ghost left = { λ _. [] };
 
     ghost failed = { λ s. s.failures };
 
@@ -40,18 +42,44 @@ impl ByteSource for WornSource<'_> {
     }
 }
 
-/// A sink that takes so many bytes, one a call, and then fails.
+/// A sink that takes so many bytes, one a call, and then fails. To write to it takes no memory.
 #[derive(Drop)]
 pub struct WornSink {
-    pub bytes: Vec<u8>,
-    pub room: u64,
+    buffer: Buffer,
+    room: u64,
     pub failures: u64,
 }
 
-impl ByteSink for WornSink {
-    ghost told = { true };
+impl WornSink {
+    /// Takes the room of an empty buffer. The sink takes no byte.
+    pub fn new(alloc: Global) -> Result<WornSink, AllocError> {
+        let buffer = Buffer::new(alloc)?;
+        Ok(WornSink {
+            buffer,
+            room: 0,
+            failures: 0,
+        })
+    }
 
-    ghost written = { λ s. s.bytes.items };
+    /// Removes all bytes. The sink then takes as many as `room` says, and has not failed.
+    pub fn begin(&mut self, room: u64)
+        ensures { self.new.failures ≡ 0 }
+    {
+        self.buffer.clear();
+        self.room = room;
+        self.failures = 0;
+    }
+
+    /// Returns the bytes.
+    pub fn bytes(&self) -> &[u8] {
+        self.buffer.bytes()
+    }
+}
+
+impl ByteSink for WornSink {
+    ghost told = { false };
+
+    ghost written = { λ _. [] };
 
     ghost failed = { λ s. s.failures };
 
@@ -60,13 +88,15 @@ impl ByteSink for WornSink {
     }
 
     fn write(&mut self, text: &[u8]) -> Result<usize, DeviceFault> {
-        let Some(first) = text.first() else {
+        if text.is_empty() {
             return Ok(0);
-        };
-        if (self.bytes.len() as u64) < self.room && self.bytes.push(*first).is_ok() {
-            return Ok(1);
         }
-        self.failures += 1;
-        Err(DeviceFault)
+        if self.room == 0 {
+            self.failures += 1;
+            return Err(DeviceFault);
+        }
+        self.room -= 1;
+        self.buffer.say(&text[..1]);
+        Ok(1)
     }
 }
