@@ -42,8 +42,8 @@ fn append_fifth(alloc: Global, program: &Program<'_>, out: &mut Text) -> Result<
     Ok(())
 }
 
-/// Appends the letter of what is out of range in the fifth statement. Stops if `read_source`
-/// refused the source for another reason.
+/// Appends a letter for the kind of number that is out of range in the fifth statement. Stops if
+/// `read_source` refused the source for another reason.
 fn append_range(out: &mut Text, refusal: Refusal) -> Result<(), Stop> {
     match refusal {
         Refusal::Fault(FaultKind::MeshTooLarge, 5) => out.push(b'M'),

@@ -54,7 +54,7 @@ fn is_word(word: &[u8], wanted: &[u8]) -> bool {
     word == wanted
 }
 
-/// Goes back to the last mark if the word is `back`. Otherwise adds what is seen of the machine.
+/// Goes back to the last mark if the word is `back`. Otherwise adds the machine's answers.
 fn go_back_or_say<'c, M: Asks<'c>>(context: &mut Context<'_>, machine: &mut M, word: &[u8]) {
     if is_word(word, b"back") {
         back(machine);
@@ -80,7 +80,7 @@ fn say_ask(out: &mut Buffer, ask: Ask<'_>) {
     }
 }
 
-/// Writes what is seen of a machine to `other`.
+/// Replaces `other` by the machine's answers.
 fn see<'c, M: Asks<'c>>(context: &mut Context<'_>, machine: &M) {
     context.other.clear();
     say_machine(&mut context.other, machine);
