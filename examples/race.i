@@ -1,22 +1,41 @@
-PLEASE NOTE: SEVEN LETTERS COME INTO A BOX FOR SIX. BETWEEN TWO LETTERS A CLERK MAY EMPTY
-        THE BOX
-        DO ,2 <- #5
-        DO ,2SUB#1 <- #54  DO ,2SUB#2 <- #68  PLEASE ,2SUB#3 <- #32
-        DO ,2SUB#4 <- #192  DO ,2SUB#5 <- #86
+PLEASE NOTE: TWO CLERKS COUNT LETTERS IN ONE BOOK, .1, WHICH SAYS 1. EACH OF THEM READS THE
+        NUMBER, AND IN ANOTHER STEP WRITES THE NEXT NUMBER. SO THE BOOK SAYS 3 IN THE END,
+        UNLESS ONE CLERK READS WHILE THE OTHER IS ABOUT TO WRITE
+        DO .1 <- #1
+        DO ,1 <- #2
+        DO ,1SUB#1 <- #2
+        PLEASE ,1SUB#2 <- #3
 
-DO NOTE: .1 HAS A 1 FOR EACH LETTER IN THE BOX: 1, 3, 7, 15, 31, 63, AND 127 IS NO ELEMENT
-        OF ,1
-        PLEASE ,1 <- #63
+DO NOTE: CLERK N IS AT STEP ,2SUBN, AND HAS READ ,3SUBN
+        DO ,2 <- #2
+        DO ,3 <- #2
+        DO ,2SUB#1 <- #1
+        PLEASE ,2SUB#2 <- #1
+
+DO NOTE: FOUR STEPS. WHILE BOTH CLERKS HAVE STEPS LEFT, CLERK .9 IS 1, AND A CHOICE CAN TAKE
+        THE OTHER
+        DO .9 <- #1
         DO (10) NEXT
-        DO (20) NEXT
-        DO (20) NEXT
-        PLEASE (20) NEXT
-        DO (20) NEXT
-        DO (20) NEXT
-        DO (20) NEXT
-        PLEASE READ OUT ,2
+        DO (10) NEXT
+        DO (10) NEXT
+        PLEASE (10) NEXT
+        DO READ OUT .1
         DO GIVE UP
-(20)    DO %50 .1 <- #0
-(10)    DO .1 <- '.1$#1'~'#32767$#1'
-        PLEASE ,1SUB.1 <- #1
+(10)    DO .6 <- .9
+(11)    DO %50 .6 <- #2
+        PLEASE .5 <- ,2SUB.6
+        DO (20) NEXT
+
+DO NOTE: STEP 2 WRITES. THEN ONLY THE OTHER CLERK GOES ON
+        PLEASE .1 <- ,1SUB,3SUB.6
+        DO .9 <- '?.6$#3'~'#0$#65535'
+        DO ABSTAIN FROM (11)
         DO RESUME #1
+(20)    DO (30) NEXT
+        PLEASE FORGET #1
+
+DO NOTE: STEP 1 READS
+        DO ,3SUB.6 <- .1
+        PLEASE ,2SUB.6 <- #2
+        DO RESUME #1
+(30)    DO RESUME .5

@@ -1,0 +1,18 @@
+PLEASE NOTE: .5 IS 1 OR 2. ONE OF TWO WAYS IS TAKEN, AND BOTH MEET AT LABEL 40
+        DO .5 <- #1
+        DO %50 .5 <- #2
+        DO (10) NEXT
+
+DO NOTE: HERE .5 IS 2
+        DO READ OUT #2
+        PLEASE (40) NEXT
+(10)    DO (20) NEXT
+
+DO NOTE: HERE .5 IS 1
+        PLEASE FORGET #1
+        DO READ OUT #1
+        DO (40) NEXT
+(20)    DO RESUME .5
+(40)    PLEASE FORGET #1
+        DO READ OUT #9
+        DO GIVE UP
