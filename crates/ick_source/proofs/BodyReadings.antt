@@ -1,5 +1,5 @@
 -- From what is found of the parts of a body to what is found of the body.
-use Rattle.std.proofs.Common.{◌≡◌, ℕ, List, [], ◌∷◌, Option, Some, map, refl, sym, ap, subst}
+use Rattle.std.proofs.Common.{◌≡◌, ℕ, List, [], ◌∷◌, Option, Some, Result, map, refl, sym, ap, subst}
 use Rattle.std.specs.Prelude.{codes}
 use Rattle.ick_source.specs.declared.tree.NameKind.{NameKind}
 use Rattle.ick_source.specs.declared.tree.Name.{Name}
@@ -8,6 +8,7 @@ use Rattle.ick_source.specs.declared.lead.Lead.TheVariants.{Array}
 use Rattle.ick_source.specs.declared.body.Body.{Body}
 use Rattle.ick_source.specs.declared.body.Gerund.{Gerund}
 use Rattle.ick_source.specs.declared.parsed.Parsed.{Parsed}
+use Rattle.ick_source.specs.declared.parsed.Unread.{Unread}
 use Rattle.ick_source.specs.declared.position.Position.{Position}
 use Rattle.ick_source.specs.declared.form.Form.{Form}
 use Rattle.ick_source.specs.declared.form.Form.TheVariants.{Calculation, Dimensioning, Call, Action}
@@ -29,7 +30,7 @@ use Rattle.ick_source.specs.BodyGrammar.{remembers, abstains_label, abstains_kin
 use Rattle.ick_source.specs.BodyGrammar.{writes_in, reads_out, IsBodyOf, calculates, dimensions, nexts, does}
 use Rattle.ick_source.specs.Nonterminal.{Nonterminal, listed, wholes, names, targets, places, items, gerunds, labels}
 use Rattle.ick_source.specs.Nonterminal.{after, formed, bodies}
-use Rattle.ick_source.specs.Answers.{IsParsed, IsAbsent, Answers}
+use Rattle.ick_source.specs.Answers.{IsParsed, IsAbsent, AnswersRead}
 use Rattle.ick_source.specs.Made.{IsMade, of_none, of_part}
 use Rattle.ick_source.proofs.WordUnique.{word_unique, verb_unique, no_gerund_in_brackets}
 use Rattle.ick_source.proofs.PartUnique.{target_unique, name_unique, label_unique, spot_is_no_array}
@@ -37,12 +38,12 @@ use Rattle.ick_source.proofs.PartReadings.{Makes, found_as, absent_as}
 
 -- what is made of a part answers for what it makes
 pub made_as : {N M : Nonterminal} {value : N.Value → M.Value} {change : N.Clamped →
-    M.Clamped} {from from' : List ℕ} {T : Type 0} {gives : T → Body → Type 0} {p : Option (Parsed T
-    Position)} {b : Option (Parsed Body Position)} → Makes N M value change from from' →
+    M.Clamped} {from from' : List ℕ} {T : Type 0} {gives : T → Body → Type 0} {p : Result (Parsed T
+    Position) Unread} {b : Result (Parsed Body Position) Unread} → Makes N M value change from from' →
     (seen : T → N.Clamped) (seen' : Body → M.Clamped) →
     ((v : T) (w : Body) → gives v w → seen' w ≡ change (seen v)) → (text : List ℕ) →
-    IsMade T gives p b → Answers N seen text from p → Answers M seen' text from' b
-made_as m seen seen' same text of_none a = absent_as m a
+    IsMade T gives p b → AnswersRead N seen text from p → AnswersRead M seen' text from' b
+made_as m seen seen' same text of_none a = λ absent. absent_as m (a absent)
 made_as {M = M} {from' = from'} m seen seen' same text (of_part {part = p} {body = b} given to faults) a =
     rw (to, faults, same p.value b.value given) (found_as m a)
 

@@ -1,7 +1,7 @@
 -- From what the parts answer to what the whole answers.
 use Rattle.std.proofs.Common.{◌≡◌, ◌≢◌, ℕ, suc, ◌+◌, ◌-◌, ◌<◌, ◌≤◌, max, List, Option}
-use Rattle.std.proofs.Common.{Some, None, Result, Ok, Err, IfOk, refl, sym, ap, subst, ◌∙◌, arith}
-use Rattle.std.specs.declared.alloc.AllocError.{AllocError}
+use Rattle.std.proofs.Common.{Some, None, Result, Ok, Err, refl, sym, ap, subst, ◌∙◌, arith}
+use Rattle.std.specs.Prelude.{MatchResult}
 use Rattle.ick_source.specs.declared.tree.NameKind.{NameKind}
 use Rattle.ick_source.specs.declared.tree.UnaryOp.{UnaryOp}
 use Rattle.ick_source.specs.declared.tree.BinaryOp.{BinaryOp}
@@ -9,10 +9,12 @@ use Rattle.ick_source.specs.declared.faults.Faults.{Faults}
 use Rattle.ick_source.specs.declared.lead.Delimiter.{Delimiter}
 use Rattle.ick_source.specs.declared.lead.Lead.TheVariants.{Spot, Array, Hash, Group, Binary}
 use Rattle.ick_source.specs.declared.parsed.Measured.{Measured}
+use Rattle.ick_source.specs.declared.parsed.Unread.{Unread}
+use Rattle.ick_source.specs.declared.parsed.Unread.TheVariants.{Absent, NoMemory}
 use Rattle.ick_source.specs.declared.tree.Expr.{Expr}
-use Rattle.ick_source.specs.Position.{next_lead, past_lead}
+use Rattle.ick_source.specs.Position.{left_at, next_lead, past_lead}
 use Rattle.ick_source.specs.Token.{unary_at, past_unary}
-use Rattle.ick_source.specs.Tree.{Tree, mesh, scalar, binary, under}
+use Rattle.ick_source.specs.Tree.{Tree, mesh, scalar, binary, under, tree_of}
 use Rattle.ick_source.specs.Clamped.{clamped_tree, faults_of, both_faults}
 use Rattle.ick_source.specs.Expression.{IsExpr, alone, joined, IsOperand, of_simple, of_element, IsSimple, spot}
 use Rattle.ick_source.specs.Expression.{constant, group, IsElement, indexed}
@@ -21,15 +23,16 @@ use Rattle.ick_source.proofs.ClampedLemmas.{clamped_tree-under, faults_of-under}
 use Rattle.ick_source.proofs.ExpressionUnique.{expr_unique, operand_unique}
 
 abbrev pub Answer : Type 0
-Answer = Result (Option (Measured Expr)) AllocError
+Answer = Result (Measured Expr) Unread
 
 -- what answers for one reading answers for another that holds of the same
-pub answers_as : {R S : Reading} (limit : ℕ) (text : List ℕ) (o : Option (Measured Expr)) →
+pub answers_as : {R S : Reading} (limit : ℕ) (text : List ℕ) (r : Answer) →
     ((to : List ℕ) (t : Tree) (h : ℕ) → R to t h → S to t h) →
     ((to : List ℕ) (t : Tree) (h : ℕ) → S to t h → R to t h) →
-    AnswersTree R limit text o → AnswersTree S limit text o
-answers_as limit text None there back a = record { no_tree = λ to t h s low. a.no_tree to t h (back to t h s) low }
-answers_as limit text (Some x) there back a =
+    AnswersTree R limit text r → AnswersTree S limit text r
+answers_as limit text (Err e) there back a =
+    λ absent. record { no_tree = λ to t h s low. (a absent).no_tree to t h (back to t h s) low }
+answers_as limit text (Ok x) there back a =
     record {
       tree = a.tree;
       stands = there _ _ _ a.stands;
@@ -38,20 +41,12 @@ answers_as limit text (Some x) there back a =
       are_faults = a.are_faults;
     }
 
-pub if_ok_as : {R S : Reading} (limit : ℕ) (text : List ℕ) (r : Answer) →
-    ((to : List ℕ) (t : Tree) (h : ℕ) → R to t h → S to t h) →
-    ((to : List ℕ) (t : Tree) (h : ℕ) → S to t h → R to t h) →
-    IfOk r (AnswersTree R limit text) → IfOk r (AnswersTree S limit text)
-if_ok_as limit text (Ok o) there back a = answers_as limit text o there back a
-if_ok_as limit text (Err e) there back a = a
-
 -- a limit that no height meets
-pub if_ok_raised : {R : Reading} (limit : ℕ) (text : List ℕ) (r : Answer) → ((to : List ℕ) (t : Tree)
-    (h : ℕ) → R to t h → h ≡ 1) → 0 < limit → IfOk r (AnswersTree R 1 text) →
-    IfOk r (AnswersTree R limit text)
-if_ok_raised limit text (Ok None) one some a =
-    record { no_tree = λ to t h s low. a.no_tree to t h s (omega (arith, one to t h s)) }
-if_ok_raised limit text (Ok (Some x)) one some a =
+pub answers_raised : {R : Reading} (limit : ℕ) (text : List ℕ) (r : Answer) → ((to : List ℕ) (t : Tree)
+    (h : ℕ) → R to t h → h ≡ 1) → 0 < limit → AnswersTree R 1 text r → AnswersTree R limit text r
+answers_raised limit text (Err e) one some a =
+    λ absent. record { no_tree = λ to t h s low. (a absent).no_tree to t h s (omega (arith, one to t h s)) }
+answers_raised limit text (Ok x) one some a =
     record {
       tree = a.tree;
       stands = a.stands;
@@ -59,7 +54,14 @@ if_ok_raised limit text (Ok (Some x)) one some a =
       is_clamped = a.is_clamped;
       are_faults = a.are_faults;
     }
-if_ok_raised limit text (Err e) one some a = a
+
+-- what is made of a part answers for the whole
+pub made_answers : {R : Reading} {P : Measured Expr → Type 0} (limit : ℕ) (text : List ℕ) (r : Answer) →
+    MatchResult r P (λ e. e ≡ NoMemory) →
+    ((s : Measured Expr) → P s → Stands R limit (left_at text s.to) (tree_of s.value) s.height s.faults) →
+    AnswersTree R limit text r
+made_answers limit text (Ok s) w make = make s w
+made_answers limit text (Err e) w make = λ absent. absurd (cc)
 
 pub simple_is_no_array : {from to : List ℕ} {t : Tree} {h : ℕ} {k : NameKind} → IsSimple from to t h →
     next_lead from ≡ Array k → ⊥
@@ -82,16 +84,40 @@ operand_is_simple e (of_simple p) = p
 operand_is_simple e (of_element p) = let a = element_is_array p in absurd (e a.0 a.1)
 
 pub operand_of_element : (m : Option Delimiter) (from : List ℕ) (limit : ℕ) (text : List ℕ) (r : Answer)
-    (k : NameKind) → next_lead from ≡ Array k → IfOk r (AnswersTree (IsElement m from) limit text) →
-    IfOk r (AnswersTree (IsOperand m from) limit text)
+    (k : NameKind) → next_lead from ≡ Array k → AnswersTree (IsElement m from) limit text r →
+    AnswersTree (IsOperand m from) limit text r
 operand_of_element m from limit text r k e =
-    if_ok_as limit text r (λ to t h p. of_element p) (λ to t h p. operand_is_element e p)
+    answers_as limit text r (λ to t h p. of_element p) (λ to t h p. operand_is_element e p)
 
 pub operand_of_simple : (m : Option Delimiter) (from : List ℕ) (limit : ℕ) (text : List ℕ) (r : Answer) →
-    ((k : NameKind) → next_lead from ≢ Array k) → IfOk r (AnswersTree (IsSimple from) limit text) →
-    IfOk r (AnswersTree (IsOperand m from) limit text)
+    ((k : NameKind) → next_lead from ≢ Array k) → AnswersTree (IsSimple from) limit text r →
+    AnswersTree (IsOperand m from) limit text r
 operand_of_simple m from limit text r e =
-    if_ok_as limit text r (λ to t h p. of_simple p) (λ to t h p. operand_is_simple e p)
+    answers_as limit text r (λ to t h p. of_simple p) (λ to t h p. operand_is_simple e p)
+
+pub element_of_operand : (m : Option Delimiter) (from to : List ℕ) (limit h : ℕ) (seen : Tree) (f : Faults)
+    (k : NameKind) → next_lead from ≡ Array k → Stands (IsOperand m from) limit to seen h f →
+    Stands (IsElement m from) limit to seen h f
+element_of_operand m from to limit h seen f k e w =
+    record {
+      tree = w.tree;
+      stands = operand_is_element e w.stands;
+      low = w.low;
+      is_clamped = w.is_clamped;
+      are_faults = w.are_faults;
+    }
+
+pub simple_of_operand : (m : Option Delimiter) (from to : List ℕ) (limit h : ℕ) (seen : Tree) (f : Faults) →
+    ((k : NameKind) → next_lead from ≢ Array k) → Stands (IsOperand m from) limit to seen h f →
+    Stands (IsSimple from) limit to seen h f
+simple_of_operand m from to limit h seen f e w =
+    record {
+      tree = w.tree;
+      stands = operand_is_simple e w.stands;
+      low = w.low;
+      is_clamped = w.is_clamped;
+      are_faults = w.are_faults;
+    }
 
 abbrev Scalar_of : NameKind → ℕ → Tree
 Scalar_of k n = scalar (record { kind = k; number = n })
@@ -146,26 +172,26 @@ group_back {from} {q = q} e (group {mid = mid} {q = q'} {t = t} {h = h} f p c) =
 
 pub simple_of_spot : (from past : List ℕ) (limit : ℕ) (text : List ℕ) (r : Answer) (k : NameKind) →
     next_lead from ≡ Spot k → past ≡ past_lead from → 0 < limit →
-    IfOk r (AnswersTree (IsNumbered (Scalar_of k) past) 1 text) → IfOk r (AnswersTree (IsSimple from) limit text)
+    AnswersTree (IsNumbered (Scalar_of k) past) 1 text r → AnswersTree (IsSimple from) limit text r
 simple_of_spot from past limit text r k e f some a =
-    if_ok_as limit text r (λ to t h p. spot_there e p) (λ to t h p. spot_back e p)
-    (if_ok_raised limit text r (λ to t h p. p.height) some
-    (subst (λ x. IfOk r (AnswersTree (IsNumbered (Scalar_of k) x) 1 text)) f a))
+    answers_as limit text r (λ to t h p. spot_there e p) (λ to t h p. spot_back e p)
+    (answers_raised limit text r (λ to t h p. p.height) some
+    (subst (λ x. AnswersTree (IsNumbered (Scalar_of k) x) 1 text r) f a))
 
 pub simple_of_mesh : (from past : List ℕ) (limit : ℕ) (text : List ℕ) (r : Answer) → next_lead from ≡ Hash →
-    past ≡ past_lead from → 0 < limit → IfOk r (AnswersTree (IsNumbered mesh past) 1 text) →
-    IfOk r (AnswersTree (IsSimple from) limit text)
+    past ≡ past_lead from → 0 < limit → AnswersTree (IsNumbered mesh past) 1 text r →
+    AnswersTree (IsSimple from) limit text r
 simple_of_mesh from past limit text r e f some a =
-    if_ok_as limit text r (λ to t h p. mesh_there e p) (λ to t h p. mesh_back e p)
-    (if_ok_raised limit text r (λ to t h p. p.height) some
-    (subst (λ x. IfOk r (AnswersTree (IsNumbered mesh x) 1 text)) f a))
+    answers_as limit text r (λ to t h p. mesh_there e p) (λ to t h p. mesh_back e p)
+    (answers_raised limit text r (λ to t h p. p.height) some
+    (subst (λ x. AnswersTree (IsNumbered mesh x) 1 text r) f a))
 
 pub simple_of_group : (from past : List ℕ) (limit : ℕ) (text : List ℕ) (r : Answer) (q : Delimiter) →
-    next_lead from ≡ Group q → past ≡ past_lead from → IfOk r (AnswersTree (IsGroup q past) limit text) →
-    IfOk r (AnswersTree (IsSimple from) limit text)
+    next_lead from ≡ Group q → past ≡ past_lead from → AnswersTree (IsGroup q past) limit text r →
+    AnswersTree (IsSimple from) limit text r
 simple_of_group from past limit text r q e f a =
-    if_ok_as limit text r (λ to t h p. group_there e p) (λ to t h p. group_back e p)
-    (subst (λ x. IfOk r (AnswersTree (IsGroup q x) limit text)) f a)
+    answers_as limit text r (λ to t h p. group_there e p) (λ to t h p. group_back e p)
+    (subst (λ x. AnswersTree (IsGroup q x) limit text r) f a)
 
 -- an expression stands in the group, and another delimiter than the group's comes after it
 pub group_stays_open : (q : Delimiter) (past inner to : List ℕ) (limit h : ℕ) (seen : Tree) (f : Faults) →

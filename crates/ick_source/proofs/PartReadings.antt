@@ -1,14 +1,16 @@
 -- From what is found of a part to what is found of another that it makes.
 use Rattle.std.proofs.Common.{◌≡◌, ◌≢◌, ◌⊎◌, inl, inr, ℕ, List, Option, Some, None, Result, Ok, Err}
-use Rattle.std.proofs.Common.{IfOk, refl, sym, ap, subst, ◌∙◌}
+use Rattle.std.proofs.Common.{refl, sym, ap, subst, ◌∙◌}
+use Rattle.std.specs.Option.{ok_or}
 use Rattle.std.specs.Prelude.{codes}
 use Rattle.ick_source.specs.declared.tree.NameKind.{NameKind}
 use Rattle.ick_source.specs.declared.tree.NameKind.TheVariants.{Tail}
 use Rattle.ick_source.specs.declared.tree.Name.{Name}
 use Rattle.ick_source.specs.declared.faults.Faults.{Faults}
 use Rattle.ick_source.specs.declared.lead.Lead.TheVariants.{Spot, Array, Hash}
-use Rattle.std.specs.declared.alloc.AllocError.{AllocError}
 use Rattle.ick_source.specs.declared.parsed.Parsed.{Parsed}
+use Rattle.ick_source.specs.declared.parsed.Unread.{Unread}
+use Rattle.ick_source.specs.declared.parsed.Unread.TheVariants.{Absent}
 use Rattle.ick_source.specs.declared.position.Position.{Position}
 use Rattle.ick_source.specs.Position.{left_at, next_lead, past_lead}
 use Rattle.ick_source.specs.Token.{IsNumber, IsWord, CappedNumber}
@@ -20,7 +22,7 @@ use Rattle.ick_source.specs.BodyGrammar.{IsName, a_spot, an_array, IsTarget, to_
 use Rattle.ick_source.specs.BodyGrammar.{to_target, to_array, IsItem, of_place, of_mesh, IsWholeElement}
 use Rattle.ick_source.specs.Nonterminal.{Nonterminal, elements, names, targets, tails, places, items, numbers, labels}
 use Rattle.ick_source.specs.ExpressionAnswers.{Stands}
-use Rattle.ick_source.specs.Answers.{IsParsed, IsAbsent, Answers}
+use Rattle.ick_source.specs.Answers.{IsParsed, IsAbsent, Answers, AnswersRead}
 use Rattle.ick_source.proofs.ClampedLemmas.{clamped-capped, name_faults-capped}
 use Rattle.ick_source.proofs.ExpressionUnique.{number_unique}
 use Rattle.ick_source.proofs.WordUnique.{word_unique}
@@ -204,13 +206,21 @@ answers_as m seen seen' same text None a = absent_as m a
 answers_as {M = M} {from' = from'} m seen seen' same text (Some r) a =
     subst (λ k. IsParsed M from' (left_at text r.to) k r.faults) (sym (same r.value)) (found_as m a)
 
-pub if_ok_as : {N M : Nonterminal} {value : N.Value → M.Value} {change : N.Clamped →
+pub read_as : {N M : Nonterminal} {value : N.Value → M.Value} {change : N.Clamped →
     M.Clamped} {from from' : List ℕ} {T : Type 0} → Makes N M value change from from' →
     (seen : T → N.Clamped) (seen' : T → M.Clamped) → ((v : T) → seen' v ≡ change (seen v)) →
-    (text : List ℕ) (r : Result (Option (Parsed T Position)) AllocError) → IfOk r (Answers N seen text from) →
-    IfOk r (Answers M seen' text from')
-if_ok_as m seen seen' same text (Ok o) a = answers_as m seen seen' same text o a
-if_ok_as m seen seen' same text (Err e) a = a
+    (text : List ℕ) (r : Result (Parsed T Position) Unread) → AnswersRead N seen text from r →
+    AnswersRead M seen' text from' r
+read_as m seen seen' same text (Err e) a = λ absent. absent_as m (a absent)
+read_as {M = M} {from' = from'} m seen seen' same text (Ok r) a =
+    subst (λ k. IsParsed M from' (left_at text r.to) k r.faults) (sym (same r.value)) (found_as m a)
+
+-- a part that takes no memory
+pub read_or_absent : (N : Nonterminal) {T : Type 0} (seen : T → N.Clamped) (text from : List ℕ)
+    (o : Option (Parsed T Position)) (r : Result (Parsed T Position) Unread) → r ≡ ok_or o Absent →
+    Answers N seen text from o → AnswersRead N seen text from r
+read_or_absent N seen text from None r e a = rw e (λ absent. a)
+read_or_absent N seen text from (Some x) r e a = rw e a
 
 -- a number in a parenthesis that is not closed
 pub label_stays_open : {from inner last : List ℕ} {v : ℕ} →

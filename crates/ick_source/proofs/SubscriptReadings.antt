@@ -1,7 +1,6 @@
 -- From what the parts of an element answer to what the whole answers.
 use Rattle.std.proofs.Common.{◌≡◌, ◌≢◌, ℕ, suc, ◌+◌, ◌-◌, ◌<◌, ◌≤◌, max, true, false}
-use Rattle.std.proofs.Common.{List, Option, Some, None, Result, Ok, Err, IfOk, refl, sym, ap, subst, ◌∙◌, arith}
-use Rattle.std.specs.declared.alloc.AllocError.{AllocError}
+use Rattle.std.proofs.Common.{List, Option, Result, Ok, Err, refl, sym, ap, subst, ◌∙◌, arith}
 use Rattle.std.specs.Global.{Vec}
 use Rattle.std.specs.Prelude.{codes}
 use Rattle.ick_source.specs.declared.tree.NameKind.{NameKind}
@@ -9,12 +8,15 @@ use Rattle.ick_source.specs.declared.faults.Faults.{Faults}
 use Rattle.ick_source.specs.declared.lead.Delimiter.{Delimiter}
 use Rattle.ick_source.specs.declared.lead.Lead.TheVariants.{Array}
 use Rattle.ick_source.specs.declared.parsed.Measured.{Measured}
+use Rattle.ick_source.specs.declared.parsed.Unread.{Unread}
+use Rattle.ick_source.specs.declared.parsed.Unread.TheVariants.{Absent}
 use Rattle.ick_source.specs.declared.tree.Expr.{Expr}
 use Rattle.ick_source.specs.Position.{next_lead, past_lead}
 use Rattle.ick_source.specs.Token.{IsNumber, IsWord, CappedNumber}
 use Rattle.ick_source.specs.Tree.{Tree, element, Trees, none, more, join, trees_in}
 use Rattle.ick_source.specs.Clamped.{clamped, clamped_tree, clamped_trees, faults_of, faults_in, both_faults}
 use Rattle.ick_source.specs.Clamped.{name_faults}
+use Rattle.ick_source.specs.Expression.{IsOperand, of_simple, of_element}
 use Rattle.ick_source.specs.Expression.{begins_sub, IsSimple, IsElement, indexed, IsSubs, nested, simple_first, IsRest}
 use Rattle.ick_source.specs.Expression.{nothing, last, further}
 use Rattle.ick_source.specs.ExpressionAnswers.{Readings, AnswersTrees, AnswersFrom, AllStand, HasNoTrees, Stands}
@@ -24,7 +26,7 @@ use Rattle.ick_source.proofs.ClampedLemmas.{clamped-capped}
 use Rattle.ick_source.proofs.TreeLemmas.{join_assoc, join-none}
 use Rattle.ick_source.proofs.WordUnique.{word_unique}
 use Rattle.ick_source.proofs.ExpressionUnique.{number_unique, simple_unique}
-use Rattle.ick_source.proofs.ExpressionReadings.{simple_is_no_array, element_is_array}
+use Rattle.ick_source.proofs.ExpressionReadings.{element_is_array}
 
 pub element_stands : (m : Option Delimiter) (from past mid sub to : List ℕ) (limit h v n : ℕ) (k : NameKind)
     (subs : Trees) (seen : Tree) (f fs all : Faults) → next_lead from ≡ Array k → past ≡ past_lead from →
@@ -118,11 +120,11 @@ begun_back {m} {mid = mid} {to = to} {t = t} {j = j} p other (simple_first {t = 
     (subst (λ x. GoesAfter (IsRest m mid) (more t none) j to (more t ts) (max x k)) s.height (after r'))
 
 begun_as : (m : Option Delimiter) (from mid : List ℕ) (limit j : ℕ) (t : Tree) (text : List ℕ)
-    (o : Option (Measured (Vec Expr))) → IsSimple from mid t j → ((k : NameKind) → next_lead from ≢ Array k) →
-    AnswersTrees (GoesAfter (IsRest m mid) (more t none) j) limit text o → AnswersTrees (IsSubs m from) limit text o
-begun_as m from mid limit j t text None p other a =
-    record { no_trees = λ to ts h x low. a.no_trees to ts h (begun_back p other x) low }
-begun_as m from mid limit j t text (Some s) p other a =
+    (r : Result (Measured (Vec Expr)) Unread) → IsSimple from mid t j → ((k : NameKind) → next_lead from ≢ Array k) →
+    AnswersTrees (GoesAfter (IsRest m mid) (more t none) j) limit text r → AnswersTrees (IsSubs m from) limit text r
+begun_as m from mid limit j t text (Err e) p other a =
+    λ absent. record { no_trees = λ to ts h x low. (a absent).no_trees to ts h (begun_back p other x) low }
+begun_as m from mid limit j t text (Ok s) p other a =
     record {
       trees = a.trees;
       stand = begun_there p a.stand;
@@ -133,18 +135,26 @@ begun_as m from mid limit j t text (Some s) p other a =
 
 -- subscripts that begin with a simple
 pub begun : (m : Option Delimiter) (from mid : List ℕ) (limit j : ℕ) (e : Tree) (f : Faults) (text : List ℕ)
-    (s : Measured (Vec Expr)) (r : Result (Option (Measured (Vec Expr))) AllocError) →
+    (s : Measured (Vec Expr)) (r : Result (Measured (Vec Expr)) Unread) →
     Stands (IsSimple from) limit mid e j f → ((k : NameKind) → next_lead from ≢ Array k) →
     trees_in s.value.items ≡ more e none → s.height ≡ j → s.faults ≡ f →
-    IfOk r (AnswersFrom (IsRest m mid) limit text s) → IfOk r (AnswersTrees (IsSubs m from) limit text)
+    AnswersFrom (IsRest m mid) limit text s r → AnswersTrees (IsSubs m from) limit text r
 unfolding clamped_tree faults_of
-begun m from mid limit j e f text s (Err x) w other shown high faults a = a
-begun m from mid limit j e f text s (Ok o) w other shown high faults a =
+begun m from mid limit j e f text s r w other shown high faults a =
     let answer =
     a (more w.tree none) (shown ∙ rw (w.is_clamped) refl)
     (faults ∙ w.are_faults ∙ sym (both-no (faults_of w.tree))) (rw high w.low) in
-    let same = subst (λ x. AnswersTrees (GoesAfter (IsRest m mid) (more w.tree none) x) limit text o) high answer in
-    begun_as m from mid limit j w.tree text o w.stands other same
+    let same = subst (λ x. AnswersTrees (GoesAfter (IsRest m mid) (more w.tree none) x) limit text r) high answer in
+    begun_as m from mid limit j w.tree text r w.stands other same
+
+some_operand : {m : Option Delimiter} {from to : List ℕ} {all : Trees} {h : ℕ} (limit : ℕ) →
+    HasNoTree (IsOperand m from) limit → IsSubs m from to all h → h ≤ limit → ⊥
+some_operand limit w (nested q) low = w.no_tree _ _ _ (of_element q) low
+some_operand limit w (simple_first q r) low = w.no_tree _ _ _ (of_simple q) (omega arith)
+
+pub subs_no_operand : (m : Option Delimiter) (from : List ℕ) (limit : ℕ) →
+    HasNoTree (IsOperand m from) limit → HasNoTrees (IsSubs m from) limit
+subs_no_operand m from limit w = record { no_trees = λ to ts h x low. some_operand limit w x low }
 
 -- subscripts that were read from start to here, after those before: what goes on from here goes on from start
 pub record GoesOn (m : Option Delimiter) (limit : ℕ) (start here : List ℕ) (before seen : Trees)
@@ -269,39 +279,21 @@ after_low : {R : Readings} {others : Trees} {below h limit : ℕ} {to : List ℕ
     GoesAfter R others below to all h → h ≤ limit → (ts : Trees) × (k : ℕ) × (R to ts k) × (k ≤ limit)
 after_low (after {ts = ts} {h = k} r) low = (ts, k, r, omega arith)
 
-no_element : {m : Option Delimiter} {here to : List ℕ} {ts : Trees} {k : ℕ} (limit : ℕ) (a : NameKind) →
-    next_lead here ≡ Array a → HasNoTree (IsElement m here) limit → IsRest m here to ts k → k ≤ limit → ⊥
-no_element {m} limit a e w (nothing b) low = let c = ap (begins_sub m) e in absurd (cc)
-no_element limit a e w (last q) low = w.no_tree _ _ _ q low
-no_element limit a e w (further b q r) low = simple_is_no_array q e
+no_operand : {m : Option Delimiter} {here to : List ℕ} {ts : Trees} {k : ℕ} (limit : ℕ) →
+    begins_sub m (next_lead here) ≡ true → HasNoTree (IsOperand m here) limit → IsRest m here to ts k →
+    k ≤ limit → ⊥
+no_operand limit b w (nothing e) low = absurd (cc)
+no_operand limit b w (last q) low = w.no_tree _ _ _ (of_element q) low
+no_operand limit b w (further e q r) low = w.no_tree _ _ _ (of_simple q) (omega arith)
 
-no_simple : {m : Option Delimiter} {here to : List ℕ} {ts : Trees} {k : ℕ} (limit : ℕ) →
-    begins_sub m (next_lead here) ≡ true → ((a : NameKind) → next_lead here ≢ Array a) →
-    HasNoTree (IsSimple here) limit → IsRest m here to ts k → k ≤ limit → ⊥
-no_simple limit b other w (nothing e) low = absurd (cc)
-no_simple limit b other w (last q) low = let a = element_is_array q in absurd (other a.0 a.1)
-no_simple limit b other w (further e q r) low = w.no_tree _ _ _ q (omega arith)
-
-pub goes_on-no_element : (m : Option Delimiter) (limit : ℕ) (start here : List ℕ) (before seen : Trees)
-    (below height : ℕ) (f g : Faults) (a : NameKind) → GoesOn m limit start here before seen below height f g →
-    next_lead here ≡ Array a → HasNoTree (IsElement m here) limit → (others : Trees) →
-    HasNoTrees (GoesAfter (IsRest m start) others below) limit
-goes_on-no_element m limit start here before seen below height f g a w e no_tree others =
-    record {
-      no_trees = λ to ts h x low.
-          let y = after_low x low in
-          let z = w.back to y.0 y.1 y.2 y.3 in
-          no_element limit a e no_tree z.2 z.3;
-    }
-
-pub goes_on-no_simple : (m : Option Delimiter) (limit : ℕ) (start here : List ℕ) (before seen : Trees)
+pub goes_on-no_operand : (m : Option Delimiter) (limit : ℕ) (start here : List ℕ) (before seen : Trees)
     (below height : ℕ) (f g : Faults) → GoesOn m limit start here before seen below height f g →
-    begins_sub m (next_lead here) ≡ true → ((a : NameKind) → next_lead here ≢ Array a) →
-    HasNoTree (IsSimple here) limit → (others : Trees) → HasNoTrees (GoesAfter (IsRest m start) others below) limit
-goes_on-no_simple m limit start here before seen below height f g w b other no_tree others =
+    begins_sub m (next_lead here) ≡ true → HasNoTree (IsOperand m here) limit → (others : Trees) →
+    HasNoTrees (GoesAfter (IsRest m start) others below) limit
+goes_on-no_operand m limit start here before seen below height f g w b no_tree others =
     record {
       no_trees = λ to ts h x low.
           let y = after_low x low in
           let z = w.back to y.0 y.1 y.2 y.3 in
-          no_simple limit b other no_tree z.2 z.3;
+          no_operand limit b no_tree z.2 z.3;
     }

@@ -1,15 +1,19 @@
 -- The answers of the readers of expressions and of their parts.
-use Rattle.std.specs.Prelude.{ℕ, suc, max, ◌≡◌, ◌≤◌, List, Option, Some, None}
+use Rattle.std.specs.Prelude.{ℕ, suc, max, ◌≡◌, ◌≤◌, List, Option, Some, Result, Ok, Err}
 use Rattle.std.specs.Global.{Vec}
 use Rattle.ick_source.specs.declared.faults.Faults.{Faults}
 use Rattle.ick_source.specs.declared.lead.Delimiter.{Delimiter}
 use Rattle.ick_source.specs.declared.lead.Lead.TheVariants.{Group}
 use Rattle.ick_source.specs.declared.parsed.Measured.{Measured}
+use Rattle.ick_source.specs.declared.parsed.Unread.{Unread}
+use Rattle.ick_source.specs.declared.parsed.Unread.TheVariants.{Absent}
+use Rattle.ick_source.specs.declared.tree.BinaryOp.{BinaryOp}
 use Rattle.ick_source.specs.declared.tree.Expr.{Expr}
+use Rattle.ick_source.specs.declared.tree.UnaryOp.{UnaryOp}
 use Rattle.ick_source.specs.Position.{left_at, next_lead, past_lead}
 use Rattle.ick_source.specs.Token.{IsNumber, unary_at, past_unary}
-use Rattle.ick_source.specs.Tree.{Tree, Trees, under, join, tree_of, trees_in}
-use Rattle.ick_source.specs.Clamped.{clamped_tree, clamped_trees, faults_of, faults_in}
+use Rattle.ick_source.specs.Tree.{Tree, Trees, under, binary, none, more, join, tree_of, trees_in}
+use Rattle.ick_source.specs.Clamped.{clamped_tree, clamped_trees, faults_of, faults_in, both_faults}
 use Rattle.ick_source.specs.Expression.{IsExpr}
 
 -- a reading at a position: its end, its tree and its height
@@ -29,9 +33,9 @@ pub record Stands (R : Reading) (limit : ℕ) (to : List ℕ) (seen : Tree) (hei
 pub record HasNoTree (R : Reading) (limit : ℕ) : Type 0 where
   pub no_tree : (to : List ℕ) (t : Tree) (h : ℕ) → R to t h → h ≤ limit → ⊥
 
-abbrev pub AnswersTree : Reading → ℕ → List ℕ → Option (Measured Expr) → Type 0
-AnswersTree R limit text None = HasNoTree R limit
-AnswersTree R limit text (Some s) = Stands R limit (left_at text s.to) (tree_of s.value) s.height s.faults
+abbrev pub AnswersTree : Reading → ℕ → List ℕ → Result (Measured Expr) Unread → Type 0
+AnswersTree R limit text (Ok s) = Stands R limit (left_at text s.to) (tree_of s.value) s.height s.faults
+AnswersTree R limit text (Err e) = e ≡ Absent → HasNoTree R limit
 
 -- a number after the sigil, and the tree that it makes
 pub record IsNumbered (leaf : ℕ → Tree) (past to : List ℕ) (t : Tree) (h : ℕ) : Type 0 where
@@ -66,9 +70,9 @@ pub record AllStand (R : Readings) (limit : ℕ) (to : List ℕ) (seen : Trees) 
 pub record HasNoTrees (R : Readings) (limit : ℕ) : Type 0 where
   pub no_trees : (to : List ℕ) (ts : Trees) (h : ℕ) → R to ts h → h ≤ limit → ⊥
 
-abbrev pub AnswersTrees : Readings → ℕ → List ℕ → Option (Measured (Vec Expr)) → Type 0
-AnswersTrees R limit text None = HasNoTrees R limit
-AnswersTrees R limit text (Some s) = AllStand R limit (left_at text s.to) (trees_in s.value.items) s.height s.faults
+abbrev pub AnswersTrees : Readings → ℕ → List ℕ → Result (Measured (Vec Expr)) Unread → Type 0
+AnswersTrees R limit text (Ok s) = AllStand R limit (left_at text s.to) (trees_in s.value.items) s.height s.faults
+AnswersTrees R limit text (Err e) = e ≡ Absent → HasNoTrees R limit
 
 -- these subscripts after others
 pub data GoesAfter (R : Readings) (others : Trees) (below : ℕ) : List ℕ → Trees → ℕ → Type 0 where
@@ -76,11 +80,39 @@ pub data GoesAfter (R : Readings) (others : Trees) (below : ℕ) : List ℕ → 
       GoesAfter R others below to (join others ts) (max below h)
 
 -- the answer continues any subscripts that come before
-abbrev pub AnswersFrom : Readings → ℕ → List ℕ → Measured (Vec Expr) → Option (Measured (Vec Expr)) →
-    Type 0
+abbrev pub AnswersFrom : Readings → ℕ → List ℕ → Measured (Vec Expr) →
+    Result (Measured (Vec Expr)) Unread → Type 0
 AnswersFrom R limit text before answer =
     (others : Trees) →
     trees_in before.value.items ≡ clamped_trees others →
     before.faults ≡ faults_in others →
     before.height ≤ limit →
     AnswersTrees (GoesAfter R others before.height) limit text answer
+
+-- the expression under the operator, if there is one
+pub record IsApplied (op : Option UnaryOp) (found s : Measured Expr) : Type 0 where
+  pub tree : tree_of s.value ≡ under op (tree_of found.value)
+  pub height : s.height ≡ found.height
+  pub to : s.to ≡ found.to
+  pub faults : s.faults ≡ found.faults
+
+-- the two sides with the operator between them
+pub record IsJoined (op : BinaryOp) (left right s : Measured Expr) : Type 0 where
+  pub tree : tree_of s.value ≡ binary op (tree_of left.value) (tree_of right.value)
+  pub height : s.height ≡ suc (max left.height right.height)
+  pub to : s.to ≡ right.to
+  pub faults : s.faults ≡ both_faults left.faults right.faults
+
+-- the list of one subscript
+pub record IsStarted (only : Measured Expr) (s : Measured (Vec Expr)) : Type 0 where
+  pub subs : trees_in s.value.items ≡ more (tree_of only.value) none
+  pub height : s.height ≡ only.height
+  pub to : s.to ≡ only.to
+  pub faults : s.faults ≡ only.faults
+
+-- the list with one more subscript
+pub record IsExtended (all : Measured (Vec Expr)) (one : Measured Expr) (s : Measured (Vec Expr)) : Type 0 where
+  pub subs : trees_in s.value.items ≡ join (trees_in all.value.items) (more (tree_of one.value) none)
+  pub height : s.height ≡ max all.height one.height
+  pub to : s.to ≡ one.to
+  pub faults : s.faults ≡ both_faults all.faults one.faults

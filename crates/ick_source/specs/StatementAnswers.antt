@@ -1,8 +1,10 @@
 -- The answers of the reader of a statement.
-use Rattle.std.specs.Prelude.{◌≡◌, ℕ, List, Option, Some, None}
+use Rattle.std.specs.Prelude.{◌≡◌, ℕ, List, Option, Some, Result, Ok, Err}
 use Rattle.ick_source.specs.declared.body.Body.{Body}
 use Rattle.ick_source.specs.declared.faults.Faults.{Faults}
 use Rattle.ick_source.specs.declared.parsed.Parsed.{Parsed}
+use Rattle.ick_source.specs.declared.parsed.Unread.{Unread}
+use Rattle.ick_source.specs.declared.parsed.Unread.TheVariants.{Absent}
 use Rattle.ick_source.specs.declared.statements.Statement.{Statement}
 use Rattle.ick_source.specs.declared.statement_reader.ClampedLabel.{ClampedLabel}
 use Rattle.ick_source.specs.Bytes.{IsGap}
@@ -22,9 +24,10 @@ pub record ReadsRecognised (text : List ℕ) (from : ℕ) (x : Parsed Body ℕ) 
   pub recognised : IsRecognised text from x.to tree
   pub reads : ReadsBody x.value x.faults (Some tree)
 
-abbrev pub AnswersRecognised : List ℕ → ℕ → Option (Parsed Body ℕ) → Type 0
-AnswersRecognised text from None = (to : ℕ) (tree : BodyTree) → IsRecognised text from to tree → ⊥
-AnswersRecognised text from (Some x) = ReadsRecognised text from x
+abbrev pub AnswersRecognised : List ℕ → ℕ → Result (Parsed Body ℕ) Unread → Type 0
+AnswersRecognised text from (Ok x) = ReadsRecognised text from x
+AnswersRecognised text from (Err e) =
+    e ≡ Absent → (to : ℕ) (tree : BodyTree) → IsRecognised text from to tree → ⊥
 
 -- the rest of a statement after its head, up to the end that the reader answers
 pub record EndsAt (text : List ℕ) (head : ℕ) (x : Parsed Body ℕ) : Type 0 where

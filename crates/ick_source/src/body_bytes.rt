@@ -1,38 +1,32 @@
 //! Reads the body that begins at a byte of a text.
 
-ghost use Rattle.std.specs.Prelude.{◌≡◌, ◌≤◌, ℕ, drop, length, IfOk, MatchOption};
+ghost use Rattle.std.specs.Prelude.{◌≡◌, ◌≤◌, ℕ, drop, length, MatchOption};
 ghost use Rattle.ick_source.specs.BodyAnswers.{AnswersBody};
 ghost use Rattle.ick_source.specs.Position.{left_at, characters};
 
 use crate::body::Body;
 use crate::body_reader::body_at;
-use crate::parsed::Parsed;
+use crate::parsed::{Parsed, Unread};
 use crate::position::Position;
-use std::alloc::{AllocError, Global};
+use std::alloc::Global;
 
 /// Reads the one body that begins at the byte `at`, and the byte after it (Revised Manual, 4.4).
 ///
-/// Returns `None` if no body begins there, or if the body ends between the two characters of a `!`
-/// (this profile). The error is a refused allocation.
-pub fn body_in(
-    alloc: Global,
-    text: &[u8],
-    at: usize,
-) -> Result<Option<Parsed<Body, usize>>, AllocError>
-    ensures { IfOk result (AnswersBody text.now at) }
+/// The answer is `Unread::Absent` if no body begins there, or if the body ends between the two
+/// characters of a `!` (this profile).
+pub fn body_in(alloc: Global, text: &[u8], at: usize) -> Result<Parsed<Body, usize>, Unread>
+    ensures { AnswersBody text.now at result }
 {
     let from = Position { at, between: false };
-    let Some(found) = body_at(alloc, text, from)? else {
-        return Ok(None);
-    };
-    let Some(to) = byte_position(text, found.to) else {
-        return Ok(None);
-    };
-    Ok(Some(Parsed {
-        value: found.value,
-        to,
-        faults: found.faults,
-    }))
+    let found = body_at(alloc, text, from)?;
+    match byte_position(text, found.to) {
+        None => Err(Unread::Absent),
+        Some(to) => Ok(Parsed {
+            value: found.value,
+            to,
+            faults: found.faults,
+        }),
+    }
 }
 
 /// Returns the byte after which the text has the same characters left as after the position, or

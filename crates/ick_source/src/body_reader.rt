@@ -1,7 +1,6 @@
 //! Readers of bodies. Each body has one form, which its first characters decide.
 
-ghost use Rattle.std.specs.Prelude.{IfOk};
-ghost use Rattle.ick_source.specs.Answers.{Answers};
+ghost use Rattle.ick_source.specs.Answers.{Answers, AnswersRead};
 ghost use Rattle.ick_source.specs.BodyTree.{body_tree_of};
 ghost use Rattle.ick_source.specs.Made.{IsMade};
 ghost use Rattle.ick_source.specs.Nonterminal.{after, bodies, formed};
@@ -12,24 +11,24 @@ use crate::faults::Faults;
 use crate::form::{Form, form_at};
 use crate::lead::Lead;
 use crate::list::{dimensions_at, gerunds_at, items_at, names_at, places_at};
-use crate::parsed::Parsed;
+use crate::parsed::{Parsed, Unread};
 use crate::part::{label_at, name_at, target_at, whole_at};
 use crate::position::{Position, lead_at};
 use crate::token::word_at;
 use crate::verb::{Verb, verb_at};
-use std::alloc::{AllocError, Global};
+use std::alloc::Global;
 
-/// Makes a body of a part that was read, and returns `None` if no part was read.
+/// Makes a body of a part that was read. Returns the reason if no part was read.
 fn made<T: Drop, F: FnOnce(T) -> Body + Drop>(
-    part: Option<Parsed<T, Position>>,
+    part: Result<Parsed<T, Position>, Unread>,
     make: F,
-) -> Option<Parsed<Body, Position>>
+) -> Result<Parsed<Body, Position>, Unread>
     requires { (x : _) → F.pre make x }
     ensures { IsMade T (F.post make) part result }
 {
     match part {
-        None => None,
-        Some(part) => Some(Parsed {
+        Err(unread) => Err(unread),
+        Ok(part) => Ok(Parsed {
             value: make(part.value),
             to: part.to,
             faults: part.faults,
@@ -38,22 +37,18 @@ fn made<T: Drop, F: FnOnce(T) -> Body + Drop>(
 }
 
 /// Reads the rest of an ABSTAIN statement, after that word (Revised Manual, 4.4.9).
-fn abstain_at(
-    alloc: Global,
-    text: &[u8],
-    from: Position,
-) -> Result<Option<Parsed<Body, Position>>, AllocError>
-    ensures { IfOk result
-        (Answers (after Verb.Abstain) body_tree_of text.now (left_at text.now from)) }
+fn abstain_at(alloc: Global, text: &[u8], from: Position) -> Result<Parsed<Body, Position>, Unread>
+    ensures { AnswersRead (after Verb.Abstain) body_tree_of
+        text.now (left_at text.now from) result }
 {
     let Some(from) = word_at(text, from, b"FROM") else {
-        return Ok(None);
+        return Err(Unread::Absent);
     };
     if word_at(text, from, b"(").is_some() {
-        return Ok(made(label_at(text, from), Body::AbstainLabel));
+        let label = label_at(text, from).ok_or(Unread::Absent);
+        return made(label, Body::AbstainLabel);
     }
-    let kinds = gerunds_at(alloc, text, from)?;
-    Ok(made(kinds, Body::AbstainKinds))
+    made(gerunds_at(alloc, text, from), Body::AbstainKinds)
 }
 
 /// Reads the rest of a REINSTATE statement, after that word (Revised Manual, 4.4.10).
@@ -61,15 +56,15 @@ fn reinstate_at(
     alloc: Global,
     text: &[u8],
     from: Position,
-) -> Result<Option<Parsed<Body, Position>>, AllocError>
-    ensures { IfOk result
-        (Answers (after Verb.Reinstate) body_tree_of text.now (left_at text.now from)) }
+) -> Result<Parsed<Body, Position>, Unread>
+    ensures { AnswersRead (after Verb.Reinstate) body_tree_of
+        text.now (left_at text.now from) result }
 {
     if word_at(text, from, b"(").is_some() {
-        return Ok(made(label_at(text, from), Body::ReinstateLabel));
+        let label = label_at(text, from).ok_or(Unread::Absent);
+        return made(label, Body::ReinstateLabel);
     }
-    let kinds = gerunds_at(alloc, text, from)?;
-    Ok(made(kinds, Body::ReinstateKinds))
+    made(gerunds_at(alloc, text, from), Body::ReinstateKinds)
 }
 
 /// Reads the rest of a GIVE UP statement, after `GIVE` (Revised Manual, 4.4.11).
@@ -85,35 +80,23 @@ fn give_up_at(text: &[u8], from: Position) -> Option<Parsed<Body, Position>>
 }
 
 /// Reads the rest of a WRITE IN statement, after `WRITE` (Revised Manual, 4.4.12 and 5.2).
-fn write_in_at(
-    alloc: Global,
-    text: &[u8],
-    from: Position,
-) -> Result<Option<Parsed<Body, Position>>, AllocError>
-    ensures { IfOk result
-        (Answers (after Verb.Write) body_tree_of text.now (left_at text.now from)) }
+fn write_in_at(alloc: Global, text: &[u8], from: Position) -> Result<Parsed<Body, Position>, Unread>
+    ensures { AnswersRead (after Verb.Write) body_tree_of text.now (left_at text.now from) result }
 {
     let Some(from) = word_at(text, from, b"IN") else {
-        return Ok(None);
+        return Err(Unread::Absent);
     };
-    let places = places_at(alloc, text, from)?;
-    Ok(made(places, Body::WriteIn))
+    made(places_at(alloc, text, from), Body::WriteIn)
 }
 
 /// Reads the rest of a READ OUT statement, after `READ` (Revised Manual, 4.4.13 and 5.2).
-fn read_out_at(
-    alloc: Global,
-    text: &[u8],
-    from: Position,
-) -> Result<Option<Parsed<Body, Position>>, AllocError>
-    ensures { IfOk result
-        (Answers (after Verb.Read) body_tree_of text.now (left_at text.now from)) }
+fn read_out_at(alloc: Global, text: &[u8], from: Position) -> Result<Parsed<Body, Position>, Unread>
+    ensures { AnswersRead (after Verb.Read) body_tree_of text.now (left_at text.now from) result }
 {
     let Some(from) = word_at(text, from, b"OUT") else {
-        return Ok(None);
+        return Err(Unread::Absent);
     };
-    let items = items_at(alloc, text, from)?;
-    Ok(made(items, Body::ReadOut))
+    made(items_at(alloc, text, from), Body::ReadOut)
 }
 
 /// Reads the rest of a body after its verb.
@@ -122,19 +105,19 @@ fn after_verb_at(
     text: &[u8],
     verb: Verb,
     from: Position,
-) -> Result<Option<Parsed<Body, Position>>, AllocError>
-    ensures { IfOk result (Answers (after verb) body_tree_of text.now (left_at text.now from)) }
+) -> Result<Parsed<Body, Position>, Unread>
+    ensures { AnswersRead (after verb) body_tree_of text.now (left_at text.now from) result }
 {
     match verb {
-        Verb::Forget => Ok(made(whole_at(alloc, text, from)?, Body::Forget)),
-        Verb::Resume => Ok(made(whole_at(alloc, text, from)?, Body::Resume)),
-        Verb::Stash => Ok(made(names_at(alloc, text, from)?, Body::Stash)),
-        Verb::Retrieve => Ok(made(names_at(alloc, text, from)?, Body::Retrieve)),
-        Verb::Ignore => Ok(made(names_at(alloc, text, from)?, Body::Ignore)),
-        Verb::Remember => Ok(made(names_at(alloc, text, from)?, Body::Remember)),
+        Verb::Forget => made(whole_at(alloc, text, from), Body::Forget),
+        Verb::Resume => made(whole_at(alloc, text, from), Body::Resume),
+        Verb::Stash => made(names_at(alloc, text, from), Body::Stash),
+        Verb::Retrieve => made(names_at(alloc, text, from), Body::Retrieve),
+        Verb::Ignore => made(names_at(alloc, text, from), Body::Ignore),
+        Verb::Remember => made(names_at(alloc, text, from), Body::Remember),
         Verb::Abstain => abstain_at(alloc, text, from),
         Verb::Reinstate => reinstate_at(alloc, text, from),
-        Verb::Give => Ok(give_up_at(text, from)),
+        Verb::Give => give_up_at(text, from).ok_or(Unread::Absent),
         Verb::Write => write_in_at(alloc, text, from),
         Verb::Read => read_out_at(alloc, text, from),
     }
@@ -145,24 +128,20 @@ fn calculation_at(
     alloc: Global,
     text: &[u8],
     from: Position,
-) -> Result<Option<Parsed<Body, Position>>, AllocError>
-    ensures { IfOk result
-        (Answers (formed Form.Calculation) body_tree_of text.now (left_at text.now from)) }
+) -> Result<Parsed<Body, Position>, Unread>
+    ensures { AnswersRead (formed Form.Calculation) body_tree_of
+        text.now (left_at text.now from) result }
 {
-    let Some(target) = target_at(alloc, text, from)? else {
-        return Ok(None);
-    };
+    let target = target_at(alloc, text, from)?;
     let Some(later) = word_at(text, target.to, b"<-") else {
-        return Ok(None);
+        return Err(Unread::Absent);
     };
-    let Some(value) = whole_at(alloc, text, later)? else {
-        return Ok(None);
-    };
-    Ok(Some(Parsed {
+    let value = whole_at(alloc, text, later)?;
+    Ok(Parsed {
         value: Body::Calculate(target.value, value.value),
         to: value.to,
         faults: target.faults.union(value.faults),
-    }))
+    })
 }
 
 /// Reads a dimensioning: an array, `<-` and its dimensions, separated by `BY` (Revised Manual,
@@ -171,27 +150,25 @@ fn dimensioning_at(
     alloc: Global,
     text: &[u8],
     from: Position,
-) -> Result<Option<Parsed<Body, Position>>, AllocError>
-    ensures { IfOk result
-        (Answers (formed Form.Dimensioning) body_tree_of text.now (left_at text.now from)) }
+) -> Result<Parsed<Body, Position>, Unread>
+    ensures { AnswersRead (formed Form.Dimensioning) body_tree_of
+        text.now (left_at text.now from) result }
 {
     let Lead::Array(_) = lead_at(text, from).value else {
-        return Ok(None);
+        return Err(Unread::Absent);
     };
     let Some(array) = name_at(text, from) else {
-        return Ok(None);
+        return Err(Unread::Absent);
     };
     let Some(later) = word_at(text, array.to, b"<-") else {
-        return Ok(None);
+        return Err(Unread::Absent);
     };
-    let Some(dimensions) = dimensions_at(alloc, text, later)? else {
-        return Ok(None);
-    };
-    Ok(Some(Parsed {
+    let dimensions = dimensions_at(alloc, text, later)?;
+    Ok(Parsed {
         value: Body::Dimension(array.value, dimensions.value),
         to: dimensions.to,
         faults: array.faults.union(dimensions.faults),
-    }))
+    })
 }
 
 /// Reads a label and NEXT (Revised Manual, 4.4.2).
@@ -212,35 +189,27 @@ fn call_at(text: &[u8], from: Position) -> Option<Parsed<Body, Position>>
 }
 
 /// Reads a verb and the rest of its body.
-fn action_at(
-    alloc: Global,
-    text: &[u8],
-    from: Position,
-) -> Result<Option<Parsed<Body, Position>>, AllocError>
-    ensures { IfOk result
-        (Answers (formed Form.Action) body_tree_of text.now (left_at text.now from)) }
+fn action_at(alloc: Global, text: &[u8], from: Position) -> Result<Parsed<Body, Position>, Unread>
+    ensures { AnswersRead (formed Form.Action) body_tree_of
+        text.now (left_at text.now from) result }
 {
     let Some(verb) = verb_at(text, from) else {
-        return Ok(None);
+        return Err(Unread::Absent);
     };
     after_verb_at(alloc, text, verb.value, verb.to)
 }
 
 /// Reads the body at the position, and the position after it (Revised Manual, 4.4).
 ///
-/// The next character decides which part is read, so nothing is read twice. Returns `None` if no
-/// body begins there. The error is a refused allocation.
-pub fn body_at(
-    alloc: Global,
-    text: &[u8],
-    from: Position,
-) -> Result<Option<Parsed<Body, Position>>, AllocError>
-    ensures { IfOk result (Answers bodies body_tree_of text.now (left_at text.now from)) }
+/// The next character decides which part is read, so nothing is read twice. The answer is
+/// `Unread::Absent` if no body begins there.
+pub fn body_at(alloc: Global, text: &[u8], from: Position) -> Result<Parsed<Body, Position>, Unread>
+    ensures { AnswersRead bodies body_tree_of text.now (left_at text.now from) result }
 {
     match form_at(text, from) {
         Form::Calculation => calculation_at(alloc, text, from),
         Form::Dimensioning => dimensioning_at(alloc, text, from),
-        Form::Call => Ok(call_at(text, from)),
+        Form::Call => call_at(text, from).ok_or(Unread::Absent),
         Form::Action => action_at(alloc, text, from),
     }
 }

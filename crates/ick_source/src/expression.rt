@@ -1,31 +1,40 @@
 //! Readers of expressions (Revised Manual, 3.4). The next character decides each step, so no part
 //! is read in two ways.
 
-ghost use Rattle.std.specs.Prelude.{◌≡◌, ◌<◌, suc, max, IfOk, OnOk, IsTrue, ◌↔◌};
+ghost use Rattle.std.specs.Prelude.{◌≡◌, ◌<◌, IfOk, OnOk, MatchResult, IsTrue, ◌↔◌};
+ghost use Rattle.ick_source.specs.declared.parsed.Unread.TheVariants.{NoMemory};
 ghost use Rattle.ick_source.specs.Position.{left_at};
-ghost use Rattle.ick_source.specs.Tree.{tree_of, trees_in, under, scalar, mesh, element, binary};
-ghost use Rattle.ick_source.specs.Tree.{none, more, join};
-ghost use Rattle.ick_source.specs.Clamped.{both_faults};
+ghost use Rattle.ick_source.specs.Tree.{tree_of, trees_in, scalar, mesh, element};
 ghost use Rattle.ick_source.specs.Expression.{IsExpr, IsOperand, IsSimple, IsElement, IsSubs};
 ghost use Rattle.ick_source.specs.Expression.{IsRest, begins_sub};
 ghost use Rattle.ick_source.specs.ExpressionAnswers.{AnswersTree, AnswersTrees, AnswersFrom};
-ghost use Rattle.ick_source.specs.ExpressionAnswers.{IsNumbered, IsGroup};
+ghost use Rattle.ick_source.specs.ExpressionAnswers.{IsNumbered, IsGroup, IsApplied, IsJoined};
+ghost use Rattle.ick_source.specs.ExpressionAnswers.{IsStarted, IsExtended};
 
 use crate::faults::{Faults, clamped_number};
 use crate::lead::{Delimiter, Lead};
-use crate::parsed::Measured;
+use crate::parsed::{Measured, Unread};
 use crate::position::{Position, lead_at};
 use crate::token::{number_at, prefix_at, word_at};
 use crate::tree::{BinaryOp, Element, Expr, Name, NameKind, UnaryOp};
 use std::alloc::{AllocError, Global};
 
-/// Applies the operator to the expression, if there is an operator.
-fn applied(alloc: Global, op: Option<UnaryOp>, expr: Expr) -> Result<Expr, AllocError>
-    ensures { IfOk result (λ e. tree_of e ≡ under op (tree_of expr)) }
+/// Applies the operator to the expression that was read, if there is an operator.
+fn applied(
+    alloc: Global,
+    op: Option<UnaryOp>,
+    found: Measured<Expr>,
+) -> Result<Measured<Expr>, Unread>
+    ensures { MatchResult result (IsApplied op found) (λ e. e ≡ NoMemory) }
 {
     match op {
-        None => Ok(expr),
-        Some(op) => Ok(Expr::Unary(op, Box::new(alloc, expr)?)),
+        None => Ok(found),
+        Some(op) => Ok(Measured {
+            value: Expr::Unary(op, Box::new(alloc, found.value)?),
+            height: found.height,
+            to: found.to,
+            faults: found.faults,
+        }),
     }
 }
 
@@ -42,46 +51,42 @@ fn spot_at(
     text: &[u8],
     kind: NameKind,
     past: Position,
-) -> Result<Option<Measured<Expr>>, AllocError>
-    ensures { IfOk result
-        (AnswersTree (IsNumbered (λ n. scalar (record { kind = kind; number = n }))
-        (left_at text.now past)) 1 text.now) }
+) -> Result<Measured<Expr>, Unread>
+    ensures { AnswersTree (IsNumbered (λ n. scalar (record { kind = kind; number = n }))
+        (left_at text.now past)) 1 text.now result }
 {
     let prefix = prefix_at(text, past);
     let Some(found) = number_at(text, prefix.to) else {
-        return Ok(None);
+        return Err(Unread::Absent);
     };
     let name = Name {
         kind,
         number: clamped_number(found.value),
     };
-    Ok(Some(Measured {
-        value: applied(alloc, prefix.value, Expr::Scalar(name))?,
+    let variable = Measured {
+        value: Expr::Scalar(name),
         height: 1,
         to: found.to,
         faults: Faults::of_name(found.value),
-    }))
+    };
+    applied(alloc, prefix.value, variable)
 }
 
 /// Reads a mesh after its sigil.
-fn constant_at(
-    alloc: Global,
-    text: &[u8],
-    past: Position,
-) -> Result<Option<Measured<Expr>>, AllocError>
-    ensures { IfOk result (AnswersTree (IsNumbered mesh (left_at text.now past)) 1 text.now) }
+fn constant_at(alloc: Global, text: &[u8], past: Position) -> Result<Measured<Expr>, Unread>
+    ensures { AnswersTree (IsNumbered mesh (left_at text.now past)) 1 text.now result }
 {
     let prefix = prefix_at(text, past);
     let Some(found) = number_at(text, prefix.to) else {
-        return Ok(None);
+        return Err(Unread::Absent);
     };
-    let mesh = Expr::Mesh(clamped_number(found.value));
-    Ok(Some(Measured {
-        value: applied(alloc, prefix.value, mesh)?,
+    let constant = Measured {
+        value: Expr::Mesh(clamped_number(found.value)),
         height: 1,
         to: found.to,
         faults: Faults::of_mesh(found.value),
-    }))
+    };
+    applied(alloc, prefix.value, constant)
 }
 
 /// Reads a group after its opening delimiter: an expression, and the delimiter that closes it.
@@ -92,24 +97,23 @@ fn group_at(
     delimiter: Delimiter,
     limit: u16,
     past: Position,
-) -> Result<Option<Measured<Expr>>, AllocError>
+) -> Result<Measured<Expr>, Unread>
     requires { 0 < limit }
-    ensures { IfOk result (AnswersTree (IsGroup delimiter (left_at text.now past)) limit text.now) }
+    ensures { AnswersTree (IsGroup delimiter (left_at text.now past)) limit text.now result }
 {
     let prefix = prefix_at(text, past);
-    let Some(inner) = expr_at(alloc, text, Some(delimiter), limit - 1, prefix.to)? else {
-        return Ok(None);
-    };
+    let inner = expr_at(alloc, text, Some(delimiter), limit - 1, prefix.to)?;
     let close = lead_at(text, inner.to);
     if !closes(delimiter, close.value) {
-        return Ok(None);
+        return Err(Unread::Absent);
     }
-    Ok(Some(Measured {
-        value: applied(alloc, prefix.value, inner.value)?,
+    let group = Measured {
+        value: inner.value,
         height: inner.height + 1,
         to: close.to,
         faults: inner.faults,
-    }))
+    };
+    applied(alloc, prefix.value, group)
 }
 
 /// Reads a variable, a mesh or a group.
@@ -119,18 +123,18 @@ fn simple_at(
     text: &[u8],
     limit: u16,
     from: Position,
-) -> Result<Option<Measured<Expr>>, AllocError>
-    ensures { IfOk result (AnswersTree (IsSimple (left_at text.now from)) limit text.now) }
+) -> Result<Measured<Expr>, Unread>
+    ensures { AnswersTree (IsSimple (left_at text.now from)) limit text.now result }
 {
     if limit == 0 {
-        return Ok(None);
+        return Err(Unread::Absent);
     }
     let next = lead_at(text, from);
     match next.value {
         Lead::Spot(kind) => spot_at(alloc, text, kind, next.to),
         Lead::Hash => constant_at(alloc, text, next.to),
         Lead::Group(delimiter) => group_at(alloc, text, delimiter, limit, next.to),
-        _ => Ok(None),
+        _ => Err(Unread::Absent),
     }
 }
 
@@ -142,39 +146,36 @@ pub fn element_at(
     delimiter: Option<Delimiter>,
     limit: u16,
     from: Position,
-) -> Result<Option<Measured<Expr>>, AllocError>
-    ensures { IfOk result
-        (AnswersTree (IsElement delimiter (left_at text.now from)) limit text.now) }
+) -> Result<Measured<Expr>, Unread>
+    ensures { AnswersTree (IsElement delimiter (left_at text.now from)) limit text.now result }
 {
     let next = lead_at(text, from);
     let Lead::Array(kind) = next.value else {
-        return Ok(None);
+        return Err(Unread::Absent);
     };
     let Some(found) = number_at(text, next.to) else {
-        return Ok(None);
+        return Err(Unread::Absent);
     };
     let Some(later) = word_at(text, found.to, b"SUB") else {
-        return Ok(None);
+        return Err(Unread::Absent);
     };
     if limit == 0 {
-        return Ok(None);
+        return Err(Unread::Absent);
     }
-    let Some(all) = subs_at(alloc, text, delimiter, limit - 1, later)? else {
-        return Ok(None);
-    };
+    let all = subs_at(alloc, text, delimiter, limit - 1, later)?;
     let array = Name {
         kind,
         number: clamped_number(found.value),
     };
-    Ok(Some(Measured {
+    Ok(Measured {
         value: indexed(array, all.value),
         height: all.height + 1,
         to: all.to,
         faults: Faults::of_name(found.value).union(all.faults),
-    }))
+    })
 }
 
-/// Reads the subscripts of an element.
+/// Reads the subscripts of an element. An element among them is the last one.
 #[cycle(reader)]
 fn subs_at(
     alloc: Global,
@@ -182,19 +183,16 @@ fn subs_at(
     delimiter: Option<Delimiter>,
     limit: u16,
     from: Position,
-) -> Result<Option<Measured<Vec<Expr>>>, AllocError>
-    ensures { IfOk result (AnswersTrees (IsSubs delimiter (left_at text.now from)) limit text.now) }
+) -> Result<Measured<Vec<Expr>>, Unread>
+    ensures { AnswersTrees (IsSubs delimiter (left_at text.now from)) limit text.now result }
 {
-    if let Lead::Array(_) = lead_at(text, from).value {
-        let Some(only) = element_at(alloc, text, delimiter, limit, from)? else {
-            return Ok(None);
-        };
-        return Ok(Some(started(alloc, only)?));
+    let begins = lead_at(text, from).value;
+    let first = operand_at(alloc, text, delimiter, limit, from)?;
+    let all = started(alloc, first)?;
+    match begins {
+        Lead::Array(_) => Ok(all),
+        _ => rest_at(alloc, text, delimiter, limit, all),
     }
-    let Some(begun) = simple_at(alloc, text, limit, from)? else {
-        return Ok(None);
-    };
-    rest_at(alloc, text, delimiter, limit, started(alloc, begun)?)
 }
 
 /// Reads further subscripts, and appends them.
@@ -205,26 +203,19 @@ fn rest_at(
     delimiter: Option<Delimiter>,
     limit: u16,
     mut all: Measured<Vec<Expr>>,
-) -> Result<Option<Measured<Vec<Expr>>>, AllocError>
-    ensures { IfOk result
-        (AnswersFrom (IsRest delimiter (left_at text.now all.to)) limit text.now all) }
+) -> Result<Measured<Vec<Expr>>, Unread>
+    ensures { AnswersFrom (IsRest delimiter (left_at text.now all.to)) limit text.now all result }
 {
     'further: loop {
-        let next = lead_at(text, all.to);
-        if !may_begin_sub(delimiter, next.value) {
-            return Ok(Some(all));
+        let begins = lead_at(text, all.to).value;
+        if !may_begin_sub(delimiter, begins) {
+            return Ok(all);
         }
-        if let Lead::Array(_) = next.value {
-            let Some(last) = element_at(alloc, text, delimiter, limit, all.to)? else {
-                return Ok(None);
-            };
-            extend(&mut all, last)?;
-            return Ok(Some(all));
+        let one = operand_at(alloc, text, delimiter, limit, all.to)?;
+        extend(&mut all, one)?;
+        if let Lead::Array(_) = begins {
+            return Ok(all);
         }
-        let Some(more) = simple_at(alloc, text, limit, all.to)? else {
-            return Ok(None);
-        };
-        extend(&mut all, more)?;
     }
 }
 
@@ -236,9 +227,8 @@ fn operand_at(
     delimiter: Option<Delimiter>,
     limit: u16,
     from: Position,
-) -> Result<Option<Measured<Expr>>, AllocError>
-    ensures { IfOk result
-        (AnswersTree (IsOperand delimiter (left_at text.now from)) limit text.now) }
+) -> Result<Measured<Expr>, Unread>
+    ensures { AnswersTree (IsOperand delimiter (left_at text.now from)) limit text.now result }
 {
     match lead_at(text, from).value {
         Lead::Array(_) => element_at(alloc, text, delimiter, limit, from),
@@ -248,8 +238,8 @@ fn operand_at(
 
 /// Reads the expression at the position.
 ///
-/// `delimiter` is that of the innermost open group, and `limit` the greatest height. Returns `None`
-/// if no expression of at most that height begins there. The error is a refused allocation.
+/// `delimiter` is that of the innermost open group, and `limit` the greatest height. The answer is
+/// `Unread::Absent` if no expression of at most that height begins there.
 #[cycle(reader)]
 pub fn expr_at(
     alloc: Global,
@@ -257,23 +247,19 @@ pub fn expr_at(
     delimiter: Option<Delimiter>,
     limit: u16,
     from: Position,
-) -> Result<Option<Measured<Expr>>, AllocError>
-    ensures { IfOk result (AnswersTree (IsExpr delimiter (left_at text.now from)) limit text.now) }
+) -> Result<Measured<Expr>, Unread>
+    ensures { AnswersTree (IsExpr delimiter (left_at text.now from)) limit text.now result }
 {
-    let Some(left) = operand_at(alloc, text, delimiter, limit, from)? else {
-        return Ok(None);
-    };
+    let left = operand_at(alloc, text, delimiter, limit, from)?;
     let next = lead_at(text, left.to);
     let Lead::Binary(op) = next.value else {
-        return Ok(Some(left));
+        return Ok(left);
     };
     if left.height >= limit {
-        return Ok(None);
+        return Err(Unread::Absent);
     }
-    let Some(right) = expr_at(alloc, text, delimiter, limit - 1, next.to)? else {
-        return Ok(None);
-    };
-    Ok(Some(joined(alloc, op, left, right)?))
+    let right = expr_at(alloc, text, delimiter, limit - 1, next.to)?;
+    joined(alloc, op, left, right)
 }
 
 /// Joins two sides by the operator between them.
@@ -282,14 +268,10 @@ fn joined(
     op: BinaryOp,
     left: Measured<Expr>,
     right: Measured<Expr>,
-) -> Result<Measured<Expr>, AllocError>
+) -> Result<Measured<Expr>, Unread>
     requires left { left.height < 65535 }
     requires right { right.height < 65535 }
-    ensures tree { IfOk result
-        (λ s. tree_of s.value ≡ binary op (tree_of left.value) (tree_of right.value)) }
-    ensures height { IfOk result (λ s. s.height ≡ suc (max left.height right.height)) }
-    ensures to { IfOk result (λ s. s.to ≡ right.to) }
-    ensures faults { IfOk result (λ s. s.faults ≡ both_faults left.faults right.faults) }
+    ensures { MatchResult result (IsJoined op left right) (λ e. e ≡ NoMemory) }
 {
     let left_value = Box::new(alloc, left.value)?;
     let right_value = Box::new(alloc, right.value)?;
@@ -303,10 +285,7 @@ fn joined(
 
 /// Makes the list of one subscript.
 fn started(alloc: Global, only: Measured<Expr>) -> Result<Measured<Vec<Expr>>, AllocError>
-    ensures subs { IfOk result (λ s. trees_in s.value.items ≡ more (tree_of only.value) none) }
-    ensures height { IfOk result (λ s. s.height ≡ only.height) }
-    ensures to { IfOk result (λ s. s.to ≡ only.to) }
-    ensures faults { IfOk result (λ s. s.faults ≡ only.faults) }
+    ensures { IfOk result (IsStarted only) }
 {
     let mut value = Vec::new(alloc);
     value.push(only.value)?;
@@ -320,12 +299,7 @@ fn started(alloc: Global, only: Measured<Expr>) -> Result<Measured<Vec<Expr>>, A
 
 /// Appends one more subscript.
 fn extend(all: &mut Measured<Vec<Expr>>, one: Measured<Expr>) -> Result<(), AllocError>
-    ensures subs { OnOk result
-        (trees_in all.new.value.items ≡
-        join (trees_in all.old.value.items) (more (tree_of one.value) none)) }
-    ensures height { OnOk result (all.new.height ≡ max all.old.height one.height) }
-    ensures to { OnOk result (all.new.to ≡ one.to) }
-    ensures faults { OnOk result (all.new.faults ≡ both_faults all.old.faults one.faults) }
+    ensures { OnOk result (IsExtended all.old one all.new) }
 {
     all.value.push(one.value)?;
     all.height = all.height.max(one.height);

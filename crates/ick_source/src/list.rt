@@ -1,7 +1,7 @@
 //! Readers of the lists in bodies.
 
-ghost use Rattle.std.specs.Prelude.{IfOk, codes, map};
-ghost use Rattle.ick_source.specs.Answers.{Answers};
+ghost use Rattle.std.specs.Prelude.{codes, map};
+ghost use Rattle.ick_source.specs.Answers.{AnswersRead};
 ghost use Rattle.ick_source.specs.BodyTree.{item_tree, place_tree};
 ghost use Rattle.ick_source.specs.Nonterminal.{StandsOnce, TakesCharacters, gerunds, items, listed};
 ghost use Rattle.ick_source.specs.Nonterminal.{names, places, wholes};
@@ -10,12 +10,12 @@ ghost use Rattle.ick_source.specs.Tree.{tree_of};
 
 use crate::body::{Gerund, Item, Place};
 use crate::faults::Faults;
-use crate::parsed::Parsed;
+use crate::parsed::{Parsed, Unread};
 use crate::part::Part;
 use crate::position::Position;
 use crate::token::word_at;
 use crate::tree::{Expr, Name};
-use std::alloc::{AllocError, Global};
+use std::alloc::Global;
 
 /// Reads one or more parts, separated by this word.
 fn list_at<P: Part>(
@@ -23,28 +23,25 @@ fn list_at<P: Part>(
     text: &[u8],
     separator: &[u8],
     from: Position,
-) -> Result<Option<Parsed<Vec<P>, Position>>, AllocError>
+) -> Result<Parsed<Vec<P>, Position>, Unread>
     requires once { StandsOnce P.nonterminal }
     requires characters { TakesCharacters P.nonterminal }
-    ensures { IfOk result
-        (Answers (listed P.nonterminal separator.now) (λ parts. map P.seen parts.items)
-        text.now (left_at text.now from)) }
+    ensures { AnswersRead (listed P.nonterminal separator.now) (λ parts. map P.seen parts.items)
+        text.now (left_at text.now from) result }
 {
     let mut value = Vec::new(alloc);
     let mut faults = Faults::NONE;
     let mut to = from;
     'more: loop {
-        let Some(one) = P::read_at(alloc, text, to)? else {
-            return Ok(None);
-        };
+        let one = P::read_at(alloc, text, to)?;
         value.push(one.value)?;
         faults = faults.union(one.faults);
         let Some(later) = word_at(text, one.to, separator) else {
-            return Ok(Some(Parsed {
+            return Ok(Parsed {
                 value,
                 to: one.to,
                 faults,
-            }));
+            });
         };
         to = later;
     }
@@ -55,10 +52,9 @@ pub fn names_at(
     alloc: Global,
     text: &[u8],
     from: Position,
-) -> Result<Option<Parsed<Vec<Name>, Position>>, AllocError>
-    ensures { IfOk result
-        (Answers (listed names (codes "+")) (λ list. list.items)
-        text.now (left_at text.now from)) }
+) -> Result<Parsed<Vec<Name>, Position>, Unread>
+    ensures { AnswersRead (listed names (codes "+")) (λ list. list.items)
+        text.now (left_at text.now from) result }
 {
     list_at(alloc, text, b"+", from)
 }
@@ -68,10 +64,9 @@ pub fn gerunds_at(
     alloc: Global,
     text: &[u8],
     from: Position,
-) -> Result<Option<Parsed<Vec<Gerund>, Position>>, AllocError>
-    ensures { IfOk result
-        (Answers (listed gerunds (codes "+")) (λ list. list.items)
-        text.now (left_at text.now from)) }
+) -> Result<Parsed<Vec<Gerund>, Position>, Unread>
+    ensures { AnswersRead (listed gerunds (codes "+")) (λ list. list.items)
+        text.now (left_at text.now from) result }
 {
     list_at(alloc, text, b"+", from)
 }
@@ -81,10 +76,9 @@ pub fn places_at(
     alloc: Global,
     text: &[u8],
     from: Position,
-) -> Result<Option<Parsed<Vec<Place>, Position>>, AllocError>
-    ensures { IfOk result
-        (Answers (listed places (codes "+")) (λ list. map place_tree list.items)
-        text.now (left_at text.now from)) }
+) -> Result<Parsed<Vec<Place>, Position>, Unread>
+    ensures { AnswersRead (listed places (codes "+")) (λ list. map place_tree list.items)
+        text.now (left_at text.now from) result }
 {
     list_at(alloc, text, b"+", from)
 }
@@ -94,10 +88,9 @@ pub fn items_at(
     alloc: Global,
     text: &[u8],
     from: Position,
-) -> Result<Option<Parsed<Vec<Item>, Position>>, AllocError>
-    ensures { IfOk result
-        (Answers (listed items (codes "+")) (λ list. map item_tree list.items)
-        text.now (left_at text.now from)) }
+) -> Result<Parsed<Vec<Item>, Position>, Unread>
+    ensures { AnswersRead (listed items (codes "+")) (λ list. map item_tree list.items)
+        text.now (left_at text.now from) result }
 {
     list_at(alloc, text, b"+", from)
 }
@@ -107,10 +100,9 @@ pub fn dimensions_at(
     alloc: Global,
     text: &[u8],
     from: Position,
-) -> Result<Option<Parsed<Vec<Expr>, Position>>, AllocError>
-    ensures { IfOk result
-        (Answers (listed wholes (codes "BY")) (λ list. map tree_of list.items)
-        text.now (left_at text.now from)) }
+) -> Result<Parsed<Vec<Expr>, Position>, Unread>
+    ensures { AnswersRead (listed wholes (codes "BY")) (λ list. map tree_of list.items)
+        text.now (left_at text.now from) result }
 {
     list_at(alloc, text, b"BY", from)
 }

@@ -1,8 +1,8 @@
 //! Readers of the parts of bodies: names, targets, places, items, gerunds, labels, and expressions
 //! outside groups.
 
-ghost use Rattle.std.specs.Prelude.{◌≡◌, ℕ, List, IfOk, MatchOption};
-ghost use Rattle.ick_source.specs.Answers.{Answers};
+ghost use Rattle.std.specs.Prelude.{◌≡◌, ℕ, List, MatchOption};
+ghost use Rattle.ick_source.specs.Answers.{Answers, AnswersRead};
 ghost use Rattle.ick_source.specs.BodyTree.{item_tree, place_tree, single, target_tree};
 ghost use Rattle.ick_source.specs.Gerund.{gerund_word};
 ghost use Rattle.ick_source.specs.Nonterminal.{Nonterminal, elements, gerunds, items, labels};
@@ -15,11 +15,11 @@ use crate::body::{Gerund, Item, Place, Target};
 use crate::expression::{element_at, expr_at};
 use crate::faults::{Faults, clamped_number};
 use crate::lead::Lead;
-use crate::parsed::{Parsed, Scanned};
+use crate::parsed::{Parsed, Scanned, Unread};
 use crate::position::{Position, lead_at};
 use crate::token::{number_at, word_at};
 use crate::tree::{Expr, Name, NameKind};
-use std::alloc::{AllocError, Global};
+use std::alloc::Global;
 
 /// Bounds the height of an expression and of an element (this profile).
 pub const MAX_HEIGHT: u16 = 256;
@@ -31,12 +31,8 @@ pub trait Part: Drop {
     ghost seen: { Self → nonterminal.Clamped };
 
     /// Reads the part at the position, and the position after it.
-    fn read_at(
-        alloc: Global,
-        text: &[u8],
-        from: Position,
-    ) -> Result<Option<Parsed<Self, Position>>, AllocError>
-        ensures { IfOk result (Answers nonterminal seen text.now (left_at text.now from)) };
+    fn read_at(alloc: Global, text: &[u8], from: Position) -> Result<Parsed<Self, Position>, Unread>
+        ensures { AnswersRead nonterminal seen text.now (left_at text.now from) result };
 }
 
 /// Reads the expression at the position, outside groups (Revised Manual, 3.4).
@@ -44,17 +40,15 @@ pub fn whole_at(
     alloc: Global,
     text: &[u8],
     from: Position,
-) -> Result<Option<Parsed<Expr, Position>>, AllocError>
-    ensures { IfOk result (Answers wholes tree_of text.now (left_at text.now from)) }
+) -> Result<Parsed<Expr, Position>, Unread>
+    ensures { AnswersRead wholes tree_of text.now (left_at text.now from) result }
 {
-    let Some(found) = expr_at(alloc, text, None, MAX_HEIGHT, from)? else {
-        return Ok(None);
-    };
-    Ok(Some(Parsed {
+    let found = expr_at(alloc, text, None, MAX_HEIGHT, from)?;
+    Ok(Parsed {
         value: found.value,
         to: found.to,
         faults: found.faults,
-    }))
+    })
 }
 
 /// Reads the element at the position, outside groups (Revised Manual, 3.3).
@@ -62,20 +56,18 @@ pub fn whole_element_at(
     alloc: Global,
     text: &[u8],
     from: Position,
-) -> Result<Option<Parsed<Target, Position>>, AllocError>
-    ensures { IfOk result (Answers elements target_tree text.now (left_at text.now from)) }
+) -> Result<Parsed<Target, Position>, Unread>
+    ensures { AnswersRead elements target_tree text.now (left_at text.now from) result }
 {
-    let Some(found) = element_at(alloc, text, None, MAX_HEIGHT, from)? else {
-        return Ok(None);
-    };
-    let Some(element) = found.value.into_element() else {
-        return Ok(None);
-    };
-    Ok(Some(Parsed {
-        value: Target::Element(element),
-        to: found.to,
-        faults: found.faults,
-    }))
+    let found = element_at(alloc, text, None, MAX_HEIGHT, from)?;
+    match found.value.into_element() {
+        None => Err(Unread::Absent),
+        Some(element) => Ok(Parsed {
+            value: Target::Element(element),
+            to: found.to,
+            faults: found.faults,
+        }),
+    }
 }
 
 /// Reads the name of a variable or an array at the position (Revised Manual, 3.1 and 3.3).
@@ -104,20 +96,20 @@ pub fn target_at(
     alloc: Global,
     text: &[u8],
     from: Position,
-) -> Result<Option<Parsed<Target, Position>>, AllocError>
-    ensures { IfOk result (Answers targets target_tree text.now (left_at text.now from)) }
+) -> Result<Parsed<Target, Position>, Unread>
+    ensures { AnswersRead targets target_tree text.now (left_at text.now from) result }
 {
     if let Lead::Array(_) = lead_at(text, from).value {
         return whole_element_at(alloc, text, from);
     }
     let Some(found) = name_at(text, from) else {
-        return Ok(None);
+        return Err(Unread::Absent);
     };
-    Ok(Some(Parsed {
+    Ok(Parsed {
         value: Target::Scalar(found.value),
         to: found.to,
         faults: found.faults,
-    }))
+    })
 }
 
 /// Reads the whole array at the position: a tail's name without SUB after it (Revised Manual, 5.2).
@@ -142,24 +134,22 @@ pub fn place_at(
     alloc: Global,
     text: &[u8],
     from: Position,
-) -> Result<Option<Parsed<Place, Position>>, AllocError>
-    ensures { IfOk result (Answers places place_tree text.now (left_at text.now from)) }
+) -> Result<Parsed<Place, Position>, Unread>
+    ensures { AnswersRead places place_tree text.now (left_at text.now from) result }
 {
     if let Some(found) = tail_at(text, from) {
-        return Ok(Some(Parsed {
+        return Ok(Parsed {
             value: Place::Array(found.value),
             to: found.to,
             faults: found.faults,
-        }));
+        });
     }
-    let Some(found) = target_at(alloc, text, from)? else {
-        return Ok(None);
-    };
-    Ok(Some(Parsed {
+    let found = target_at(alloc, text, from)?;
+    Ok(Parsed {
         value: stored(found.value),
         to: found.to,
         faults: found.faults,
-    }))
+    })
 }
 
 /// Returns the target as a place of WRITE IN.
@@ -174,25 +164,19 @@ fn stored(target: Target) -> Place
 
 /// Reads the item at the position: a variable, an element, a whole array or a mesh (Revised Manual,
 /// 4.4.13 and 5.2).
-pub fn item_at(
-    alloc: Global,
-    text: &[u8],
-    from: Position,
-) -> Result<Option<Parsed<Item, Position>>, AllocError>
-    ensures { IfOk result (Answers items item_tree text.now (left_at text.now from)) }
+pub fn item_at(alloc: Global, text: &[u8], from: Position) -> Result<Parsed<Item, Position>, Unread>
+    ensures { AnswersRead items item_tree text.now (left_at text.now from) result }
 {
     let next = lead_at(text, from);
     if let Lead::Hash = next.value {
-        return Ok(mesh_item_at(text, next.to));
+        return mesh_item_at(text, next.to).ok_or(Unread::Absent);
     }
-    let Some(found) = place_at(alloc, text, from)? else {
-        return Ok(None);
-    };
-    Ok(Some(Parsed {
+    let found = place_at(alloc, text, from)?;
+    Ok(Parsed {
         value: printed(found.value),
         to: found.to,
         faults: found.faults,
-    }))
+    })
 }
 
 /// Reads a mesh after its sigil, as an item.
@@ -274,7 +258,7 @@ impl Part for Expr {
         alloc: Global,
         text: &[u8],
         from: Position,
-    ) -> Result<Option<Parsed<Self, Position>>, AllocError> {
+    ) -> Result<Parsed<Self, Position>, Unread> {
         whole_at(alloc, text, from)
     }
 }
@@ -288,8 +272,8 @@ impl Part for Name {
         _alloc: Global,
         text: &[u8],
         from: Position,
-    ) -> Result<Option<Parsed<Self, Position>>, AllocError> {
-        Ok(name_at(text, from))
+    ) -> Result<Parsed<Self, Position>, Unread> {
+        name_at(text, from).ok_or(Unread::Absent)
     }
 }
 
@@ -302,7 +286,7 @@ impl Part for Place {
         alloc: Global,
         text: &[u8],
         from: Position,
-    ) -> Result<Option<Parsed<Self, Position>>, AllocError> {
+    ) -> Result<Parsed<Self, Position>, Unread> {
         place_at(alloc, text, from)
     }
 }
@@ -316,7 +300,7 @@ impl Part for Item {
         alloc: Global,
         text: &[u8],
         from: Position,
-    ) -> Result<Option<Parsed<Self, Position>>, AllocError> {
+    ) -> Result<Parsed<Self, Position>, Unread> {
         item_at(alloc, text, from)
     }
 }
@@ -330,7 +314,7 @@ impl Part for Gerund {
         _alloc: Global,
         text: &[u8],
         from: Position,
-    ) -> Result<Option<Parsed<Self, Position>>, AllocError> {
-        Ok(gerund_at(text, from))
+    ) -> Result<Parsed<Self, Position>, Unread> {
+        gerund_at(text, from).ok_or(Unread::Absent)
     }
 }

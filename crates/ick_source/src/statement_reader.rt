@@ -15,7 +15,7 @@ use crate::body_bytes::body_in;
 use crate::boundaries::{is_boundary, next_boundary, opening_at};
 use crate::bytes::{after_white, byte_at};
 use crate::faults::{Faults, clamped_number};
-use crate::parsed::Parsed;
+use crate::parsed::{Parsed, Unread};
 use crate::qualifiers::qualifiers_at;
 use crate::statements::Statement;
 use ick_bits::is_white;
@@ -60,22 +60,16 @@ pub fn trimmed(text: &[u8], from: usize, to: usize) -> &[u8]
 
 /// Reads the body at `at`, if it and any white bytes after it end at a boundary. Returns that
 /// boundary as its end.
-fn recognised_at(
-    alloc: Global,
-    text: &[u8],
-    at: usize,
-) -> Result<Option<Parsed<Body, usize>>, AllocError>
+fn recognised_at(alloc: Global, text: &[u8], at: usize) -> Result<Parsed<Body, usize>, Unread>
     requires { at ≤ length text.now }
-    ensures { IfOk result (AnswersRecognised text.now at) }
+    ensures { AnswersRecognised text.now at result }
 {
-    let Some(mut body) = body_in(alloc, text, at)? else {
-        return Ok(None);
-    };
+    let mut body = body_in(alloc, text, at)?;
     body.to = after_white(text, body.to);
     if !is_boundary(text, body.to) {
-        return Ok(None);
+        return Err(Unread::Absent);
     }
-    Ok(Some(body))
+    Ok(body)
 }
 
 /// Reads the rest of a statement after its head. An unrecognised body ends at the next boundary.
@@ -84,13 +78,14 @@ fn ending_at(alloc: Global, text: &[u8], head: usize) -> Result<Parsed<Body, usi
     ensures { IfOk result (EndsAt text.now head) }
 {
     let begin = after_white(text, head);
-    match recognised_at(alloc, text, begin)? {
-        Some(body) => Ok(body),
-        None => Ok(Parsed {
+    match recognised_at(alloc, text, begin) {
+        Ok(body) => Ok(body),
+        Err(Unread::Absent) => Ok(Parsed {
             value: Body::Unrecognised,
             to: next_boundary(text, head),
             faults: Faults::NONE,
         }),
+        Err(Unread::NoMemory) => Err(AllocError),
     }
 }
 

@@ -2,6 +2,8 @@ use Rattle.std.proofs.Common.{rules}
 use Rattle.std.specs.Prelude.{codes}
 use Rattle.ick_source.specs.Position.{left_at}
 use Rattle.ick_source.specs.BodyTree.{body_tree_of}
+use Rattle.ick_source.specs.Nonterminal.{labels}
+use Rattle.ick_source.proofs.PartReadings.{read_or_absent}
 use Rattle.ick_source.proofs.WordUnique.{word_stands, no_word_stands}
 use Rattle.ick_source.proofs.BodyReadings.{made_as, reinstate_label_made, reinstate_kinds_made}
 use Rattle.ick_source.proofs.body_reader.reinstate_at.Goals as goal
@@ -12,7 +14,7 @@ returns-then-is_some c =
     word_stands (codes "(") (left_at c.args.text.now c.args.from) c.args.text.now c.word_at.result c.word_at.ensures
     c.if-is_some.ensures in
     made_as (reinstate_label_made _ _ o.1) (λ n. n) body_tree_of (λ v b e. search rules) c.args.text.now
-    c.made.ensures c.label_at.ensures
+    c.made.ensures (read_or_absent labels (λ n. n) _ _ _ _ c.ok_or-label.ensures.value c.label_at.ensures)
 
 pub returns : goal.returns
 returns c =
@@ -20,4 +22,4 @@ returns c =
     no_word_stands (codes "(") (left_at c.args.text.now c.args.from) c.args.text.now c.word_at.result c.word_at.ensures
     c.if-is_some.ensures in
     made_as (reinstate_kinds_made _ o) (λ gs. gs.items) body_tree_of (λ v b e. search rules) c.args.text.now
-    c.made-2.ensures c.in_ok-kinds.ensures
+    c.made-2.ensures c.gerunds_at.ensures

@@ -7,4 +7,4 @@ use Rattle.ick_source.proofs.body_reader.write_in_at.Goals as goal
 pub returns : goal.returns
 returns c =
     made_as (write_in_made _ _ c.in-Some.ensures) (λ xs. map place_tree xs.items) body_tree_of (λ v b e. search rules)
-    c.args.text.now c.made.ensures c.in_ok-places.ensures
+    c.args.text.now c.made.ensures c.places_at.ensures

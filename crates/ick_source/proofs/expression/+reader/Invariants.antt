@@ -20,10 +20,10 @@ abbrev pub decreases-element_at : goal.decreases-element_at
 decreases-element_at l = 8 * l.limit + 3
 
 abbrev pub decreases-subs_at : goal.decreases-subs_at
-decreases-subs_at l = 8 * l.limit + 6
+decreases-subs_at l = 8 * l.limit + 7
 
 abbrev pub decreases-rest_at : goal.decreases-rest_at
-decreases-rest_at l = 8 * l.limit + 5
+decreases-rest_at l = 8 * l.limit + 6
 
 abbrev pub invariant-rest_at-further : goal.invariant-rest_at-further
 invariant-rest_at-further l =

@@ -1,7 +1,13 @@
-use Rattle.std.proofs.Common.{ap, ◌∙◌}
+use Rattle.std.proofs.Common.{ap, refl, ◌∙◌}
 use Rattle.ick_source.specs.Tree.{trees_in}
 use Rattle.ick_source.proofs.TreeLemmas.{trees_in-append}
 use Rattle.ick_source.proofs.expression.extend.Goals as goal
 
-pub returns-clause-subs : goal.returns-clause-subs
-returns-clause-subs c = ap trees_in c.in_ok-push.ensures.items ∙ trees_in-append _ _
+pub returns : goal.returns
+returns c =
+    record {
+      subs = ap trees_in c.in_ok-push.ensures.items ∙ trees_in-append _ _;
+      height = c.max-all.ensures;
+      to = refl;
+      faults = c.union-all.ensures;
+    }

@@ -6,5 +6,4 @@ returns-in-Some c = found_as (places_by_tails c.in-Some.ensures.stands) c.in-Som
 
 pub returns : goal.returns
 returns c =
-    let found = rw c.in-Some-2.is at c.in_ok-found.ensures in
-    rw c.stored.ensures (found_as (places_by_targets c.in_default.ensures) found)
+    rw c.stored.ensures (found_as (places_by_targets c.in_default.ensures) c.in_ok-found.ensures)

@@ -2,9 +2,9 @@ use Rattle.std.proofs.Common.{None, Some, refl}
 use Rattle.ick_source.specs.Statements.{recognised, unrecognised}
 use Rattle.ick_source.proofs.statement_reader.ending_at.Goals as goal
 
-pub returns-in-Some : goal.returns-in-Some
-returns-in-Some c =
-    let found = rw c.in-Some.is at c.in_ok-body.ensures in
+pub returns-in-Ok : goal.returns-in-Ok
+returns-in-Ok c =
+    let found = c.in-Ok.ensures in
     record {
       begin = c.after_white-begin.result;
       body = Some found.tree;
@@ -13,9 +13,9 @@ returns-in-Some c =
       reads = found.reads;
     }
 
-pub returns-in-None : goal.returns-in-None
-returns-in-None c =
-    let missing = rw c.in-None.is at c.in_ok-body.ensures in
+pub returns-in-Err-Absent : goal.returns-in-Err-Absent
+returns-in-Err-Absent c =
+    let missing = c.in-Err-Absent.ensures c.in-Err-Absent.field-0-is in
     record {
       begin = c.after_white-begin.result;
       body = None;
