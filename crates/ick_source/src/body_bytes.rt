@@ -20,7 +20,10 @@ pub fn body_in(alloc: Global, text: &[u8], at: usize) -> Result<Parsed<Body, usi
     let from = Position { at, between: false };
     let found = body_at(alloc, text, from)?;
     match byte_position(text, found.to) {
-        None => Err(Unread::Absent),
+        None => {
+            drop(found);
+            Err(Unread::Absent)
+        }
         Some(to) => Ok(Parsed {
             value: found.value,
             to,

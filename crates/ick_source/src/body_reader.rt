@@ -134,14 +134,20 @@ fn calculation_at(
 {
     let target = target_at(alloc, text, from)?;
     let Some(later) = word_at(text, target.to, b"<-") else {
+        drop(target);
         return Err(Unread::Absent);
     };
-    let value = whole_at(alloc, text, later)?;
-    Ok(Parsed {
-        value: Body::Calculate(target.value, value.value),
-        to: value.to,
-        faults: target.faults.union(value.faults),
-    })
+    match whole_at(alloc, text, later) {
+        Err(unread) => {
+            drop(target);
+            Err(unread)
+        }
+        Ok(value) => Ok(Parsed {
+            value: Body::Calculate(target.value, value.value),
+            to: value.to,
+            faults: target.faults.union(value.faults),
+        }),
+    }
 }
 
 /// Reads a dimensioning: an array, `<-` and its dimensions, separated by `BY` (Revised Manual,
@@ -163,12 +169,14 @@ fn dimensioning_at(
     let Some(later) = word_at(text, array.to, b"<-") else {
         return Err(Unread::Absent);
     };
-    let dimensions = dimensions_at(alloc, text, later)?;
-    Ok(Parsed {
-        value: Body::Dimension(array.value, dimensions.value),
-        to: dimensions.to,
-        faults: array.faults.union(dimensions.faults),
-    })
+    match dimensions_at(alloc, text, later) {
+        Err(unread) => Err(unread),
+        Ok(dimensions) => Ok(Parsed {
+            value: Body::Dimension(array.value, dimensions.value),
+            to: dimensions.to,
+            faults: array.faults.union(dimensions.faults),
+        }),
+    }
 }
 
 /// Reads a label and NEXT (Revised Manual, 4.4.2).

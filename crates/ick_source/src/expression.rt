@@ -105,6 +105,7 @@ fn group_at(
     let inner = expr_at(alloc, text, Some(delimiter), limit - 1, prefix.to)?;
     let close = lead_at(text, inner.to);
     if !closes(delimiter, close.value) {
+        drop(inner);
         return Err(Unread::Absent);
     }
     let group = Measured {
@@ -162,17 +163,19 @@ pub fn element_at(
     if limit == 0 {
         return Err(Unread::Absent);
     }
-    let all = subs_at(alloc, text, delimiter, limit - 1, later)?;
     let array = Name {
         kind,
         number: clamped_number(found.value),
     };
-    Ok(Measured {
-        value: indexed(array, all.value),
-        height: all.height + 1,
-        to: all.to,
-        faults: Faults::of_name(found.value).union(all.faults),
-    })
+    match subs_at(alloc, text, delimiter, limit - 1, later) {
+        Err(unread) => Err(unread),
+        Ok(all) => Ok(Measured {
+            value: indexed(array, all.value),
+            height: all.height + 1,
+            to: all.to,
+            faults: Faults::of_name(found.value).union(all.faults),
+        }),
+    }
 }
 
 /// Reads the subscripts of an element. An element among them is the last one.
@@ -256,10 +259,16 @@ pub fn expr_at(
         return Ok(left);
     };
     if left.height >= limit {
+        drop(left);
         return Err(Unread::Absent);
     }
-    let right = expr_at(alloc, text, delimiter, limit - 1, next.to)?;
-    joined(alloc, op, left, right)
+    match expr_at(alloc, text, delimiter, limit - 1, next.to) {
+        Err(unread) => {
+            drop(left);
+            Err(unread)
+        }
+        Ok(right) => joined(alloc, op, left, right),
+    }
 }
 
 /// Joins two sides by the operator between them.

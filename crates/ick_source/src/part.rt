@@ -43,12 +43,14 @@ pub fn whole_at(
 ) -> Result<Parsed<Expr, Position>, Unread>
     ensures { AnswersRead wholes tree_of text.now (left_at text.now from) result }
 {
-    let found = expr_at(alloc, text, None, MAX_HEIGHT, from)?;
-    Ok(Parsed {
-        value: found.value,
-        to: found.to,
-        faults: found.faults,
-    })
+    match expr_at(alloc, text, None, MAX_HEIGHT, from) {
+        Err(unread) => Err(unread),
+        Ok(found) => Ok(Parsed {
+            value: found.value,
+            to: found.to,
+            faults: found.faults,
+        }),
+    }
 }
 
 /// Reads the element at the position, outside groups (Revised Manual, 3.3).
@@ -144,12 +146,14 @@ pub fn place_at(
             faults: found.faults,
         });
     }
-    let found = target_at(alloc, text, from)?;
-    Ok(Parsed {
-        value: stored(found.value),
-        to: found.to,
-        faults: found.faults,
-    })
+    match target_at(alloc, text, from) {
+        Err(unread) => Err(unread),
+        Ok(found) => Ok(Parsed {
+            value: stored(found.value),
+            to: found.to,
+            faults: found.faults,
+        }),
+    }
 }
 
 /// Returns the target as a place of WRITE IN.
@@ -171,12 +175,14 @@ pub fn item_at(alloc: Global, text: &[u8], from: Position) -> Result<Parsed<Item
     if let Lead::Hash = next.value {
         return mesh_item_at(text, next.to).ok_or(Unread::Absent);
     }
-    let found = place_at(alloc, text, from)?;
-    Ok(Parsed {
-        value: printed(found.value),
-        to: found.to,
-        faults: found.faults,
-    })
+    match place_at(alloc, text, from) {
+        Err(unread) => Err(unread),
+        Ok(found) => Ok(Parsed {
+            value: printed(found.value),
+            to: found.to,
+            faults: found.faults,
+        }),
+    }
 }
 
 /// Reads a mesh after its sigil, as an item.

@@ -67,6 +67,7 @@ fn recognised_at(alloc: Global, text: &[u8], at: usize) -> Result<Parsed<Body, u
     let mut body = body_in(alloc, text, at)?;
     body.to = after_white(text, body.to);
     if !is_boundary(text, body.to) {
+        drop(body);
         return Err(Unread::Absent);
     }
     Ok(body)

@@ -1,5 +1,4 @@
 use Rattle.std.proofs.Common.{sym, ◌∙◌}
-use Rattle.std.proofs.lemmas.Result.{err_from_is_err_and}
 use Rattle.ick_source.proofs.BodyReadings.{dimensioning_no_name, dimensioning_no_arrow, dimensioning_no_values}
 use Rattle.ick_source.proofs.BodyReadings.{dimensioning_found}
 use Rattle.ick_source.proofs.body_reader.dimensioning_at.Goals as goal
@@ -10,13 +9,11 @@ returns-in_default-name_at c = λ absent. dimensioning_no_name c.in_default-name
 pub returns-in_default-word_at : goal.returns-in_default-word_at
 returns-in_default-word_at c = λ absent. dimensioning_no_arrow c.in-Some.ensures c.in_default-word_at.ensures
 
-pub returns-in_err-dimensions : goal.returns-in_err-dimensions
-returns-in_err-dimensions c =
-    let p = err_from_is_err_and c.from_residual.result c.from_residual.ensures.1 in
-    rw (p.1, p.2) (λ absent. dimensioning_no_values c.in-Some.ensures c.in-Some-word_at.ensures
-    (c.in_err-dimensions.ensures absent))
+pub returns-in-Err : goal.returns-in-Err
+returns-in-Err c =
+    λ absent. dimensioning_no_values c.in-Some.ensures c.in-Some-word_at.ensures (c.in-Err.ensures absent)
 
-pub returns : goal.returns
-returns c =
+pub returns-in-Ok : goal.returns-in-Ok
+returns-in-Ok c =
     rw c.union.ensures (dimensioning_found (sym c.lead_at.ensures.lead ∙ c.in-Array.is) c.in-Some.ensures
-    c.in-Some-word_at.ensures c.in_ok-dimensions.ensures)
+    c.in-Some-word_at.ensures c.in-Ok.ensures)

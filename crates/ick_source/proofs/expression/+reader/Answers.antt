@@ -60,18 +60,17 @@ expr_at-returns-then-left-limit t c =
     λ absent. expr_too_high _ _ _ _ _ _ _ _ _ c.in_ok-left.ensures (sym c.lead_at-next.ensures.lead ∙ c.in-Binary.is)
     c.if-left-limit.true
 
-pub expr_at-returns-in_err-right : goal.expr_at-returns-in_err-right
-expr_at-returns-in_err-right t c =
-    let p = err_from_is_err_and c.from_residual-in_err-right.result c.from_residual-in_err-right.ensures.1 in
-    rw (p.1, p.2) (λ absent. expr_no_right _ _ _ _ _ _ _ _ _ _ c.in_ok-left.ensures
-    (sym c.lead_at-next.ensures.lead ∙ c.in-Binary.is) c.lead_at-next.ensures.to (c.in_err-right.ensures absent))
+pub expr_at-returns-in-Err : goal.expr_at-returns-in-Err
+expr_at-returns-in-Err t c =
+    λ absent. expr_no_right _ _ _ _ _ _ _ _ _ _ c.in_ok-left.ensures (sym c.lead_at-next.ensures.lead ∙ c.in-Binary.is)
+    c.lead_at-next.ensures.to (c.in-Err.ensures absent)
 
-pub expr_at-returns : goal.expr_at-returns
-expr_at-returns t c =
+pub expr_at-returns-in-Ok : goal.expr_at-returns-in-Ok
+expr_at-returns-in-Ok t c =
     let low : c.in_ok-left.left.height < c.args.limit = omega arith in
     made_answers _ _ _ c.joined.ensures (λ s w. rw w.to
     (expr_joined _ _ _ _ _ _ _ _ _ _ _ _ _ _ _ _ _ c.in_ok-left.ensures
-    (sym c.lead_at-next.ensures.lead ∙ c.in-Binary.is) c.lead_at-next.ensures.to c.in_ok-right.ensures low
+    (sym c.lead_at-next.ensures.lead ∙ c.in-Binary.is) c.lead_at-next.ensures.to c.in-Ok.ensures low
     w.tree w.height w.faults))
 
 pub element_at-returns-in_default-word_at : goal.element_at-returns-in_default-word_at
@@ -81,17 +80,16 @@ element_at-returns-in_default-word_at t c =
 pub element_at-returns-then-limit-eq0 : goal.element_at-returns-then-limit-eq0
 element_at-returns-then-limit-eq0 t c = λ absent. element_no_height _ _ _ c.if-limit-eq0.true
 
-pub element_at-returns-in_err-all : goal.element_at-returns-in_err-all
-element_at-returns-in_err-all t c =
-    let p = err_from_is_err_and c.from_residual.result c.from_residual.ensures.1 in
-    rw (p.1, p.2) (λ absent. element_no_subs _ _ _ _ _ _ _ c.lead_at-next.ensures.to c.in-Some.ensures
-    c.in-Some-word_at.ensures (c.in_err-all.ensures absent))
+pub element_at-returns-in-Err : goal.element_at-returns-in-Err
+element_at-returns-in-Err t c =
+    λ absent. element_no_subs _ _ _ _ _ _ _ c.lead_at-next.ensures.to c.in-Some.ensures c.in-Some-word_at.ensures
+    (c.in-Err.ensures absent)
 
-pub element_at-returns : goal.element_at-returns
-element_at-returns t c =
+pub element_at-returns-in-Ok : goal.element_at-returns-in-Ok
+element_at-returns-in-Ok t c =
     element_stands _ _ _ _ _ _ _ _ _ _ _ _ _ _ _ _ (sym c.lead_at-next.ensures.lead ∙ c.in-Array.is)
     c.lead_at-next.ensures.to c.in-Some.ensures c.in-Some-word_at.ensures c.if-limit-eq0.false
-    c.in_ok-all.ensures c.indexed.ensures c.clamped_number.ensures c.of_name.ensures c.union.ensures
+    c.in-Ok.ensures c.indexed.ensures c.clamped_number.ensures c.of_name.ensures c.union.ensures
 
 pub subs_at-returns-in_err-first : goal.subs_at-returns-in_err-first
 subs_at-returns-in_err-first t c =

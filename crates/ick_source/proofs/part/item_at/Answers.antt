@@ -10,7 +10,7 @@ returns-in-Hash c =
     (answers_as (items_by_numbers _ _ (sym c.lead_at-next.ensures.lead ∙ c.in-Hash.is) c.lead_at-next.ensures.to)
     item_tree item_tree (λ v. refl) c.args.text.now c.mesh_item_at.result c.mesh_item_at.ensures)
 
-pub returns : goal.returns
-returns c =
+pub returns-in-Ok : goal.returns-in-Ok
+returns-in-Ok c =
     rw c.printed.ensures
-    (found_as (items_by_places _ (λ e. c.in_default.not-Hash (c.lead_at-next.ensures.lead ∙ e))) c.in_ok-found.ensures)
+    (found_as (items_by_places _ (λ e. c.in_default.not-Hash (c.lead_at-next.ensures.lead ∙ e))) c.in-Ok.ensures)

@@ -4,6 +4,6 @@ use Rattle.ick_source.proofs.part.place_at.Goals as goal
 pub returns-in-Some : goal.returns-in-Some
 returns-in-Some c = found_as (places_by_tails c.in-Some.ensures.stands) c.in-Some.ensures
 
-pub returns : goal.returns
-returns c =
-    rw c.stored.ensures (found_as (places_by_targets c.in_default.ensures) c.in_ok-found.ensures)
+pub returns-in-Ok : goal.returns-in-Ok
+returns-in-Ok c =
+    rw c.stored.ensures (found_as (places_by_targets c.in_default.ensures) c.in-Ok.ensures)
