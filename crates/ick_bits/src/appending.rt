@@ -22,8 +22,11 @@ pub fn append_decimal(out: &mut Vec<u8>, number: u64) -> Result<(), NoMemory>
     Ok(())
 }
 
-/// Appends the pieces in their order, or nothing if memory is refused.
-pub(crate) fn append_all(out: &mut Vec<u8>, pieces: &[&[u8]]) -> Result<(), NoMemory>
+/// Appends the pieces to `out` in their order.
+///
+/// Returns `NoMemory` only if `out` has no room for all pieces and cannot grow. `out` is then
+/// unchanged.
+pub fn append_all(out: &mut Vec<u8>, pieces: &[&[u8]]) -> Result<(), NoMemory>
     ensures ok { OnOk result
         (out.new.items ≡ out.old.items ++ flat_map (λ p. p.now) pieces.now) }
     ensures err { OnErr result (out.new.items ≡ out.old.items) }

@@ -34,7 +34,7 @@ mod tape;
 mod values;
 mod white;
 
-pub use appending::append_decimal;
+pub use appending::{append_all, append_decimal};
 pub use digits::{DigitFault, digits_value};
 pub use faults::{Fault, FaultKind, append_message};
 pub use memory::NoMemory;

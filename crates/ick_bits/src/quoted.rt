@@ -39,12 +39,12 @@ fn push_quoted(out: &mut Vec<u8>, text: &[u8]) -> Result<(), NoMemory>
         OnErr result (vec_capacity out.old < vec_len out.old + length whole) }
     ensures capacity { vec_capacity out.old ≤ vec_capacity out.new }
 {
-    out.push(b'"').map_err(AllocError::from)?;
+    out.extend_from_slice(b"\"")?;
     let mut done = 0;
     while done < text.len() {
         done += push_stretch(out, &text[done..])?;
     }
-    out.push(b'"').map_err(AllocError::from)?;
+    out.extend_from_slice(b"\"")?;
     Ok(())
 }
 
@@ -117,20 +117,19 @@ static PLAIN: [u8; 256] = [
 
 /// Appends the escape of one byte, or nothing if memory is refused.
 #[tactic(auto, unfolding(crate::specs::Quoted::escaped))]
-fn push_escaped(out: &mut Vec<u8>, byte: u8) -> Result<(), NoMemory>
+fn push_escaped(out: &mut Vec<u8>, byte: u8) -> Result<(), AllocError>
     ensures ok { OnOk result (out.new.items ≡ out.old.items ++ escaped byte) }
     ensures err { OnErr result (out.new.items ≡ out.old.items) }
     ensures full { OnErr result (vec_capacity out.old < vec_len out.old + length (escaped byte)) }
     ensures capacity { vec_capacity out.old ≤ vec_capacity out.new }
 {
     match byte {
-        b'\n' => out.extend_from_slice(b"\\n")?,
-        b'\\' => out.extend_from_slice(b"\\\\")?,
-        b'"' => out.extend_from_slice(b"\\\"")?,
-        32..=126 => out.extend_from_slice(&[byte])?,
-        _ => out.extend_from_slice(&[b'\\', b'x', hex_digit(byte / 16), hex_digit(byte % 16)])?,
+        b'\n' => out.extend_from_slice(b"\\n"),
+        b'\\' => out.extend_from_slice(b"\\\\"),
+        b'"' => out.extend_from_slice(b"\\\""),
+        32..=126 => out.extend_from_slice(&[byte]),
+        _ => out.extend_from_slice(&[b'\\', b'x', hex_digit(byte / 16), hex_digit(byte % 16)]),
     }
-    Ok(())
 }
 
 /// Returns the lower-case hexadecimal digit of a number below 16.
