@@ -5,8 +5,19 @@ use Rattle.std.proofs.Common.{◌∷◌, ◌≡◌, ◌≤◌}
 use Rattle.std.proofs.Math.Seq.{take-append_seam}
 use Rattle.std.proofs.lemmas.List.{append-nil, take-append-drop}
 use Rattle.std.specs.List.{enumerate_from, flat_map}
-use Rattle.ick_source.specs.Listing.{line_of, listing}
+use Rattle.std.specs.Prelude.{codes, decimal, if◌then◌else◌}
+use Rattle.ick_source.specs.Kinds.{kind_of, kind_word}
+use Rattle.ick_source.specs.Listing.{front_of, line_of, listing}
 use Rattle.ick_source.specs.StatementTree.{StatementTree}
+
+-- what precedes the text of a statement that has a label
+pub front_labelled : (number : ℕ) (t : StatementTree) (label : ℕ) → t.label ≡ Some label →
+    front_of number t ≡ decimal number ++ codes " (" ++ decimal label ++ codes ")"
+    ++ (if t.polite then codes " PLEASE" else codes " DO")
+    ++ (if t.abstained then codes " NOT " else codes " - ")
+    ++ decimal t.chance
+    ++ codes " " ++ kind_word (kind_of t.body) ++ codes " "
+front_labelled number t label e = rw e (simp append_assoc refl)
 
 abbrev lines : ℕ → List StatementTree → List ℕ
 lines n trees = flat_map (λ p. line_of p.0 p.1) (enumerate_from n trees)

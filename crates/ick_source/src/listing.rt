@@ -4,12 +4,12 @@ ghost use Rattle.std.specs.Prelude.{◌≡◌, ◌+◌, ◌<◌, ◌≤◌, ◌+
 ghost use Rattle.std.specs.Prelude.{codes, if◌then◌else◌, OnOk, OnErr, vec_len, vec_capacity};
 ghost use Rattle.ick_source.specs.StatementTree.{statement_tree_of, statement_trees, AreNumbered};
 ghost use Rattle.ick_source.specs.Programs.{trees_of};
-ghost use Rattle.ick_source.specs.Listing.{label_text, front_of, chance_and_kind_of, line_of};
-ghost use Rattle.ick_source.specs.Listing.{listing};
+ghost use Rattle.ick_source.specs.Listing.{front_of, line_of, listing};
 
 use crate::programs::Program;
 use crate::statements::Statement;
-use ick_bits::{NoMemory, append_decimal, append_quoted};
+use ick_bits::{NoMemory, append_all, append_quoted};
+use itoa::Buffer;
 
 /// Appends a line for each statement of the program, in the order of the source (this profile).
 ///
@@ -59,43 +59,43 @@ fn push_line(out: &mut Vec<u8>, statement: &Statement<'_>) -> Result<(), NoMemor
     ensures capacity { vec_capacity out.old ≤ vec_capacity out.new }
 {
     push_front(out, statement)?;
-    push_chance_and_kind(out, statement)?;
     append_quoted(out, statement.text)?;
     out.extend_from_slice(b"\n")?;
     Ok(())
 }
 
-/// Appends a statement's number, its label, `PLEASE` or `DO`, and `NOT` or `-`.
+/// Appends all that precedes a statement's text in its line, or nothing when out of memory.
 fn push_front(out: &mut Vec<u8>, statement: &Statement<'_>) -> Result<(), NoMemory>
     ensures ok { let text = front_of statement.now.number (statement_tree_of statement.now) in
         OnOk result (out.new.items ≡ out.old.items ++ text) }
-    ensures err { OnErr result (take (vec_len out.old) out.new.items ≡ out.old.items) }
+    ensures err { OnErr result (out.new.items ≡ out.old.items) }
     ensures full { let text = front_of statement.now.number (statement_tree_of statement.now) in
         OnErr result (vec_capacity out.old < vec_len out.old + length text) }
     ensures capacity { vec_capacity out.old ≤ vec_capacity out.new }
 {
-    append_decimal(out, u64::from(statement.number))?;
-    out.extend_from_slice(b" ")?;
-    push_label(out, statement.label)?;
-    out.extend_from_slice(polite_word(statement.polite))?;
-    out.extend_from_slice(abstained_word(statement.abstained))?;
-    Ok(())
-}
-
-/// Appends a statement's chance and its kind, each with a space after it.
-fn push_chance_and_kind(out: &mut Vec<u8>, statement: &Statement<'_>) -> Result<(), NoMemory>
-    ensures ok { let text = chance_and_kind_of (statement_tree_of statement.now) in
-        OnOk result (out.new.items ≡ out.old.items ++ text) }
-    ensures err { OnErr result (take (vec_len out.old) out.new.items ≡ out.old.items) }
-    ensures full { let text = chance_and_kind_of (statement_tree_of statement.now) in
-        OnErr result (vec_capacity out.old < vec_len out.old + length text) }
-    ensures capacity { vec_capacity out.old ≤ vec_capacity out.new }
-{
-    append_decimal(out, u64::from(statement.chance))?;
-    out.extend_from_slice(b" ")?;
-    out.extend_from_slice(statement.body.kind().word())?;
-    out.extend_from_slice(b" ")?;
-    Ok(())
+    let mut number = Buffer::new();
+    let mut chance = Buffer::new();
+    let number = number.format(u64::from(statement.number)).as_bytes();
+    let chance = chance.format(u64::from(statement.chance)).as_bytes();
+    let polite = polite_word(statement.polite);
+    let abstained = abstained_word(statement.abstained);
+    let kind = statement.body.kind().word();
+    match statement.label {
+        None => append_all(
+            out,
+            &[number, b" -", polite, abstained, chance, b" ", kind, b" "],
+        ),
+        Some(value) => {
+            let mut label = Buffer::new();
+            let label = label.format(u64::from(value)).as_bytes();
+            append_all(
+                out,
+                &[
+                    number, b" (", label, b")", polite, abstained, chance, b" ", kind, b" ",
+                ],
+            )
+        }
+    }
 }
 
 /// Returns `PLEASE` or `DO`, after a space.
@@ -110,22 +110,4 @@ fn abstained_word(abstained: bool) -> &'static [u8]
     ensures { result.now ≡ (if abstained then codes " NOT " else codes " - ") }
 {
     if abstained { b" NOT " } else { b" - " }
-}
-
-/// Appends a label in parentheses, or `-` if there is none.
-fn push_label(out: &mut Vec<u8>, label: Option<u16>) -> Result<(), NoMemory>
-    ensures ok { OnOk result (out.new.items ≡ out.old.items ++ label_text label) }
-    ensures err { OnErr result (take (vec_len out.old) out.new.items ≡ out.old.items) }
-    ensures full { OnErr result
-        (vec_capacity out.old < vec_len out.old + length (label_text label)) }
-    ensures capacity { vec_capacity out.old ≤ vec_capacity out.new }
-{
-    let Some(number) = label else {
-        out.extend_from_slice(b"-")?;
-        return Ok(());
-    };
-    out.extend_from_slice(b"(")?;
-    append_decimal(out, u64::from(number))?;
-    out.extend_from_slice(b")")?;
-    Ok(())
 }
