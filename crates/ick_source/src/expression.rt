@@ -321,7 +321,10 @@ fn extend(all: &mut Measured<Vec<Expr>>, one: Measured<Expr>) -> Result<(), Allo
 fn closes(delimiter: Delimiter, begins: Lead) -> bool
     ensures { IsTrue result ↔ (begins ≡ Lead.Group delimiter) }
 {
-    begins == Lead::Group(delimiter)
+    match begins {
+        Lead::Group(other) => other == delimiter,
+        _ => false,
+    }
 }
 
 /// Returns whether a further subscript may begin with such a character.

@@ -15,7 +15,7 @@ pub enum Delimiter {
 }
 
 /// The part of an expression that a byte begins.
-#[derive(Clone, Copy, PartialEq, Eq)]
+#[derive(Clone, Copy)]
 pub enum Lead {
     /// Begins a variable of this kind: `.` or `:`.
     Spot(NameKind),

@@ -118,9 +118,9 @@ pub fn target_at(
 fn tail_at(text: &[u8], from: Position) -> Option<Parsed<Name, Position>>
     ensures { Answers tails (λ name. name) text.now (left_at text.now from) result }
 {
-    if lead_at(text, from).value != Lead::Array(NameKind::Tail) {
+    let Lead::Array(NameKind::Tail) = lead_at(text, from).value else {
         return None;
-    }
+    };
     let Some(found) = name_at(text, from) else {
         return None;
     };
