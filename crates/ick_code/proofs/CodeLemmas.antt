@@ -7,6 +7,7 @@ use Rattle.std.specs.Prelude.{filter, slice_get, slice_range, option_map}
 use Rattle.std.specs.List.{IsDistinct, AllPass, list_all}
 use Rattle.std.proofs.lemmas.List.Sums.{AllPass-from_list_all}
 use Rattle.std.proofs.lemmas.List.{length-map}
+use Rattle.std.proofs.lemmas.List.Elements.{All-nil}
 use Rattle.std.proofs.lemmas.Option.{slice_get_within, slice_get-get_or, slice_get-map}
 use Rattle.ick_source.specs.declared.tree.Name.{Name}
 use Rattle.ick_source.specs.declared.kinds.Kind.{Kind}
@@ -18,7 +19,7 @@ use Rattle.ick_code.specs.declared.code.Code.{Code}
 use Rattle.ick_code.specs.meaning.State.{same_name, statement_at}
 use Rattle.ick_code.specs.Names.{is_scalar_name, is_array_name, each_once, names_of, slots_of}
 use Rattle.ick_code.specs.Counts.{count_after, peak}
-use Rattle.ick_code.specs.Code.{kinds_of, Means, IsCompiledStatement, IsCode}
+use Rattle.ick_code.specs.Code.{kinds_of, Means, names_existing, LeadsLast, IsCompiledStatement, IsCode}
 use Rattle.ick_code.specs.Compiled.{code_program, code_statement, code_slots, compiled_at, ops_in, code_ops, Shows}
 use Rattle.ick_code.specs.Compiled.{IsCompiled}
 use Rattle.ick_code.proofs.SlotLemmas.{each_once-distinct}
@@ -74,12 +75,16 @@ compiled_of program code h (suc k) statement at =
     let here = some_member code.statements.items k (omega (arith, h.count)) in
     (here.0, here.1, h.each k here.0 statement here.1 at)
 
--- what is so of the operations of what is kept is so of those of each statement
-each_ops : (program : List StatementTree) (code : Code) →
+-- what is so of no operations, and of those of what is kept, is so of those of each statement
+each_ops : (P : List Op → Type 0) (program : List StatementTree) (code : Code) →
     IsCode program code.scalars.items code.arrays.items code.operands code.ops.items code.statements.items
-    code.kinds.items → (n : ℕ) → peak (code_ops code n) 0 ≤ code.operands
-each_ops program code h zero = omega arith
-each_ops program code h (suc k) = cases (slice_get code.statements.items k) refl
+    code.kinds.items → P [] →
+    ((compiled : CompiledStatement) (statement : StatementTree) →
+    IsCompiledStatement program (slots_of program) code.operands code.ops.items compiled statement →
+    P (slice_range code.ops.items compiled.from compiled.to)) →
+    (n : ℕ) → P (code_ops code n)
+each_ops P program code h none each zero = none
+each_ops P program code h none each (suc k) = cases (slice_get code.statements.items k) refl
   where
     at : (compiled : CompiledStatement) →
         slice_get code.statements.items k ≡ Some compiled →
@@ -87,9 +92,10 @@ each_ops program code h (suc k) = cases (slice_get code.statements.items k) refl
     at compiled e = some_member program k (omega (arith, h.count, slice_get_within code.statements.items k compiled e))
 
     cases : (o : Option CompiledStatement) → slice_get code.statements.items k ≡ o →
-        peak (ops_in code.ops.items o) 0 ≤ code.operands
-    cases None e = omega arith
-    cases (Some compiled) e = let there = at compiled e in (h.each k compiled there.0 e there.1).low
+        P (ops_in code.ops.items o)
+    cases None e = none
+    cases (Some compiled) e =
+        let there = at compiled e in each compiled there.0 (h.each k compiled there.0 e there.1)
 
 pub is_compiled : (program : List StatementTree) (code : Code) → code_program code ≡ program →
     IsCode program code.scalars.items code.arrays.items code.operands code.ops.items code.statements.items
@@ -111,7 +117,14 @@ is_compiled program code are h =
           ap (ops_in code.ops.items) e in
           let fits = all (suc n) reached.0 in
           omega (arith, fits, ap (λ o. count_after (take reached.0 o) 0) here, reached.1));
-      enough = λ n k. le_trans (prefix-le (code_ops code n) k 0) (each_ops program code h n);
+      enough = λ n k.
+          le_trans (prefix-le (code_ops code n) k 0)
+          (each_ops (λ ops. peak ops 0 ≤ code.operands) program code h (omega arith) (λ c s is. is.low) n);
+      named = λ n.
+          subst (λ sl. AllPass (names_existing (length program) sl) (code_ops code n)) (sym slots)
+          (each_ops (AllPass (names_existing (length program) (slots_of program))) program code h
+          (All-nil (λ op. names_existing (length program) (slots_of program) op ≡ true)) (λ c s is. is.named) n);
+      leads = each_ops LeadsLast program code h (λ k op at leads. absurd (cc)) (λ c s is. is.leads);
       slots_are = slots;
       scalars_once =
           subst (IsDistinct same_name) (sym h.scalars_are)

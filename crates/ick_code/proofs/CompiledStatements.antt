@@ -7,6 +7,7 @@ use Rattle.std.specs.Prelude.{slice_get, slice_range, option_map}
 use Rattle.std.specs.List.{list_all}
 use Rattle.std.proofs.lemmas.List.{take-append-le, drop-append-le, length-map, length-drop, map-append}
 use Rattle.std.proofs.Math.Seq.{drop-append_seam, take-length}
+use Rattle.std.proofs.lemmas.List.Elements.{All-same}
 use Rattle.std.proofs.lemmas.Option.{slice_get-map, slice_get-get_or, slice_get_within}
 use Rattle.ick_source.specs.declared.statements.Statement.{Statement}
 use Rattle.ick_source.specs.declared.body.Body.{Body}
@@ -15,6 +16,7 @@ use Rattle.ick_source.specs.declared.kinds.Kind.{Kind}
 use Rattle.ick_source.specs.StatementTree.{StatementTree}
 use Rattle.ick_source.specs.NameKinds.{is_statement_kinded}
 use Rattle.ick_source.specs.StatementTree.{statement_tree_of}
+use Rattle.ick_source.specs.Refusals.{IsSound}
 use Rattle.ick_code.specs.declared.op.Op.{Op}
 use Rattle.ick_code.specs.declared.op.Op.TheVariants.{Call, AbstainOne, ReinstateOne}
 use Rattle.ick_code.specs.declared.code.CompiledStatement.{CompiledStatement}
@@ -24,12 +26,13 @@ use Rattle.ick_code.specs.Names.{slots_of}
 use Rattle.ick_code.specs.Counts.{peak}
 use Rattle.ick_code.specs.Operations.{ops_of_body}
 use Rattle.ick_code.specs.Emitted.{IsEmitted}
-use Rattle.ick_code.specs.Code.{kinds_of, IsCompiledStatement, IsCode}
+use Rattle.ick_code.specs.Code.{kinds_of, names_existing, LeadsLast, IsCompiledStatement, IsCode}
 use Rattle.ick_code.proofs.Members.{some_is, some_member, push_cases, mapped_from}
 use Rattle.ick_code.proofs.TakeLemmas.{take_with}
 use Rattle.ick_code.proofs.CountLemmas.{within_peak}
 use Rattle.ick_code.proofs.Slotted.{covers_all, covers_part, kinded_part}
 use Rattle.ick_code.proofs.Runs.{body_runs}
+use Rattle.ick_code.proofs.NamedOps.{used_exists, body_settled}
 
 -- a range of a list stays where the list grows
 range-append : {A : Type 0} (xs ys : List A) (i j : ℕ) → i ≤ j → j ≤ length xs →
@@ -172,31 +175,37 @@ ops_placed place place' slots same body.Unrecognised = refl
 emitted_means : (program : List StatementTree) (statements : List Statement) (place : ℕ → ℕ) (most : ℕ)
     (ops : List Op) (compiled : CompiledStatement) (n : ℕ) (statement : Statement) →
     program ≡ map statement_tree_of statements → ((label : ℕ) → place label ≡ place_of label program) →
-    list_all is_statement_kinded program ≡ true →
+    list_all is_statement_kinded program ≡ true → IsSound program →
     slice_get statements n ≡ Some statement → IsEmitted place (slots_of program) ops compiled statement →
     peak (slice_range ops compiled.from compiled.to) 0 ≤ most →
     IsCompiledStatement program (slots_of program) most ops compiled (statement_tree_of statement)
-emitted_means program statements place most ops compiled n statement trees places kinded at h low =
+emitted_means program statements place most ops compiled n statement trees places kinded sound at h low =
     let tree = statement_tree_of statement in
     let slots = slots_of program in
     let at_tree : slice_get program n ≡ Some tree =
     ap (λ p. slice_get p n) trees ∙ slice_get-map statement_tree_of statements n
     ∙ ap (option_map statement_tree_of) at in
     let are = h.is ∙ ops_placed place (λ label. place_of label program) slots places statement.body in
+    let kinded_body = kinded_part program n tree at_tree kinded in
+    let covered = covers_part slots program n tree at_tree (covers_all program) in
+    let settled =
+    body_settled (length program) slots (λ label. place_of label program) statement.body kinded_body covered
+    (λ how label uses. used_exists program n tree how label sound at_tree uses) in
     record {
       order = h.order;
       within = h.within;
       means = record {
         does = λ s.
             ap (λ o. effects program slots statement.text.now o [] s) are
-            ∙ body_runs program slots statement.text.now statement.body (kinded_part program n tree at_tree kinded)
-            (covers_part slots program n tree at_tree (covers_all program)) s;
+            ∙ body_runs program slots statement.text.now statement.body kinded_body covered s;
         keeps =
             λ s k.
             le_trans (within_peak program slots statement.text.now (slice_range ops compiled.from compiled.to) k [] s)
             low;
       };
       low = low;
+      named = All-same (λ op. names_existing (length program) slots op ≡ true) _ _ are settled.named;
+      leads = subst LeadsLast (sym are) settled.leads;
       chance = h.chance;
       abstained = h.abstained;
       text = h.text;
@@ -207,9 +216,10 @@ pub whole_code : (program : List StatementTree) (statements : List Statement) (p
     (ops : List Op) (list : List CompiledStatement) (kinds : List Kind) (most i : ℕ) →
     CompiledSoFar place slots statements ops list most i → i ≤ length statements → length statements ≤ i →
     program ≡ map statement_tree_of statements → ((label : ℕ) → place label ≡ place_of label program) →
-    list_all is_statement_kinded program ≡ true → slots ≡ slots_of program → kinds ≡ kinds_of program →
+    list_all is_statement_kinded program ≡ true → IsSound program →
+    slots ≡ slots_of program → kinds ≡ kinds_of program →
     IsCode program slots.scalars slots.arrays most ops list kinds
-whole_code program statements place slots ops list kinds most i so_far low high trees places kinded are_slots
+whole_code program statements place slots ops list kinds most i so_far low high trees places kinded sound are_slots
     are_kinds = record {
       count = so_far.count ∙ whole ∙ sym (ap length trees ∙ length-map statements statement_tree_of);
       each = λ n compiled tree e f.
@@ -217,7 +227,7 @@ whole_code program statements place slots ops list kinds most i so_far low high 
           mapped_from statement_tree_of statements n tree (subst (λ p. slice_get p n ≡ Some tree) trees f) in
           let here = so_far.each n compiled from.0 e from.1 in
           subst (IsCompiledStatement program (slots_of program) most ops compiled) (sym from.2)
-          (emitted_means program statements place most ops compiled n from.0 trees places kinded from.1
+          (emitted_means program statements place most ops compiled n from.0 trees places kinded sound from.1
           (subst (λ sl. IsEmitted place sl ops compiled from.0) are_slots here.0) here.1);
       scalars_are = ap (λ sl. sl.scalars) are_slots;
       arrays_are = ap (λ sl. sl.arrays) are_slots;

@@ -12,6 +12,7 @@ pub mod CountLemmas
 pub mod Covers
 pub mod Slotted
 pub mod Runs
+pub mod NamedOps
 pub mod Frames
 pub mod AskLaws
 pub mod Leads

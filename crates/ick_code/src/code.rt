@@ -77,7 +77,9 @@ impl<'a> Code<'a> {
         }
     }
 
-    /// States that the operations do what the statements of the program do.
+    /// States that the operations do what the statements of the program do. Each operation names
+    /// only slots and statements that exist, and only the last operation of a statement may lead
+    /// elsewhere or end the run.
     pub fn law(&self)
         ensures { IsCompiled (code_program self.now) self.now }
     {}

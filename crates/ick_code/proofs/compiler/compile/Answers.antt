@@ -43,7 +43,7 @@ new-requires-3 c =
     c.in_ok-table.ensures ∙ ap (λ p. with_names no_slots (names_of p)) (sym trees) ∙ with_names-slots_of program in
     whole_code program statements _ _ _ _ c.in_ok-kinds.kinds.items _ c.loop-statement.statement-index
     c.loop-statement.invariant c.loop-statement.auto.statement-index-end c.loop-statement-test.false trees places
-    c.args.program.now.kinded slots
+    c.args.program.now.kinded c.args.program.now.sound slots
     (c.in_ok-kinds.ensures ∙ ap kinds_of (sym trees))
 
 pub compile_statement-requires : goal.compile_statement-requires
