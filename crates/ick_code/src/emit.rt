@@ -221,16 +221,12 @@ fn emit_print(ops: &mut Vec<Op>, table: &Table, item: &Item) -> Result<(), NoMem
         ops.old.items ++ print_ops (table_slots table.now) item.now) }
 {
     match item {
-        Item::Scalar(name) => ops.push(Op::Load(table.scalars.slot(*name)))?,
+        Item::Scalar(name) => push_op(ops, Op::Load(table.scalars.slot(*name)))?,
         Item::Element(element) => emit_fetch(ops, table, element)?,
-        Item::Mesh(number) => ops.push(Op::Constant(*number))?,
-        Item::Array(name) => {
-            ops.push(Op::PrintArray(table.arrays.slot(*name)))?;
-            return Ok(());
-        }
+        Item::Mesh(number) => push_op(ops, Op::Constant(*number))?,
+        Item::Array(name) => return push_op(ops, Op::PrintArray(table.arrays.slot(*name))),
     }
-    ops.push(Op::Print)?;
-    Ok(())
+    push_op(ops, Op::Print)
 }
 
 /// Appends the operations of an element.
@@ -243,8 +239,7 @@ fn emit_fetch(ops: &mut Vec<Op>, table: &Table, element: &Element) -> Result<(),
         (Op.Fetch (slot_in table.now.arrays.list.items element.now.array))) }
 {
     let count = emit_exprs(ops, table, &element.subs)?;
-    ops.push(Op::Fetch(table.arrays.slot(element.array), count))?;
-    Ok(())
+    push_op(ops, Op::Fetch(table.arrays.slot(element.array), count))
 }
 
 /// Appends the operations of an expression.
@@ -255,20 +250,19 @@ fn emit_expr(ops: &mut Vec<Op>, table: &Table, e: &Expr) -> Result<(), NoMemory>
         ops.old.items ++ ops_of_tree (table_slots table.now) (tree_of e.now)) }
 {
     match e {
-        Expr::Mesh(number) => ops.push(Op::Constant(*number))?,
-        Expr::Scalar(name) => ops.push(Op::Load(table.scalars.slot(*name)))?,
-        Expr::Element(element) => emit_fetch(ops, table, element)?,
+        Expr::Mesh(number) => push_op(ops, Op::Constant(*number)),
+        Expr::Scalar(name) => push_op(ops, Op::Load(table.scalars.slot(*name))),
+        Expr::Element(element) => emit_fetch(ops, table, element),
         Expr::Unary(op, inner) => {
             emit_expr(ops, table, inner)?;
-            ops.push(unary_op(*op))?;
+            push_op(ops, unary_op(*op))
         }
         Expr::Binary(op, left, right) => {
             emit_expr(ops, table, left)?;
             emit_expr(ops, table, right)?;
-            ops.push(binary_op(*op))?;
+            push_op(ops, binary_op(*op))
         }
     }
-    Ok(())
 }
 
 /// Appends the operations of expressions in their order, and returns the number of expressions.

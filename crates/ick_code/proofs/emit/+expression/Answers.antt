@@ -1,4 +1,5 @@
 use Rattle.std.proofs.Common.{◌+◌, ◌++◌, ap, ◌∙◌, sym, rules, arith}
+use Rattle.std.proofs.lemmas.Result.{on_ok_weaker}
 use Rattle.ick_source.specs.Tree.{tree_of, trees_in}
 use Rattle.ick_source.specs.NameKinds.{are_kinded}
 use Rattle.ick_code.specs.Tables.{table_slots}
@@ -14,11 +15,12 @@ emit_exprs-loop-e-preserved t c =
     emitted_more _ _ _ _ c.deref-e-items.result.now c.loop-e.e-index _ c.loop-e.invariant c.in_ok-emit_expr.ensures
     c.loop-e-test.true c.e-item.is
 
-pub emit_expr-returns-in_ok-emit_fetch-in-Element : goal.emit_expr-returns-in_ok-emit_fetch-in-Element
-emit_expr-returns-in_ok-emit_fetch-in-Element t c =
-    c.in_ok-emit_fetch-in-Element.ensures
+pub emit_expr-returns-in-Element : goal.emit_expr-returns-in-Element
+emit_expr-returns-in-Element t c =
+    on_ok_weaker c.emit_fetch.result
+    (λ emitted. emitted
     ∙ ap (λ t. c.args.ops.now.items ++ ops_of_tree (table_slots c.args.table.now) t)
-    (sym (ap tree_of c.in-Element.is ∙ tree_of-element c.in-Element.element))
+    (sym (ap tree_of c.in-Element.is ∙ tree_of-element c.in-Element.element))) c.emit_fetch.ensures
 
 pub emit_exprs-overflow_cast-count : goal.emit_exprs-overflow_cast-count
 emit_exprs-overflow_cast-count t c = let few =
