@@ -1,15 +1,15 @@
 //! Compiles programs: gives each name a slot first, and then each statement its operations.
 
-ghost use Rattle.std.specs.Prelude.{◌≡◌, ◌++◌, true, map, OnOk, IfOk};
+ghost use Rattle.std.specs.Prelude.{◌≡◌, ◌++◌, true, [], OnOk, IfOk};
 ghost use Rattle.ick_source.specs.NameKinds.{is_body_kinded};
 ghost use Rattle.ick_source.specs.Programs.{trees_of};
 ghost use Rattle.ick_source.specs.BodyTree.{body_tree_of};
-ghost use Rattle.ick_source.specs.StatementTree.{statement_tree_of};
 ghost use Rattle.ick_code.specs.Tables.{table_slots};
 ghost use Rattle.ick_code.specs.Labels.{place_in};
 ghost use Rattle.ick_code.specs.Operations.{ops_of_body};
 ghost use Rattle.ick_code.specs.Emitted.{IsEmitted};
-ghost use Rattle.ick_code.specs.Code.{kinds_of};
+ghost use Rattle.ick_code.specs.Names.{slots_of};
+ghost use Rattle.ick_code.specs.Code.{IsCode};
 ghost use Rattle.ick_code.specs.Compiled.{IsCompiled};
 
 use crate::code::{Code, CompiledStatement};
@@ -19,7 +19,7 @@ use crate::labels::Labels;
 use crate::op::Op;
 use crate::table::Table;
 use ick_bits::NoMemory;
-use ick_source::{Body, Kind, Program, Statement};
+use ick_source::{Kind, Program, Statement};
 use std::alloc::Global;
 
 /// Compiles a program: each statement becomes a flat list of operations, with slots for names and
@@ -31,31 +31,41 @@ use std::alloc::Global;
 pub fn compile<'a>(alloc: Global, program: &Program<'a>) -> Result<Code<'a>, NoMemory>
     ensures { IfOk result (IsCompiled (trees_of program.now)) }
 {
-    let source = program.statements();
-    let table = Table::new(alloc, source)?;
-    let labels = Labels::new(alloc, source)?;
-    let kinds = kinds(alloc, source)?;
+    let table = Table::new(alloc, program.statements())?;
     let mut ops = Vec::new(alloc);
-    let mut statements = Vec::new(alloc);
-    let mut operands = 0usize;
-    for statement in source {
-        let compiled = compile_statement(&mut ops, &table, &labels, statement)?;
-        operands = operands.max(most_operands(&ops[compiled.from..compiled.to]));
-        statements.push(compiled)?;
-    }
-    Ok(Code::new(program, ops, statements, kinds, table, operands))
+    let mut compiled = Vec::new(alloc);
+    let mut kinds = Vec::new(alloc);
+    let operands = compile_all(alloc, &mut ops, &mut compiled, &mut kinds, &table, program)?;
+    Ok(Code::new(program, ops, compiled, kinds, table, operands))
 }
 
-/// Returns the kinds of statements, in order.
-fn kinds(alloc: Global, statements: &[Statement]) -> Result<Vec<Kind>, NoMemory>
-    ensures { IfOk result (λ kinds. kinds.items ≡ kinds_of (map statement_tree_of
-        statements.now)) }
+/// Appends the operations of all statements, the compiled statements and their kinds, and returns
+/// the greatest number of operands.
+fn compile_all<'a>(
+    alloc: Global,
+    ops: &mut Vec<Op>,
+    compiled: &mut Vec<CompiledStatement<'a>>,
+    kinds: &mut Vec<Kind>,
+    table: &Table,
+    program: &Program<'a>,
+) -> Result<usize, NoMemory>
+    requires slots { table_slots table.now ≡ slots_of (trees_of program.now) }
+    requires compiled { compiled.old.items ≡ [] }
+    requires kinds { kinds.old.items ≡ [] }
+    ensures { IfOk result (λ operands. IsCode (trees_of program.now)
+        table.now.scalars.list.items table.now.arrays.list.items operands ops.new.items
+        compiled.new.items kinds.new.items) }
 {
-    let mut kinds = Vec::new(alloc);
+    let statements = program.statements();
+    let labels = Labels::new(alloc, statements)?;
+    let mut operands = 0usize;
     for statement in statements {
+        let one = compile_statement(ops, table, &labels, statement)?;
+        operands = operands.max(most_operands(&ops[one.from..one.to]));
+        compiled.push(one)?;
         kinds.push(statement.body.kind())?;
     }
-    Ok(kinds)
+    Ok(operands)
 }
 
 /// Appends the operations of a statement, and returns the compiled statement.
