@@ -3,9 +3,10 @@ use Rattle.std.proofs.Common.{◌≡◌, ℕ, ◌+◌, ◌<◌, List, [], ◌∷
 use Rattle.std.proofs.Common.{sym, ap, ◌∙◌, append_assoc, append-nil}
 use Rattle.ick_source.specs.declared.tree.Expr.{Expr}
 use Rattle.ick_source.specs.Tree.{tree_of, trees_in}
-use Rattle.ick_code.specs.declared.op.Op.{Op}
+use Rattle.ick_code.specs.declared.emit.Draft.{Draft}
 use Rattle.ick_code.specs.Effects.{Slots}
 use Rattle.ick_code.specs.Operations.{ops_of_tree, ops_of_trees}
+use Rattle.ick_code.specs.Emitted.{Emits}
 use Rattle.ick_code.proofs.TakeLemmas.{take_with}
 
 ops-more : (slots : Slots) (es : List Expr) (e : Expr) →
@@ -16,12 +17,19 @@ ops-more slots (x ∷ es) e =
     ∙ sym
     (append_assoc (ops_of_tree slots (tree_of x)) (ops_of_trees slots (trees_in es)) (ops_of_tree slots (tree_of e)))
 
-pub emitted_more : (slots : Slots) (old so_far new : List Op) (es : List Expr) (i : ℕ) (e : Expr) →
-    so_far ≡ old ++ ops_of_trees slots (trees_in (take i es)) → new ≡ so_far ++ ops_of_tree slots (tree_of e) →
-    i < length es → e ≡ get_or es i e → new ≡ old ++ ops_of_trees slots (trees_in (take (i + 1) es))
-emitted_more slots old so_far new es i e before now within is =
-    now
-    ∙ ap (λ l. l ++ ops_of_tree slots (tree_of e)) before
-    ∙ append_assoc old (ops_of_trees slots (trees_in (take i es))) (ops_of_tree slots (tree_of e))
-    ∙ ap (λ l. old ++ l)
-    (sym (ap (λ l. ops_of_trees slots (trees_in l)) (take_with es i e within is) ∙ ops-more slots (take i es) e))
+pub emitted_more : (slots : Slots) (old so_far new : Draft) (es : List Expr) (i : ℕ) (e : Expr) →
+    Emits (ops_of_trees slots (trees_in (take i es))) old so_far →
+    Emits (ops_of_tree slots (tree_of e)) so_far new →
+    i < length es →
+    e ≡ get_or es i e →
+    Emits (ops_of_trees slots (trees_in (take (i + 1) es))) old new
+emitted_more slots old so_far new es i e before now within is held =
+    let last = now held in
+    let others = before last.0 in (
+      others.0,
+      last.1
+          ∙ ap (λ l. l ++ ops_of_tree slots (tree_of e)) others.1
+          ∙ append_assoc old.ops.items (ops_of_trees slots (trees_in (take i es))) (ops_of_tree slots (tree_of e))
+          ∙ ap (λ l. old.ops.items ++ l)
+          (sym (ap (λ l. ops_of_trees slots (trees_in l)) (take_with es i e within is) ∙ ops-more slots (take i es) e)),
+    )

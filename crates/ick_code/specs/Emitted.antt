@@ -1,10 +1,15 @@
--- What is kept of a statement by the shape of its operations: `IsEmitted` is a shape, and says nothing of what they do.
-use Rattle.std.specs.Prelude.{ℕ, ◌≡◌, ◌≤◌, List, length, slice_range}
+-- What is appended for a statement, and what is kept of it by the shape of its operations: neither says what they do.
+use Rattle.std.specs.Prelude.{ℕ, false, ◌≡◌, ◌≤◌, List, ◌++◌, length, slice_range}
 use Rattle.ick_source.specs.declared.statements.Statement.{Statement}
 use Rattle.ick_code.specs.declared.op.Op.{Op}
+use Rattle.ick_code.specs.declared.emit.Draft.{Draft}
 use Rattle.ick_code.specs.declared.code.CompiledStatement.{CompiledStatement}
 use Rattle.ick_code.specs.Effects.{Slots}
 use Rattle.ick_code.specs.Operations.{ops_of_body}
+
+-- these operations are appended, unless a growth was refused
+abbrev pub Emits : List Op → Draft → Draft → Type 0
+Emits ops old new = new.refused ≡ false → (old.refused ≡ false) × (new.ops.items ≡ old.ops.items ++ ops)
 
 -- the operations, a range of all, are those that the statement's body is compiled to
 pub record IsEmitted (place : ℕ → ℕ) (slots : Slots) (ops : List Op) (compiled : CompiledStatement)

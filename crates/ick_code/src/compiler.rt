@@ -14,9 +14,8 @@ ghost use Rattle.ick_code.specs.Compiled.{IsCompiled};
 
 use crate::code::{Code, CompiledStatement};
 use crate::counts::most_operands;
-use crate::emit::emit_body;
+use crate::emit::{Draft, emit_body};
 use crate::labels::Labels;
-use crate::op::Op;
 use crate::table::Table;
 use ick_bits::NoMemory;
 use ick_source::{Kind, Program, Statement};
@@ -32,18 +31,28 @@ pub fn compile<'a>(alloc: Global, program: &Program<'a>) -> Result<Code<'a>, NoM
     ensures { IfOk result (IsCompiled (trees_of program.now)) }
 {
     let table = Table::new(alloc, program.statements())?;
-    let mut ops = Vec::new(alloc);
+    let mut draft = Draft {
+        ops: Vec::new(alloc),
+        refused: false,
+    };
     let mut compiled = Vec::new(alloc);
     let mut kinds = Vec::new(alloc);
-    let operands = compile_all(alloc, &mut ops, &mut compiled, &mut kinds, &table, program)?;
-    Ok(Code::new(program, ops, compiled, kinds, table, operands))
+    let operands = compile_all(
+        alloc,
+        &mut draft,
+        &mut compiled,
+        &mut kinds,
+        &table,
+        program,
+    )?;
+    Ok(Code::new(program, draft.ops, compiled, kinds, table, operands))
 }
 
 /// Appends the operations of all statements, the compiled statements and their kinds, and returns
 /// the greatest number of operands.
 fn compile_all<'a>(
     alloc: Global,
-    ops: &mut Vec<Op>,
+    draft: &mut Draft,
     compiled: &mut Vec<CompiledStatement<'a>>,
     kinds: &mut Vec<Kind>,
     table: &Table,
@@ -53,15 +62,15 @@ fn compile_all<'a>(
     requires compiled { compiled.old.items ≡ [] }
     requires kinds { kinds.old.items ≡ [] }
     ensures { IfOk result (λ operands. IsCode (trees_of program.now)
-        table.now.scalars.list.items table.now.arrays.list.items operands ops.new.items
+        table.now.scalars.list.items table.now.arrays.list.items operands draft.new.ops.items
         compiled.new.items kinds.new.items) }
 {
     let statements = program.statements();
     let labels = Labels::new(alloc, statements)?;
     let mut operands = 0usize;
     for statement in statements {
-        let one = compile_statement(ops, table, &labels, statement)?;
-        operands = operands.max(most_operands(&ops[one.from..one.to]));
+        let one = compile_statement(draft, table, &labels, statement)?;
+        operands = operands.max(most_operands(&draft.ops[one.from..one.to]));
         compiled.push(one)?;
         kinds.push(statement.body.kind())?;
     }
@@ -70,24 +79,27 @@ fn compile_all<'a>(
 
 /// Appends the operations of a statement, and returns the compiled statement.
 fn compile_statement<'a>(
-    ops: &mut Vec<Op>,
+    draft: &mut Draft,
     table: &Table,
     labels: &Labels,
     statement: &Statement<'a>,
 ) -> Result<CompiledStatement<'a>, NoMemory>
     requires { is_body_kinded (body_tree_of statement.now.body) ≡ true }
-    ensures ops { OnOk result (ops.new.items ≡
-        ops.old.items
+    ensures ops { OnOk result (draft.new.ops.items ≡
+        draft.old.ops.items
         ++ ops_of_body (place_in labels.now) (table_slots table.now) statement.now.body) }
     ensures statement { IfOk result (λ compiled.
         IsEmitted (place_in labels.now) (table_slots table.now)
-        ops.new.items compiled statement.now) }
+        draft.new.ops.items compiled statement.now) }
 {
-    let from = ops.len();
-    emit_body(ops, table, labels, &statement.body)?;
+    let from = draft.ops.len();
+    emit_body(draft, table, labels, &statement.body);
+    if draft.refused {
+        return Err(NoMemory);
+    }
     Ok(CompiledStatement {
         from,
-        to: ops.len(),
+        to: draft.ops.len(),
         chance: statement.chance,
         abstained: statement.abstained,
         text: statement.text,

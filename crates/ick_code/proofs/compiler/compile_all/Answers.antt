@@ -24,7 +24,7 @@ loop-statement-preserved c =
     let compiled = c.in_ok-one.one in
     let greatest : c.max-operands.result
     ≡ max c.loop-statement.operands
-    (peak (slice_range c.compile_statement.new.ops.items compiled.from compiled.to) 0) =
+    (peak (slice_range c.compile_statement.new.draft.ops.items compiled.from compiled.to) 0) =
     c.max-operands.ensures ∙ ap (max c.loop-statement.operands)
     (c.most_operands.ensures ∙ ap (λ o. peak (slice_range o compiled.from compiled.to) 0) c.deref.ensures.value) in
     record {

@@ -1,9 +1,9 @@
-use Rattle.std.proofs.Common.{◌+◌, ◌++◌, ap, ◌∙◌, sym, rules, arith}
-use Rattle.std.proofs.lemmas.Result.{on_ok_weaker}
+use Rattle.std.proofs.Common.{◌+◌, ap, ◌∙◌, sym, subst, rules, arith}
 use Rattle.ick_source.specs.Tree.{tree_of, trees_in}
 use Rattle.ick_source.specs.NameKinds.{are_kinded}
 use Rattle.ick_code.specs.Tables.{table_slots}
 use Rattle.ick_code.specs.Operations.{ops_of_tree}
+use Rattle.ick_code.specs.Emitted.{Emits}
 use Rattle.ick_source.proofs.TreeLemmas.{tree_of-element}
 use Rattle.ick_code.proofs.Trees.{kinded_at, kinded_element, count_is, few_fits}
 use Rattle.ick_code.proofs.Sizes.{sizes_of, smaller_element, smaller_member}
@@ -12,15 +12,15 @@ use Rattle.ick_code.proofs.emit.+expression.Goals as goal
 
 pub emit_exprs-loop-e-preserved : goal.emit_exprs-loop-e-preserved
 emit_exprs-loop-e-preserved t c =
-    emitted_more _ _ _ _ c.deref-e-items.result.now c.loop-e.e-index _ c.loop-e.invariant c.in_ok-emit_expr.ensures
+    emitted_more (table_slots c.args.table.now) c.args.draft.now c.loop-e.draft c.emit_expr.new.draft
+    c.deref-e-items.result.now c.loop-e.e-index _ c.loop-e.invariant c.emit_expr.ensures
     c.loop-e-test.true c.e-item.is
 
 pub emit_expr-returns-in-Element : goal.emit_expr-returns-in-Element
 emit_expr-returns-in-Element t c =
-    on_ok_weaker c.emit_fetch.result
-    (λ emitted. emitted
-    ∙ ap (λ t. c.args.ops.now.items ++ ops_of_tree (table_slots c.args.table.now) t)
-    (sym (ap tree_of c.in-Element.is ∙ tree_of-element c.in-Element.element))) c.emit_fetch.ensures
+    subst (λ o. Emits o c.args.draft.now c.emit_fetch.new.draft)
+    (sym (ap (λ e. ops_of_tree (table_slots c.args.table.now) (tree_of e)) c.in-Element.is
+    ∙ ap (ops_of_tree (table_slots c.args.table.now)) (tree_of-element c.in-Element.element))) c.emit_fetch.ensures
 
 pub emit_exprs-overflow_cast-count : goal.emit_exprs-overflow_cast-count
 emit_exprs-overflow_cast-count t c = let few =

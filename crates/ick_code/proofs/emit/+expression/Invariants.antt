@@ -1,8 +1,9 @@
-use Rattle.std.proofs.Common.{◌≡◌, ◌+◌, ◌++◌, take}
+use Rattle.std.proofs.Common.{◌+◌, take}
 use Rattle.ick_source.specs.Tree.{tree_of, trees_in}
 use Rattle.ick_code.specs.Tables.{table_slots}
 use Rattle.ick_code.specs.Operations.{ops_of_trees}
 use Rattle.ick_code.proofs.Sizes.{size_of, sizes_of}
+use Rattle.ick_code.specs.Emitted.{Emits}
 use Rattle.ick_code.proofs.emit.+expression.Given as goal
 
 abbrev pub decreases-emit_expr : goal.decreases-emit_expr
@@ -16,4 +17,4 @@ decreases-emit_exprs l = 1 + sizes_of (trees_in l.list.now.items)
 
 abbrev pub invariant-emit_exprs-loop-e : goal.invariant-emit_exprs-loop-e
 invariant-emit_exprs-loop-e l =
-    l.ops.items ≡ l.initial.ops.items ++ ops_of_trees (table_slots l.table) (trees_in (take l.e-index l.e-items))
+    Emits (ops_of_trees (table_slots l.table) (trees_in (take l.e-index l.e-items))) l.initial.draft l.draft

@@ -5,12 +5,12 @@ use Rattle.ick_source.specs.BodyTree.{place_tree, item_tree}
 use Rattle.ick_code.proofs.Trees.{kinded_dimensions, kinded_places, kinded_items}
 use Rattle.ick_code.proofs.emit.emit_body.Goals as goal
 
-pub emit_exprs-requires-clause-few : goal.emit_exprs-requires-clause-few
-emit_exprs-requires-clause-few c =
+pub emit_exprs-count-requires-clause-few : goal.emit_exprs-count-requires-clause-few
+emit_exprs-count-requires-clause-few c =
     (kinded_dimensions c.in-Dimension.array c.in-Dimension.dimensions c.args.body.now c.in-Dimension.is c.requires).0
 
-pub emit_exprs-requires-clause-kinded : goal.emit_exprs-requires-clause-kinded
-emit_exprs-requires-clause-kinded c =
+pub emit_exprs-count-requires-clause-kinded : goal.emit_exprs-count-requires-clause-kinded
+emit_exprs-count-requires-clause-kinded c =
     (kinded_dimensions c.in-Dimension.array c.in-Dimension.dimensions c.args.body.now c.in-Dimension.is c.requires).1
 
 pub emit_places-requires : goal.emit_places-requires
