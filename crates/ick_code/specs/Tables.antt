@@ -1,5 +1,5 @@
 -- Slots that names get, one after another.
-use Rattle.std.specs.Prelude.{List, [], ◌∷◌, if◌then◌else◌}
+use Rattle.std.specs.Prelude.{◌≡◌, false, List, [], ◌∷◌, if◌then◌else◌}
 use Rattle.ick_source.specs.declared.tree.Name.{Name}
 use Rattle.ick_source.specs.NameKinds.{is_array}
 use Rattle.ick_code.specs.declared.table.Table.{Table}
@@ -22,3 +22,8 @@ with_slot slots name =
 unfoldable pub with_names : Slots → List Name → Slots
 with_names slots [] = slots
 with_names slots (name ∷ names) = with_names (with_slot slots name) names
+
+-- these names get slots, unless a growth was refused
+abbrev pub Adds : List Name → Table → Table → Type 0
+Adds names old new =
+    new.refused ≡ false → (old.refused ≡ false) × (table_slots new ≡ with_names (table_slots old) names)

@@ -1,13 +1,13 @@
 //! Gives slots to the names of a program, in the order of the source text.
 
-ghost use Rattle.std.specs.Prelude.{◌≡◌, [], ◌∷◌, map, OnOk, IfOk};
+ghost use Rattle.std.specs.Prelude.{◌≡◌, [], ◌∷◌, map, IfOk};
 ghost use Rattle.std.specs.List.{flat_map};
 ghost use Rattle.ick_source.specs.Tree.{tree_of, trees_in};
 ghost use Rattle.ick_source.specs.BodyTree.{target_tree, place_tree, item_tree, body_tree_of};
 ghost use Rattle.ick_source.specs.StatementTree.{statement_tree_of};
 ghost use Rattle.ick_code.specs.Names.{names_of_tree, names_of_trees, names_of_item, names_of_body};
 ghost use Rattle.ick_code.specs.Names.{names_of, slot_name};
-ghost use Rattle.ick_code.specs.Tables.{table_slots, with_names, no_slots};
+ghost use Rattle.ick_code.specs.Tables.{table_slots, with_names, no_slots, Adds};
 
 use crate::names::Names;
 use crate::op::SlotName;
@@ -15,11 +15,13 @@ use ick_bits::NoMemory;
 use ick_source::{Body, Element, Expr, Item, Name, NameKind, Place, Statement, Target};
 use std::alloc::Global;
 
-/// The names of scalars and of arrays, by their slots.
+/// The names of scalars and of arrays, by their slots. After a growth is refused, no name gets a
+/// slot.
 #[derive(Drop)]
 pub struct Table {
     pub scalars: Names,
     pub arrays: Names,
+    refused: bool,
 }
 
 impl Table {
@@ -32,9 +34,13 @@ impl Table {
         let mut table = Table {
             scalars: Names::new(alloc),
             arrays: Names::new(alloc),
+            refused: false,
         };
         for statement in statements {
-            table.add_body(&statement.body)?;
+            table.add_body(&statement.body);
+        }
+        if table.refused {
+            return Err(NoMemory);
         }
         Ok(table)
     }
@@ -51,45 +57,45 @@ impl Table {
 
     /// Gives the name a slot if it has none.
     #[tactic(auto, using(crate::proofs::TableLemmas::names_one))]
-    fn add(&mut self, name: Name) -> Result<(), NoMemory>
-        ensures { OnOk result (table_slots self.new ≡
-            with_names (table_slots self.old) (name ∷ [])) }
+    fn add(&mut self, name: Name)
+        ensures { Adds (name ∷ []) self.old self.new }
     {
-        match name.kind {
+        if self.refused {
+            return;
+        }
+        let added = match name.kind {
             NameKind::Onespot | NameKind::Twospot => self.scalars.add(name),
             NameKind::Tail | NameKind::Hybrid => self.arrays.add(name),
-        }
+        };
+        self.refused = added.is_err();
     }
 
     /// Gives slots to the names of a list.
     #[tactic(auto, using(crate::proofs::TableLemmas::names_none))]
-    fn add_all(&mut self, names: &[Name]) -> Result<(), NoMemory>
-        ensures { OnOk result
-            (table_slots self.new ≡ with_names (table_slots self.old) names.now) }
+    fn add_all(&mut self, names: &[Name])
+        ensures { Adds names.now self.old self.new }
     {
         for name in names {
-            self.add(*name)?;
+            self.add(*name);
         }
-        Ok(())
     }
 
     /// Gives slots to the names of an expression.
     #[cycle(adding)]
     #[tactic(auto, using(crate::proofs::TableLemmas::names_steps))]
-    fn add_expr(&mut self, e: &Expr) -> Result<(), NoMemory>
-        ensures { OnOk result (table_slots self.new ≡
-            with_names (table_slots self.old) (names_of_tree (tree_of e.now))) }
+    fn add_expr(&mut self, e: &Expr)
+        ensures { Adds (names_of_tree (tree_of e.now)) self.old self.new }
     {
         match e {
-            Expr::Mesh(_) => Ok(()),
+            Expr::Mesh(_) => {}
             Expr::Scalar(name) => self.add(*name),
             Expr::Element(element) => {
-                self.add(element.array)?;
+                self.add(element.array);
                 self.add_exprs(&element.subs)
             }
             Expr::Unary(_, inner) => self.add_expr(inner),
             Expr::Binary(_, left, right) => {
-                self.add_expr(left)?;
+                self.add_expr(left);
                 self.add_expr(right)
             }
         }
@@ -98,31 +104,28 @@ impl Table {
     /// Gives slots to the names of expressions, in their order.
     #[cycle(adding)]
     #[tactic(auto, using(crate::proofs::TableLemmas::names_steps))]
-    fn add_exprs(&mut self, list: &Vec<Expr>) -> Result<(), NoMemory>
-        ensures { OnOk result (table_slots self.new ≡
-            with_names (table_slots self.old) (names_of_trees (trees_in list.now.items))) }
+    fn add_exprs(&mut self, list: &Vec<Expr>)
+        ensures { Adds (names_of_trees (trees_in list.now.items)) self.old self.new }
     {
         for e in list {
-            self.add_expr(e)?;
+            self.add_expr(e);
         }
-        Ok(())
     }
 
     /// Gives slots to the names of an element.
     #[tactic(auto, using(crate::proofs::TableLemmas::names_steps))]
-    fn add_element(&mut self, element: &Element) -> Result<(), NoMemory>
-        ensures { OnOk result (table_slots self.new ≡ with_names (table_slots
-            self.old) (element.now.array ∷ names_of_trees (trees_in element.now.subs.items))) }
+    fn add_element(&mut self, element: &Element)
+        ensures { Adds (element.now.array ∷ names_of_trees (trees_in element.now.subs.items))
+            self.old self.new }
     {
-        self.add(element.array)?;
+        self.add(element.array);
         self.add_exprs(&element.subs)
     }
 
     /// Gives slots to the names of a target.
     #[tactic(auto, using(crate::proofs::TableLemmas::names_steps))]
-    fn add_target(&mut self, target: &Target) -> Result<(), NoMemory>
-        ensures { OnOk result (table_slots self.new ≡
-            with_names (table_slots self.old) (names_of_tree (target_tree target.now))) }
+    fn add_target(&mut self, target: &Target)
+        ensures { Adds (names_of_tree (target_tree target.now)) self.old self.new }
     {
         match target {
             Target::Scalar(name) => self.add(*name),
@@ -132,23 +135,21 @@ impl Table {
 
     /// Gives slots to the names of an item.
     #[tactic(auto, using(crate::proofs::TableLemmas::names_steps))]
-    fn add_item(&mut self, item: &Item) -> Result<(), NoMemory>
-        ensures { OnOk result (table_slots self.new ≡
-            with_names (table_slots self.old) (names_of_item (item_tree item.now))) }
+    fn add_item(&mut self, item: &Item)
+        ensures { Adds (names_of_item (item_tree item.now)) self.old self.new }
     {
         match item {
             Item::Scalar(name) => self.add(*name),
             Item::Element(element) => self.add_element(element),
-            Item::Mesh(_) => Ok(()),
+            Item::Mesh(_) => {}
             Item::Array(name) => self.add(*name),
         }
     }
 
     /// Gives slots to the names of a place.
     #[tactic(auto, using(crate::proofs::TableLemmas::names_steps))]
-    fn add_place(&mut self, place: &Place) -> Result<(), NoMemory>
-        ensures { OnOk result (table_slots self.new ≡
-            with_names (table_slots self.old) (names_of_item (place_tree place.now))) }
+    fn add_place(&mut self, place: &Place)
+        ensures { Adds (names_of_item (place_tree place.now)) self.old self.new }
     {
         match place {
             Place::Scalar(name) | Place::Array(name) => self.add(*name),
@@ -158,41 +159,36 @@ impl Table {
 
     /// Gives slots to the names of places, in their order.
     #[tactic(auto, using(crate::proofs::TableLemmas::names_none))]
-    fn add_places(&mut self, places: &[Place]) -> Result<(), NoMemory>
-        ensures { OnOk result (table_slots self.new ≡ with_names
-            (table_slots self.old) (flat_map names_of_item (map place_tree places.now))) }
+    fn add_places(&mut self, places: &[Place])
+        ensures { Adds (flat_map names_of_item (map place_tree places.now)) self.old self.new }
     {
         for place in places {
-            self.add_place(place)?;
+            self.add_place(place);
         }
-        Ok(())
     }
 
     /// Gives slots to the names of items, in their order.
     #[tactic(auto, using(crate::proofs::TableLemmas::names_none))]
-    fn add_items(&mut self, items: &[Item]) -> Result<(), NoMemory>
-        ensures { OnOk result (table_slots self.new ≡
-            with_names (table_slots self.old) (flat_map names_of_item (map item_tree items.now))) }
+    fn add_items(&mut self, items: &[Item])
+        ensures { Adds (flat_map names_of_item (map item_tree items.now)) self.old self.new }
     {
         for item in items {
-            self.add_item(item)?;
+            self.add_item(item);
         }
-        Ok(())
     }
 
     /// Gives slots to the names of a body.
     #[tactic(auto, using(crate::proofs::TableLemmas::names_steps))]
-    fn add_body(&mut self, body: &Body) -> Result<(), NoMemory>
-        ensures { OnOk result (table_slots self.new ≡
-            with_names (table_slots self.old) (names_of_body (body_tree_of body.now))) }
+    fn add_body(&mut self, body: &Body)
+        ensures { Adds (names_of_body (body_tree_of body.now)) self.old self.new }
     {
         match body {
             Body::Calculate(target, e) => {
-                self.add_target(target)?;
+                self.add_target(target);
                 self.add_expr(e)
             }
             Body::Dimension(array, dimensions) => {
-                self.add(*array)?;
+                self.add(*array);
                 self.add_exprs(dimensions)
             }
             Body::Forget(e) | Body::Resume(e) => self.add_expr(e),
@@ -200,9 +196,9 @@ impl Table {
             Body::Ignore(names) | Body::Remember(names) => self.add_all(names),
             Body::WriteIn(places) => self.add_places(places),
             Body::ReadOut(items) => self.add_items(items),
-            Body::Next(_) | Body::AbstainLabel(_) | Body::AbstainKinds(_) => Ok(()),
-            Body::ReinstateLabel(_) | Body::ReinstateKinds(_) => Ok(()),
-            Body::GiveUp | Body::Unrecognised => Ok(()),
+            Body::Next(_) | Body::AbstainLabel(_) | Body::AbstainKinds(_) => {}
+            Body::ReinstateLabel(_) | Body::ReinstateKinds(_) => {}
+            Body::GiveUp | Body::Unrecognised => {}
         }
     }
 }
