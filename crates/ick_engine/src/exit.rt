@@ -1,0 +1,27 @@
+//! Why a run stops.
+
+use ick_bits::FaultKind;
+
+/// How a run ended. A fault has the number of its statement, and what gives its subject.
+#[derive(Clone, Copy)]
+pub enum Ended {
+    /// The run gave up (Revised Manual, 4.4.11).
+    GaveUp,
+    /// A fault without a subject.
+    Faulted(FaultKind, u32),
+    /// An unrecognised statement. The subject is its text.
+    Unknown(u32),
+    /// An unknown word of the input, from its first byte to the one behind its last.
+    Word(u32, usize, usize),
+}
+
+/// Why a run stops.
+#[derive(Clone, Copy)]
+pub enum Exit {
+    /// As many steps were made as are allowed.
+    Limit,
+    /// A choice is asked: whether the statement is done.
+    Asked,
+    /// The run has ended.
+    Stopped(Ended),
+}
