@@ -23,7 +23,8 @@ FAULTS = {
           "DO ABSTAIN FROM (8)\nPLEASE GIVE UP", "", "Label the statement, or name a gerund."),
     182: ("Two statements have the same label.",
           "(7) DO GIVE UP\n(007) PLEASE GIVE UP", "",
-          "A comment that ends in (n) hands it to the next statement as its label, and so does COME FROM (n)."),
+          "A comment that ends in (n) hands it to the next statement as its label, and so does COME FROM (n), which is "
+          "C-INTERCAL's: `ick-convert --come-from FILE` rewrites it."),
     197: ("A label goes from 1 to 65535.", "(0) DO GIVE UP", "", "Take another number."),
     200: ("The number of a variable goes from 1 to 65535.", "DO .0 <- #1\nPLEASE GIVE UP", "", "Take another number."),
     240: ("An array gets a dimension of 0.", "DO ,1 <- #0\nPLEASE GIVE UP", "", "Test the size first."),

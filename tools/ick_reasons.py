@@ -5,6 +5,7 @@ import re
 import ick_source
 
 ELSEWHERE = "is C-INTERCAL's, and not in this language"
+COME_FROM = f"COME FROM {ELSEWHERE}: ick-convert --come-from rewrites it"
 WORDS = ("FORGET RESUME STASH RETRIEVE IGNORE REMEMBER ABSTAIN REINSTATE GIVE WRITE READ NEXT FROM OUT IN UP "
          "CALCULATING NEXTING FORGETTING RESUMING STASHING RETRIEVING IGNORING REMEMBERING ABSTAINING REINSTATING "
          "WRITING READING").split()
@@ -14,7 +15,7 @@ SMALL = re.compile(r"\b(do|please|forget|resume|stash|retrieve|ignore|remember|a
 
 # how a body begins, and what is wrong with it
 BODIES = (
-    (r"COME\s*FROM", f"COME FROM {ELSEWHERE}"),
+    (r"COME\s*FROM", COME_FROM),
     (r"(\(\s*\d+\s*\)\s*)?NEXT\s*FROM", f"NEXT FROM {ELSEWHERE}"),
     (r"ABSTAIN\s*[^A-Z\s]", f"ABSTAIN with a count {ELSEWHERE}"),
     (r"TRY\s*AGAIN", f"TRY AGAIN {ELSEWHERE}"),
@@ -30,7 +31,7 @@ BODIES = (
 STOPS = (
     (r"", r"(ONCE|AGAIN)\b", "ONCE and AGAIN are C-INTERCAL's, and not in this language"),
     (r"", r"MAYBE\b", f"MAYBE {ELSEWHERE}"),
-    (r"", r"COME\s*FROM", f"COME FROM {ELSEWHERE}"),
+    (r"", r"COME\s*FROM", COME_FROM),
     (r"", r"WHILE\b", f"WHILE {ELSEWHERE}"),
     (r"", r".?\x08", "overstruck marks aren't read: ick-convert rewrites them"),
     (r"", r"[\xa2\xa3\xa4\xa5]|\xc2[\xa2-\xa5]", "the mark is an old spelling: ick-convert rewrites it"),

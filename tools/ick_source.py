@@ -29,6 +29,21 @@ BODY = re.compile(b"|".join(b"(?P<%s>%s)" % (kind, words.replace(b" ", rb"[\t-\r
 sys.setrecursionlimit(max(sys.getrecursionlimit(), 8 * HEIGHT))
 
 
+class Lines:
+    """Finds the line and the column, each from 1, of a place in a text."""
+
+    def __init__(self, text):
+        end = "\n" if isinstance(text, str) else b"\n"
+        self.starts = [0] + [found.end() for found in re.finditer(end, text)]
+
+    def line(self, at):
+        return bisect.bisect_right(self.starts, at)
+
+    def place(self, at):
+        line = self.line(at)
+        return f"{line}:{at - self.starts[line - 1] + 1}"
+
+
 class Unread(Exception):
     """No body can be read: what is expected at a place."""
 

@@ -39,7 +39,7 @@ ROWS = (
     ("DO .1 <- &#5 PLEASE GIVE UP",
      "1:10: statement 1 {E}: a unary operator stands behind the first mark of its operand, as in #&77"),
     ("DO COME FROM (5) DO GIVE UP",
-     "1:4: statement 1 {E}: COME FROM is C-INTERCAL's, and not in this language\n"
+     "1:4: statement 1 {E}: COME FROM is C-INTERCAL's, and not in this language: ick-convert --come-from rewrites it\n"
      "1:14: COME FROM hands its (5) to statement 2 as its label"),
     ("DO .1 <- #1 ONCE PLEASE GIVE UP", "1:13: statement 1 {E}: ONCE and AGAIN are C-INTERCAL's, and not in this language"),
     ("DO ABSTAIN #1 FROM GIVING UP PLEASE GIVE UP",

@@ -1,5 +1,10 @@
-"""Tries ick-convert: each old spelling, code pages, and small letters of whole programs."""
+"""Tries ick-convert: each old spelling, code pages, small letters of whole programs, and COME FROM."""
+import os
+import re
+
 from common import TOP, content, help_and_mistakes
+
+from ick_numerals import pieces
 
 ROWS = (
     # options, the source, the converted source, the places of changes
@@ -17,6 +22,49 @@ ROWS = (
     ([], b"hello do .1 <- #v5", b"hello DO .1 <- #V5", ["1:7"]),
     (["--from", "cp037"], "DO :1 <- #1¢#2\x85PLEASE NOTE é".encode("cp037"),
      "DO :1 <- #1$#2\nPLEASE NOTE é".encode(), ["1:12"]),
+)
+
+# a program with COME FROM, and the numbers that C-INTERCAL 0.30 prints; both give up then, or have the fault
+COME_FROM = (
+    ("DO READ OUT #1\n(1) DO READ OUT #2\nDO READ OUT #3\nPLEASE GIVE UP\nDO COME FROM (1)\nDO READ OUT #4\n"
+     "PLEASE GIVE UP", [1, 2, 4], b""),
+    ("(1) DO NOT READ OUT #1\nDO READ OUT #2\nPLEASE GIVE UP\n(5) DO COME FROM (1)\nPLEASE READ OUT #3\nDO GIVE UP",
+     [3], b""),
+    ("(1) DO (2) NEXT\nDO READ OUT #1\nPLEASE GIVE UP\n(2) DO READ OUT #2\nDO RESUME #1\nPLEASE COME FROM (1)\n"
+     "DO READ OUT #3\nDO RESUME #1", [2, 3], b"ICL632I"),
+    ("DO (2) NEXT\nDO READ OUT #1\nPLEASE GIVE UP\n(2) DO (3) NEXT\nDO READ OUT #2\n(3) DO RESUME #2\n"
+     "PLEASE COME FROM (2)\nDO READ OUT #3\nDO GIVE UP", [1], b""),
+    ("DO REINSTATE (5)\n(1) DO READ OUT #1\nDO READ OUT #2\nPLEASE GIVE UP\n(5) DO NOT COME FROM (1)\n"
+     "PLEASE READ OUT #3\nDO GIVE UP", [1, 3], b""),
+    ("(1) DO READ OUT #1\nDO READ OUT #2\nPLEASE GIVE UP\n(5) DO N'T COME FROM (1)\nPLEASE READ OUT #3\nDO GIVE UP",
+     [1, 2], b""),
+    ("(7) DO READ OUT #1\nDO READ OUT #2\nPLEASE (5) NEXT\nDO GIVE UP\n(5) DO COME FROM (7)\n(6) DO ABSTAIN FROM (5)\n"
+     "PLEASE READ OUT #3\nDO COME FROM (8)\n(8) DO (7) NEXT", [1, 3] + [1, 2, 3] * 39 + [1, 2], b"ICL123I"),
+    ("DO (1) NEXT\n(1) DO READ OUT #1\nPLEASE ABSTAIN FROM COMING FROM + CALCULATING\n(2) DO READ OUT #2\nDO (3) NEXT\n"
+     "DO COME FROM (2)\nDO COME FROM (1)\nPLEASE READ OUT #4\nDO GIVE UP\n(3) DO .1 <- #9\nPLEASE READ OUT .1\n"
+     "DO GIVE UP", [1, 4], b""),
+    ("DO ABSTAIN FROM COMING FROM + CALCULATING\n(2) DO .1 <- #2\n(1) PLEASE READ OUT .1\nDO GIVE UP\n"
+     "DO COME FROM (2)\nDO COME FROM (1)\nPLEASE READ OUT #4\nDO GIVE UP", [0], b""),
+    ("PLEASE REINSTATE COMINGFROM\n(1) DO READ OUT #1\nDO GIVE UP\nDO NOT COME FROM (2)\nDO READ OUT #4\n"
+     "PLEASE GIVE UP\nDO NOT COME FROM (1)\n(2) DO READ OUT #2\nDO GIVE UP", [1, 2, 4], b""),
+    ("(1) DO READ OUT #1\nDO GIVE UP\n(2) DO COME FROM (1)\nPLEASE READ OUT #2\nDO GIVE UP\nDO COME FROM (2)\n"
+     "PLEASE READ OUT #3\nDO GIVE UP", [1, 3], b""),
+    ("(1) DO NOT GIVE UP\nDO READ OUT #1\n(2) PLEASE NOTE THAT\nDO READ OUT #2\nPLEASE DO COME FROM (1)\n"
+     "DO READ OUT #3\nDO (2) NEXT\nDO COME FROM (2)\nPLEASE READ OUT #4\nDO GIVE UP", [3, 4], b""),
+    ("DO ABSTAIN FROM NEXTING + FORGETTING\nDO (3) NEXT\nPLEASE FORGET #1\n(1) DO READ OUT #1\nDO GIVE UP\n"
+     "(3) DO READ OUT #3\nPLEASE GIVE UP\nDO COME FROM (1)\nDO READ OUT #4\nDO (3) NEXT\nPLEASE COME FROM (4)\n"
+     "(4) DO GIVE UP", [1, 4], b""),
+)
+# a program that can't be rewritten, the place where, and a part of the reason
+NO_COME_FROM = (
+    ("DO COME FROM (7)\nPLEASE GIVE UP", "1:1", "no statement has the label (7)"),
+    ("(1) DO COME FROM (1)\nPLEASE COME FROM (1)", "2:1", "threads"),
+    ("DO COME FROM .1\nPLEASE GIVE UP", "1:1", "only COME FROM (n)"),
+    ("(1) DO GIVE UP\nPLEASE COME FROM (1) AGAIN\nDO GIVE UP", "2:1", "nothing behind it"),
+    ("(1) DO GIVE UP\nDO NOT COME FROM (1)\nPLEASE ABSTAIN FROM NEXTING", "3:1", "NEXTING would"),
+    ("(1) DO GIVE UP\nDO COME FROM (1)\nDO ABSTAIN FROM NEXTING\nPLEASE ABSTAIN FROM REINSTATING", "4:1", "is needed"),
+    ("(1) DO GIVE UP\nDO COME FROM (1)\nDO REINSTATE COMING FROM + NEXTING", "3:1", "NEXTING would"),
+    ("(1) DO GIVE UP\nDO COME FROM (1)\nDO %50 ABSTAIN FROM COMING FROM + STASHING", "3:1", "a chance"),
 )
 
 
@@ -44,8 +92,50 @@ def try_refusals(tally):
         tally.check(status == 2 and not out and err.count(b"\n") == 1, f"ick-convert --from {code}: {status} {err!r}")
 
 
+def try_come_from(tally):
+    for source, wanted, fault in COME_FROM:
+        status, text, err = tally.tool("ick-convert", "--come-from", given=source.encode())
+        _, out, told = tally.ick("run", given=text)
+        tally.same(f"COME FROM in {source!r}", (status, pieces(out), told[:7]), (0, wanted, fault))
+        tally.same(f"what is told of {source!r}", err.count(b"COME FROM"), len(re.findall("COME FROM", source)))
+    source = b"(1) DO READ OUT #1\nPLEASE GIVE UP\n(2) DO %30 COME FROM (1)\nDO READ OUT #2\nDO GIVE UP"
+    tally.same("a COME FROM with a chance", tally.ick("runs", given=tally.tool("ick-convert", "--come-from", given=source)[1]),
+               (0, b'0 GIVE-UP "\\nI\\n"\n1 GIVE-UP "\\nI\\n\\nII\\n"\nDONE\n', b""))
+    for source in (b"DO NOT COME FROM HERE\nPLEASE GIVE UP", b"PLEASE NOTE: COME FROM (5) DO\n"):
+        tally.same(f"--come-from of {source!r}", tally.tool("ick-convert", "--come-from", given=source), (0, source, b""))
+    for source, place, reason in NO_COME_FROM:
+        status, out, err = tally.tool("ick-convert", "--come-from", given=source.encode())
+        tally.check(status == 1 and not out and err.startswith(f"ick-convert: -:{place}: ".encode())
+                    and reason.encode() in err and err.count(b"\n") == 1, f"--come-from of {source!r}: {status} {err!r}")
+
+
+def try_politeness(tally):
+    """However many COME FROM there are, a program stays within the bounds."""
+    for count in (1, 2, 5, 40):
+        for polite in range(1, count + 1, 7):
+            source = b"".join(b"(%d) DO GIVE UP\n%s COME FROM (%d)\nDO GIVE UP\n" %
+                              (place, b"PLEASE" if place <= polite else b"DO", place) for place in range(1, count + 1))
+            _, out, _ = tally.tool("ick-convert", "--come-from", given=source)
+            status, _, err = tally.ick("check", given=out)
+            tally.check(status == 0, f"{count} COME FROM, {polite} polite: {err!r}")
+
+
+def try_large(tally):
+    """Four times as many changes take about four times as long."""
+    seconds = []
+    for count in (50000, 200000):
+        before = os.times().children_user
+        status, out, err = tally.tool("ick-convert", given="#1¢\n".encode() * count)
+        seconds.append(os.times().children_user - before)
+        tally.same(f"{count} changes", (status, out.count(b"$"), err.count(b"\n")), (0, count, count))
+    tally.check(seconds[1] < 7 * seconds[0], f"50,000 and 200,000 changes took {seconds} seconds")
+
+
 def try_all(tally):
     help_and_mistakes(tally, "ick-convert")
+    try_come_from(tally)
+    try_politeness(tally)
+    try_large(tally)
     try_rows(tally)
     try_programs(tally)
     try_refusals(tally)
