@@ -17,8 +17,8 @@ FAULTS = {
           "Begin a loop with FORGET #1, so that its NEXT leaves no entry. Leave each routine by RESUME."),
     129: ("NEXT goes to a label that no statement has.",
           "DO (7) NEXT\nPLEASE GIVE UP", "",
-          "For labels from 1000 to 1999 paste the library's text behind the program. (n) in front of NEXT is a statement's "
-          "label, and not its number."),
+          "For labels from 1000 to 1999 `ick-join FILE` pastes the library behind the program. (n) in front of NEXT is a "
+          "statement's label, and not its number."),
     139: ("ABSTAIN or REINSTATE names a label that no statement has.",
           "DO ABSTAIN FROM (8)\nPLEASE GIVE UP", "", "Label the statement, or name a gerund."),
     182: ("Two statements have the same label.",

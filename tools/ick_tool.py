@@ -32,9 +32,13 @@ def number_within(least, greatest):
     return number
 
 
-def end(text, status=2):
-    """Ends with one line on standard error."""
+def say(text):
+    """Writes one line on standard error."""
     print(f"{NAME}: {text}", file=sys.stderr)
+
+
+def end(text, status=2):
+    say(text)
     sys.exit(status)
 
 

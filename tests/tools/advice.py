@@ -62,11 +62,11 @@ ROWS = (
      "3:1: refused, E182: (5) is the label of statement 3, and of statement 2 at line 1, since the comment in front hands "
      "it on"),
     ("DO (1000) NEXT\nDO (1610) NEXT\nPLEASE GIVE UP",
-     "1:5: refused, E129: paste library/text.i and library/arithmetic.i behind the program, for its calls of (1000), "
+     "1:5: refused, E129: ick-join pastes library/text.i and library/arithmetic.i behind the program, for its calls of (1000), "
      "(1610)"),
     ("DO (1020) NEXT\nDO (5000) NEXT\nPLEASE (7) NEXT\nDO GIVE UP",
-     "1:5: refused, E129: paste library/arithmetic.i behind the program, for its calls of (1020)\n"
-     "2:5: refused, E129: no statement has the label (5000); C-INTERCAL's library of floating-point numbers isn't here\n"
+     "1:5: refused, E129: ick-join pastes library/arithmetic.i behind the program, for its calls of (1020)\n"
+     "2:5: refused, E129: no statement has the label (5000); ick-join --with pastes C-INTERCAL's floatlib.i\n"
      "3:9: refused, E129: no statement has the label (7)"),
     ("DO GIVE UP\n" * 11, "11:1: refused, E079: 11 statements, 0 with PLEASE: say PLEASE in 2 more"),
     ("PLEASE GIVE UP\n" * 3, "3:1: refused, E099: 3 statements, 3 with PLEASE: say PLEASE in 2 fewer"),
@@ -162,7 +162,7 @@ def try_peer(tally):
         number = refusals[0][0]
         _, out, _ = tally.tool("ick-advice", path)
         reason = {182: rb"refused, E182: .* since .* hands it on",
-                  129: rb"refused, E129: .*(paste library/|floating-point)"}.get(number, rb"$.")
+                  129: rb"refused, E129: .*(pastes library/|floatlib)"}.get(number, rb"$.")
         tally.check(re.search(reason, out) is not None, f"no reason for E{number} in {path}: {out[:400]!r}")
 
 

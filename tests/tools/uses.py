@@ -16,11 +16,12 @@ import common
 import advice
 import convert
 import filters
+import join
 import parts
 import tree
 import vim
 
-TRIED = {"advice": advice, "tree": tree, "filters": filters, "convert": convert, "vim": vim, "parts": parts}
+TRIED = {"advice": advice, "tree": tree, "filters": filters, "convert": convert, "join": join, "vim": vim, "parts": parts}
 
 
 def main():
