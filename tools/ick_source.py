@@ -321,7 +321,7 @@ def front(text, end):
 
 def cut(source):
     """The statements of a text, in order."""
-    text = source.replace(b"!", b"'.")
+    text, moved = without_wows(source)
     first = START.search(text)
     at = first.start() if first else len(text)
     statements = [front(text, at)] if text[:at].strip(SPACES) else []
@@ -332,18 +332,19 @@ def cut(source):
         statement.body = min(WHITE.match(text, after_head).end(), at)
         statement.end = statement.start + len(text[statement.start:at].rstrip(SPACES))
         statements.append(statement)
-    move(statements, source)
+    if len(text) > len(source):
+        move(statements, moved)
     return statements
 
 
-def move(statements, source):
-    """Turns places in the text where each wow is two marks into places in the source."""
+def without_wows(source):
+    """The text in which each wow is two marks, and a function from its places to those of the source."""
     wows = [found.start() + before for before, found in enumerate(re.finditer(b"!", source))]
+    return source.replace(b"!", b"'."), lambda at: at - bisect.bisect_left(wows, at)
 
-    def moved(at):
-        return at - bisect.bisect_left(wows, at)
 
-    for statement in statements if wows else []:
+def move(statements, moved):
+    for statement in statements:
         statement.start, statement.end, statement.body = map(moved, (statement.start, statement.end, statement.body))
         if statement.stop is not None:
             statement.stop = moved(statement.stop)

@@ -73,6 +73,8 @@ ROWS = (
     ("DO READ OUT #70000\nPLEASE GIVE UP",
      "1:13: refused, E017: A mesh (#) holds 0 to 65535. Make a larger number by mingle: #a$#b has the bits of a at the odd "
      "places, and those of b at the even ones."),
+    ("DO :1 <- \"?:6~:6\"~#65535\nPLEASE GIVE UP",
+     "1:10: the operand of ? has 16 bits if its select takes at most 16; in C-INTERCAL it has 32: ick-convert --widths"),
     ("DO READ OUT #1", "1:15: {G}"),
     ("", "1:1: {G}"),
     ("DO GIVE UP\nPLEASE BE IDLE HERE", ""),
@@ -141,7 +143,7 @@ def try_messages(tally):
 
 
 def try_examples(tally):
-    wanted = {"trap.i": b"cut at RANDOM", "edge.i": b"no GIVE UP", "lagoon.i": b"no GIVE UP"}
+    wanted = {"bodies.i": b"ick-convert --widths", "trap.i": b"cut at RANDOM", "edge.i": b"no GIVE UP", "lagoon.i": b"no GIVE UP"}
     for path in EXAMPLES:
         name = path.rsplit("/", 1)[1]
         _, out, err = tally.tool("ick-advice", given=pasted(path))

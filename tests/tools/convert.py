@@ -1,4 +1,4 @@
-"""Tries ick-convert: each old spelling, code pages, small letters of whole programs, and COME FROM."""
+"""Tries ick-convert: each old spelling, code pages, small letters of whole programs, widths, and COME FROM."""
 import os
 import re
 
@@ -24,6 +24,21 @@ ROWS = (
      "DO :1 <- #1$#2\nPLEASE NOTE é".encode(), ["1:12"]),
 )
 
+# an expression where :1 is 3 and :2 has 32 ones, as --widths leaves it, and its number in C-INTERCAL 0.30
+WIDTHS = (
+    ("'?:1~:1'", """'?":1~:1"~"#65535$#65535"'""", 2147483650),
+    ("'?:1~.1~:1'", """'?":1~.1~:1"~"#65535$#65535"'""", 2147483649),
+    ("""'V"?:2~:1"'~"#65535$#65535\"""", """'V"?':2~:1'~'#65535$#65535'"'~"#65535$#65535\"""", 3221225475),
+    ("'?:1~;1SUB#1'", """'?':1~;1SUB#1'~"#65535$#65535"'""", 2147483649),
+    ("""'V"#1~:1"'""", """'V""#1~:1""~"#65535$#65535"'""", 2147483649),
+    ("""'V#1~"#1$#1"'""", """'V"#1~"#1$#1""~"#65535$#65535"'""", 2147483649),
+    ("""'V"#3~:1"~:2'""", """'V""#3~:1"~:2"~"#65535$#65535"'""", 2147483651),
+    ("""'"V!1~:2'~:1"~#1'""", """'"V!1~:2'~:1"~#1'""", 1),  # the highest bits aren't taken
+    ("'V.1~.1'", "'V.1~.1'", 32771),
+    ("'?.1~#65535$#1'", "'?.1~#65535$#1'", 2147483649),
+    ("'?:2~:1'~#32767", "'?:2~:1'~#32767", 2),
+    ("'V:2~#65535$#3'", "'V:2~#65535$#3'", 2147745791),
+)
 # a program with COME FROM, and the numbers that C-INTERCAL 0.30 prints; both give up then, or have the fault
 COME_FROM = (
     ("DO READ OUT #1\n(1) DO READ OUT #2\nDO READ OUT #3\nPLEASE GIVE UP\nDO COME FROM (1)\nDO READ OUT #4\n"
@@ -92,6 +107,21 @@ def try_refusals(tally):
         tally.check(status == 2 and not out and err.count(b"\n") == 1, f"ick-convert --from {code}: {status} {err!r}")
 
 
+def try_widths(tally):
+    before = "DO .1 <- #5 DO :1 <- #3 DO :2 <- #65535$#65535 PLEASE ;1 <- #1 DO ;1SUB#1 <- #9"
+    after = "PLEASE READ OUT :9 DO GIVE UP"
+    for written, wanted, number in WIDTHS:
+        texts = [f"{before} DO :9 <- {expression} {after}".encode() for expression in (written, wanted)]
+        status, out, err = tally.tool("ick-convert", "--widths", given=texts[0])
+        tally.same(f"--widths of {written}", (status, out, err.count(b"\n")), (0, texts[1], int(written != wanted)))
+        tally.same(f"the number of {wanted}", [pieces(tally.ick("run", given=out)[1])], [[number]])
+        status, out, err = tally.tool("ick-advice", given=texts[0])
+        tally.same(f"advice on {written}", (out.count(b"ick-convert --widths"), err), (int(written != wanted), b""))
+    for wow in (b"DO :1 <- \"V!1~.1'~:1\" PLEASE ,1SUB'V.1~:2!3 <- #1",):
+        masked = b"DO :1 <- \"V'!1~.1'~:1'~'#65535$#65535'\" PLEASE ,1SUB'V\".1~:2\"~\"#65535$#65535\"!3 <- #1"
+        tally.same("--widths beside a wow", tally.tool("ick-convert", "--widths", given=wow)[1], masked)
+
+
 def try_come_from(tally):
     for source, wanted, fault in COME_FROM:
         status, text, err = tally.tool("ick-convert", "--come-from", given=source.encode())
@@ -133,6 +163,7 @@ def try_large(tally):
 
 def try_all(tally):
     help_and_mistakes(tally, "ick-convert")
+    try_widths(tally)
     try_come_from(tally)
     try_politeness(tally)
     try_large(tally)
