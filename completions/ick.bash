@@ -45,6 +45,6 @@ _ick_tool() {
     esac
 }
 
-complete -F _ick ick
+complete -F _ick ick ick72
 for _ick_name in $(compgen -c ick-); do complete -F _ick_tool "$_ick_name"; done
 unset _ick_name
