@@ -5,9 +5,12 @@ link stands for.
 """
 import argparse
 import os
+import shutil
 import signal
+import subprocess
 import sys
 
+BUILT = "../crates/ick/out/ick"  # what ./ick built in this repository
 NAME = os.path.basename(sys.argv[0])
 
 
@@ -59,3 +62,21 @@ def content(path):
             return file.read()
         except OSError as error:
             end(f"{path or 'standard input'}: {error.strerror}")
+
+
+def find_ick():
+    """Returns the path of ick: beside the tool, or else in this repository, or else on the PATH; or what ICK names.
+
+    Raises FileNotFoundError if there is none, or if it is another program, as C-INTERCAL's is.
+    """
+    named = os.environ.get("ICK")
+    here = os.path.dirname(os.path.realpath(__file__))
+    beside = [os.path.join(folder, "ick") for folder in (os.path.dirname(sys.argv[0]), here)]
+    places = [named] if named else [*beside, os.path.join(here, BUILT), "ick"]
+    found = next(filter(None, map(shutil.which, places)), None)
+    if not found:
+        raise FileNotFoundError(f"there is no {named or 'ick on the PATH; the environment variable ICK can name it'}")
+    asked = subprocess.run([found, "check"], stdin=subprocess.DEVNULL, capture_output=True, check=False)
+    if asked.stdout != b"0 STATEMENTS, 0 POLITE\n":
+        raise FileNotFoundError(f"{found} is another program; the environment variable ICK can name ick")
+    return found

@@ -16,12 +16,14 @@ import common
 import advice
 import convert
 import filters
+import finding
 import join
 import parts
 import tree
 import vim
 
-TRIED = {"advice": advice, "tree": tree, "filters": filters, "convert": convert, "join": join, "vim": vim, "parts": parts}
+TRIED = {"advice": advice, "tree": tree, "filters": filters, "convert": convert, "join": join, "vim": vim, "parts": parts,
+         "finding": finding}
 
 
 def main():

@@ -1,17 +1,15 @@
 """The folder of a job: the program, its input, the limit, a checksum of these and of ick, and the last plan."""
 import hashlib
 import os
-import shutil
 import subprocess
 import sys
 
 from ick_parts import Refused
 from ick_parts.cursors import read_place, show_place
-from ick_tool import content
+from ick_tool import content, find_ick
 
 FORM = "ick-parts-1"
 RUNS_A_CALL = "1000000"  # the most that ick lists in one call
-BUILT = os.path.join(os.path.dirname(__file__), "../../crates/ick/out/ick")  # what ./ick built in this repository
 
 
 class Job:
@@ -52,14 +50,6 @@ class Job:
         with open(path + ".new", "w", encoding="ascii") as file:
             file.write(f"{number}\n" + "".join(f"{show_place(start)} {show_place(end)}\n" for start, end in pieces))
         os.rename(path + ".new", path)
-
-
-def find_ick():
-    named = os.environ.get("ICK")
-    found = shutil.which(named) if named else shutil.which("ick") or shutil.which(BUILT)
-    if not found:
-        raise FileNotFoundError(f"there is no {named or 'ick on the PATH; the environment variable ICK can name it'}")
-    return found
 
 
 def name_of(limit, *paths):
