@@ -1,4 +1,8 @@
-"""The faults by number: what each means, a smallest program that has it, that program's input, and what to do."""
+"""What ick's messages mean, and what to do.
+
+FAULTS has the faults by number: what each means, a smallest program that has it, that program's input, and what to do.
+MESSAGES has the other messages: the exit status of each, what it means, and what to do.
+"""
 
 FAULTS = {
     0: ("A statement was done that ick can't read as any of its sixteen forms.",
@@ -51,4 +55,35 @@ FAULTS = {
           "A FORGET at the head of a loop also takes the entry of the routine around it, if the loop is entered by "
           "falling into it. Enter such a loop by NEXT."),
     633: ("The run went past the last statement.", "DO READ OUT #1", "", "End the program with GIVE UP."),
+}
+
+MESSAGES = {
+    "LIMIT REACHED": (3, "the run made as many steps as it may, 1,000,000 if no --limit is given.",
+                      "If the program can end, give a larger limit, as `ick run --limit 100000000 FILE`. Otherwise look for "
+                      "a loop that doesn't end."),
+    "CHOICE WANTED": (3, "a statement has a chance, as %50, and the run has no choice for it.",
+                      "`ick runs FILE` lists every run. `ick run --seed 1 FILE` draws the choices. `ick run --choices 01 "
+                      "FILE` gives them: 1 does the statement, and 0 passes over it."),
+    "FILE NOT READ": (4, "FILE can't be opened or read.",
+                      "Look at its name, its folder and its permissions. A folder can't be read either."),
+    "READ FAILED": (4, "the system couldn't read standard input, or a signal interrupted the read.",
+                    "Give the input as a file: ick run FILE <input. A terminal can be non-blocking: open it anew by "
+                    "</dev/tty."),
+    "INPUT TOO LONG": (4, "`ick runs` reads its whole input first, and that has more than 1,048,576 bytes.",
+                       "Give it less input. `ick run` takes any length."),
+    "WRITE FAILED": (4, "standard output couldn't be written. What was written before is right.",
+                     "Look for a full disk, or for a reader that ended, as `head` does. `ick runs --count N` lists fewer "
+                     "runs."),
+    "OUT OF MEMORY": (4, "the system gives no more memory. What was written before is right.",
+                      "Close other programs, or raise the limit that `ulimit -v` shows. A program whose stash or output "
+                      "grows in a loop takes more and more."),
+    "SOURCE TOO LONG": (2, "a source has at most 1,048,576 bytes.",
+                        "Leave out comments, or join lines. Look whether FILE is a program at all."),
+    "CHOICES AND SEED TOGETHER": (64, "a run takes its choices from --choices or draws them by --seed.",
+                                  "Leave out one of the two."),
+    "BAD CURSOR": (64, "the text after --choices or --from is no list of choices.",
+                   "Write the digits 0 and 1, as 0110, or groups, as 0*70,1*2. Write --from=- for the run without choices."),
+    "NO SUCH RUN": (64, "no run has the choices after --from, or they are more than the limit has steps.",
+                    "Take the first word of a listed line, and list with the same program, input and --limit."),
+    "WORDS NOT READ": (64, "an argument isn't UTF-8 text.", "Rename the file."),
 }

@@ -4,6 +4,7 @@ Each tool is a script in the same folder, or a symbolic link to one: Python look
 link stands for.
 """
 import argparse
+import contextlib
 import os
 import shutil
 import signal
@@ -11,13 +12,38 @@ import subprocess
 import sys
 
 BUILT = "../crates/ick/out/ick"  # what ./ick built in this repository
+HERE = os.path.dirname(os.path.realpath(__file__))
 NAME = os.path.basename(sys.argv[0])
 
 
 def options(page):
     """A parser whose help is the page, below the line of usage. A usage error ends with status 2."""
     quiet_ends()
-    return argparse.ArgumentParser(prog=NAME, description=page, formatter_class=argparse.RawDescriptionHelpFormatter)
+    parser = argparse.ArgumentParser(prog=NAME, description=page, formatter_class=argparse.RawDescriptionHelpFormatter)
+    parser.add_argument("--version", action="version", version=f"{NAME} {version()}")
+    return parser
+
+
+def version():
+    places = ("../VERSION", "../../share/ick/VERSION")  # in the repository, and as it is installed
+    paths = [os.path.join(HERE, place) for place in places]
+    return next((content(path).decode().strip() for path in paths if os.path.exists(path)), "of no known version")
+
+
+def run(main):
+    """Ends with the status that main returns. A read or write that fails, as on a full disk, is one line and status 4."""
+    status = 0
+    try:
+        try:
+            status = main()
+        except SystemExit as ended:
+            status = ended.code
+        sys.stdout.flush()
+    except OSError as error:
+        with contextlib.suppress(OSError):
+            say(f"a read or a write failed: {error.strerror}")
+        os._exit(4)  # what is still held back can't be written
+    sys.exit(status)
 
 
 def quiet_ends():
@@ -70,9 +96,8 @@ def find_ick():
     Raises FileNotFoundError if there is none, or if it is another program, as C-INTERCAL's is.
     """
     named = os.environ.get("ICK")
-    here = os.path.dirname(os.path.realpath(__file__))
-    beside = [os.path.join(folder, "ick") for folder in (os.path.dirname(sys.argv[0]), here)]
-    places = [named] if named else [*beside, os.path.join(here, BUILT), "ick"]
+    beside = [os.path.join(folder, "ick") for folder in (os.path.dirname(sys.argv[0]), HERE)]
+    places = [named] if named else [*beside, os.path.join(HERE, BUILT), "ick"]
     found = next(filter(None, map(shutil.which, places)), None)
     if not found:
         raise FileNotFoundError(f"there is no {named or 'ick on the PATH; the environment variable ICK can name it'}")

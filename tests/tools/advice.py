@@ -3,7 +3,7 @@ import glob
 import random
 import re
 
-from common import EXAMPLES, LIBRARY, closed_pipe, content, help_and_mistakes, pasted
+from common import EXAMPLES, LIBRARY, TOP, closed_pipe, content, help_and_mistakes, pasted
 
 import ick_faults
 import ick_listing
@@ -28,6 +28,8 @@ ROWS = (
     ("DO .1 <- .2 - #1 PLEASE GIVE UP", "1:13: statement 1 {E}: there is no minus: call (1010) of library/arithmetic.i"),
     ("DO READ OUT .1$.2 PLEASE GIVE UP", "1:15: statement 1 {E}: READ OUT takes no expression: calculate a variable first"),
     ("DO READ OUT HELLO PLEASE GIVE UP",
+     "1:13: statement 1 {E}: READ OUT takes no text: ick-say makes statements that print one"),
+    ('DO READ OUT "HELLO" PLEASE GIVE UP',
      "1:13: statement 1 {E}: READ OUT takes no text: ick-say makes statements that print one"),
     ("DO READ OUT .1, .2 PLEASE GIVE UP", "1:15: statement 1 {E}: a list is written with +"),
     ("DO READ OUT ;1 PLEASE GIVE UP",
@@ -179,6 +181,14 @@ def try_explained(tally):
         tally.check(status == 0 and out.startswith(f"ICL{number:03}I: ".encode()), f"--explain {number}: {out!r}")
     for name in ("E017", "ICL017I"):
         tally.same(name, tally.tool("ick-advice", "--explain", name), tally.tool("ick-advice", "--explain", "17"))
+    manual = content(f"{TOP}/docs/MANUAL.md").decode().split("\n## 16 ")[1].split("\n## ")[0]
+    told = set(re.findall(r"^\| \d+ \| `([A-Z ]+)(?: AFTER n STEPS)?` \|", manual, re.MULTILINE)) | {"SOURCE TOO LONG"}
+    tally.same("the messages of the manual", told, set(ick_faults.MESSAGES))
+    for name in ick_faults.MESSAGES:
+        for words in ([name.lower()], [*name.split(), "AFTER", "3", "STEPS"]):
+            status, out, err = tally.tool("ick-advice", "--explain", *words)
+            tally.check(status == 0 and out.startswith(f"{name}, status ".encode()) and max(map(len, out.split(b"\n"))) < 81,
+                        f"--explain {words}: {status} {out!r} {err!r}")
     for name in ("1", "E", "-17"):
         status, out, err = tally.tool("ick-advice", f"--explain={name}")
         tally.check(status == 2 and not out and b"no message" in err, f"--explain {name}: {status} {out!r} {err!r}")

@@ -66,6 +66,7 @@ def help_and_mistakes(tally, name, needs_input=False):
     status, out, err = tally.tool(name, *(["in"] if name == "ick-wimp" else []), "/no/such/file")
     tally.check(status == 2 and err == f"{name}: /no/such/file: No such file or directory\n".encode(),
                 f"{name}, no file: {status} {err!r}")
+    number_of_version(tally, name)
 
 
 def closed_pipe(tally, name, arguments, given):
@@ -76,3 +77,22 @@ def closed_pipe(tally, name, arguments, given):
                           stderr=subprocess.PIPE, timeout=SECONDS, check=False)
     os.close(writing)
     tally.same(f"{name} into a closed pipe", done.stderr, b"")
+
+
+def full_disk(tally, name, arguments, given):
+    """A tool whose output can't be written says so in one line, with status 4, and without a traceback."""
+    for buffered in ("", "1"):
+        for errors in (subprocess.PIPE, subprocess.STDOUT):
+            with open("/dev/full", "wb") as full:
+                done = subprocess.run([sys.executable, os.path.join(TOOLS, name), *arguments], input=given, stdout=full,
+                                      stderr=errors, env=dict(os.environ, PYTHONUNBUFFERED=buffered), timeout=SECONDS,
+                                      check=False)
+            lines = (done.stderr or b"").splitlines()[-1:]
+            tally.check(done.returncode == 4 and (errors != subprocess.PIPE or lines == [
+                f"{name}: a read or a write failed: No space left on device".encode()]) and b"Traceback" not in
+                (done.stderr or b""), f"{name} on a full disk: {done}")
+
+
+def number_of_version(tally, name):
+    with open(os.path.join(TOP, "VERSION"), encoding="ascii") as file:
+        tally.same(f"{name} --version", tally.tool(name, "--version"), (0, f"{name} {file.read()}".encode(), b""))

@@ -3,7 +3,7 @@ import glob
 import json
 import random
 
-from common import TOP, closed_pipe, content, help_and_mistakes
+from common import TOP, closed_pipe, content, full_disk, help_and_mistakes, number_of_version
 
 import ick_listing
 
@@ -36,6 +36,12 @@ def try_json(tally):
                                                                                 f"{status} {err!r}")
 
 
+    for options, listing in (([], RUNS[:-5]), (["--back"], tally.tool("ick-json", given=RUNS[:-5])[1])):
+        status, out, err = tally.tool("ick-json", *options, given=listing)
+        tally.check(status == 1 and out.count(b"\n") == 3 and err.startswith(b"ick-json: the listing has no last line"),
+                    f"ick-json {options} of a listing without its last line: {status} {err!r}")
+
+
 def try_say(tally):
     every = bytes(range(256)) * 3
     for text in (b"x", b"Hello, world!\n", every, b"\0", b"PLEASE DO NOT\n" * 40):
@@ -48,6 +54,10 @@ def try_say(tally):
     _, second, _ = tally.tool("ick-say", "--after", "10", "again")
     tally.same("two texts", tally.ick("run", given=first + second + b"DO GIVE UP"), (0, b"Hello, you\nagain\n", b""))
     tally.same("no text", tally.tool("ick-say", given=b""), (0, b"", b""))
+    for size, wanted in ((44000, 0), (60000, 2)):
+        status, out, err = tally.tool("ick-say", given=bytes(range(250)) * (size // 250))
+        tally.check(status == wanted and (tally.ick("check", given=out + b"DO GIVE UP")[0] == 0 if wanted == 0 else not out),
+                    f"ick-say of {size} bytes: {status} {err!r}")
     for options, given in ((["--array", "0", "x"], b""), (["--after", "256", "x"], b""), ([], b"x" * 65536)):
         status, out, err = tally.tool("ick-say", *options, given=given)
         tally.check(status == 2 and not out and err.count(b"\n") < 6, f"ick-say {options}: {status} {err[:80]!r}")
@@ -79,6 +89,11 @@ def try_wimp(tally):
 def try_all(tally):
     for name in ("ick-json", "ick-wimp"):
         help_and_mistakes(tally, name)
+    for name, options, given in (("ick-json", [], RUNS), ("ick-wimp", ["out"], b"x\n"), ("ick-wimp", ["in"], b"1\n"),
+                                 ("ick-say", ["x"], b""), ("ick-convert", [], b"do"), ("ick-join", [], b"DO GIVE UP"),
+                                 ("ick-advice", [], b"DO X"), ("ick-advice", ["--explain", "17"], b"")):
+        full_disk(tally, name, options, given)
+    number_of_version(tally, "ick-say")
     closed_pipe(tally, "ick-json", [], RUNS * 2000)
     closed_pipe(tally, "ick-wimp", ["out"], b"x\n" * 2000)
     closed_pipe(tally, "ick-say", [], b"x" * 20000)
