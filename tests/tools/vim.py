@@ -1,39 +1,62 @@
-"""Tries the syntax file for vim: each identifier, label and comment of some examples has its group, and no other byte."""
+"""Tries the syntax file for vim: identifiers and comments have their groups, and no recognised statement has an error."""
 import os
+import random
 import shutil
+import sys
 
-from common import EXAMPLES, TOP, called, content
+from common import EXAMPLES, LIBRARY, TOP, called, content
 
+sys.path.insert(0, os.path.join(TOP, "tests", "fuzz"))
 import ick_source
+import programs
 
-SHOWN = ("comments.i", "trap.i", "bodies.i", "die.i", "quiet.i")
+PROGRAMS = 200
 
 
-def wanted(source):
-    """The places of bytes of identifiers, and of comments' bytes behind them."""
-    identifiers, comments = set(), set()
+def sources():
+    """The examples, the library, their statements without the white between the words, and random programs."""
+    for path in EXAMPLES + LIBRARY:
+        yield path, content(path)
+        yield f"{path} without spaces", b"\n".join(
+            content(path)[one.start:one.end].replace(b" ", b"") for one in ick_source.cut(content(path)) if one.read())
+    for seed in range(PROGRAMS):
+        yield f"random program {seed}", programs.source_of(programs.Maker(random.Random(seed)).program())
+
+
+def places(source):
+    """The places of bytes of identifiers, of comments' bytes behind them, and of recognised statements."""
+    identifiers, comments, recognised = set(), set(), set()
     for statement in ick_source.cut(source):
         found = ick_source.IDENTIFIER.search(source, statement.start)
         identifiers.update(range(*found.span()))
         if statement.abstained:
-            comments.update(range(source.index(b"N", found.end()), statement.end))
-    return identifiers, comments
+            comments.update(range(ick_source.NOT.search(source, found.end()).start(), statement.end))
+        if statement.read():
+            recognised.update(range(statement.start, statement.end))
+    return identifiers, comments, recognised
+
+
+def try_groups(tally, name, source, groups):
+    # the end of a line has no group of its own
+    names = groups.decode().replace("\n", " . ").split()
+    identifiers, comments, recognised = places(source)
+    ends = {place for place, byte in enumerate(source) if byte in b" \n"}
+    for group, wanted in (("ickIdentifier", identifiers), ("ickComment", comments)):
+        found = {place for place, one in enumerate(names) if one == group}
+        tally.same(f"{group} in {name}", sorted(found - ends), sorted(wanted - ends))
+    wrong = sorted(place for place in recognised if names[place] == "ickUnread")
+    tally.check(not wrong, f"{name}: vim shows {[source[place:place + 20] for place in wrong[:3]]} as an error")
 
 
 def try_all(tally):
     if not shutil.which("vim"):
         tally.untried.append("the syntax file for vim (vim)")
         return
-    for path in EXAMPLES:
-        if os.path.basename(path) not in SHOWN:
-            continue
-        groups = f"{tally.folder}/groups"
-        called(["vim", "-es", "-u", "NONE", "-N", "-S", f"{TOP}/tests/tools/groups.vim", path], b"",
-               dict(os.environ, SYNTAX=f"{TOP}/editors/vim/syntax/ick.vim", GROUPS_FILE=groups))
-        source = content(path)
-        # the end of a line has no group of its own
-        names = content(groups).decode().replace("\n", " . ").split()
-        for name, places in zip(("ickIdentifier", "ickComment"), wanted(source)):
-            found = {place for place, group in enumerate(names) if group == name}
-            ends = {place for place, byte in enumerate(source) if byte in b" \n"}
-            tally.same(f"{name} in {path}", sorted(found - ends), sorted(places - ends))
+    tried = [(name, source, f"{tally.folder}/{at}.i") for at, (name, source) in enumerate(sources())]
+    for _, source, path in tried:
+        with open(path, "wb") as file:
+            file.write(source)
+    called(["vim", "-es", "-u", "NONE", "-N", "-S", f"{TOP}/tests/tools/groups.vim", *[path for *_, path in tried]], b"",
+           dict(os.environ, SYNTAX=f"{TOP}/editors/vim/syntax/ick.vim"))
+    for name, source, path in tried:
+        try_groups(tally, name, source, content(f"{path}.groups"))

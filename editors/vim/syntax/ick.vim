@@ -9,15 +9,13 @@ syntax match ickUnread /\_[^[:space:]]/
 syntax match ickLabel /(\_s*\d\+\_s*)/
 syntax match ickMark /[.:,;#&V?$~'"!+]\|<-/
 syntax match ickNumber /\d\+/
-syntax keyword ickWord NEXT FORGET RESUME STASH RETRIEVE IGNORE REMEMBER ABSTAIN FROM REINSTATE GIVE UP WRITE IN READ OUT
-syntax keyword ickWord SUB BY CALCULATING NEXTING FORGETTING RESUMING STASHING RETRIEVING IGNORING REMEMBERING
-syntax keyword ickWord ABSTAINING REINSTATING WRITING READING
+" no word needs white around it, so these are no keywords of vim
+syntax match ickWord /CALCULATING\|NEXTING\|FORGETTING\|RESUMING\|STASHING\|RETRIEVING\|IGNORING\|REMEMBERING\|ABSTAINING\|REINSTATING\|WRITING\_s*IN\|READING\_s*OUT\|NEXT\|FORGET\|RESUME\|STASH\|RETRIEVE\|IGNORE\|REMEMBER\|ABSTAIN\|FROM\|REINSTATE\|GIVE\_s*UP\|WRITE\_s*IN\|READ\_s*OUT\|SUB\|BY/
 syntax match ickChance /%\_s*\d\+/
 syntax match ickIdentifier /PLEASE\_s*DO\|PLEASE\|DO/
-" READOUT has DO inside, and is one statement's word
-syntax match ickWord /READOUT/
-" NOT or N'T makes a comment, up to the next start; the label behind FROM or REINSTATE is no start
-syntax match ickComment /\%(\%(PLEASE\_s*DO\|PLEASE\|DO\)\_s*\%(%\_s*\d\+\_s*\)\?\)\@<=N\%(OT\|'T\)\_.\{-}\ze\%(\%(\%(\%(FROM\|REINSTATE\)\_s*\)\@<!(\_s*\d\+\_s*)\_s*\)\?\%(DO\|PLEASE\)\|\%$\)/
+" NOT or N'T makes a comment, up to the next start; the label behind FROM or REINSTATE is no start, nor is the DO of
+" READOUT in front of a list
+syntax match ickComment /\%(\%(PLEASE\_s*DO\|PLEASE\|DO\)\_s*\%(%\_s*\d\+\_s*\)\?\)\@<=N\%(OT\|'T\)\%(\%(\_s*%\_s*\d\+\)\?\_s*READOUT\_s*[.:,;#]\)\?\_.\{-}\ze\%(\%(\%(\%(FROM\|REINSTATE\)\_s*\)\@<!(\_s*\d\+\_s*)\_s*\)\?\%(DO\|PLEASE\)\|\%$\)/
 
 highlight default link ickUnread Error
 highlight default link ickLabel Label
