@@ -12,6 +12,8 @@ QUOTES.update({10: b"\\n", 34: b'\\"', 92: b"\\\\"})
 
 def unquoted(text):
     """The bytes that stand between quotes, as they were."""
+    if text.count(b"\\") == text.count(b"\\n"):
+        return text.replace(b"\\n", b"\n")
     return re.sub(rb'\\(n|\\|"|x[0-9a-f]{2})', lambda code: NAMED.get(code[1]) or bytes([int(code[1][1:], 16)]), text)
 
 

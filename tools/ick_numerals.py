@@ -1,4 +1,5 @@
 """Numerals as READ OUT prints them, and what they are worth."""
+import functools
 import re
 
 WORTH = dict(zip("IVXLCDM", (1, 5, 10, 50, 100, 500, 1000)))
@@ -21,6 +22,7 @@ def numeral(number):
     return bars, "".join(symbol[-1] for symbol in symbols)
 
 
+@functools.lru_cache(1 << 16)
 def number_of(bars, letters):
     """The number whose numeral is these two lines of bytes, or None."""
     if not BARS.fullmatch(bars) or not LETTERS.fullmatch(letters) or len(letters) > 39:
