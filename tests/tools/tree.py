@@ -1,5 +1,6 @@
 """Tries ick-tree: the parts and edges that it draws in dot's language, and Graphviz's pictures of them."""
 import re
+import resource
 import shutil
 
 from common import TOP, closed_pipe, help_and_mistakes
@@ -15,15 +16,29 @@ ROWS = (
     (b'00 GIVE-UP ""\n01 E275@3 ""\n10 GIVE-UP ""\n11 E275@3 ""\nDONE\n', [],
      ["4 runs", "4 runs", "GIVE-UP 2 runs", "E275@3 2 runs"], [("0 1", "4 runs"), ("0", "GIVE-UP 2 runs"),
                                                                 ("1", "E275@3 2 runs")]),
+    # equal leaves behind branches of other depths are drawn beside these branches
+    (b'0 LIMIT ""\n10 LIMIT ""\n11 GIVE-UP ""\nDONE\n', [], ["3 runs", "LIMIT", "2 runs", "LIMIT", "GIVE-UP"],
+     [("0", "LIMIT"), ("1", "2 runs"), ("0", "LIMIT"), ("1", "GIVE-UP")]),
     # numerals: bars, decimal numbers, zero
     (b'- LIMIT " _\\nMV\\n_\\n\\n"\nDONE\n', [], ["M<O>V</O>, <O>&#160;&#160;</O> LIMIT"], []),
     (b'- LIMIT " _\\nMV\\n_\\n\\n"\nDONE\n', ["--numerals"], ["4000, 0 LIMIT"], []),
     # deeper than is drawn, in groups and plain
     (b'0*70 LIMIT ""\n0*69,1*1 LIMIT ""\n1 GIVE-UP "<&>\\x80"\nDONE\n', ["--depth", "1"],
-     ["3 runs", ".. 2 runs", "&lt;&amp;&gt;\\x80 GIVE-UP"], [("0", ".. 2 runs"), ("1", "&lt;&amp;&gt;\\x80 GIVE-UP")]),
+     ["3 runs", "2 runs: 2 LIMIT", "&lt;&amp;&gt;\\x80 GIVE-UP"],
+     [("0", "2 runs: 2 LIMIT"), ("1", "&lt;&amp;&gt;\\x80 GIVE-UP")]),
+    (b'00 E241@7 ""\n010 LIMIT ""\n011 E241@8 "X"\n10 GIVE-UP ""\n11 GIVE-UP ""\nDONE\n', ["--depth", "1"],
+     ["5 runs", "3 runs: 2 E241, 1 LIMIT", "2 runs: 2 GIVE-UP"],
+     [("0", "3 runs: 2 E241, 1 LIMIT"), ("1", "2 runs: 2 GIVE-UP")]),
     # wider than is drawn
-    (b'0 GIVE-UP ""\n1 LIMIT ""\nDONE\n', ["--width", "1"], ["2 runs", "GIVE-UP", ".. 1 run"],
-     [("0", "GIVE-UP"), ("1", ".. 1 run")]),
+    (b'0 GIVE-UP ""\n1 LIMIT ""\nDONE\n', ["--width", "1"], ["2 runs", "GIVE-UP", "1 run: 1 LIMIT"],
+     [("0", "GIVE-UP"), ("1", "1 run: 1 LIMIT")]),
+    # the runs with an end; a part without one isn't drawn further
+    (b'00 E241@7 ""\n010 LIMIT ""\n011 E241@8 "X"\n10 GIVE-UP ""\n11 GIVE-UP "X"\nDONE\n', ["--only", "E241"],
+     ["5 runs", "3 runs", "E241@7", "2 runs", "LIMIT", "X E241@8", "2 runs: 2 GIVE-UP"],
+     [("0", "3 runs"), ("0", "E241@7"), ("1", "2 runs"), ("0", "LIMIT"), ("1", "X E241@8"), ("1", "2 runs: 2 GIVE-UP")]),
+    (b'00 E241@7 ""\n010 LIMIT ""\n011 E241@8 "X"\nDONE\n', ["--only", "E241@7"],
+     ["3 runs", "3 runs", "E241@7", "2 runs: 1 E241, 1 LIMIT", ".."],
+     [("0", "3 runs"), ("0", "E241@7"), ("1", "2 runs: 1 E241, 1 LIMIT"), ("1", "..")]),
     # what the listing doesn't have
     (b'0 GIVE-UP ""\nMORE\n', [], ["1 run", "GIVE-UP", ".."], [("0", "GIVE-UP"), ("1", "..")]),
 )
@@ -51,7 +66,8 @@ def try_refusals(tally):
     for listing, wanted in ((b"", b"no run"), (b"DONE\n", b"no run"), (b"HELLO\n", b"line 1 is no line"),
                             (b'0 GIVE-UP ""\n1 GIVE-UP "\nDONE\n', b"line 2 is no line"),
                             (b'0 LIMIT ""\n0 LIMIT ""\nDONE\n', b"listed twice"),
-                            (b'0 LIMIT ""\n01 LIMIT ""\nDONE\n', b"goes on where another")):
+                            (b'0 LIMIT ""\n01 LIMIT ""\nDONE\n', b"goes on where another"),
+                            (b'1 LIMIT ""\n0 LIMIT ""\nDONE\n', b"before an earlier one")):
         status, out, err = tally.tool("ick-tree", "--format", "dot", given=listing)
         tally.check(status == 1 and not out and wanted in err, f"ick-tree of {listing!r}: {status} {err!r}")
     status, out, err = tally.tool("ick-tree", given=ROWS[0][0], path="/nowhere")
@@ -59,8 +75,36 @@ def try_refusals(tally):
     for options in (["--depth", "0"], ["--width", "x"], ["-o", "tree.gif"]):
         status, out, err = tally.tool("ick-tree", *options, given=ROWS[0][0])
         tally.check(status == 2 and not out and b"usage" in err, f"ick-tree {options}: {status} {err!r}")
+    status, out, err = tally.tool("ick-tree", "--only", "E24", given=ROWS[0][0])
+    tally.check(status == 1 and not out and b"ends by E24" in err, f"ick-tree --only E24: {status} {err!r}")
     status, _, err = tally.tool("ick-tree", "-o", "/no/such/tree.dot", given=ROWS[0][0])
     tally.check(status == 1 and b"/no/such/tree.dot" in err, f"ick-tree into no folder: {status} {err!r}")
+
+
+def listing(depth, end):
+    """A listing of all runs of so many choices. `end` gives the end and the output of the run of a number."""
+    return b"".join(b"%s %s\n" % (format(run, f"0{depth}b").encode(), end(run)) for run in range(1 << depth)) + b"DONE\n"
+
+
+def try_large(tally):
+    """Equal parts are one before anything is cut. Of unequal ones as many are remembered as a drawing can have."""
+    _, out, _ = tally.tool("ick-tree", "--format", "dot", given=listing(14, lambda run: b'GIVE-UP ""'))
+    parts, edges = drawn(out.decode())
+    tally.same("the tree of 14 quiet coins", (parts, edges),
+               (["16,384 runs"] * 14 + ["GIVE-UP 16,384 runs"], [("0 1", "16,384 runs")] * 13
+                + [("0 1", "GIVE-UP 16,384 runs")]))
+    given = listing(16, lambda run: b'%s "%d"' % (b"E241@5" if run % 1024 < 3 else b"GIVE-UP", run))
+    before = resource.getrusage(resource.RUSAGE_CHILDREN).ru_maxrss
+    for depth in (None, 10):
+        options = [] if depth is None else ["--depth", str(depth), "--width", "1024"]
+        status, out, err = tally.tool("ick-tree", "--format", "dot", *options, given=given)
+        parts, edges = drawn(out.decode())
+        cut = [part for part in parts if ":" in part]
+        wanted = (["2,048 runs: 2,042 GIVE-UP, 6 E241"] * 32 if depth is None
+                  else ["64 runs: 61 GIVE-UP, 3 E241"] * 64 + ["64 runs: 64 GIVE-UP"] * 960)
+        tally.same(f"what is cut {options}", (status, cut, len(parts)), (0, wanted, 2 * len(wanted) - 1))
+    used = resource.getrusage(resource.RUSAGE_CHILDREN).ru_maxrss
+    tally.check(used <= max(before, 200_000), f"ick-tree takes {used} KB for 65,536 unequal runs")
 
 
 def try_pictures(tally):
@@ -81,4 +125,5 @@ def try_all(tally):
     closed_pipe(tally, "ick-tree", ["--format", "dot"], ROWS[0][0])
     try_rows(tally)
     try_refusals(tally)
+    try_large(tally)
     try_pictures(tally)
