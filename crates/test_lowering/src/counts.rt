@@ -27,7 +27,7 @@ impl Counts {
                 self.add_operation(alloc, *op)?;
             }
         }
-        for i in lowered.instructions.iter() {
+        for i in lowered.instructions() {
             let operation = i.operation;
             self.add_one(format!(in alloc; "instruction {operation:?}")?)?;
         }

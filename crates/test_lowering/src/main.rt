@@ -90,18 +90,18 @@ fn print_code(rt: &HostRuntime, code: &Code<'_>) -> io::Result<()> {
 
 /// Prints the constants, the subscripts and the instructions of a lowered program.
 fn print_lowered(rt: &HostRuntime, lowered: &Lowered) -> io::Result<()> {
-    let (base, first) = (lowered.layout.base, lowered.layout.first);
+    let (base, first) = (lowered.layout().base, lowered.layout().first);
     println!(rt; "scalars below {base}, temporaries below {first}")?;
     print_constants(rt, lowered)?;
-    println!(rt; "subscripts {:?}", lowered.subscripts)?;
+    println!(rt; "subscripts {:?}", lowered.subscripts())?;
     print_statements(rt, lowered)
 }
 
 /// Prints the instructions, statement by statement.
 fn print_statements(rt: &HostRuntime, lowered: &Lowered) -> io::Result<()> {
-    let mut statement: u32 = 0;
+    let mut statement: u32 = 1;
     let mut starts = true;
-    for i in lowered.instructions.iter() {
+    for i in lowered.instructions() {
         if starts {
             println!(rt; "statement {statement}")?;
             statement = statement.saturating_add(1);
@@ -120,8 +120,8 @@ fn print_instruction(rt: &HostRuntime, i: &Instruction) -> io::Result<()> {
 
 /// Prints the constants that instructions read and that are in no table, and their registers.
 fn print_constants(rt: &HostRuntime, lowered: &Lowered) -> io::Result<()> {
-    let mut register = lowered.layout.first;
-    for number in lowered.constants.iter() {
+    let mut register = lowered.layout().first;
+    for number in lowered.constants() {
         if is_read(lowered, register) && !is_tabled(lowered, register) {
             println!(rt; "constant {register} is {number}")?;
         }
@@ -132,12 +132,12 @@ fn print_constants(rt: &HostRuntime, lowered: &Lowered) -> io::Result<()> {
 
 /// Returns whether an instruction may read a register by itself or as a subscript.
 fn is_read(lowered: &Lowered, register: u32) -> bool {
-    for i in lowered.instructions.iter() {
+    for i in lowered.instructions() {
         if i.left == register || i.right == register {
             return true;
         }
     }
-    for subscript in lowered.subscripts.iter() {
+    for subscript in lowered.subscripts() {
         if *subscript == register {
             return true;
         }
@@ -147,7 +147,7 @@ fn is_read(lowered: &Lowered, register: u32) -> bool {
 
 /// Returns whether the constant in a register is part of a table, of 1,024 constants or of 16.
 fn is_tabled(lowered: &Lowered, register: u32) -> bool {
-    for i in lowered.instructions.iter() {
+    for i in lowered.instructions() {
         let size = match i.operation {
             Operation::LookUp => 1024,
             Operation::Pick => 16,
