@@ -15,10 +15,10 @@ use test_rows::Row;
 /// Adds `alike`, unless the machines differ on a program.
 pub fn answer(alloc: Global, row: &Row, answers: &mut Answers) -> Result<(), Failure> {
     let mut words = Words {
-        state: u64::from(number(row, b"seed")),
+        state: u64::from(number(row, b"seed")?),
     };
     let has_pairs = row.calls(b"pairs");
-    for _ in 0..number(row, b"programs") {
+    for _ in 0..number(row, b"programs")? {
         let source = source_of(alloc, &mut words)?;
         lead(alloc, &source, has_pairs, &mut words)?;
     }

@@ -34,7 +34,7 @@ pub fn by_copied(
     answers: &mut Answers,
 ) -> Result<(), Failure> {
     let input = row.field(b"input");
-    let from = u64::from(number(row, b"from"));
+    let from = u64::from(number(row, b"from")?);
     let machine = Copied::new(alloc, code, input, from);
     let again = Copied::new(alloc, code, input, from);
     drive(alloc, row, machine, again, answers)
@@ -48,7 +48,7 @@ pub fn by_trailed(
     answers: &mut Answers,
 ) -> Result<(), Failure> {
     let input = row.field(b"input");
-    let from = u64::from(number(row, b"from"));
+    let from = u64::from(number(row, b"from")?);
     let machine = Trailed::new(alloc, code, input, from);
     let again = Trailed::new(alloc, code, input, from);
     drive(alloc, row, machine, again, answers)

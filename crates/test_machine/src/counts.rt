@@ -15,7 +15,8 @@ use test_rows::Row;
 
 /// Adds the number of runs and of steps.
 pub fn answer(alloc: Global, row: &Row, answers: &mut Answers) -> Result<(), Failure> {
-    let source = source_of(alloc, number(row, b"times"), number(row, b"choices"))?;
+    let (times, choices) = (number(row, b"times")?, number(row, b"choices")?);
+    let source = source_of(alloc, times, choices)?;
     count_by_source(alloc, &source, row, answers)
 }
 

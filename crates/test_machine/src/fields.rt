@@ -1,5 +1,6 @@
 //! Names and numbers in the fields of a row.
 
+use crate::failure::Failure;
 use test_rows::Row;
 
 /// Returns whether a field has this value.
@@ -8,16 +9,6 @@ pub fn has(row: &Row, word: &[u8], value: &[u8]) -> bool {
 }
 
 /// Returns the number in a field, or 0 if there is no such field.
-pub fn number(row: &Row, word: &[u8]) -> u32 {
-    decimal(row.field(word))
-}
-
-/// Returns the number that decimal digits stand for.
-pub fn decimal(digits: &[u8]) -> u32 {
-    let mut number = 0u32;
-    for digit in digits {
-        let value = u32::from(digit.saturating_sub(b'0'));
-        number = number.saturating_mul(10).saturating_add(value);
-    }
-    number
+pub fn number(row: &Row, word: &[u8]) -> Result<u32, Failure> {
+    row.short_number(word, 0).ok_or(Failure::NoNumber)
 }

@@ -28,7 +28,7 @@ pub fn answer(
 ) -> Result<(), Failure> {
     let mut feed = TextFeed::new(row.field(b"input"));
     if !row.field(b"unread").is_empty() {
-        feed.unread = number(row, b"unread") as usize;
+        feed.unread = number(row, b"unread")? as usize;
     }
     let mut fed = Fed::new(alloc, code, feed)?;
     follow(alloc, &mut fed, row.field(b"script"), answers)

@@ -18,7 +18,7 @@ use test_rows::Row;
 /// Adds `alike` and whether there were enough statements of each kind, unless the machines differ.
 pub fn answer(alloc: Global, row: &Row, answers: &mut Answers) -> Result<(), Failure> {
     let mut words = Words {
-        state: u64::from(number(row, b"seed")),
+        state: u64::from(number(row, b"seed")?),
     };
     let mut counted = Planned {
         done: 0,
@@ -26,7 +26,7 @@ pub fn answer(alloc: Global, row: &Row, answers: &mut Answers) -> Result<(), Fai
         listed: 0,
         elements: 0,
     };
-    for _ in 0..number(row, b"programs") {
+    for _ in 0..number(row, b"programs")? {
         let source = source_of(alloc, &mut words)?;
         lead(alloc, &source, &mut words, &mut counted)?;
     }
@@ -39,7 +39,7 @@ pub fn answer(alloc: Global, row: &Row, answers: &mut Answers) -> Result<(), Fai
 
 /// Adds `enough` if a number is above the field of the same name, and else the number.
 fn enough(answers: &mut Answers, row: &Row, name: &[u8], met: u32) -> Result<(), Failure> {
-    if met > number(row, name) {
+    if met > number(row, name)? {
         answers.say(b"enough ")?;
     } else {
         answers.count(u64::from(met), b" ")?;

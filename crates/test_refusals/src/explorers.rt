@@ -47,7 +47,7 @@ fn list_or_write<'c, M: Asks<'c>>(
     row: &Row,
     explorer: &mut Explorer<M>,
 ) -> Result<(), Stop> {
-    let count = number(row, b"count");
+    let count = number(row, b"count", 0)?;
     if row.calls(b"next") {
         list(context, explorer, count)
     } else {
@@ -63,12 +63,12 @@ fn explorer_of<'c, M: Asks<'c>>(
 ) -> Result<Explorer<M>, Stop>
     requires { (M.seen machine).marks ≡ [] }
 {
-    let alloc = context.alloc();
+    let (alloc, limit) = (context.alloc(), limit(row)?);
     if row.field(b"from").is_empty() {
-        return Ok(Explorer::start(alloc, machine, limit(row)));
+        return Ok(Explorer::start(alloc, machine, limit));
     }
     let cursor = cursor_of(alloc, row)?;
-    match Explorer::after(alloc, machine, limit(row), &cursor) {
+    match Explorer::after(alloc, machine, limit, &cursor) {
         Ok(explorer) => Ok(explorer),
         Err(RunsError::NoMemory) => Err(Stop::Refused(Call::After)),
         Err(_) => Err(Stop::Wrong(Wrong::OtherRefusal)),

@@ -10,28 +10,21 @@ use test_rows::Row;
 /// The most choices of a row, each of which is to do the statement.
 const CHOICES: &[bool] = &[true; 100];
 
-/// Returns the number in a field, or 0 if the row has no such field.
-pub fn number(row: &Row, word: &[u8]) -> u32 {
-    let mut number = 0u32;
-    for byte in row.field(word) {
-        let digit = byte.saturating_sub(b'0');
-        number = number.saturating_mul(10).saturating_add(u32::from(digit));
-    }
-    number
+/// Returns the number in a field, or `otherwise` if the row has no such field.
+pub fn number(row: &Row, word: &[u8], otherwise: u32) -> Result<u32, Stop> {
+    row.short_number(word, otherwise)
+        .ok_or(Stop::Wrong(Wrong::NoNumber))
 }
 
 /// Returns the limit on steps of a row, which is 100 if the row names none.
-pub fn limit(row: &Row) -> u32 {
-    match number(row, b"limit") {
-        0 => 100,
-        limit => limit,
-    }
+pub fn limit(row: &Row) -> Result<u32, Stop> {
+    number(row, b"limit", 100)
 }
 
 /// Returns as many choices as a row's field `choices` says, each to do the statement.
-pub fn choices(row: &Row) -> &'static [bool] {
-    let count = number(row, b"choices") as usize;
-    CHOICES.get(..count).unwrap_or(CHOICES)
+pub fn choices(row: &Row) -> Result<&'static [bool], Stop> {
+    let count = number(row, b"choices", 0)? as usize;
+    Ok(CHOICES.get(..count).unwrap_or(CHOICES))
 }
 
 /// Reads the source of a row.
@@ -55,7 +48,7 @@ pub fn code_of(alloc: Global, row: &Row) -> Result<Code<'_>, Stop> {
 /// Reads the cursor in a row's field `from`. If memory is refused, texts that are no cursor, or
 /// that have too many choices, must still be refused for that.
 pub fn cursor_of(alloc: Global, row: &Row) -> Result<Cursor, Stop> {
-    match Cursor::from_text(alloc, row.field(b"from"), limit(row)) {
+    match Cursor::from_text(alloc, row.field(b"from"), limit(row)?) {
         Ok(cursor) => Ok(cursor),
         Err(RunsError::NoMemory) if is_strict(alloc) => Err(Stop::Refused(Call::FromText)),
         Err(_) => Err(Stop::Wrong(Wrong::OtherRefusal)),

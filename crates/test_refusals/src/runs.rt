@@ -9,9 +9,9 @@ use test_rows::Row;
 
 /// Adds the run with the choices of a row.
 pub fn with_choices(context: &mut Context<'_>, row: &Row) -> Result<(), Stop> {
+    let (input, limit, choices) = (row.field(b"input"), limit(row)?, choices(row)?);
     let code = code_of(context.alloc(), row)?;
-    let input = row.field(b"input");
-    match run_with(context.alloc(), &code, input, limit(row), choices(row)) {
+    match run_with(context.alloc(), &code, input, limit, choices) {
         Ok(ran) => say_ran(context, &ran),
         Err(_) => return Err(Stop::Refused(Call::RunWith)),
     }
@@ -20,10 +20,9 @@ pub fn with_choices(context: &mut Context<'_>, row: &Row) -> Result<(), Stop> {
 
 /// Adds the choices that the seed of a row draws, and their run.
 pub fn seeded(context: &mut Context<'_>, row: &Row) -> Result<(), Stop> {
+    let (input, limit, seed) = (row.field(b"input"), limit(row)?, number(row, b"seed", 0)?);
     let code = code_of(context.alloc(), row)?;
-    let input = row.field(b"input");
-    let seed = u64::from(number(row, b"seed"));
-    match run_seeded(context.alloc(), &code, input, limit(row), seed) {
+    match run_seeded(context.alloc(), &code, input, limit, u64::from(seed)) {
         Ok(drawn) => {
             say_choices(&mut context.answer, &drawn.choices);
             say_ran(context, &drawn.ran);
@@ -57,20 +56,20 @@ fn say_ran(context: &mut Context<'_>, ran: &Ran<'_>) {
 }
 
 /// Returns the choices of a row, or those that its seed draws.
-fn chooser(row: &Row) -> Chooser<'static> {
+fn chooser(row: &Row) -> Result<Chooser<'static>, Stop> {
     if row.field(b"seed").is_empty() {
-        return Chooser::Listed(choices(row));
+        return Ok(Chooser::Listed(choices(row)?));
     }
-    Chooser::Seeded(u64::from(number(row, b"seed")))
+    Ok(Chooser::Seeded(u64::from(number(row, b"seed", 0)?)))
 }
 
 /// Adds what a streamed run writes, and what the call returns.
 pub fn streamed(context: &mut Context<'_>, row: &Row) -> Result<(), Stop> {
-    let alloc = context.alloc();
+    let (alloc, limit, chooser) = (context.alloc(), limit(row)?, chooser(row)?);
     let code = code_of(alloc, row)?;
     let mut reader = SliceSource::new(row.field(b"input"));
     let writer = &mut context.answer;
-    match run_stream(alloc, &code, &mut reader, writer, limit(row), chooser(row)) {
+    match run_stream(alloc, &code, &mut reader, writer, limit, chooser) {
         Ok(streamed) => say_streamed(context, &streamed),
         Err(RunsError::NoMemory) => return Err(Stop::Refused(Call::RunStream)),
         Err(_) => return Err(Stop::Wrong(Wrong::OtherRefusal)),

@@ -4,7 +4,6 @@
 use crate::context::Context;
 use crate::cut_short::cut_short;
 use crate::devices::WornSource;
-use crate::fields::number;
 use crate::shelf::Shelf;
 use crate::stop::{Call, Stop, Wrong};
 use arrayvec::ArrayVec;
@@ -50,7 +49,7 @@ pub fn answer(context: &mut Context<'_>, row: &Row) -> Result<(), Stop> {
 
 /// Adds the output of `serve` with the arguments of a row, its status and its error text.
 fn whole(context: &mut Context<'_>, row: &Row) -> Result<(), Stop> {
-    let left = served(context, row, rooms_of(row))?;
+    let left = served(context, row, rooms_of(row)?)?;
     say_status(context, left.code);
     Ok(())
 }
@@ -65,7 +64,7 @@ pub fn say_status(context: &mut Context<'_>, code: u8) {
 /// Adds how many files `serve` opened with the arguments of a row, and how many bytes of the reader
 /// it left.
 fn of_devices(context: &mut Context<'_>, row: &Row) -> Result<(), Stop> {
-    let left = served(context, row, rooms_of(row));
+    let left = served(context, row, rooms_of(row)?);
     context.answer.clear();
     let left = left?;
     context.answer.say(b"opened ");
@@ -82,19 +81,17 @@ fn refused(context: &mut Context<'_>, fault: WordsFault) {
 }
 
 /// Returns how many bytes the streams of a row take.
-fn rooms_of(row: &Row) -> Rooms {
-    Rooms {
-        output: allowed(row, b"room"),
-        errors: allowed(row, b"errorroom"),
-    }
+fn rooms_of(row: &Row) -> Result<Rooms, Stop> {
+    Ok(Rooms {
+        output: allowed(row, b"room")?,
+        errors: allowed(row, b"errorroom")?,
+    })
 }
 
 /// Returns the number in a field, or the greatest one if the row has no such field.
-fn allowed(row: &Row, word: &[u8]) -> u64 {
-    if row.field(word).is_empty() {
-        return u64::MAX;
-    }
-    u64::from(number(row, word))
+fn allowed(row: &Row, word: &[u8]) -> Result<u64, Stop> {
+    row.number(word, u64::MAX)
+        .ok_or(Stop::Wrong(Wrong::NoNumber))
 }
 
 /// Calls `serve` with the arguments of a row, over streams with these rooms, and adds the output.
@@ -103,14 +100,14 @@ pub fn served(context: &mut Context<'_>, row: &Row, rooms: Rooms) -> Result<Left
     let mut files = Shelf {
         bytes: row.field(b"source"),
         rest: b"",
-        good: allowed(row, b"filereads"),
+        good: allowed(row, b"filereads")?,
         opened: 0,
         failures: 0,
     };
     let mut reader = WornSource {
         rest: row.field(b"input"),
-        piece: allowed(row, b"piece"),
-        good: allowed(row, b"reads"),
+        piece: allowed(row, b"piece")?,
+        good: allowed(row, b"reads")?,
         failures: 0,
     };
     context.output.begin(rooms.output);

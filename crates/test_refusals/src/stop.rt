@@ -57,6 +57,7 @@ pub enum Stop {
 /// What does not hold.
 #[derive(Clone, Copy)]
 pub enum Wrong {
+    NoNumber,
     NoSuchCall,
     OtherRefusal,
     ChangedByRefusal,
@@ -68,6 +69,7 @@ impl Wrong {
     /// Returns what does not hold, in words.
     pub fn text(self) -> &'static str {
         match self {
+            Wrong::NoNumber => "a field that is no number",
             Wrong::NoSuchCall => "no such call",
             Wrong::OtherRefusal => "a refusal for another reason",
             Wrong::ChangedByRefusal => "a change by a refused call",

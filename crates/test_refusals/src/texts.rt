@@ -72,9 +72,9 @@ pub fn append(context: &mut Context<'_>, piece: &Piece<'_, '_, '_>) -> Result<()
 /// Appends what the call of a row names.
 pub fn answer(context: &mut Context<'_>, row: &Row) -> Result<(), Stop> {
     if row.calls(b"append_numeral") {
-        append(context, &Piece::Numeral(number(row, b"number")))
+        append(context, &Piece::Numeral(number(row, b"number", 0)?))
     } else if row.calls(b"append_decimal") {
-        append(context, &Piece::Decimal(number(row, b"number")))
+        append(context, &Piece::Decimal(number(row, b"number", 0)?))
     } else if row.calls(b"append_quoted") {
         append(context, &Piece::Quoted(row.field(b"text")))
     } else if row.calls(b"append_message") {

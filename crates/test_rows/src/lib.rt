@@ -6,12 +6,15 @@
 //!
 //! - `values`: the bytes that a value is written for
 //! - `rows`: rows, and how a text is cut into them
+//! - `numbers`: decimal numbers in the fields of a row
 //! - `tally`: how many rows hold
 #![tactic(auto)]
 
+mod numbers;
 mod rows;
 mod tally;
 mod values;
 
+pub use numbers::{decimal, short_decimal};
 pub use rows::{Row, read_rows};
 pub use tally::Tally;

@@ -9,27 +9,12 @@ use test_rows::Row;
 
 /// Returns the number in a field, or `otherwise` if the row has no such field.
 pub fn number(row: &Row, word: &[u8], otherwise: u64) -> Result<u64, Stop> {
-    let text = row.field(word);
-    if text.is_empty() {
-        return Ok(otherwise);
-    }
-    let mut number = 0u64;
-    for byte in text {
-        let digit = byte.wrapping_sub(b'0');
-        if digit > 9 {
-            return Err(Stop::Number);
-        }
-        number = number.saturating_mul(10).saturating_add(u64::from(digit));
-    }
-    Ok(number)
+    row.number(word, otherwise).ok_or(Stop::Number)
 }
 
 /// Returns the number in a field, or `otherwise` if the row has no such field.
 pub fn short_number(row: &Row, word: &[u8], otherwise: u32) -> Result<u32, Stop> {
-    match u32::try_from(number(row, word, u64::from(otherwise))?) {
-        Ok(number) => Ok(number),
-        Err(_) => Err(Stop::Number),
-    }
+    row.short_number(word, otherwise).ok_or(Stop::Number)
 }
 
 /// Returns where the listing of a row starts, and the limit on the steps of its runs.
