@@ -82,6 +82,7 @@ def faults(number, line, output=b"", text=None):
 
 ASKS = "DO %50 READ OUT #1 / PLEASE GIVE UP"
 OFTEN = "(1) DO %50 (1) NEXT / PLEASE GIVE UP"
+OFTEN_AND_ONCE = "(1) DO %50 (1) NEXT / DO %50 .1 <- #1 / PLEASE GIVE UP"
 ECHO = "DO WRITE IN .1 / PLEASE READ OUT .1 / DO GIVE UP"
 SILENCED = "DO %50 ABSTAIN FROM READING OUT / DO READ OUT #1 / PLEASE GIVE UP"
 BOTH = "DO %50 READ OUT #5 / DO %50 ABSTAIN FROM READING OUT / PLEASE READ OUT #1 / DO GIVE UP"
@@ -256,6 +257,11 @@ RUNS = [
            ['0 GIVE-UP ""', '1 GIVE-UP ""', "DONE"]),
     listed("DO ,1 <- #1 / DO ,1SUB#1 <- #238 / DO %50 READ OUT ,1 / PLEASE READ OUT ,1 / DO GIVE UP",
            ['0 GIVE-UP "H"', '1 GIVE-UP "H$"', "DONE"]),
+    # neighbouring runs of one end have outputs of one length, or they have one output and other faults
+    listed("DO .1 <- #1 / DO %50 .1 <- #5 / PLEASE READ OUT .1 / DO GIVE UP",
+           ['0 GIVE-UP "\\nI\\n"', '1 GIVE-UP "\\nV\\n"', "DONE"]),
+    listed("DO %50 RESUME #0 / DO %50 RESUME #0 / PLEASE RESUME #1",
+           ['00 E632@3 ""', '01 E621@2 ""', '1 E621@1 ""', "DONE"]),
     # a list of more than 64 choices is printed in groups, and read so and plain
     listed(OFTEN, LONG_RUNS + ["DONE"], ["--limit", "100"]),
     listed(OFTEN, LONG_RUNS + ["DONE"], ["--limit", "100", "--count", "81"]),
@@ -263,6 +269,9 @@ RUNS = [
     listed(OFTEN, LONG_RUNS[63:65] + ["MORE"], ["--limit", "100", "--from", "1" * 62 + "0", "--count", "2"]),
     listed(OFTEN, ['1*80 E123@1 ""', "DONE"], ["--limit", "100", "--from", "1*79,0*1"]),
     listed(OFTEN, ['1*80 E123@1 ""', "DONE"], ["--limit", "100", "--from", "1" * 79 + "0"]),
+    listed(OFTEN_AND_ONCE, ['1*63,0*2 GIVE-UP ""', '1*63,0*1,1*1 GIVE-UP ""', '1*64,0*2 GIVE-UP ""',
+                            '1*64,0*1,1*1 GIVE-UP ""', "MORE"],
+           ["--limit", "100", "--from", "1" * 62 + "01", "--count", "4"]),
     refused("runs", OFTEN, ["--limit", "100", "--from", "0*101"], 64, "NO SUCH RUN"),
     refused("runs", OFTEN, ["--limit", "100", "--from", "0*" + "9" * 30], 64, "NO SUCH RUN"),
     refused("runs", OFTEN, ["--limit", "100", "--from", "0*" + "9" * 30 + ","], 64, "BAD CURSOR"),
@@ -318,6 +327,10 @@ LIST = [
     items("HELLO", '1 - DO - 100 UNRECOGNISED "HELLO"'),
     items("(007) PLEASE DO %000000100 READ OUT #1 + #2",
           '1 (7) PLEASE - 100 READ-OUT "(007) PLEASE DO %000000100 READ OUT #1 + #2"'),
+    # a byte that is escaped behind three that are not
+    items('DO ".1', '1 - DO - 100 UNRECOGNISED "DO \\".1"'),
+    items("DO \\.1", '1 - DO - 100 UNRECOGNISED "DO \\\\.1"'),
+    items("DO  / GIVE UP", '1 - DO - 100 GIVE-UP "DO \\nGIVE UP"'),
     items("DO N'T %0 GIVE / UP", '1 - DO NOT 0 GIVE-UP "DO N\'T %0 GIVE\\nUP"'),
     uncompiled("list", "DO READ OUT #70000", 17, 2),
     uncompiled("list", "PLEASE GIVE UP / PLEASE GIVE UP / PLEASE GIVE UP", 99, 4),
