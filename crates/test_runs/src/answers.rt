@@ -7,7 +7,7 @@ use crate::generated::generated;
 use crate::listings::runs;
 use crate::many::many;
 use crate::order::order;
-use crate::seeds::{draw, listed_draws, streamed_draws, words};
+use crate::seeds::{draw, later_draws, listed_draws, streamed_draws, words};
 use crate::stop::Stop;
 use crate::streams::stream;
 use crate::texts::append_stop;
@@ -81,6 +81,8 @@ fn answer_on_one(alloc: Global, code: &Code<'_>, row: &Row, out: &mut Vec<u8>) -
         stream(alloc, code, row, out)
     } else if row.calls(b"order") {
         order(alloc, code, row, out)
+    } else if row.calls(b"later draws") {
+        later_draws(alloc, code, row, out)
     } else if row.calls(b"listed draws") {
         listed_draws(alloc, code, row, out)
     } else if row.calls(b"streamed draws") {

@@ -12,7 +12,7 @@ use crate::texts::{append_error, append_number};
 use ick_bits::append_quoted;
 use ick_code::Code;
 use ick_machine::Asks;
-use ick_runs::{Explorer, write_runs};
+use ick_runs::{Explorer, Listed2, write_runs};
 use std::alloc::Global;
 use test_rows::Row;
 
@@ -80,7 +80,8 @@ pub fn list_cut_short<'c, M: Asks<'c>>(
     Ok(worn.bytes.as_slice() == &whole[..whole.len().min(room as usize)])
 }
 
-/// Lists runs on a writer, and if it fails, appends to `rest` the failure and what is listed then.
+/// Lists runs on a writer. Appends `DONE` or `MORE` to `rest`, or if the writer fails, the failure
+/// and what is listed then.
 fn list_on<'c, M: Asks<'c>>(
     alloc: Global,
     explorer: &mut Explorer<M>,
@@ -89,10 +90,13 @@ fn list_on<'c, M: Asks<'c>>(
 ) -> Result<(), Stop>
     requires { worn.old.failures ≡ 0 }
 {
-    if let Err(error) = write_runs(alloc, explorer, 1000, worn) {
-        append_error(alloc, rest, error)?;
-        rest.extend_from_slice(b", ")?;
-        append_listing(alloc, rest, explorer, 1000)?;
+    match write_runs(alloc, explorer, 1000, worn) {
+        Ok(Listed2::Done) => Ok(rest.extend_from_slice(b"DONE")?),
+        Ok(Listed2::More) => Ok(rest.extend_from_slice(b"MORE")?),
+        Err(error) => {
+            append_error(alloc, rest, error)?;
+            rest.extend_from_slice(b", ")?;
+            append_listing(alloc, rest, explorer, 1000)
+        }
     }
-    Ok(())
 }

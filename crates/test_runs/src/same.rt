@@ -69,11 +69,11 @@ pub fn is_same(found: &Run<'_>, wanted: &Run<'_>) -> bool {
         && found.steps == wanted.steps
 }
 
-/// Whether an end is of this kind.
-pub fn is_end(end: &End<'_>, kind: EndKind) -> bool {
+/// Returns the kind of an end.
+pub fn kind_of(end: &End<'_>) -> EndKind {
     match end {
-        End::GiveUp => kind == EndKind::GiveUp,
-        End::Fault(fault) => kind == EndKind::Fault(fault.kind, fault.statement),
-        End::Limit => kind == EndKind::Limit,
+        End::GiveUp => EndKind::GiveUp,
+        End::Fault(fault) => EndKind::Fault(fault.kind, fault.statement),
+        End::Limit => EndKind::Limit,
     }
 }

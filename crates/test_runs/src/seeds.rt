@@ -4,13 +4,16 @@ ghost use Rattle.std.specs.Prelude.{◌<◌, IfSome};
 
 use crate::explorers::{Start, by_trailed};
 use crate::fields::{code_of, number, short_number};
-use crate::same::{drawn_run, ended_with, is_end, is_same};
+use crate::same::{drawn_run, ended, ended_with, is_same, kind_of};
 use crate::stop::Stop;
 use crate::tasks::Task;
-use crate::texts::append_number;
+use crate::texts::{append_choices, append_end, append_number};
+use ick_bits::{NoMemory, append_quoted};
 use ick_code::Code;
+use ick_machine::{Asks, Backtrack, Copied};
 use ick_runs::{
-    Chooser, Drawn, Run, SliceSource, Streamed, VecSink, drawn, run_seeded, run_stream,
+    Chooser, Drawn, Run, RunsError, SliceSource, Streamed, VecSink, drawn, run_seeded,
+    run_seeded_from, run_stream,
 };
 use rand_core::SeedableRng;
 use rand_core::utils::NextWord;
@@ -118,6 +121,46 @@ fn append_other_chances(
     Ok(())
 }
 
+/// Appends the run that a seed draws from where the program first asks for a choice.
+pub fn later_draws(
+    alloc: Global,
+    code: &Code<'_>,
+    row: &Row,
+    out: &mut Vec<u8>,
+) -> Result<(), Stop> {
+    let (limit, seed) = (short_number(row, b"limit", 100)?, number(row, b"seed", 0)?);
+    let mut machine = Copied::new(alloc, code, row.field(b"input"), 0)?;
+    machine.run(limit)?;
+    match drawn_from(alloc, machine, limit, seed)? {
+        Some(run) => Ok(append_run(out, &run)?),
+        None => Ok(()),
+    }
+}
+
+/// Returns the run that a seed draws from a machine's state, if it came to its end.
+fn drawn_from<'c>(
+    alloc: Global,
+    machine: Copied<'c, '_>,
+    limit: u32,
+    seed: u64,
+) -> Result<Option<Run<'c>>, Stop> {
+    if machine.work() > u64::from(u32::MAX) {
+        return Err(Stop::Runs(RunsError::WorkFull));
+    }
+    let Drawn { choices, ran } = run_seeded_from(alloc, machine, limit, seed)?;
+    Ok(ended(choices, ran))
+}
+
+/// Appends the choices of a run, its end, its steps and its output.
+fn append_run(out: &mut Vec<u8>, run: &Run<'_>) -> Result<(), NoMemory> {
+    append_choices(out, &run.choices)?;
+    out.push(b' ')?;
+    append_end(out, kind_of(&run.end))?;
+    append_number(out, b" after ", u64::from(run.steps))?;
+    out.extend_from_slice(b" steps ")?;
+    append_quoted(out, &run.output)
+}
+
 /// Counts the seeds whose runs are listed, and are the runs with their choices.
 pub fn listed_draws(
     alloc: Global,
@@ -219,5 +262,5 @@ fn is_alike(streamed: &Streamed, written: &[u8], run: &Run<'_>) -> bool {
     streamed.choices == run.choices
         && written == run.output.as_slice()
         && streamed.steps == run.steps
-        && is_end(&run.end, streamed.end)
+        && kind_of(&run.end) == streamed.end
 }
