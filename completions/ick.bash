@@ -38,9 +38,15 @@ _ick() {
 }
 
 _ick_tool() {
-    local word=${COMP_WORDS[COMP_CWORD]}
-    case $word in
-        -*) _ick_words "$("$1" --help 2>/dev/null </dev/null | grep -oE -e '--[a-z][a-z-]*' | sort -u)" "$word" ;;
+    local word=${COMP_WORDS[COMP_CWORD]} commands='' command=''
+    case ${1##*/} in
+        ick-parts) commands='begin plan part join check' ;;
+        ick-wimp) commands='in out' ;;
+    esac
+    [ "${1##*/}" != ick-parts ] || [ "$COMP_CWORD" = 1 ] || command=${COMP_WORDS[1]}
+    case $COMP_CWORD:$word in
+        *:-*) _ick_words "$("$1" $command --help 2>/dev/null </dev/null | grep -oE -e '--[a-z][a-z-]*' | sort -u)" "$word" ;;
+        1:*) if [ "$commands" ]; then _ick_words "$commands" "$word"; else _ick_files "$word"; fi ;;
         *) _ick_files "$word" ;;
     esac
 }

@@ -7,6 +7,10 @@
         print(run.choices, run.end, run.output)
 
 A source and an input are bytes, or a text that is written in UTF-8. An option that isn't given is the program's own.
+Each call but `serve` raises Refused if ick doesn't do what was asked: the source is refused (status 2), memory runs out
+(4), or an argument is wrong (64). A run that ends by a fault (1), or for want of steps or choices (3), is an answer.
+Ctrl-C ends a call in the main thread by KeyboardInterrupt.
+
 As a program, `python3 ick.py ARGUMENT..` does what ick does. If its last argument names a file that can be read, that
 is the source.
 
@@ -18,7 +22,10 @@ import functools
 import os
 import re
 import sys
+import threading
 from typing import NamedTuple
+
+__all__ = ["Answer", "Refused", "Run", "Statement", "Summary", "check", "list", "run", "runs", "serve"]
 
 ROOM = 1 << 16
 RUN = re.compile(rb'(\S+) (\S+) "(.*)"')
@@ -63,7 +70,7 @@ class Summary(NamedTuple):
 
 
 class Refused(Exception):
-    """ick answered with another status than 0. The exception has the whole answer."""
+    """ick didn't do what was asked. The exception has the whole answer."""
 
     def __init__(self, answer):
         super().__init__(f"status {answer.status}: {answer.errors.decode('utf-8', 'replace').rstrip()}")
@@ -100,13 +107,24 @@ def serve(arguments, file=b"", input=b""):
     while lengths.output > sizes[0] or lengths.errors > sizes[1]:
         sizes = max(lengths.output, sizes[0]), max(lengths.errors, sizes[1])
         output, errors = map(ctypes.create_string_buffer, sizes)
-        status = library()(*texts, output, sizes[0], errors, sizes[1], ctypes.byref(lengths))
+        status = called(library(), *texts, output, sizes[0], errors, sizes[1], ctypes.byref(lengths))
     return Answer(status, ctypes.string_at(output, lengths.output), ctypes.string_at(errors, lengths.errors))
 
 
+def called(function, *arguments):
+    """Returns what a function of the library returns. Only a wait in Python can be interrupted, so the main thread waits."""
+    if threading.current_thread() is not threading.main_thread():
+        return function(*arguments)
+    found = []
+    caller = threading.Thread(target=lambda: found.append(function(*arguments)), daemon=True)
+    caller.start()
+    caller.join()
+    return found[0]
+
+
 def run(source, input=b"", choices=None, seed=None, limit=None):
-    """Runs a program once, and returns what `ick run` leaves, whatever the status."""
-    return serve(["run", *options(choices=choices, seed=seed, limit=limit), "program"], source, input)
+    """Runs a program once, and returns what `ick run` leaves: status 0 for a GIVE UP, 1 for a fault, 3 for no end."""
+    return done(["run", *options(choices=choices, seed=seed, limit=limit), "program"], source, input, (0, 1, 3))
 
 
 def runs(source, input=b"", after=None, limit=None, count=1000):
@@ -118,7 +136,7 @@ def runs(source, input=b"", after=None, limit=None, count=1000):
     more = True
     while more:
         given = ["runs", *options(limit=limit, count=count, **{"from": after}), "program"]
-        *lines, last = done(given, source, input).splitlines()
+        *lines, last = done(given, source, input).output.splitlines()
         for line in lines:
             choices, end, output = RUN.fullmatch(line).groups()
             after = choices.decode()
@@ -128,20 +146,20 @@ def runs(source, input=b"", after=None, limit=None, count=1000):
 
 def check(source):
     """Returns how many statements a program has, and how many are polite. Raises Refused if ick refuses it."""
-    return Summary(*map(int, SUMMARY.fullmatch(done(["check", "program"], source)).groups()))
+    return Summary(*map(int, SUMMARY.fullmatch(done(["check", "program"], source).output).groups()))
 
 
 def list(source):
     """Returns the statements of a program. Raises Refused if ick refuses it."""
-    return [statement_of(line) for line in done(["list", "program"], source).splitlines()]
+    return [statement_of(line) for line in done(["list", "program"], source).output.splitlines()]
 
 
-def done(arguments, source, input=b""):
-    """Returns the output of a call with the status 0."""
+def done(arguments, source, input=b"", statuses=(0,)):
+    """Returns the answer of a call with one of the statuses."""
     answer = serve(arguments, source, input)
-    if answer.status:
+    if answer.status not in statuses:
         raise Refused(answer)
-    return answer.output
+    return answer
 
 
 def options(**given):
@@ -162,6 +180,8 @@ def unquoted(text):
 
 
 def bytes_of(text):
+    if not isinstance(text, (str, bytes, bytearray, memoryview)):
+        raise TypeError(f"a text or bytes are wanted, not {type(text).__name__}")
     return text.encode() if isinstance(text, str) else bytes(text)
 
 
