@@ -1,10 +1,12 @@
 """Tries ick-parts: whole listings in any number of parts, through kills, failures, full disks and damage."""
 import bisect
+import contextlib
 import glob
 import heapq
 import io
 import os
 import random
+import re
 import shutil
 import signal
 import subprocess
@@ -19,6 +21,8 @@ from ick_parts.cursors import FIRST, LAST, argument_of, first_run, follows, read
 from ick_parts.job import Job
 from ick_parts.plan import cut
 from ick_parts.probes import Prober
+from ick_parts.segments import segments_of
+from ick_parts.status import lines_of
 from ick_parts.whole import ranges_of, check
 
 PARTS = os.path.join(TOOLS, "ick-parts")
@@ -152,8 +156,11 @@ def try_check(tally):
         sys.stdin = io.TextIOWrapper(io.BytesIO(text))
         try:
             return check()
-        except Refused:
+        except Refused as complaint:
+            complaints.append(str(complaint))
             return None
+
+    complaints = []
 
     kept = sys.stdin
     for text, wanted in ((b'- LIMIT ""\nDONE\n', 1), (b"0 A\n1 A\nDONE\n", 2), (b"0 A\n100 A\n101 A\n11 A\nDONE\n", 4)):
@@ -163,6 +170,11 @@ def try_check(tally):
                  b"- A\n0 A\n1 A\nDONE\n", b"0 A\n10 A\n110 A\n1111 A\nDONE\n", b"x\n", b"0\n1\nDONE\n",
                  b"0 A\n1 A\nDONE"):
         tally.check(checked(text) is None, f"check passes {text!r}")
+    tally.check(all(re.match(r"line \d+: ", it) for it in complaints), f"complaints without their line: {complaints}")
+    for text, wanted in ((b"0 A\nMORE\n", "line 2: MORE: the listing goes on"), (b"0 A\n1 A\n", "line 3: is missing"),
+                         (b"0 A\nx A\n", "line 2: 'x' is no cursor"), (b"0 A\n11 A\n", "line 2: doesn't come right")):
+        checked(text)
+        tally.check(complaints[-1].startswith(wanted), f"check of {text!r}: {complaints[-1]}")
     sys.stdin = kept
 
 
@@ -213,7 +225,7 @@ def try_damage(tally):
         case.refuses(f"{len(new)} of {len(text)} bytes are left")
     os.unlink(path)
     status, out, err = case.call("join")
-    tally.check(status == 4 and not out and b"No such file" in err, f"join without a file: {status} {err!r}")
+    tally.check(status == 1 and not out and b"is missing: remove" in err, f"join without a file: {status} {err!r}")
     write(path, text)
     write(path + ".seals", seals[:-3])
     case.refuses("a seal is torn")
@@ -353,6 +365,60 @@ def try_arguments(tally):
     case.refuses("a damaged job")
 
 
+def try_verify(tally):
+    """Each file that is damaged or missing is named; if it is removed, the next plan cuts its runs again."""
+    case = Case(tally, "even")
+    tally.same("verify of nothing", case.call("verify"), (0, b"nothing is damaged, and runs are missing behind -: "
+                                                             b"plan again\n", b""))
+    case.parts(case.plan(5))
+    tally.same("verify of all", case.call("verify"), (0, b"nothing is damaged, and all runs are listed\n", b""))
+    first, second, third, *_ = case.lines()
+    text = content(first)
+    write(first, text[:99] + b"?" + text[100:])
+    os.unlink(second)
+    seals = content(f"{third}.seals")
+    write(f"{third}.seals", seals.replace(b"\n", b" x\n", 1))
+    status, out, err = case.call("verify")
+    named = re.findall(rb"^(\S+?)(?:\.seals)? is (?:damaged|missing).*: remove .*, and plan again$", out, re.MULTILINE)
+    tally.same("what verify names", (status, sorted(named), err), (1, [os.fsencode(it) for it in (first, second, third)],
+                                                                   b"ick-parts: 3 segments are damaged\n"))
+    for path in (first, third, f"{first}.seals", f"{second}.seals", f"{third}.seals"):
+        os.unlink(path)
+    case.finishes("after what verify named was removed")
+    for name, status, wanted in (("plan", 2, b"plan first"), ("program.i", 1, b"put the same file there"),
+                                 ("input", 1, b"put the same file there"), ("job", 1, b"begin a job in another folder")):
+        os.rename(f"{case.folder}/{name}", f"{case.folder}/gone")
+        found, out, err = case.call("part", 1)
+        tally.check(found == status and f"{case.folder}/{name} is missing: ".encode() + wanted in err,
+                    f"part without {name}: {found} {err!r}")
+        os.rename(f"{case.folder}/gone", f"{case.folder}/{name}")
+
+
+STATUS = re.compile(rb"(\d+)% listed: ([\d,]+) of about ([\d,]+) runs, (.*)\n")
+
+
+def try_status(tally):
+    case = Case(tally, "even")
+    tally.same("status before a plan", case.call("status"),
+               (0, b"about 0 runs are listed, and it isn't known of how many\n", b""))
+    case.plan(4)
+    for which in range(1, 4):
+        case.call("part", which)
+        found = STATUS.fullmatch(case.call("status")[1])
+        percent, listed, whole = [int(it.replace(b",", b"")) for it in found.groups()[:3]] if found else (0, 0, 1)
+        lines = sum(content(path).count(b"\n") for path in case.lines())
+        tally.check(abs(percent - 100 * listed // whole) <= 1 and abs(listed / lines - 1) < .01
+                    and .7 < whole / 8192 < 1.4 and found[4].endswith(b"left"),
+                    f"status after {lines} of 8192 runs: {found and found[0]}")
+    case.finishes("status")
+    tally.same("status of all", case.call("status"), (0, b"100% listed: about 8,192 runs\n", b""))
+    tally.check(abs(lines_of(segments_of(Job(case.folder))[0]) - content(case.lines()[0]).count(b"\n")) < 9, "lines of")
+    write(f"{case.folder}/plan", b"1\n- DONE " + f"{1 << 99999:x}\n".encode())
+    shutil.rmtree(f"{case.folder}/parts")
+    tally.same("status of 2^99999 runs", case.call("status"),
+               (0, b"0% listed: 0 of about 10^30102 runs, and no time is known yet\n", b""))
+
+
 class Listed(Prober):
     """Answers from a listing that is there."""
 
@@ -386,7 +452,7 @@ def try_balance(tally):
                 prober = Listed(Job(case.folder), runs)
                 pieces = cut(prober, gaps, 4 * processes)
                 probes += len(prober.known)
-                places = [(place_of[start], place_of[end]) for start, end in pieces]
+                places = [(place_of[start], place_of[end]) for start, end, _ in pieces]
                 time_ += time_of([min(end - start, most) for start, end in places], processes)
                 gaps = sorted((runs[start + most - 1], runs[end - 1] if end < len(runs) else LAST)
                               for start, end in places if end - start > most)
@@ -405,12 +471,59 @@ def try_parallel(tally):
     status, out, err = called(command, environment=case.environment)
     tally.check(status == 0 and not out and case.plan(2) == 0, f"ick-parts-parallel: {status} {out!r} {err!r}")
     case.finishes("by ick-parts-parallel")
+    parallel_kills(tally)
     write(f"{case.folder}/input", b"")
     status, out, err = called(command, environment=case.environment)
     tally.check(status == 1 and b"has changed" in err, f"ick-parts-parallel after a change: {status} {err!r}")
 
 
+def processes_of(case):
+    """The numbers of the processes that list parts of a job."""
+    found = []
+    for path in glob.glob("/proc/[0-9]*/cmdline"):
+        with contextlib.suppress(OSError):
+            words = content(path).split(b"\0")
+            if b"part" in words and os.fsencode(case.folder) in words and b"parallel" not in b"".join(words[:3]):
+                found.append(int(path.split("/")[2]))
+    return found
+
+
+def parallel_kills(tally):
+    """Two killed parts are listed by the next round, and a signal ends all that was started."""
+    ick = os.path.join(tally.folder, "waiting-ick")
+    write(ick, FAILING_ICK.format(tally.program).encode())
+    os.chmod(ick, 0o755)
+    case = Case(tally, "even", ick=ick)
+    command = [f"{TOOLS}/ick-parts-parallel", case.folder, "2", "5", "-j", "2"]
+    case.environment.update(HOME=tally.folder, FAIL="waits")
+    with subprocess.Popen(command, stdin=subprocess.DEVNULL, stderr=subprocess.PIPE, env=case.environment) as running:
+        wait_for(lambda: sum(content(f"{path}.seals").count(b"\n") > 1 for path in case.lines()) == 2)
+        killed = processes_of(case)
+        tally.same("the parts of a round", len(killed), 2)
+        for process in killed:
+            os.kill(process, signal.SIGKILL)
+        wait_for(lambda: len(case.lines()) > 2)
+        tally.same("ick-parts-parallel with two killed parts", running.wait(SECONDS), 0)
+        err = running.stderr.read()
+    tally.check(b"100% listed: about 8,192 runs\n" in err, f"no status in the log of ick-parts-parallel: {err!r}")
+    case.finishes("by ick-parts-parallel with two killed parts")
+    for number, wanted in ((signal.SIGTERM, 143), (signal.SIGINT, 130)):
+        case = Case(tally, "even", ick=ick)
+        case.environment.update(HOME=tally.folder, FAIL="waits")
+        command[3] = "300"
+        with subprocess.Popen(command, stdin=subprocess.DEVNULL, stderr=subprocess.PIPE, env=case.environment,
+                              start_new_session=True, preexec_fn=lambda: signal.signal(signal.SIGINT, signal.SIG_DFL)
+                              ) as running:
+            wait_for(lambda: sum(content(f"{path}.seals").count(b"\n") > 1 for path in case.lines()) == 2)
+            os.killpg(running.pid, number) if number == signal.SIGINT else running.send_signal(number)
+            tally.same(f"ick-parts-parallel at {number.name}", running.wait(SECONDS), wanted)
+            wait_for(lambda: not processes_of(case))
+        tally.same(f"parts that are left after {number.name}", processes_of(case), [])
+        del case.environment["FAIL"]
+        case.finishes(f"after {number.name}")
+
+
 def try_all(tally):
     for attempt in (try_cursors, try_check, try_splits, try_damage, try_foreign, try_failures, try_kills, try_disks,
-                    try_arguments, try_balance, try_parallel):
+                    try_arguments, try_verify, try_status, try_balance, try_parallel):
         attempt(tally)

@@ -1,23 +1,27 @@
 """The folder of a job: the program, its input, the limit, a checksum of these and of ick, and the last plan."""
 import hashlib
 import os
+import re
 import subprocess
 import sys
 
 from ick_parts import Refused
 from ick_parts.cursors import read_place, show_place
-from ick_tool import content, find_ick
+from ick_tool import content, end, find_ick
 
 FORM = "ick-parts-1"
+PIECE = r"\S+ \S+( [0-9a-f]+)?"  # a line of a plan: two places, and about how many runs are between them
 RUNS_A_CALL = "1000000"  # the most that ick lists in one call
 
 
 class Job:
     def __init__(self, folder):
         self.folder = folder
+        if os.path.isdir(folder) and not os.path.exists(self.path("job")):
+            raise Refused(f"{self.path('job')} is missing: begin a job in another folder")
         words = content(self.path("job")).decode("ascii", "replace").split()
         if len(words) != 3 or words[0] != FORM:
-            raise Refused(f"{self.path('job')} is damaged")
+            raise Refused(f"{self.path('job')} is damaged: begin the job anew in another folder")
         self.limit, self.name = words[1:]
 
     def path(self, *names):
@@ -26,6 +30,9 @@ class Job:
     def compared(self):
         """Returns the job if program, input and ick are those that it began with."""
         self.ick = find_ick()
+        for name in ("program.i", "input"):
+            if not os.path.exists(self.path(name)):
+                raise Refused(f"{self.path(name)} is missing: put the same file there, or begin another job")
         if name_of(self.limit, self.path("program.i"), self.path("input"), self.ick) != self.name:
             raise Refused(f"the program, its input or {self.ick} has changed since {self.folder} was begun")
         return self
@@ -37,18 +44,22 @@ class Job:
                                     stdin=given, **more)
 
     def read_plan(self):
-        """Returns the number of the last plan, and its pieces as pairs of places."""
+        """Returns the number of the last plan, and its pieces: two places, and about how many runs, or None."""
+        if not os.path.exists(self.path("plan")):
+            end(f"{self.path('plan')} is missing: plan first")
         lines = content(self.path("plan")).decode("ascii", "replace").split("\n")[:-1] or [""]
         pieces = [line.split(" ") for line in lines[1:]]
-        if not lines[0].isdigit() or any(len(it) != 2 for it in pieces):
+        if not lines[0].isdigit() or not all(re.fullmatch(PIECE, line) for line in lines[1:]):
             raise Refused(f"{self.path('plan')} is damaged: remove it, and plan again")
-        return int(lines[0]), [(read_place(start), read_place(end)) for start, end in pieces]
+        return int(lines[0]), [(read_place(it[0]), read_place(it[1]), int(it[2], 16) if it[2:] else None) for it in pieces]
 
     def write_plan(self, pieces):
         path = self.path("plan")
         number = self.read_plan()[0] + 1 if os.path.exists(path) else 1
         with open(path + ".new", "w", encoding="ascii") as file:
-            file.write(f"{number}\n" + "".join(f"{show_place(start)} {show_place(end)}\n" for start, end in pieces))
+            file.write(f"{number}\n")
+            for start, end_, weight in pieces:
+                file.write(f"{show_place(start)} {show_place(end_)}" + (f" {weight:x}\n" if weight is not None else "\n"))
         os.rename(path + ".new", path)
 
 

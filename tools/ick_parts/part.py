@@ -20,7 +20,7 @@ def list_part(job, which, seconds):
     number, pieces = job.read_plan()
     if not 0 < which <= len(pieces):
         raise Refused(f"there is no piece {which} in the plan of {job.folder}")
-    start, end = pieces[which - 1]
+    start, end, _ = pieces[which - 1]
     piece = f"{number}-{which}"
     for segment in segments_of(job, piece):
         if segment.start <= start < segment.end:

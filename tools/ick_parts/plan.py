@@ -66,7 +66,7 @@ def subtrees_of(prober, gap):
 
 
 def cut(prober, gaps, wanted):
-    """Returns about so many pieces, at least one for each gap, the heaviest first."""
+    """Returns about so many pieces, at least one for each gap, the heaviest first, each with its weight."""
     items = [it for gap in gaps for it in subtrees_of(prober, gap)]
     with ThreadPoolExecutor(len(os.sched_getaffinity(0))) as pool:
         while len(prober.known) < PROBES_A_PIECE * wanted:
@@ -78,18 +78,18 @@ def cut(prober, gaps, wanted):
     whole, pieces = sum(it.weight for it in items), []
     for _, group in itertools.groupby(items, key=lambda it: it.gap):
         pieces += pieces_of(list(group), wanted, whole)
-    return [(start, end) for _, start, end in sorted(pieces, key=lambda it: -it[0])]
+    return sorted(pieces, key=lambda it: -it[2])
 
 
 def pieces_of(items, wanted, whole):
-    """Cuts one gap. Yields each piece with its weight: the subtrees whose middles are in one of equal shares."""
+    """Cuts one gap. Yields each piece and its weight: the subtrees whose middles are in one of equal shares."""
     (start, end), share, groups = items[0].gap, sum(it.weight for it in items), {}
     count = max(1, round(share * wanted / whole))
     for it, sum_ in zip(items, itertools.accumulate(it.weight for it in items)):
         groups.setdefault((2 * sum_ - it.weight) * count // (2 * share), []).append(it)
     for group in groups.values():
         here = group[-1].last_run() if group[-1] is not items[-1] else end
-        yield sum(it.weight for it in group), start, here
+        yield start, here, sum(it.weight for it in group)
         start = here
 
 
@@ -109,6 +109,6 @@ def plan(job, wanted, short):
     if wanted > 1 and gaps == [(FIRST, LAST)] and is_short(job, short):
         print(f"ick-parts: one piece, since the whole listing takes less than {short:g} seconds", file=sys.stderr)
         wanted = 1
-    pieces = cut(Prober(job), gaps, wanted) if wanted > 1 else gaps
+    pieces = cut(Prober(job), gaps, wanted) if wanted > 1 else [(*gap, None) for gap in gaps]
     job.write_plan(pieces)
     return len(pieces)

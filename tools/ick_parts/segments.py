@@ -11,9 +11,10 @@ import time
 import zlib
 
 from ick_parts import Refused
-from ick_parts.cursors import FIRST, LAST, end_of_line, last_run, read_place, show_place
+from ick_parts.cursors import FIRST, LAST, end_of_line, first_run, follows, read_place, show_place
 from ick_parts.job import FORM
 
+AGAIN = "remove {0} and {0}.seals, and plan again"
 SEAL = re.compile(r"(\d+) [0-9a-f]{8} (\S+)")
 SEAL_SECONDS = float(os.environ.get("ICK_PARTS_SEAL") or 2)
 SEAL_BYTES = 1 << 25
@@ -61,45 +62,71 @@ class Segment:
         self.path, self.head, self.seals = path, head, [SEAL.fullmatch(line) for line in seals]
         words = head.split(" ")
         if len(words) != 3 or words[0] != FORM or None in self.seals:
-            raise Refused(f"{path}.seals is damaged: remove it and {path}, and plan again")
+            raise Refused(f"{path}.seals is damaged: {AGAIN.format(path)}")
         if words[1] != job.name:
-            raise Refused(f"{path} is of another job")
+            raise Refused(f"{path} is of another job: {AGAIN.format(path)}")
         self.places = [read_place(words[2])] + [read_place(it[2]) for it in self.seals]
-        self.start, self.end = self.places[0], self.places[-1]
+        self.start, self.end, self.size = self.places[0], self.places[-1], int(self.seals[-1][1])
+
+    def read(self):
+        """Opens the file of lines."""
+        try:
+            return open(self.path, "rb")
+        except FileNotFoundError:
+            raise Refused(f"{self.path} is missing: remove {self.path}.seals, and plan again")
+
+    def checked(self, place):
+        """Returns the range of the lines behind a place. The first of them has the next run, and LAST is the end."""
+        begin, end = self.range_behind(place)
+        with self.read() as file:
+            file.seek(begin)
+            if begin < end and not follows(place, first_run(file.readline())):
+                raise Refused(f"{self.path} doesn't go on right behind {show_place(place)}: {AGAIN.format(self.path)}")
+        if self.end == LAST and not follows(self.places[-2], LAST):
+            raise Refused(f"{self.path} is at its end where more runs are: {AGAIN.format(self.path)}")
+        return begin, end
 
     def range_behind(self, place):
         """Returns where the lines behind a place begin and end, after it compared all lines with their seals."""
         begin, at, checksum = 0 if place == self.start else None, 0, zlib.crc32(self.head.encode())
-        with open(self.path, "rb") as file:
+        with self.read() as file:
             for it in self.seals:
                 block = at
                 for lines in read_range(file, block, int(it[1])):
                     at, checksum = at + len(lines), zlib.crc32(lines, checksum)
                 if it[0] != show_seal(at, checksum, it[2]):
-                    raise Refused(f"{self.path} is damaged before byte {it[1]}: remove it and its seals, plan again")
+                    raise Refused(f"{self.path} is damaged before byte {it[1]}: {AGAIN.format(self.path)}")
                 if begin is None:
                     skipped = end_of_line(b"".join(read_range(file, block, at)), place)
                     begin = block + skipped if skipped else None
         if begin is None:
-            raise Refused(f"{self.path} goes past {show_place(place)} and hasn't got it")
+            raise Refused(f"{self.path} goes past {show_place(place)} and hasn't got it: {AGAIN.format(self.path)}")
         return begin, at
 
 
-def segments_of(job, piece="*"):
-    """Returns the segments with at least one seal, of all pieces or of one, in the order of their starts."""
-    found = []
-    for path in glob.glob(os.path.join(glob.escape(job.path("parts")), piece, "*.seals")):
+def seals_of(job, piece="*"):
+    """Yields the files of seals with at least one seal, of all pieces or of one, each with its lines."""
+    for path in sorted(glob.glob(os.path.join(glob.escape(job.path("parts")), piece, "*.seals"))):
         with open(path, "rb") as file:
             lines = file.read().decode("ascii", "replace").split("\n")[:-1]  # a last line without its end was torn
         if len(lines) > 1:
-            found.append(Segment(job, path[:-len(".seals")], *lines))
-    return sorted(found, key=lambda it: it.start)
+            yield path[:-len(".seals")], lines
+
+
+def segments_of(job, piece="*"):
+    """Returns the segments, of all pieces or of one, in the order of their starts."""
+    return sorted((Segment(job, path, *lines) for path, lines in seals_of(job, piece)), key=lambda it: it.start)
 
 
 def cover(job):
     """Returns the segments that make the listing, each with the place behind which it is wanted; and the gaps."""
+    return cover_by(segments_of(job))
+
+
+def cover_by(segments):
+    """The same, by these segments."""
     used, gaps, at = [], [], FIRST
-    for segment in segments_of(job):
+    for segment in segments:
         if segment.start > at:
             gaps.append((at, segment.start))
             at = segment.start

@@ -1,9 +1,9 @@
-"""The whole listing: joins the segments, and checks a listing by its cursors alone."""
+"""The whole listing: joins the segments, and looks for damage; checks a listing by its cursors alone."""
 import sys
 
 from ick_parts import Refused
 from ick_parts.cursors import FIRST, LAST, first_run, follows, show_place
-from ick_parts.segments import cover, read_range, write_all
+from ick_parts.segments import Segment, cover, cover_by, read_range, seals_of, write_all
 
 
 def ranges_of(job):
@@ -12,14 +12,7 @@ def ranges_of(job):
     if gaps:
         raise Refused(f"not whole: runs are missing behind {show_place(gaps[0][0])}; plan again")
     for segment, place in used:
-        begin, end = segment.range_behind(place)
-        with open(segment.path, "rb") as file:
-            file.seek(begin)
-            if begin < end and not follows(place, first_run(file.readline())):
-                raise Refused(f"{segment.path} doesn't go on right behind {show_place(place)}")
-        if segment.end == LAST and not follows(segment.places[-2], LAST):
-            raise Refused(f"{segment.path} is at its end where more runs are")
-        yield segment.path, begin, end
+        yield (segment.path, *segment.checked(place))
 
 
 def join(job):
@@ -33,18 +26,55 @@ def join(job):
         write_all(output, b"DONE\n")
 
 
+def verify(job):
+    """Compares every segment with its seals. Yields a complaint for each one that is damaged, and what to remove.
+
+    Then yields whether the others make the whole listing.
+    """
+    good, damaged = [], 0
+    for path, lines in seals_of(job):
+        try:
+            segment = Segment(job, path, *lines)
+            segment.checked(segment.start)
+            good.append(segment)
+        except Refused as complaint:
+            damaged += 1
+            yield str(complaint)
+    used, gaps = cover_by(sorted(good, key=lambda it: it.start))
+    for segment, place in used:
+        try:
+            segment.checked(place)
+        except Refused as complaint:
+            damaged += 1
+            yield str(complaint)
+    if damaged:
+        raise Refused(f"{damaged} segment{'s are' if damaged > 1 else ' is'} damaged")
+    yield ("nothing is damaged, and "
+           + (f"runs are missing behind {show_place(gaps[0][0])}: plan again" if gaps else "all runs are listed"))
+
+
 def check():
     """Returns how many runs the listing on standard input has. Refuses it unless each run follows the one before."""
     place, is_done, number = FIRST, False, 0
     for number, line in enumerate(sys.stdin.buffer, 1):
-        if is_done or not line.endswith(b"\n"):
-            raise Refused(f"line {number}: no line of a listing")
-        is_done = line == b"DONE\n"
-        here = LAST if is_done else first_run(line)
-        # behind FIRST comes a run, but DONE if the one run without choices was there
-        if place == FIRST and is_done == (number == 1) or not follows(place, here):
-            raise Refused(f"line {number}: doesn't come right after the line before")
-        place = here
+        try:
+            place, is_done = behind(line, place, number == 1, is_done)
+        except Refused as complaint:
+            raise Refused(f"line {number}: {complaint}")
     if not is_done:
-        raise Refused("no DONE at the end")
+        raise Refused(f"line {number + 1}: is missing, and DONE is the last line of a whole listing")
     return number - 1
+
+
+def behind(line, place, is_first, is_done):
+    """Returns the place of a line of a listing, behind a place, and whether it is the last line."""
+    if line == b"MORE\n" and not is_done:
+        raise Refused("MORE: the listing goes on; list the rest by --from and the cursor of the line before")
+    if is_done or not line.endswith(b"\n"):
+        raise Refused("no line of a listing")
+    is_done = line == b"DONE\n"
+    here = LAST if is_done else first_run(line)
+    # behind FIRST comes a run, but DONE if the one run without choices was there
+    if place == FIRST and is_done == is_first or not follows(place, here):
+        raise Refused("doesn't come right after the line before")
+    return here, is_done
