@@ -12,8 +12,8 @@ use Rattle.ick_memory.specs.declared.memory.Ended.{Ended}
 use Rattle.ick_memory.specs.declared.memory.Ended.TheVariants.{GaveUp, Faulted, Unknown, Word}
 use Rattle.ick_memory.specs.Met.{is_open}
 use Rattle.ick_memory.specs.View.{View, Input, state_of, end_of}
-use Rattle.ick_machine.specs.Asked.{Finish, finished, asked_at_end, IsGoing}
-use Rattle.ick_machine.specs.Steps.{IsPlain}
+use Rattle.ick_backtrack.specs.Asked.{Finish, finished, asked_at_end, IsGoing}
+use Rattle.ick_backtrack.specs.Steps.{IsPlain}
 use Rattle.ick_machine.proofs.StepLemmas.{there, OddsOf}
 
 -- answers that are one

@@ -7,8 +7,8 @@ use Rattle.ick_bits.specs.declared.digits.DigitFault.TheVariants.{Word, TooLarge
 use Rattle.ick_memory.specs.View.{Input}
 use Rattle.ick_machine.specs.declared.reader.Line.{Line}
 use Rattle.ick_machine.specs.declared.reader.Line.TheVariants.{Number, TooLarge, BadWord}
-use Rattle.ick_machine.specs.declared.feed.FeedFault.{FeedFault}
-use Rattle.ick_machine.specs.declared.feed.FeedFault.TheVariants.{NoMemory, Read}
+use Rattle.ick_backtrack.specs.declared.feed_fault.FeedFault.{FeedFault}
+use Rattle.ick_backtrack.specs.declared.feed_fault.FeedFault.TheVariants.{NoMemory, Read}
 
 -- how many reads of a feed have failed where this went wrong
 abbrev pub failed_reads : FeedFault → ℕ

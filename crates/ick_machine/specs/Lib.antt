@@ -1,6 +1,3 @@
-pub mod Machine
-pub mod Asked
-pub mod Steps
 pub mod Reads
 pub mod Planned
 pub mod Run

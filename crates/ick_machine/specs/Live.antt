@@ -9,7 +9,7 @@ use Rattle.ick_machine.specs.declared.live_ask.LiveAsk.{LiveAsk}
 use Rattle.ick_machine.specs.declared.live_ask.LiveAsk.TheVariants.{Failed}
 use Rattle.ick_machine.specs.LiveAsk.{live_asked}
 use Rattle.ick_machine.specs.Feeds.{input_after}
-use Rattle.ick_machine.specs.Machine.{Program}
+use Rattle.ick_backtrack.specs.Machine.{Program}
 use Rattle.ick_machine.specs.Message.{asked_message}
 
 -- the state is without its input, which the feed has; its output is what was written since it was last cleared

@@ -5,7 +5,7 @@ use Rattle.ick_memory.specs.View.{view_of, state_of, input_of}
 use Rattle.ick_memory.specs.Marks.{marked_views}
 use Rattle.ick_machine.specs.declared.trailed.Trailed.{Trailed}
 use Rattle.ick_machine.specs.declared.copied.Copied.{Copied}
-use Rattle.ick_machine.specs.Machine.{Machine}
+use Rattle.ick_backtrack.specs.Machine.{Machine}
 use Rattle.ick_machine.specs.Marks.{copied_views}
 
 abbrev pub trailed_machine : Trailed → Machine

@@ -8,10 +8,10 @@ ghost use Rattle.ick_code.specs.Compiled.{code_program};
 ghost use Rattle.ick_memory.specs.View.{Input, view_of, state_of, input_of, text_of as text_in};
 ghost use Rattle.ick_memory.specs.View.{Fits, end_of as ending_of};
 ghost use Rattle.ick_memory.specs.Met.{is_open};
-ghost use Rattle.ick_machine.specs.Asked.{asked_of, finish_of, finished};
-ghost use Rattle.ick_machine.specs.Steps.{IsPlain};
+ghost use Rattle.ick_backtrack.specs.Asked.{asked_of, finish_of, finished};
+ghost use Rattle.ick_backtrack.specs.Steps.{IsPlain};
 
-use crate::asking::{Ask, End};
+use ick_backtrack::{Ask, End};
 use crate::met::met;
 use ick_bits::{Fault, FaultKind};
 use ick_code::Code;

@@ -10,8 +10,7 @@ ghost use Rattle.ick_machine.specs.Run.{IsReady};
 ghost use Rattle.ick_machine.specs.Marks.{copied_views};
 
 use crate::answer::{answer, is_plain};
-use crate::asking::Ask;
-use crate::backtrack::{Asks, Backtrack};
+use ick_backtrack::{Ask, Asks, Backtrack};
 use crate::engine::{Engine, engine_for};
 use crate::whole::whole_step;
 use ick_bits::NoMemory;

@@ -4,44 +4,9 @@ ghost use Rattle.std.specs.Prelude.{◌≡◌, ◌≢◌, ◌+◌, ◌<◌, ◌^
 ghost use Rattle.std.specs.Prelude.{ℕ, List, Bool, [], true, false, Ok, Some, None, IfErr};
 ghost use Rattle.ick_code.specs.meaning.InputOutput.{first_line, later_lines};
 ghost use Rattle.ick_machine.specs.Feeds.{feed_failures};
-ghost use Rattle.ick_machine.specs.declared.feed.FeedFault.TheVariants.{NoMemory as OutOfMemory};
-ghost use Rattle.ick_machine.specs.declared.feed.FeedFault.TheVariants.{Read as ReadFailed};
+ghost use Rattle.ick_backtrack.specs.declared.feed_fault.FeedFault.TheVariants.{Read as ReadFailed};
 
-use ick_bits::NoMemory;
-use std::alloc::{AllocError, AllocFailed};
-
-/// Why a feed answered neither a line, nor a byte, nor the end of the input.
-#[derive(Clone, Copy, Debug)]
-pub enum FeedFault {
-    /// Memory for the line was refused.
-    NoMemory,
-    /// A read failed.
-    Read,
-}
-
-impl From<NoMemory> for FeedFault {
-    ghost from_gives = { λ _ fault. fault ≡ OutOfMemory };
-
-    fn from(_refused: NoMemory) -> FeedFault {
-        FeedFault::NoMemory
-    }
-}
-
-impl From<AllocError> for FeedFault {
-    ghost from_gives = { λ _ fault. fault ≡ OutOfMemory };
-
-    fn from(_refused: AllocError) -> FeedFault {
-        FeedFault::NoMemory
-    }
-}
-
-impl<T: Drop> From<AllocFailed<T>> for FeedFault {
-    ghost from_gives = { λ _ fault. fault ≡ OutOfMemory };
-
-    fn from(_refused: AllocFailed<T>) -> FeedFault {
-        FeedFault::NoMemory
-    }
-}
+use ick_backtrack::FeedFault;
 
 /// Input that is read while a run needs it, line by line or byte by byte, and no byte more.
 ///

@@ -6,7 +6,8 @@ ghost use Rattle.ick_bits.specs.Digits.{line_answer};
 ghost use Rattle.ick_machine.specs.Feeds.{MayBeLeft, feed_failures, reads_failed, some_left};
 ghost use Rattle.ick_machine.specs.Feeds.{line_with};
 
-use crate::feed::{Feed, FeedFault};
+use crate::feed::Feed;
+use ick_backtrack::FeedFault;
 use crate::reader::{Line, Reader};
 use ick_bits::{DigitFault, NoMemory, digits_value};
 

@@ -3,8 +3,6 @@
 //!
 //! | Module | What it has |
 //! |---|---|
-//! | `asking` | what a machine asks, and how a run ends |
-//! | `backtrack` | machines with marks |
 //! | `reader` | who reads the input, line by line or byte by byte |
 //! | `text` | a text as the input of a run |
 //! | `halt` | why the operations of a statement stop early |
@@ -43,8 +41,6 @@
 #![tactic(auto)]
 
 mod answer;
-mod asking;
-mod backtrack;
 mod brief;
 mod control;
 mod copied;
@@ -80,10 +76,9 @@ mod trailed;
 mod values;
 mod whole;
 
-pub use asking::{Ask, End};
-pub use backtrack::{Asks, Backtrack};
 pub use copied::Copied;
-pub use feed::{Feed, FeedFault};
+pub use feed::Feed;
+pub use ick_backtrack::{Ask, Asks, Backtrack, End, FeedFault};
 pub use live::Live;
 pub use live_ask::{EndKind, LiveAsk};
 pub use trailed::Trailed;

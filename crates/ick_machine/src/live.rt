@@ -7,7 +7,8 @@ ghost use Rattle.ick_machine.specs.Run.{IsReady};
 use crate::answer::answer;
 use crate::engine::{Engine, engine_for};
 use crate::fed::{fed_step, fed_steps};
-use crate::feed::{Feed, FeedFault};
+use crate::feed::Feed;
+use ick_backtrack::FeedFault;
 use crate::live_ask::LiveAsk;
 use crate::message::append_end;
 use ick_bits::NoMemory;
@@ -38,8 +39,8 @@ impl<'c, 'a> Live<'c, 'a> {
     ghost use Rattle.std.specs.Prelude.{IfOk, OnOk, OnErr, vec_len, vec_capacity};
     ghost use Rattle.ick_code.specs.Compiled.{code_program};
     ghost use Rattle.ick_code.specs.meaning.Move.{ask, advance, first_state};
-    ghost use Rattle.ick_machine.specs.Asked.{IsGoing};
-    ghost use Rattle.ick_machine.specs.Steps.{IsQuiet, RunsOn, Rests};
+    ghost use Rattle.ick_backtrack.specs.Asked.{IsGoing};
+    ghost use Rattle.ick_backtrack.specs.Steps.{IsQuiet, RunsOn, Rests};
     ghost use Rattle.ick_machine.specs.Feeds.{feed_failures};
     ghost use Rattle.ick_machine.specs.Live.{seen, fed, cleared, live_ask, fault_message};
 

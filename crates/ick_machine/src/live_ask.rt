@@ -3,10 +3,10 @@
 
 ghost use Rattle.std.specs.Prelude.{◌≡◌, Some};
 ghost use Rattle.ick_code.specs.meaning.Move.{Asking};
-ghost use Rattle.ick_machine.specs.Asked.{asked_of};
+ghost use Rattle.ick_backtrack.specs.Asked.{asked_of};
 ghost use Rattle.ick_machine.specs.LiveAsk.{live_asked};
 
-use crate::asking::{Ask, End};
+use ick_backtrack::{Ask, End};
 use ick_bits::FaultKind;
 
 /// How a run ends, or stops.

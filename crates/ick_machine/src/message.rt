@@ -3,10 +3,10 @@
 ghost use Rattle.std.specs.Prelude.{◌≡◌, ◌+◌, ◌<◌, ◌≤◌, ◌++◌, Some, length};
 ghost use Rattle.std.specs.Prelude.{OnOk, OnErr, vec_len, vec_capacity};
 ghost use Rattle.ick_code.specs.meaning.Move.{Asking};
-ghost use Rattle.ick_machine.specs.Asked.{asked_of};
+ghost use Rattle.ick_backtrack.specs.Asked.{asked_of};
 ghost use Rattle.ick_machine.specs.Message.{asked_message};
 
-use crate::asking::{Ask, End};
+use ick_backtrack::{Ask, End};
 use ick_bits::{NoMemory, append_message};
 
 /// Appends the message of the fault that a run has ended by, or nothing where there is none

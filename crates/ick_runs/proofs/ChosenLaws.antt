@@ -10,15 +10,15 @@ use Rattle.rand_pcg.specs.Lcg.{Lcg}
 use Rattle.rand_pcg.specs.Pcg.{pcg32}
 use Rattle.ick_code.specs.meaning.State.{State}
 use Rattle.ick_code.specs.meaning.Move.{choice, ask}
-use Rattle.ick_machine.specs.Machine.{Program}
-use Rattle.ick_runs.specs.Runs.{run, wants, IsEnd}
-use Rattle.ick_runs.specs.Paths.{Leads}
+use Rattle.ick_backtrack.specs.Machine.{Program}
+use Rattle.ick_explorer.specs.Runs.{run, wants, IsEnd}
+use Rattle.ick_explorer.specs.Paths.{Leads}
 use Rattle.ick_runs.specs.Draws.{IsDrawn, means_done, word_of}
 use Rattle.ick_runs.specs.Chosen.{Chosen, listed, seeded, IsChosen, answer_of, Picks}
 use Rattle.ick_runs.specs.Streaming.{AreTaken}
 use Rattle.ick_runs.specs.declared.chooser.Picker.{Picker}
 use Rattle.ick_runs.specs.declared.chooser.Picker.TheVariants.{Seeded as Drawing}
-use Rattle.ick_runs.proofs.RunLaws.{Leads-wants}
+use Rattle.ick_explorer.proofs.RunLaws.{Leads-wants}
 use Rattle.ick_runs.proofs.OrdinaryLaws.{take_whole}
 
 pub drawn_answer : (chosen : Chosen) (k chance word : ℕ) (b : Bool) (g g' : Lcg) → Picks chosen k (Drawing g) →

@@ -6,15 +6,15 @@ use Rattle.std.proofs.lemmas.List.{get_or_append_left, take-append-le, length-ap
 use Rattle.std.proofs.Math.Nat.{eq-or-lt_of_le}
 use Rattle.ick_code.specs.meaning.State.{State}
 use Rattle.ick_code.specs.meaning.Move.{Asking, plain, choice, ended, ask, advance}
-use Rattle.ick_machine.specs.Machine.{Program, Machine}
-use Rattle.ick_machine.specs.Asked.{Finish}
-use Rattle.ick_runs.specs.Runs.{ends, run, stepped, IsWhole, IsEnd}
-use Rattle.ick_runs.specs.Listings.{IsBelow}
-use Rattle.ick_runs.specs.Paths.{Leads, RunsTo}
-use Rattle.ick_runs.specs.Walks.{EndsHere}
+use Rattle.ick_backtrack.specs.Machine.{Program, Machine}
+use Rattle.ick_backtrack.specs.Asked.{Finish}
+use Rattle.ick_explorer.specs.Runs.{ends, run, stepped, IsWhole, IsEnd}
+use Rattle.ick_explorer.specs.Listings.{IsBelow}
+use Rattle.ick_explorer.specs.Paths.{Leads, RunsTo}
+use Rattle.ick_explorer.specs.Walks.{EndsHere}
 use Rattle.ick_runs.specs.Draws.{IsDrawn, AreDrawn, means_done}
-use Rattle.ick_runs.proofs.RunLaws.{run-ended, run-plain, run-choice, run-wants, limit-end, limit-unused, Leads-wants}
-use Rattle.ick_runs.proofs.RunLaws.{compared, use-wants, wants-stops}
+use Rattle.ick_explorer.proofs.RunLaws.{run-ended, run-plain, run-choice, run-wants, limit-end, limit-unused, Leads-wants}
+use Rattle.ick_explorer.proofs.RunLaws.{compared, use-wants, wants-stops}
 use Rattle.ick_runs.proofs.OrdinaryLaws.{runs_end}
 
 -- a choice is asked at one chance

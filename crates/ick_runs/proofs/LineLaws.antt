@@ -7,7 +7,7 @@ use Rattle.std.proofs.lemmas.List.{append-nil, length-append, drop_all, get_or_a
 use Rattle.std.proofs.lemmas.List.Sums.{position_or_len_is}
 use Rattle.std.specs.Prelude.{Result, Ok}
 use Rattle.ick_code.specs.meaning.InputOutput.{first_line, later_lines}
-use Rattle.ick_machine.specs.declared.feed.FeedFault.{FeedFault}
+use Rattle.ick_backtrack.specs.declared.feed_fault.FeedFault.{FeedFault}
 use Rattle.ick_runs.specs.Streaming.{HasNoEnd}
 
 place_of_end : (bytes rest : List ℕ) → HasNoEnd bytes →

@@ -6,17 +6,17 @@ use Rattle.std.proofs.Math.Seq.{take-suc}
 use Rattle.std.proofs.lemmas.List.{take-append-drop}
 use Rattle.ick_bits.specs.declared.memory.NoMemory.{NoMemory}
 use Rattle.ick_code.specs.meaning.Move.{choice, ask, advance}
-use Rattle.ick_machine.specs.Machine.{Machine}
-use Rattle.ick_machine.specs.Asked.{Finish}
-use Rattle.ick_machine.specs.Steps.{IsPlain, RunsOn, HasRun}
+use Rattle.ick_backtrack.specs.Machine.{Machine}
+use Rattle.ick_backtrack.specs.Asked.{Finish}
+use Rattle.ick_backtrack.specs.Steps.{IsPlain, RunsOn, HasRun}
 use Rattle.ick_runs.specs.declared.ordinary.Ran.{Ran}
 use Rattle.ick_runs.specs.declared.ordinary.Ran.TheVariants.{Ended, Wants}
-use Rattle.ick_runs.specs.Runs.{ends, wants, run}
-use Rattle.ick_runs.specs.Paths.{Leads, RunsTo}
-use Rattle.ick_runs.specs.Walks.{EndsHere}
+use Rattle.ick_explorer.specs.Runs.{ends, wants, run}
+use Rattle.ick_explorer.specs.Paths.{Leads, RunsTo}
+use Rattle.ick_explorer.specs.Walks.{EndsHere}
 use Rattle.ick_runs.specs.Ordinary.{IsRan, IgnoresUnused, HasEnded, IsWanting}
-use Rattle.ick_runs.proofs.RunLaws.{Leads-on, Leads-choice, Leads-wants, Leads-ends}
-use Rattle.ick_runs.proofs.Walking.{after_step}
+use Rattle.ick_explorer.proofs.RunLaws.{Leads-on, Leads-choice, Leads-wants, Leads-ends}
+use Rattle.ick_explorer.proofs.Walking.{after_step}
 
 pub take_whole : (c : List Bool) (used : ℕ) → used ≡ length c → take used c ≡ c
 take_whole [] zero e = refl

@@ -5,10 +5,10 @@ use Rattle.std.proofs.lemmas.List.{append-nil}
 use Rattle.ick_code.specs.meaning.State.{State}
 use Rattle.ick_code.specs.meaning.Move.{Asking, plain, choice, ended, ask, advance}
 use Rattle.ick_code.proofs.Leads.{advance_leads}
-use Rattle.ick_machine.specs.Machine.{Program}
-use Rattle.ick_runs.specs.Runs.{run, run_at_limit}
-use Rattle.ick_runs.specs.Paths.{Leads}
-use Rattle.ick_runs.proofs.RunLaws.{run-ended, run-plain, run-choice, run-wants}
+use Rattle.ick_backtrack.specs.Machine.{Program}
+use Rattle.ick_explorer.specs.Runs.{run, run_at_limit}
+use Rattle.ick_explorer.specs.Paths.{Leads}
+use Rattle.ick_explorer.proofs.RunLaws.{run-ended, run-plain, run-choice, run-wants}
 
 grown_twice : (a b c x y : List ℕ) → b ≡ a ++ x → c ≡ b ++ y → (rest : List ℕ) × (c ≡ a ++ rest)
 grown_twice a b c x y e f = (x ++ y, f ∙ (ap (λ z. z ++ y) e ∙ append_assoc a x y))

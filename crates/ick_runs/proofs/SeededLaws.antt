@@ -7,16 +7,16 @@ use Rattle.rand_pcg.specs.Lcg.{Lcg}
 use Rattle.rand_pcg.specs.Pcg.{pcg32}
 use Rattle.ick_bits.specs.declared.memory.NoMemory.{NoMemory}
 use Rattle.ick_code.specs.meaning.Move.{choice, ask}
-use Rattle.ick_machine.specs.Machine.{Machine}
-use Rattle.ick_machine.specs.Asked.{Finish}
-use Rattle.ick_runs.specs.Runs.{run}
-use Rattle.ick_runs.specs.Paths.{RunsTo}
-use Rattle.ick_runs.specs.Walks.{EndsHere}
+use Rattle.ick_backtrack.specs.Machine.{Machine}
+use Rattle.ick_backtrack.specs.Asked.{Finish}
+use Rattle.ick_explorer.specs.Runs.{run}
+use Rattle.ick_explorer.specs.Paths.{RunsTo}
+use Rattle.ick_explorer.specs.Walks.{EndsHere}
 use Rattle.ick_runs.specs.Ordinary.{IsRan, HasEnded}
 use Rattle.ick_runs.specs.Draws.{IsDrawn, AreDrawn, Draws, means_done, word_of, generator_after, generator_of}
 use Rattle.ick_runs.specs.declared.ordinary.Ran.{Ran}
 use Rattle.ick_runs.specs.declared.seeded.Drawn.{Drawn}
-use Rattle.ick_runs.proofs.Walking.{after_step}
+use Rattle.ick_explorer.proofs.Walking.{after_step}
 use Rattle.ick_runs.proofs.OrdinaryLaws.{take_whole, runs_choice, ran_ended}
 use Rattle.ick_runs.proofs.DrawLaws.{drawn-whole, drawn-more}
 

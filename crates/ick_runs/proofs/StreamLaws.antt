@@ -11,9 +11,9 @@ use Rattle.ick_code.specs.meaning.Move.{Asking, plain, choice, ended, ask, advan
 use Rattle.ick_code.specs.Laws.{after_output}
 use Rattle.ick_code.proofs.AskLaws.{ask_same}
 use Rattle.ick_code.proofs.Frames.{advance_frame}
-use Rattle.ick_machine.specs.Machine.{Program, Machine}
-use Rattle.ick_machine.specs.Asked.{Finish, finished, at_limit, IsGoing}
-use Rattle.ick_machine.specs.Steps.{after_steps, IsQuiet, RunsOn}
+use Rattle.ick_backtrack.specs.Machine.{Program, Machine}
+use Rattle.ick_backtrack.specs.Asked.{Finish, finished, at_limit, IsGoing}
+use Rattle.ick_backtrack.specs.Steps.{after_steps, IsQuiet, RunsOn}
 use Rattle.ick_machine.specs.LiveAsk.{end_kind_of, live_asked}
 use Rattle.ick_machine.specs.Live.{LiveMachine, fed, cleared, live_ask, fault_message}
 use Rattle.ick_machine.specs.Message.{asked_message}
@@ -21,16 +21,16 @@ use Rattle.ick_machine.specs.declared.live_ask.LiveAsk.{LiveAsk}
 use Rattle.ick_machine.specs.declared.live_ask.LiveAsk.TheVariants.{Choice, Ended, Failed}
 use Rattle.ick_machine.specs.declared.live_ask.EndKind.{EndKind}
 use Rattle.ick_machine.specs.declared.live_ask.EndKind.TheVariants.{Wants, Limit}
-use Rattle.ick_runs.specs.Runs.{ends, wants, run, Execution}
-use Rattle.ick_runs.specs.Paths.{Leads}
-use Rattle.ick_runs.specs.Walks.{EndsHere}
+use Rattle.ick_explorer.specs.Runs.{ends, wants, run, Execution}
+use Rattle.ick_explorer.specs.Paths.{Leads}
+use Rattle.ick_explorer.specs.Walks.{EndsHere}
 use Rattle.ick_runs.specs.Chosen.{Chosen, IsChosen, answer_of}
 use Rattle.ick_runs.specs.Streams.{finish_kind, finish_message, stop_kind, stop_message, HasStreamed}
 use Rattle.ick_runs.specs.Streaming.{Turns, Strides, IsAlong, AreTaken, HasStopped, IsCutOff}
 use Rattle.ick_runs.specs.declared.streamed.Streamed.{Streamed}
-use Rattle.ick_runs.specs.declared.errors.RunsError.{RunsError}
-use Rattle.ick_runs.proofs.RunLaws.{Leads-start, Leads-plain, Leads-choice, Leads-wants, Leads-ends}
-use Rattle.ick_runs.proofs.RunLaws.{ends_finished, ends_limit}
+use Rattle.ick_explorer.specs.declared.errors.RunsError.{RunsError}
+use Rattle.ick_explorer.proofs.RunLaws.{Leads-start, Leads-plain, Leads-choice, Leads-wants, Leads-ends}
+use Rattle.ick_explorer.proofs.RunLaws.{ends_finished, ends_limit}
 use Rattle.ick_runs.proofs.OutputLaws.{leads_grows}
 use Rattle.ick_runs.proofs.ChosenLaws.{taken_on}
 

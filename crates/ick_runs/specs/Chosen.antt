@@ -1,7 +1,7 @@
 -- Defines the choices that a list or a seed gives to a run.
 use Rattle.std.specs.Prelude.{◌≡◌, ℕ, Bool, List, slice_get, Option, Some}
 use Rattle.ick_code.specs.meaning.State.{State}
-use Rattle.ick_machine.specs.Machine.{Program}
+use Rattle.ick_backtrack.specs.Machine.{Program}
 use Rattle.ick_runs.specs.Draws.{IsDrawn, generator_of, generator_after, means_done, word_of}
 use Rattle.ick_runs.specs.declared.chooser.Chooser.{Chooser}
 use Rattle.ick_runs.specs.declared.chooser.Chooser.TheVariants.{Listed, Seeded}

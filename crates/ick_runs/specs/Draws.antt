@@ -6,9 +6,9 @@ use Rattle.rand_pcg.specs.Lcg.{Lcg}
 use Rattle.rand_pcg.specs.Pcg.{pcg32, pcg32_of_seed}
 use Rattle.ick_code.specs.meaning.State.{State}
 use Rattle.ick_code.specs.meaning.Move.{choice, ask}
-use Rattle.ick_machine.specs.Machine.{Program, Machine}
-use Rattle.ick_runs.specs.Runs.{run, IsWhole}
-use Rattle.ick_runs.specs.Paths.{RunsTo}
+use Rattle.ick_backtrack.specs.Machine.{Program, Machine}
+use Rattle.ick_explorer.specs.Runs.{run, IsWhole}
+use Rattle.ick_explorer.specs.Paths.{RunsTo}
 
 -- the generator PCG32 of a seed, which is spread into its 16 bytes
 abbrev pub generator_of : ℕ → Lcg

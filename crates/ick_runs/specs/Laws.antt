@@ -1,38 +1,10 @@
--- States the laws of all runs, listings, texts and draws.
-use Rattle.std.specs.Prelude.{◌≡◌, ◌⊎◌, ◌<◌, ◌≤◌, ◌^◌, ℕ, Bool, List, Option, length}
+-- States the law of draws.
+use Rattle.std.specs.Prelude.{◌≡◌, ℕ, Bool, List}
 use Rattle.ick_code.specs.meaning.State.{State}
-use Rattle.ick_machine.specs.Machine.{Program}
-use Rattle.ick_runs.specs.Runs.{run, IsWhole}
-use Rattle.ick_runs.specs.Listings.{IsBelow, IsListing}
-use Rattle.ick_runs.specs.ChoiceTexts.{choices_text, IsTextOf}
+use Rattle.ick_backtrack.specs.Machine.{Program}
 use Rattle.ick_runs.specs.Draws.{IsDrawn}
-
--- a run makes at most as many steps as its limit, and so asks at most as many choices
-pub record AreLimited (p : Program) (s : State) (limit : ℕ) : Type 0 where
-  pub steps : (c : List Bool) → (run p s limit c).steps ≤ limit
-  pub choices : (c : List Bool) → IsWhole p s limit c → length c ≤ limit
-
--- two whole lists are equal, or one is below the other
-abbrev pub AreOrdered : Program → State → ℕ → Type 0
-AreOrdered p s limit = (c d : List Bool) → IsWhole p s limit c → IsWhole p s limit d →
-    (c ≡ d) ⊎ (IsBelow c d ⊎ IsBelow d c)
-
--- no list is below itself, and the order is transitive
-pub record IsOrder (IsLess : List Bool → List Bool → Type 0) : Type 0 where
-  pub strict : (c : List Bool) → ¬ IsLess c c
-  pub transitive : (c d e : List Bool) → IsLess c d → IsLess d e → IsLess c e
-
--- a position has a listing, and any other listing is equal
-pub record HasOneListing (p : Program) (s : State) (limit : ℕ) (from : Option (List Bool)) : Type 0 where
-  pub some : (cs : List (List Bool)) × IsListing p s limit from cs
-  pub unique : (cs ds : List (List Bool)) → IsListing p s limit from cs → IsListing p s limit from ds → cs ≡ ds
 
 -- words draw a list of choices, and any other list that they draw is equal
 pub record HasOneDrawing (p : Program) (s : State) (limit : ℕ) (word : ℕ → ℕ) : Type 0 where
   pub some : (c : List Bool) × IsDrawn p s limit word c
   pub unique : (c d : List Bool) → IsDrawn p s limit word c → IsDrawn p s limit word d → c ≡ d
-
--- the printed text of a list that a memory can hold reads as that list, and a text reads as at most one list
-pub record ReadsBack : Type 0 where
-  pub printed : (c : List Bool) → length c < 2 ^ 64 → IsTextOf (choices_text c) c
-  pub unique : (text : List ℕ) (c d : List Bool) → IsTextOf text c → IsTextOf text d → c ≡ d

@@ -1,9 +1,9 @@
 -- Defines the answer of one run with given choices.
 use Rattle.std.specs.Prelude.{◌≡◌, ℕ, ◌≤◌, Bool, List, length, take, drop}
 use Rattle.ick_code.specs.meaning.State.{State}
-use Rattle.ick_machine.specs.Machine.{Program}
-use Rattle.ick_machine.specs.Asked.{Finish, finish_of}
-use Rattle.ick_runs.specs.Runs.{Execution, ends, wants, run}
+use Rattle.ick_backtrack.specs.Machine.{Program}
+use Rattle.ick_backtrack.specs.Asked.{Finish, finish_of}
+use Rattle.ick_explorer.specs.Runs.{Execution, ends, wants, run}
 use Rattle.ick_runs.specs.declared.ordinary.Ran.{Ran}
 use Rattle.ick_runs.specs.declared.ordinary.Ran.TheVariants.{Ended, Wants}
 

@@ -3,26 +3,18 @@ use Rattle.std.specs.Prelude.{◌≡◌, ◌==◌, ℕ, ◌<◌, ◌≤◌, Bool
 use Rattle.std.specs.Prelude.{take, get_or, Result, Ok, Err, IfOk}
 use Rattle.ick_code.specs.meaning.State.{State}
 use Rattle.ick_code.specs.Laws.{after_output}
-use Rattle.ick_machine.specs.Machine.{Program}
+use Rattle.ick_backtrack.specs.Machine.{Program}
 use Rattle.ick_machine.specs.Live.{cleared}
-use Rattle.ick_machine.specs.Steps.{IsQuiet, RunsOn}
+use Rattle.ick_backtrack.specs.Steps.{IsQuiet, RunsOn}
 use Rattle.ick_machine.specs.declared.live_ask.EndKind.{EndKind}
-use Rattle.ick_runs.specs.Paths.{Leads}
-use Rattle.ick_runs.specs.Runs.{Execution}
+use Rattle.ick_explorer.specs.Paths.{Leads}
+use Rattle.ick_explorer.specs.Runs.{Execution}
 use Rattle.ick_runs.specs.Streams.{stop_kind, stop_message}
-use Rattle.ick_machine.specs.declared.feed.FeedFault.{FeedFault}
-use Rattle.ick_machine.specs.declared.feed.FeedFault.TheVariants.{NoMemory as FeedOutOfMemory, Read as ReadFailed}
-use Rattle.ick_runs.specs.declared.errors.RunsError.{RunsError}
-use Rattle.ick_runs.specs.declared.errors.RunsError.TheVariants.{NoMemory, Read}
+use Rattle.ick_explorer.specs.declared.errors.RunsError.{RunsError}
 
 -- none of these bytes ends a line
 abbrev pub HasNoEnd : List ℕ → Type 0
 HasNoEnd bytes = (k : ℕ) → k < length bytes → (get_or bytes k 0 == 10) ≡ false
-
--- the refusal of a call whose feed had this fault
-abbrev pub error_of : FeedFault → RunsError
-error_of FeedOutOfMemory = NoMemory
-error_of ReadFailed = Read
 
 -- the machine came to the state u by one or more steps, and then wrote its output, or a prefix at a refusal
 abbrev pub Turns : {T : Type 0} → Bool → State → State → List ℕ → List ℕ → Result T RunsError → Type 0

@@ -1,14 +1,14 @@
 -- Describes the answer, the output and the input of a streamed run.
 use Rattle.std.specs.Prelude.{◌≡◌, ℕ, Bool, true, List, [], ◌++◌, take, Result, Ok, Err}
-use Rattle.ick_machine.specs.Asked.{Finish, finished, at_limit}
+use Rattle.ick_backtrack.specs.Asked.{Finish, finished, at_limit}
 use Rattle.ick_machine.specs.LiveAsk.{end_kind_of}
 use Rattle.ick_machine.specs.Message.{end_message}
 use Rattle.ick_machine.specs.declared.live_ask.EndKind.{EndKind}
 use Rattle.ick_machine.specs.declared.live_ask.EndKind.TheVariants.{Limit, Wants}
-use Rattle.ick_runs.specs.Runs.{Stop, ends, wants, Execution}
-use Rattle.ick_runs.specs.declared.errors.RunsError.{RunsError}
-use Rattle.ick_runs.specs.declared.errors.RunsError.TheVariants.{NoMemory, NoSuchRun, WorkFull, Failed, BadCursor, Read}
-use Rattle.ick_runs.specs.declared.errors.RunsError.TheVariants.{Write}
+use Rattle.ick_explorer.specs.Runs.{Stop, ends, wants, Execution}
+use Rattle.ick_explorer.specs.declared.errors.RunsError.{RunsError}
+use Rattle.ick_explorer.specs.declared.errors.RunsError.TheVariants.{NoMemory, NoSuchRun, WorkFull, Failed, BadCursor, Read}
+use Rattle.ick_explorer.specs.declared.errors.RunsError.TheVariants.{Write}
 use Rattle.ick_runs.specs.declared.streamed.Streamed.{Streamed}
 
 -- how a run stops, without the subject of a fault

@@ -2,7 +2,7 @@
 
 ghost use Rattle.std.specs.Prelude.{◌≡◌};
 
-use crate::devices::ByteSource;
+use ick_explorer::ByteSource;
 use ick_machine::{Feed, FeedFault};
 
 /// Reads lines and bytes from a source byte by byte, and no further byte.

@@ -1,40 +1,13 @@
-//! States laws of all runs, listings, texts and draws. Each function does nothing, and its contract
-//! is the law.
+//! States the law of draws. The function does nothing, and its contract is the law.
 
-ghost use Rattle.std.specs.Prelude.{ℕ, Bool, List, Option};
+ghost use Rattle.std.specs.Prelude.{ℕ};
 ghost use Rattle.ick_code.specs.meaning.State.{State};
-ghost use Rattle.ick_machine.specs.Machine.{Program};
-ghost use Rattle.ick_runs.specs.Listings.{IsBelow};
-ghost use Rattle.ick_runs.specs.Laws.{AreLimited, AreOrdered, IsOrder, HasOneListing};
-ghost use Rattle.ick_runs.specs.Laws.{HasOneDrawing, ReadsBack};
-
-/// States that a run makes at most as many steps as its limit, and has at most as many choices.
-pub fn runs_are_limited()
-    ensures { (p : Program) (s : State) (limit : ℕ) → AreLimited p s limit }
-{}
-
-/// States that lists of choices have one order. Of any two whole lists, either both are equal or
-/// one is below the other.
-pub fn one_order()
-    ensures order { IsOrder IsBelow }
-    ensures whole { (p : Program) (s : State) (limit : ℕ) → AreOrdered p s limit }
-{}
-
-/// States that a program, a state and a limit have exactly one listing from each position.
-pub fn one_listing()
-    ensures { (p : Program) (s : State) (limit : ℕ) (from : Option (List Bool)) →
-        HasOneListing p s limit from }
-{}
+ghost use Rattle.ick_backtrack.specs.Machine.{Program};
+ghost use Rattle.ick_runs.specs.Laws.{HasOneDrawing};
 
 /// States that each list of words draws exactly one list of choices for a program, a state and a
 /// limit.
 pub fn one_drawing()
     ensures { (p : Program) (s : State) (limit : ℕ) (word : ℕ → ℕ) →
         HasOneDrawing p s limit word }
-{}
-
-/// States that a text reads as at most one list of choices. The printed text of a list reads as
-/// that list.
-pub fn one_reading()
-    ensures { ReadsBack }
 {}

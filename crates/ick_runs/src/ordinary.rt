@@ -3,8 +3,8 @@
 ghost use Rattle.std.specs.Prelude.{◌≡◌, ◌+◌, ◌<◌, ◌^◌, IfOk};
 ghost use Rattle.ick_code.specs.meaning.Move.{first_state};
 ghost use Rattle.ick_code.specs.Compiled.{code_program};
-ghost use Rattle.ick_machine.specs.Asked.{finish_of};
-ghost use Rattle.ick_runs.specs.Runs.{run};
+ghost use Rattle.ick_backtrack.specs.Asked.{finish_of};
+ghost use Rattle.ick_explorer.specs.Runs.{run};
 ghost use Rattle.ick_runs.specs.Ordinary.{IsRan, IgnoresUnused, HasEnded, IsWanting};
 
 use ick_bits::NoMemory;

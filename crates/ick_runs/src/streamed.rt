@@ -5,15 +5,14 @@ ghost use Rattle.std.specs.Prelude.{ℕ, List, Bool, [], true, false, IfOk, IfEr
 ghost use Rattle.ick_code.specs.meaning.Move.{first_state};
 ghost use Rattle.ick_code.specs.Compiled.{code_program};
 ghost use Rattle.ick_machine.specs.Live.{seen, fed, fault_message};
-ghost use Rattle.ick_runs.specs.Runs.{run, Execution};
+ghost use Rattle.ick_explorer.specs.Runs.{run, Execution};
 ghost use Rattle.ick_runs.specs.Chosen.{Chosen, IsChosen, Picks, chosen_of};
 ghost use Rattle.ick_runs.specs.Streams.{Streams, source_failures};
 ghost use Rattle.ick_runs.specs.Streaming.{Stops};
-ghost use Rattle.ick_runs.specs.Writes.{write_failures};
+ghost use Rattle.ick_explorer.specs.Writes.{write_failures};
 
 use crate::chooser::{Chooser, Picker};
-use crate::devices::{ByteSink, ByteSource};
-use crate::errors::RunsError;
+use ick_explorer::{ByteSink, ByteSource, RunsError};
 use crate::turn::{stride, turn};
 use ick_code::Code;
 use ick_machine::{EndKind, Live, LiveAsk};

@@ -4,15 +4,14 @@ ghost use Rattle.std.specs.Prelude.{◌≡◌, ◌+◌, ◌<◌, ◌≤◌, ◌^
 ghost use Rattle.std.specs.Prelude.{◌++◌, ℕ, [], true, false};
 ghost use Rattle.std.specs.Prelude.{IfOk, IfErr, OnOk, length, take};
 ghost use Rattle.ick_code.specs.meaning.Move.{ask, advance};
-ghost use Rattle.ick_machine.specs.Asked.{IsGoing};
-ghost use Rattle.ick_machine.specs.Steps.{IsQuiet, RunsOn};
+ghost use Rattle.ick_backtrack.specs.Asked.{IsGoing};
+ghost use Rattle.ick_backtrack.specs.Steps.{IsQuiet, RunsOn};
 ghost use Rattle.ick_machine.specs.Live.{seen, fed, cleared};
 ghost use Rattle.ick_runs.specs.Streams.{source_failures};
 ghost use Rattle.ick_runs.specs.Streaming.{Turns, Strides};
-ghost use Rattle.ick_runs.specs.Writes.{write_failures};
+ghost use Rattle.ick_explorer.specs.Writes.{write_failures};
 
-use crate::devices::{ByteSink, ByteSource, write_whole};
-use crate::errors::RunsError;
+use ick_explorer::{ByteSink, ByteSource, RunsError, write_whole};
 use crate::feeds::SourceFeed;
 use ick_machine::Live;
 

@@ -1,6 +1,6 @@
 use Rattle.std.proofs.Common.{◌∙◌}
 use Rattle.ick_memory.specs.View.{view_of, input_of}
-use Rattle.ick_machine.specs.Asked.{finish_of}
+use Rattle.ick_backtrack.specs.Asked.{finish_of}
 use Rattle.ick_machine.proofs.AnswerLemmas.{asks_end, asks_none, asks_odds}
 use Rattle.ick_machine.proofs.answer.answer.Goals as goal
 

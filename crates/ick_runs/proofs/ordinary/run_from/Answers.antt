@@ -1,8 +1,8 @@
 use Rattle.std.proofs.Common.{◌≡◌, ◌<◌, length, arith}
 use Rattle.std.proofs.lemmas.Grind.{common_steps}
-use Rattle.ick_machine.specs.Asked.{at_limit, finish_of}
-use Rattle.ick_runs.proofs.RunLaws.{ends_limit}
-use Rattle.ick_runs.proofs.Walking.{asks_end, asks_chance, asks_plain, asks_going, made_some}
+use Rattle.ick_backtrack.specs.Asked.{at_limit, finish_of}
+use Rattle.ick_explorer.proofs.RunLaws.{ends_limit}
+use Rattle.ick_explorer.proofs.Walking.{asks_end, asks_chance, asks_plain, asks_going, made_some}
 use Rattle.ick_runs.proofs.OrdinaryLaws.{runs_plain, runs_next, ran_ended, ran_wants}
 use Rattle.ick_runs.proofs.ordinary.run_from.Goals as goal
 

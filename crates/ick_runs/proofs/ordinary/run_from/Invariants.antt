@@ -1,5 +1,5 @@
 use Rattle.std.proofs.Common.{◌≤◌, ◌-◌, length, take}
-use Rattle.ick_runs.specs.Paths.{RunsTo}
+use Rattle.ick_explorer.specs.Paths.{RunsTo}
 use Rattle.ick_runs.proofs.ordinary.run_from.Given as goal
 
 abbrev pub invariant-along : goal.invariant-along

@@ -1,6 +1,6 @@
 use Rattle.std.proofs.Common.{IfOk, subst}
-use Rattle.ick_machine.specs.Machine.{Machine}
-use Rattle.ick_runs.specs.Runs.{run}
+use Rattle.ick_backtrack.specs.Machine.{Machine}
+use Rattle.ick_explorer.specs.Runs.{run}
 use Rattle.ick_runs.specs.Ordinary.{IsRan, IgnoresUnused}
 use Rattle.ick_runs.proofs.ordinary.run_with.Goals as goal
 

@@ -1,6 +1,6 @@
 use Rattle.std.proofs.Common.{IfOk, subst}
-use Rattle.ick_machine.specs.Machine.{Machine}
-use Rattle.ick_runs.specs.Runs.{run}
+use Rattle.ick_backtrack.specs.Machine.{Machine}
+use Rattle.ick_explorer.specs.Runs.{run}
 use Rattle.ick_runs.specs.Ordinary.{IsRan}
 use Rattle.ick_runs.specs.Draws.{IsDrawn, word_of}
 use Rattle.ick_runs.proofs.seeded.run_seeded.Goals as goal

@@ -1,9 +1,9 @@
 use Rattle.std.proofs.Common.{◌≡◌, ◌<◌, arith}
 use Rattle.std.proofs.lemmas.Grind.{common_steps}
-use Rattle.ick_machine.specs.Asked.{at_limit, finish_of}
+use Rattle.ick_backtrack.specs.Asked.{at_limit, finish_of}
 use Rattle.ick_code.proofs.AskLaws.{chance_between}
-use Rattle.ick_runs.proofs.RunLaws.{ends_limit}
-use Rattle.ick_runs.proofs.Walking.{asks_end, asks_chance, asks_plain, asks_going, made_some}
+use Rattle.ick_explorer.proofs.RunLaws.{ends_limit}
+use Rattle.ick_explorer.proofs.Walking.{asks_end, asks_chance, asks_plain, asks_going, made_some}
 use Rattle.ick_runs.proofs.OrdinaryLaws.{runs_plain}
 use Rattle.ick_runs.proofs.SeededLaws.{seeded_ended, draws_plain, draws_choice}
 use Rattle.ick_runs.proofs.seeded.run_seeded_from.Goals as goal

@@ -1,7 +1,7 @@
 use Rattle.std.proofs.Common.{◌≡◌, ◌++◌, rules, refl, ap, sym, subst, ◌∙◌}
 use Rattle.std.specs.Prelude.{Err}
 use Rattle.ick_machine.specs.Live.{seen, fault_message}
-use Rattle.ick_runs.specs.declared.errors.RunsError.TheVariants.{NoMemory}
+use Rattle.ick_explorer.specs.declared.errors.RunsError.TheVariants.{NoMemory}
 use Rattle.ick_runs.specs.Streams.{Streams}
 use Rattle.ick_runs.specs.Streaming.{Stops}
 use Rattle.ick_runs.proofs.StreamLaws.{stopped_streams, stopped_cut}

@@ -3,8 +3,8 @@ use Rattle.std.specs.Prelude.{Err, Some, None}
 use Rattle.std.proofs.lemmas.Grind.{common_steps}
 use Rattle.ick_code.proofs.AskLaws.{chance_between}
 use Rattle.ick_machine.specs.Live.{seen, fed, fault_message}
-use Rattle.ick_runs.specs.declared.errors.RunsError.TheVariants.{NoMemory}
-use Rattle.ick_runs.specs.Runs.{run}
+use Rattle.ick_explorer.specs.declared.errors.RunsError.TheVariants.{NoMemory}
+use Rattle.ick_explorer.specs.Runs.{run}
 use Rattle.ick_runs.specs.Chosen.{Picks, answer_of}
 use Rattle.ick_runs.specs.Streaming.{IsAlong, AreTaken, Stops}
 use Rattle.ick_runs.proofs.ChosenLaws.{all_taken, picked, one_more}

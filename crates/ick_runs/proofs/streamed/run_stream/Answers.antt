@@ -1,6 +1,6 @@
 use Rattle.std.proofs.Common.{subst}
 use Rattle.ick_machine.specs.Live.{LiveMachine, seen, fed, fault_message}
-use Rattle.ick_runs.specs.Runs.{run}
+use Rattle.ick_explorer.specs.Runs.{run}
 use Rattle.ick_runs.specs.Chosen.{IsChosen, chosen_of}
 use Rattle.ick_runs.specs.Streaming.{Stops}
 use Rattle.ick_runs.proofs.streamed.run_stream.Goals as goal

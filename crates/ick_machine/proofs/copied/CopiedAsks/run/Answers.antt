@@ -1,7 +1,7 @@
 use Rattle.std.proofs.Common.{arith, sym, subst}
 use Rattle.ick_memory.specs.View.{input_of}
 use Rattle.ick_machine.specs.Seen.{copied_machine}
-use Rattle.ick_machine.specs.Steps.{HasRun}
+use Rattle.ick_backtrack.specs.Steps.{HasRun}
 use Rattle.ick_machine.proofs.StepsLemmas.{not_run, ran_on, goes_on_plain, room_left, stopped}
 use Rattle.ick_machine.proofs.copied.CopiedAsks.run.Goals as goal
 

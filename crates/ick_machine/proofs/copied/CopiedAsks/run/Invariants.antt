@@ -1,6 +1,6 @@
 use Rattle.std.proofs.Common.{◌≤◌, ◌-◌}
 use Rattle.ick_machine.specs.Seen.{copied_machine}
-use Rattle.ick_machine.specs.Steps.{HasRun}
+use Rattle.ick_backtrack.specs.Steps.{HasRun}
 use Rattle.ick_machine.proofs.copied.CopiedAsks.run.Given as goal
 
 abbrev pub invariant-steps : goal.invariant-steps

@@ -2,7 +2,7 @@ use Rattle.std.proofs.Common.{[]}
 use Rattle.ick_code.specs.Compiled.{code_program}
 use Rattle.ick_code.specs.meaning.Move.{ask}
 use Rattle.ick_memory.specs.View.{view_of, state_of}
-use Rattle.ick_machine.specs.Asked.{asked_of}
+use Rattle.ick_backtrack.specs.Asked.{asked_of}
 use Rattle.ick_machine.specs.Feeds.{input_after}
 use Rattle.ick_machine.specs.Live.{seen}
 use Rattle.ick_machine.proofs.LiveLemmas.{asks_same}

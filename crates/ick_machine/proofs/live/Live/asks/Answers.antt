@@ -4,7 +4,7 @@ use Rattle.ick_code.specs.Compiled.{code_program}
 use Rattle.ick_code.specs.meaning.Move.{ask}
 use Rattle.ick_memory.specs.View.{view_of, state_of}
 use Rattle.ick_machine.specs.declared.live_ask.LiveAsk.TheVariants.{Failed}
-use Rattle.ick_machine.specs.Asked.{asked_of}
+use Rattle.ick_backtrack.specs.Asked.{asked_of}
 use Rattle.ick_machine.specs.Feeds.{input_after}
 use Rattle.ick_machine.specs.Live.{seen}
 use Rattle.ick_machine.specs.LiveAsk.{live_asked}

@@ -1,0 +1,98 @@
+-- How a machine is led along the run of given choices.
+use Rattle.std.proofs.Common.{◌≡◌, ◌≢◌, ℕ, zero, suc, ◌+◌, ◌<◌, ◌≤◌, Bool, true, false}
+use Rattle.std.proofs.Common.{List, [], ◌∷◌, length, take, drop, nat_eq, refl, ap, sym, ◌∙◌, subst, arith}
+use Rattle.std.proofs.lemmas.Bool.Decides.{nat_tests}
+use Rattle.std.proofs.lemmas.List.{take-append-drop}
+use Rattle.ick_code.specs.meaning.Move.{ask}
+use Rattle.ick_backtrack.specs.Machine.{Machine}
+use Rattle.ick_backtrack.specs.Asked.{Finish}
+use Rattle.ick_explorer.specs.Runs.{run, wants, IsWhole, IsEnd}
+use Rattle.ick_explorer.specs.Marked.{IsMarked}
+use Rattle.ick_explorer.specs.Walks.{Walks, IsChoosing, EndsHere, Moves, Follows}
+use Rattle.ick_explorer.proofs.RunLaws.{Leads-wants, Leads-ends}
+use Rattle.ick_explorer.proofs.Marks.{choice_of}
+use Rattle.ick_explorer.proofs.Finding.{walks_start, arrives, arrived}
+
+-- the machine was led along the first `used` of the choices, n steps from the start
+pub record Led (l : ℕ) (old : Machine) (c : List Bool) (used : ℕ) (m : Machine) (points : List ℕ)
+    (n : ℕ) : Type 0 where
+  pub used_within : used ≤ length c
+  pub within : n ≤ l
+  pub program : m.program ≡ old.program
+  pub work : m.work ≡ old.work + n
+  pub walks : Walks old.state l m (take used c) points n
+
+pub led : (l : ℕ) (old m : Machine) (c₀ c₁ c : List Bool) (points₀ points : List ℕ) (used n : ℕ) →
+    c₀ ≡ [] → IsMarked l old c₀ points₀ → Moves l old c₀ points₀ 0 m c₁ points n →
+    c₁ ≡ take used c → used ≤ length c → Led l old c used m points n
+led l old m c₀ c₁ c points₀ points used n e h moves t u = record {
+  used_within = u;
+  within = moves.within;
+  program = moves.program;
+  work = let x = moves.work in omega arith;
+  walks = subst (λ x. Walks old.state l m x points n) t (moves.walks old.state (walks_start l old c₀ points₀ e h));
+}
+
+pub take_whole : (c : List Bool) (used : ℕ) → used ≡ length c → take used c ≡ c
+take_whole [] zero e = refl
+take_whole [] (suc k) e = refl
+take_whole (x ∷ c) zero e = absurd (omega arith)
+take_whole (x ∷ c) (suc k) e = ap (λ r. x ∷ r) (take_whole c k (omega arith))
+
+nothing_left : (c : List Bool) (used : ℕ) → drop used c ≡ [] → length c ≤ used
+nothing_left [] used e = omega arith
+nothing_left (x ∷ c) zero e = cc
+nothing_left (x ∷ c) (suc k) e = let r = nothing_left c k e in omega arith
+
+tested_same : (a b : ℕ) → nat_eq a b ≡ true → a ≡ b
+tested_same a b t = grind (arith, nat_tests)
+
+tested_other : (a b : ℕ) → nat_eq a b ≡ false → a ≢ b
+tested_other a b t = grind (arith, nat_tests)
+
+pub ended_path : (path c : List Bool) (used : ℕ) → path ≡ take used c → nat_eq used (length c) ≡ true →
+    path ≡ c
+ended_path path c used e t = e ∙ take_whole c used (tested_same used (length c) t)
+
+-- at the end of a run with all choices used
+pub ended_whole : (l : ℕ) (old m : Machine) (c : List Bool) (used : ℕ) (points : List ℕ) (n : ℕ)
+    (f : Finish) → Led l old c used m points n → EndsHere l m n f → nat_eq used (length c) ≡ true →
+    Follows l old c m points
+ended_whole l old m c used points n f h here t =
+    let w : Walks old.state l m c points n =
+    subst (λ x. Walks old.state l m x points n) (take_whole c used (tested_same used (length c) t)) h.walks in
+    let a = arrives old.state l old.program m c points n f h.program w here in
+    let work = h.work in
+    let within = h.within in
+    record {
+      program = h.program;
+      stands = arrived old.state l old.program m c points n f h.program w a;
+      work = work ∙ ap (λ r. old.work + r.steps) (sym a.is);
+      within = omega arith;
+    }
+
+-- .. with choices left over
+pub ended_not_whole : (l : ℕ) (old m : Machine) (c : List Bool) (used : ℕ) (points : List ℕ) (n : ℕ)
+    (f : Finish) → Led l old c used m points n → EndsHere l m n f → nat_eq used (length c) ≡ false →
+    ¬ IsWhole old.program old.state l c
+ended_not_whole l old m c used points n f h here t = λ whole.
+    let d = tested_other used (length c) t in
+    let within = h.used_within in
+    let u : (run old.program old.state l c).unused ≡ drop used c =
+    ap (λ q. (run q old.state l c).unused) (sym h.program)
+    ∙ (ap (λ x. (run m.program old.state l x).unused) (sym (take-append-drop used c))
+    ∙ ap (λ r. r.unused) (Leads-ends old.state l m (take used c) (drop used c) n f h.walks.leads here)) in
+    let r = nothing_left c used (sym u ∙ whole.all_used) in
+    omega arith
+
+-- where a choice is asked and none is left
+pub still_wants : (l : ℕ) (old m : Machine) (c : List Bool) (used : ℕ) (points : List ℕ) (n : ℕ) →
+    Led l old c used m points n → IsChoosing m → n < l → used ≡ length c →
+    ¬ IsWhole old.program old.state l c
+still_wants l old m c used points n h a lt all = λ whole.
+    let k = choice_of (ask m.program m.state) a in
+    let w = Leads-wants m.program old.state l (take used c) m.state n k.0 h.walks.leads k.1 lt in
+    let v : (run old.program old.state l c).stop ≡ wants =
+    ap (λ q. (run q old.state l c).stop) (sym h.program)
+    ∙ (ap (λ x. (run m.program old.state l x).stop) (sym (take_whole c used all)) ∙ ap (λ r. r.stop) w) in
+    subst IsEnd v whole.at_end

@@ -1,0 +1,20 @@
+pub mod RunLaws
+pub mod Orders
+pub mod ListingLaws
+pub mod Existence
+pub mod Further
+pub mod Marks
+pub mod Walking
+pub mod Finding
+pub mod Nexts
+pub mod Following
+pub mod WritingLaws
+pub mod DropLaws
+pub mod TextLaws
+pub mod GroupLaws
+pub mod StretchLaws
+pub mod KeptLaws
+pub mod PrintLaws
+pub mod BackLaws
+pub mod ReadingLaws
+mod Rows

@@ -1,0 +1,9 @@
+-- Defines which refusal a fault of a feed becomes.
+use Rattle.ick_backtrack.specs.declared.feed_fault.FeedFault.{FeedFault}
+use Rattle.ick_backtrack.specs.declared.feed_fault.FeedFault.TheVariants.{NoMemory as FeedOutOfMemory, Read as ReadFailed}
+use Rattle.ick_explorer.specs.declared.errors.RunsError.{RunsError}
+use Rattle.ick_explorer.specs.declared.errors.RunsError.TheVariants.{NoMemory, Read}
+
+abbrev pub error_of : FeedFault → RunsError
+error_of FeedOutOfMemory = NoMemory
+error_of ReadFailed = Read

@@ -1,0 +1,274 @@
+//! Leads a machine from one run to the next.
+
+ghost use Rattle.std.specs.Prelude.{◌≡◌, false, true, ℕ, ◌+◌, ◌-◌, ◌<◌};
+ghost use Rattle.std.specs.Prelude.{◌≤◌, ◌^◌, [], ◌∷◌, ◌++◌};
+ghost use Rattle.std.specs.Prelude.{length, None, Some, IfOk, OnOk, OnErr};
+ghost use Rattle.ick_code.specs.meaning.State.{State};
+ghost use Rattle.ick_code.specs.meaning.Move.{ask};
+ghost use Rattle.ick_backtrack.specs.Asked.{finish_of, IsGoing};
+ghost use Rattle.ick_explorer.specs.Runs.{IsWhole};
+ghost use Rattle.ick_explorer.specs.Listings.{zeros_in};
+ghost use Rattle.ick_explorer.specs.Paths.{TurnsAt};
+ghost use Rattle.ick_explorer.specs.Marked.{IsMarked};
+ghost use Rattle.ick_explorer.specs.Standing.{StandsAfter, StandsFrom, place_of, has_failed};
+ghost use Rattle.ick_explorer.specs.Walks.{IsChoosing, EndsHere, Moves, GoesDown, TurnsBack, Finds};
+ghost use Rattle.ick_explorer.specs.Walks.{Follows};
+
+use crate::choices::Choices;
+use crate::path::{Path, Progress};
+use ick_bits::NoMemory;
+use ick_backtrack::{Ask, Asks, Backtrack, End};
+
+/// Makes step `steps + 1` by the choice `done`, and adds the choice to the path. If the choice is a
+/// zero, this call first marks the state before the step. The machine must ask a choice, and
+/// `steps` must be below `limit`.
+#[inline(always)]
+fn choose<M: Backtrack>(
+    machine: &mut M,
+    path: &mut Path,
+    limit: u32,
+    steps: u32,
+    done: bool,
+) -> Result<(), NoMemory>
+    requires choosing { IsChoosing (M.seen machine.old) }
+    requires below { steps < limit }
+    requires room { (M.seen machine.old).work < 2 ^ 64 - 1 }
+    ensures program { (M.seen machine.new).program ≡ (M.seen machine.old).program }
+    ensures choice { OnOk result
+        (path.new.choices ≡ path.old.choices ++ done ∷ []) }
+    ensures moves { OnOk result (Moves limit
+        (M.seen machine.old) path.old.choices path.old.points.items steps
+        (M.seen machine.new) path.new.choices path.new.points.items (steps + 1)) }
+{
+    path.choices.push(done)?;
+    if done {
+        machine.step(true)?;
+        return Ok(());
+    }
+    machine.mark()?;
+    path.points.push(steps)?;
+    machine.step(false)?;
+    Ok(())
+}
+
+/// Drops the last zero and the ones after it. The list must have a zero.
+fn drop_last_zero(choices: &mut Choices)
+    requires { 0 < zeros_in choices.old }
+    ensures { TurnsAt choices.old choices.new }
+{
+    while let Some(done) = choices.pop() {
+        if !done {
+            return;
+        }
+    }
+}
+
+/// Sets the machine back to the last zero and does its statement. Returns the number of steps made
+/// from the start of the run. The path must have a zero.
+fn turn_back<M: Backtrack>(machine: &mut M, path: &mut Path, limit: u32) -> Result<u32, NoMemory>
+    requires marked { IsMarked limit
+        (M.seen machine.old) path.old.choices path.old.points.items }
+    requires more { 0 < length path.old.points.items }
+    requires room { (M.seen machine.old).work + limit < 2 ^ 64 }
+    ensures program { (M.seen machine.new).program ≡ (M.seen machine.old).program }
+    ensures turns { IfOk result (λ n. TurnsBack limit
+        (M.seen machine.old) path.old.choices path.old.points.items
+        (M.seen machine.new) path.new.choices path.new.points.items n) }
+{
+    drop_last_zero(&mut path.choices);
+    let steps = path.points.pop().unwrap();
+    machine.back();
+    choose(machine, path, limit, steps, true)?;
+    Ok(steps + 1)
+}
+
+/// Goes on with a zero at each choice until the run ends. `start` counts the steps made before this
+/// call, and must be at most `limit`. Returns the number of steps made from the start of the run,
+/// and the end.
+#[inline(always)]
+fn go_down<'c, M: Asks<'c>>(
+    machine: &mut M,
+    path: &mut Path,
+    limit: u32,
+    start: u32,
+) -> Result<(u32, End<'c>), NoMemory>
+    requires within { start ≤ limit }
+    requires room { (M.seen machine.old).work + limit < 2 ^ 64 + start }
+    ensures program { (M.seen machine.new).program ≡ (M.seen machine.old).program }
+    ensures down { IfOk result (λ r. GoesDown limit
+        (M.seen machine.old) path.old.choices path.old.points.items start
+        (M.seen machine.new) path.new.choices path.new.points.items r.0) }
+    ensures end { IfOk result (λ r. EndsHere limit (M.seen machine.new) r.0 (finish_of r.1)) }
+{
+    let mut steps = start;
+    'down: loop {
+        let asked = machine.asks();
+        if let Ask::Ended(end) = asked {
+            return Ok((steps, end));
+        }
+        if steps == limit {
+            return Ok((steps, End::Limit));
+        }
+        if let Ask::Choice(_) = asked {
+            choose(machine, path, limit, steps, false)?;
+            steps += 1;
+            continue;
+        }
+        let made = machine.run(limit - steps)?;
+        steps += made;
+    }
+}
+
+/// Leads the machine from the start of a run along `choices`. The path must be empty. Returns
+/// whether these are exactly the choices of a run. The answer is `NoMemory` if this call runs out
+/// of memory.
+pub(crate) fn follow<'c, M: Asks<'c>>(
+    machine: &mut M,
+    path: &mut Path,
+    limit: u32,
+    choices: &[bool],
+) -> Result<bool, NoMemory>
+    requires marked { IsMarked limit
+        (M.seen machine.old) path.old.choices path.old.points.items }
+    requires none { path.old.choices ≡ [] }
+    requires room { (M.seen machine.old).work + limit < 2 ^ 64 }
+    ensures path { IfOk result
+        (λ whole. whole ≡ true → path.new.choices ≡ choices.now) }
+    ensures marked { IfOk result (λ _. IsMarked limit
+        (M.seen machine.new) path.new.choices path.new.points.items) }
+    ensures whole { IfOk result (λ whole. whole ≡ true → Follows limit
+        (M.seen machine.old) choices.now (M.seen machine.new) path.new.points.items) }
+    ensures not_whole { IfOk result (λ whole. whole ≡ false →
+        ¬ IsWhole (M.seen machine.old).program (M.seen machine.old).state limit choices.now) }
+{
+    let mut steps = 0;
+    let mut used = 0;
+    'along: loop {
+        let asked = machine.asks();
+        if let Ask::Ended(_) = asked {
+            return Ok(used == choices.len());
+        }
+        if steps == limit {
+            return Ok(used == choices.len());
+        }
+        if let Ask::Choice(_) = asked {
+            if used == choices.len() {
+                return Ok(false);
+            }
+            choose(machine, path, limit, steps, choices[used])?;
+            used += 1;
+            steps += 1;
+            continue;
+        }
+        let made = machine.run(limit - steps)?;
+        steps += made;
+    }
+}
+
+/// Drops all marks.
+fn drop_marks<M: Backtrack>(machine: &mut M)
+    ensures none { (M.seen machine.new).marks ≡ [] }
+    ensures program { (M.seen machine.new).program ≡ (M.seen machine.old).program }
+{
+    while machine.marks() > 0 {
+        machine.drop_mark();
+    }
+}
+
+/// Drops all marks and clears the path.
+pub(crate) fn forget<M: Backtrack>(machine: &mut M, path: &mut Path)
+    ensures marks { (M.seen machine.new).marks ≡ [] }
+    ensures choices { path.new.choices ≡ [] }
+    ensures points { path.new.points.items ≡ [] }
+    ensures program { (M.seen machine.new).program ≡ (M.seen machine.old).program }
+{
+    drop_marks(machine);
+    path.choices.clear();
+    path.points.clear();
+}
+
+/// Moves to the first run, and returns its number of steps and its end. The path must be empty. The
+/// answer is `NoMemory` if this call runs out of memory.
+fn find_first<'c, M: Asks<'c>>(
+    machine: &mut M,
+    path: &mut Path,
+    limit: u32,
+) -> Result<(u32, End<'c>), NoMemory>
+    requires marked { IsMarked limit
+        (M.seen machine.old) path.old.choices path.old.points.items }
+    requires none { path.old.choices ≡ [] }
+    requires room { (M.seen machine.old).work + limit < 2 ^ 64 }
+    ensures program { (M.seen machine.new).program ≡ (M.seen machine.old).program }
+    ensures marked { IfOk result (λ _. IsMarked limit
+        (M.seen machine.new) path.new.choices path.new.points.items) }
+    ensures within { IfOk result (λ _.
+        (M.seen machine.new).work ≤ (M.seen machine.old).work + limit) }
+    ensures found { IfOk result (λ r. Finds (M.seen machine.old).state limit None
+        (M.seen machine.old) (M.seen machine.new) path.new.choices path.new.points.items
+        r.0 (finish_of r.1)) }
+{
+    let (steps, end) = go_down(machine, path, limit, 0)?;
+    Ok((steps, end))
+}
+
+/// Moves to the run after the run that the path names, and returns its number of steps and its end.
+/// The path must have a zero. The answer is `NoMemory` if this call runs out of memory.
+fn find_next<'c, M: Asks<'c>>(
+    machine: &mut M,
+    path: &mut Path,
+    limit: u32,
+) -> Result<(u32, End<'c>), NoMemory>
+    requires marked { IsMarked limit
+        (M.seen machine.old) path.old.choices path.old.points.items }
+    requires more { 0 < length path.old.points.items }
+    requires room { (M.seen machine.old).work + limit < 2 ^ 64 }
+    ensures program { (M.seen machine.new).program ≡ (M.seen machine.old).program }
+    ensures marked { IfOk result (λ _. IsMarked limit
+        (M.seen machine.new) path.new.choices path.new.points.items) }
+    ensures within { IfOk result (λ _.
+        (M.seen machine.new).work ≤ (M.seen machine.old).work + limit) }
+    ensures found { IfOk result (λ r. (s : State) →
+        StandsAfter (M.seen machine.old).program s limit path.old.choices
+        (M.seen machine.old).marks path.old.points.items →
+        Finds s limit (Some path.old.choices)
+        (M.seen machine.old) (M.seen machine.new) path.new.choices path.new.points.items
+        r.0 (finish_of r.1)) }
+{
+    let turned = turn_back(machine, path, limit)?;
+    let (steps, end) = go_down(machine, path, limit, turned)?;
+    Ok((steps, end))
+}
+
+/// Moves to the run after the explorer's position, and returns its number of steps and its end. The
+/// explorer must not have failed, and a further run must exist. The answer is `NoMemory` if this
+/// call runs out of memory.
+pub(crate) fn find<'c, M: Asks<'c>>(
+    machine: &mut M,
+    path: &mut Path,
+    limit: u32,
+    progress: Progress,
+) -> Result<(u32, End<'c>), NoMemory>
+    requires sound { has_failed progress ≡ false }
+    requires marked { IsMarked limit
+        (M.seen machine.old) path.old.choices path.old.points.items }
+    requires none { progress ≡ Progress.Fresh → path.old.choices ≡ [] }
+    requires more { progress ≡ Progress.Given → 0 < length path.old.points.items }
+    requires room { (M.seen machine.old).work + limit < 2 ^ 64 }
+    ensures program { (M.seen machine.new).program ≡ (M.seen machine.old).program }
+    ensures marked { IfOk result (λ _. IsMarked limit
+        (M.seen machine.new) path.new.choices path.new.points.items) }
+    ensures within { IfOk result (λ _.
+        (M.seen machine.new).work ≤ (M.seen machine.old).work + limit) }
+    ensures found { IfOk result (λ r. (s : State) →
+        StandsFrom (M.seen machine.old).program s limit (place_of progress path.old.choices)
+        (M.seen machine.old).state (M.seen machine.old).marks path.old.points.items →
+        Finds s limit (place_of progress path.old.choices)
+        (M.seen machine.old) (M.seen machine.new) path.new.choices path.new.points.items
+        r.0 (finish_of r.1)) }
+{
+    match progress {
+        Progress::Fresh => Ok(find_first(machine, path, limit)?),
+        Progress::Given => Ok(find_next(machine, path, limit)?),
+        Progress::Spent => unreachable!(),
+    }
+}

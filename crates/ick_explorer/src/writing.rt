@@ -1,0 +1,154 @@
+//! Writes a listing as text.
+
+ghost use Rattle.std.specs.Prelude.{◌≡◌, ◌↔◌, ◌+◌, ◌*◌, ◌<◌, ◌≤◌};
+ghost use Rattle.std.specs.Prelude.{◌^◌, ◌⊎◌, ℕ, List, Bool, true};
+ghost use Rattle.std.specs.Prelude.{false, ◌++◌, take, Err, IfOk, IfErr, OnOk};
+ghost use Rattle.ick_code.specs.meaning.State.{State};
+ghost use Rattle.ick_explorer.specs.Standing.{Stands, IsListingAt, HasFailed};
+ghost use Rattle.ick_explorer.specs.Explorers.{explored};
+ghost use Rattle.ick_explorer.specs.Lines.{last_line};
+ghost use Rattle.ick_explorer.specs.Writes.{Writes, write_failures};
+ghost use Rattle.ick_explorer.specs.WritingSteps.{Moves, WritesNext, WritesLines};
+
+use crate::devices::{ByteSink, write_whole};
+use crate::errors::RunsError;
+use crate::explorer::Explorer;
+use crate::lines::LineBuilder;
+use crate::listing::Listed2;
+use ick_backtrack::Asks;
+use std::alloc::Global;
+
+/// Writes the line of the next run if there is a next run. Returns whether there was a next run.
+/// The answer is `WorkFull`, `NoMemory` or `Write` if that part fails. The explorer must not have
+/// failed.
+fn write_next<'c, M: Asks<'c>, W: ByteSink>(
+    lines: &mut LineBuilder<'c>,
+    explorer: &mut Explorer<M>,
+    writer: &mut W,
+) -> Result<bool, RunsError>
+    requires sound { (explored explorer.old).failed ≡ false }
+    requires room { W.failed writer.old + 1 < 2 ^ 64 }
+    ensures moves { Moves (explored explorer.old) (explored explorer.new) result }
+    ensures count { W.failed writer.new ≡ W.failed writer.old + write_failures result }
+    ensures next { (s : State) (xs : List (List Bool)) → Stands s (explored explorer.old) →
+        IsListingAt s (explored explorer.old) xs →
+        WritesNext W.told s xs (explored explorer.old) (explored explorer.new)
+        (W.written writer.old) (W.written writer.new) result }
+{
+    if !explorer.more() {
+        return Ok(false);
+    }
+    let Some(found) = explorer.advance()? else {
+        return Ok(false);
+    };
+    if explorer.build_line(lines, found.1).is_err() {
+        explorer.fail();
+        return Err(RunsError::NoMemory);
+    }
+    match write_whole(writer, lines.line.as_slice()) {
+        Ok(()) => Ok(true),
+        Err(_) => Err(RunsError::Write),
+    }
+}
+
+/// Writes the last line of a listing. Returns `listed`. The answer is `Write` if the writer fails,
+/// and a prefix of the line is then written.
+fn write_last<W: ByteSink>(writer: &mut W, listed: Listed2) -> Result<Listed2, RunsError>
+    requires room { W.failed writer.old + 1 < 2 ^ 64 }
+    ensures listed { IfOk result (λ r. r ≡ listed) }
+    ensures errors { IfErr result (λ e. e ≡ RunsError.Write) }
+    ensures count { W.failed writer.new ≡ W.failed writer.old + write_failures result }
+    ensures beginning { W.told ≡ true → (n : ℕ)
+        × (W.written writer.new ≡ W.written writer.old ++ take n (last_line listed)) }
+    ensures all { W.told ≡ true →
+        OnOk result (W.written writer.new ≡ W.written writer.old ++ last_line listed) }
+{
+    let line = match listed {
+        Listed2::More => b"MORE\n",
+        Listed2::Done => b"DONE\n",
+    };
+    match write_whole(writer, line) {
+        Ok(()) => Ok(listed),
+        Err(_) => Err(RunsError::Write),
+    }
+}
+
+/// Writes the lines of the next `count` runs, or of all runs if fewer are left. Returns the last
+/// line that the listing then has. The answer is `WorkFull`, `NoMemory` or `Write` if that part
+/// fails. The explorer must not have failed.
+fn write_lines<'c, M: Asks<'c>, W: ByteSink>(
+    lines: &mut LineBuilder<'c>,
+    explorer: &mut Explorer<M>,
+    count: u32,
+    writer: &mut W,
+) -> Result<Listed2, RunsError>
+    requires sound { (explored explorer.old).failed ≡ false }
+    requires room { W.failed writer.old + 1 < 2 ^ 64 }
+    ensures errors { IfErr result (λ e. (e ≡ RunsError.NoMemory)
+        ⊎ ((e ≡ RunsError.WorkFull) ⊎ (e ≡ RunsError.Write))) }
+    ensures count { W.failed writer.new ≡ W.failed writer.old + write_failures result }
+    ensures no_memory { result ≡ Err RunsError.NoMemory → HasFailed (explored explorer.new) }
+    ensures enough { result ≡ Err RunsError.WorkFull →
+        2 ^ 64 ≤ (explored explorer.old).work + count * (explored explorer.old).limit }
+    ensures listing { (s : State) (cs : List (List Bool)) → Stands s (explored explorer.old) →
+        IsListingAt s (explored explorer.old) cs →
+        WritesLines W.told s cs count (explored explorer.old) (explored explorer.new)
+        (W.written writer.old) (W.written writer.new) result }
+{
+    'each: for _i in 0..count {
+        let some = write_next(lines, explorer, writer)?;
+        if !some {
+            return Ok(Listed2::Done);
+        }
+    }
+    if explorer.more() {
+        return Ok(Listed2::More);
+    }
+    Ok(Listed2::Done)
+}
+
+/// Writes the listing from the explorer's position (this profile). The listing has a line for each
+/// of the next `count` runs, or for all runs if fewer are left. Its last line is `MORE` if a
+/// further run exists, else `DONE`. Each line is written as soon as its run is found.
+///
+/// A line holds the run's choices, its end and its output in double quotes. The end is `GIVE-UP`,
+/// `LIMIT` or `Ennn@j`. In `Ennn@j`, `nnn` is the number of the fault and `j` the number of its
+/// statement.
+///
+/// Each refusal leaves the earlier lines written whole:
+///
+/// - `Failed` if the explorer had failed. Nothing is written and nothing changes.
+/// - `WorkFull` if a further run is expected and the count of work has less than the limit left.
+///   The explorer's position is after the last run written.
+/// - `NoMemory` if this call runs out of memory. The explorer has then failed.
+/// - `Write` if the writer fails. Some bytes of the line may be written. The explorer's position is
+///   after the run of that line.
+pub fn write_runs<'c, M: Asks<'c>, W: ByteSink>(
+    alloc: Global,
+    explorer: &mut Explorer<M>,
+    count: u32,
+    writer: &mut W,
+) -> Result<Listed2, RunsError>
+    requires { W.failed writer.old + 1 < 2 ^ 64 }
+    ensures failed { result ≡ Err RunsError.Failed ↔ (explored explorer.old).failed ≡ true }
+    ensures refused { result ≡ Err RunsError.Failed →
+        (explored explorer.new ≡ explored explorer.old) × (writer.new ≡ writer.old) }
+    ensures errors { IfErr result (λ e. (e ≡ RunsError.NoMemory)
+        ⊎ ((e ≡ RunsError.WorkFull)
+        ⊎ ((e ≡ RunsError.Write) ⊎ (e ≡ RunsError.Failed)))) }
+    ensures count { W.failed writer.new ≡ W.failed writer.old + write_failures result }
+    ensures no_memory { result ≡ Err RunsError.NoMemory → HasFailed (explored explorer.new) }
+    ensures enough { result ≡ Err RunsError.WorkFull →
+        2 ^ 64 ≤ (explored explorer.old).work + count * (explored explorer.old).limit }
+    ensures listing { (s : State) (cs : List (List Bool)) → Stands s (explored explorer.old) →
+        IsListingAt s (explored explorer.old) cs →
+        Writes W.told s cs count (explored explorer.old) (explored explorer.new)
+        (W.written writer.old) (W.written writer.new) result }
+{
+    if explorer.has_failed() {
+        return Err(RunsError::Failed);
+    }
+    let mut lines = LineBuilder::new(alloc);
+    let listed = write_lines(&mut lines, explorer, count, writer)?;
+    write_last(writer, listed)
+}

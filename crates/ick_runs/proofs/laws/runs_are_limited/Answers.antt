@@ -1,5 +1,0 @@
-use Rattle.ick_runs.proofs.RunLaws.{steps_within, whole-short}
-use Rattle.ick_runs.proofs.laws.runs_are_limited.Goals as goal
-
-pub returns : goal.returns
-returns c = λ p s limit. record { steps = steps_within p s limit; choices = whole-short p s limit }
