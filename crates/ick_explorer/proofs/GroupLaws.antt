@@ -13,8 +13,7 @@ use Rattle.std.proofs.lemmas.List.{length-append, length-replicate, take-append-
 use Rattle.std.proofs.lemmas.Fmt.{decimal_is_IsNumeral, first_decimal}
 use Rattle.ick_explorer.specs.ChoiceTexts.{digit_of, plain_text, Group, IsLength, group_text, later_text, groups_text}
 use Rattle.ick_explorer.specs.ChoiceTexts.{Differs, AreGroups, stretch_of, spread, IsGrouped, is_same, with_choice}
-use Rattle.ick_explorer.specs.declared.stretches.Stretch.{Stretch}
-use Rattle.ick_explorer.specs.ChoiceTexts.{stretches, group_of, grouped_text, choices_text, IsTextOf}
+use Rattle.ick_explorer.specs.ChoiceTexts.{Stretch, stretches, group_of, grouped_text, choices_text, IsTextOf}
 use Rattle.ick_explorer.specs.Readings.{HasNoDigit}
 
 comma_no_digit : HasNoDigit (44 ∷ [])

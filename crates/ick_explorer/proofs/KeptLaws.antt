@@ -7,9 +7,8 @@ use Rattle.std.proofs.Math.Seq.{take-length}
 use Rattle.std.proofs.lemmas.Bool.Decides.{nat_tests}
 use Rattle.std.proofs.lemmas.List.{length_push, map-append, take_all, take_at, take-append-le, take-map, take-take}
 use Rattle.std.proofs.lemmas.List.{take_more_set, take_more, length-map, length-take-le, append-nil}
-use Rattle.ick_explorer.specs.declared.stretches.Stretch.{Stretch}
 use Rattle.ick_explorer.specs.ChoiceTexts.{digit_of, stretches, group_of, groups_text, grouped_text, plain_text}
-use Rattle.ick_explorer.specs.ChoiceTexts.{Group, group_text, later_text, choices_text}
+use Rattle.ick_explorer.specs.ChoiceTexts.{Group, Stretch, group_text, later_text, choices_text}
 use Rattle.ick_explorer.specs.Choices.{KeepsText}
 
 pub none_kept : (digits : List ℕ) → KeepsText digits [] 0 []

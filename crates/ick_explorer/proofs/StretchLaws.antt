@@ -2,11 +2,17 @@
 use Rattle.std.proofs.Common.{◌≡◌, ◌⊎◌, inl, inr, ℕ, ◌+◌, ◌-◌, ◌<◌, ◌≤◌, Bool, true, false, if◌then◌else◌}
 use Rattle.std.proofs.Common.{List, [], ◌∷◌, ◌++◌, length, take, get_or, refl, ap, sym, ◌∙◌, subst, arith}
 use Rattle.std.specs.Prelude.{Option, Some, None, replicate}
-use Rattle.std.proofs.lemmas.List.{length-append, length-replicate, take_more, same_from_push}
-use Rattle.ick_explorer.specs.declared.stretches.Stretch.{Stretch}
-use Rattle.ick_explorer.specs.ChoiceTexts.{is_same, with_choice, stretches}
+use Rattle.std.proofs.lemmas.List.{length-append, length-replicate, map-append, take_more, same_from_push}
+use Rattle.ick_explorer.specs.declared.stretches.Stretch.{Stretch as KeptStretch}
+use Rattle.ick_explorer.specs.ChoiceTexts.{Stretch, is_same, with_choice, stretches}
+use Rattle.ick_explorer.specs.Choices.{seen_stretch, seen_stretches}
 use Rattle.ick_explorer.proofs.GroupLaws.{IsStretched, choices_in, choices_all, stretched, same_true, other_false}
 use Rattle.ick_explorer.proofs.GroupLaws.{same_or_other}
+
+-- the stretches that are seen with one more kept
+pub seen_push : (kept : List KeptStretch) (s : KeptStretch) →
+    seen_stretches (kept ++ s ∷ []) ≡ seen_stretches kept ++ seen_stretch s ∷ []
+seen_push kept s = map-append seen_stretch kept (s ∷ [])
 
 abbrev pub one_of : Bool → Stretch
 one_of b = record { choice = b; size = 1 }

@@ -3,7 +3,6 @@ use Rattle.std.specs.Prelude.{◌≡◌, ◌⊎◌, ◌==◌, ◌||◌, ◌<◌,
 use Rattle.std.specs.Prelude.{if◌then◌else◌, not, Bool, true, false, List, [], ◌∷◌, ◌++◌, map, length}
 use Rattle.std.specs.Prelude.{get_or, decimal, codes, Option, Some, None, replicate}
 use Rattle.std.specs.Str.Parse.{IsNumeral, digits_value}
-use Rattle.ick_explorer.specs.declared.stretches.Stretch.{Stretch}
 
 -- the digit of a choice
 abbrev pub digit_of : Bool → ℕ
@@ -78,6 +77,11 @@ IsTextOf text c = IsPlain text c ⊎ IsGrouped None text c
 abbrev pub is_same : Bool → Bool → Bool
 is_same true b = b
 is_same false b = not b
+
+-- equal choices one after another
+pub record Stretch : Type 0 where
+  pub choice : Bool
+  pub size : ℕ
 
 -- the stretches with one more choice before them
 abbrev pub with_choice : Bool → List Stretch → List Stretch

@@ -19,13 +19,10 @@ end_text (finished (faulted kind statement subject)) =
     codes "E" ++ three_digits (fault_number kind) ++ codes "@" ++ decimal statement
 end_text at_limit = codes "LIMIT"
 
--- what follows the choices in a line
-abbrev pub tail_of : Finish → List ℕ → List ℕ
-tail_of finish output = codes " " ++ end_text finish ++ codes " " ++ quoted output ++ codes "\n"
-
 -- the line of a run with these choices, this end and this output
 unfoldable pub line_of : List Bool → Finish → List ℕ → List ℕ
-line_of c finish output = choices_text c ++ tail_of finish output
+line_of c finish output =
+    choices_text c ++ codes " " ++ end_text finish ++ codes " " ++ quoted output ++ codes "\n"
 
 -- a run that only wants a choice has no line
 abbrev pub compiled_at : List Bool → Stop → List ℕ → List ℕ

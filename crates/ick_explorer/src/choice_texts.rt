@@ -5,6 +5,7 @@ ghost use Rattle.std.specs.Prelude.{false, length, take};
 ghost use Rattle.std.specs.Prelude.{drop, get_or, replicate, vec_len, vec_capacity, map};
 ghost use Rattle.ick_explorer.specs.ChoiceTexts.{choices_text, digit_of, group_of, group_text};
 ghost use Rattle.ick_explorer.specs.ChoiceTexts.{grouped_text, groups_text};
+ghost use Rattle.ick_explorer.specs.Choices.{seen_stretches};
 ghost use Rattle.ick_explorer.specs.Printing.{StartsOther};
 
 use crate::stretches::Stretch;
@@ -94,7 +95,8 @@ fn push_groups(out: &mut Vec<u8>, choices: &[bool]) -> Result<(), NoMemory>
 /// prefix of the groups is appended.
 pub(crate) fn push_stretches(out: &mut Vec<u8>, kept: &[Stretch]) -> Result<(), NoMemory>
     requires { 0 < length kept.now }
-    ensures { OnOk result (out.new.items ≡ out.old.items ++ groups_text (map group_of kept.now)) }
+    ensures { OnOk result
+        (out.new.items ≡ out.old.items ++ groups_text (map group_of (seen_stretches kept.now))) }
 {
     push_group(out, kept[0].choice, kept[0].size)?;
     for at in 1..kept.len() {

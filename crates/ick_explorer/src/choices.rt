@@ -26,11 +26,12 @@ impl Model for Choices {
 
     ghost Value = { List Bool };
 
-    ghost use Rattle.ick_explorer.specs.Choices.{KeepsText};
+    ghost use Rattle.ick_explorer.specs.Choices.{KeepsText, seen_stretches};
 
     ghost view = { λ c. c.list.items };
 
-    ghost invariant = { λ c. KeepsText c.digits c.stretches.items c.grouped c.list.items };
+    ghost invariant = { λ c.
+        KeepsText c.digits (seen_stretches c.stretches.items) c.grouped c.list.items };
 }
 
 impl Choices {

@@ -3,6 +3,7 @@
 ghost use Rattle.std.specs.Prelude.{◌≡◌, ◌+◌, ◌<◌, ◌≤◌, ◌∷◌, ◌++◌, [], Bool, List, OnOk};
 ghost use Rattle.std.specs.Prelude.{length, take, vec_len, vec_capacity};
 ghost use Rattle.ick_explorer.specs.ChoiceTexts.{stretches};
+ghost use Rattle.ick_explorer.specs.Choices.{seen_stretches};
 
 use ick_bits::NoMemory;
 
@@ -19,8 +20,8 @@ pub(crate) struct Stretch {
 fn lengthen(kept: &mut Vec<Stretch>, choices: &[bool], at: usize)
     requires room { vec_len kept.old < vec_capacity kept.old }
     requires within { at < length choices.now }
-    requires before { kept.old.items ≡ stretches (take at choices.now) }
-    ensures { kept.new.items ≡ stretches (take (at + 1) choices.now) }
+    requires before { seen_stretches kept.old.items ≡ stretches (take at choices.now) }
+    ensures { seen_stretches kept.new.items ≡ stretches (take (at + 1) choices.now) }
 {
     let choice = choices[at];
     let Some(last) = kept.pop() else {
@@ -42,8 +43,8 @@ fn lengthen(kept: &mut Vec<Stretch>, choices: &[bool], at: usize)
 /// out of memory, it may have added some of them.
 pub(crate) fn group(kept: &mut Vec<Stretch>, choices: &[bool], from: usize) -> Result<(), NoMemory>
     requires within { from ≤ length choices.now }
-    requires before { kept.old.items ≡ stretches (take from choices.now) }
-    ensures { OnOk result (kept.new.items ≡ stretches choices.now) }
+    requires before { seen_stretches kept.old.items ≡ stretches (take from choices.now) }
+    ensures { OnOk result (seen_stretches kept.new.items ≡ stretches choices.now) }
 {
     let mut at = from;
     while at < choices.len() {
@@ -57,8 +58,9 @@ pub(crate) fn group(kept: &mut Vec<Stretch>, choices: &[bool], from: usize) -> R
 /// Takes the last choice off the stretches of a list, which must not be empty.
 pub(crate) fn shorten(kept: &mut Vec<Stretch>)
     requires { 0 < length kept.old.items }
-    ensures { (c : List Bool) (b : Bool) → kept.old.items ≡ stretches (c ++ b ∷ []) →
-        kept.new.items ≡ stretches c }
+    ensures { (c : List Bool) (b : Bool) →
+        seen_stretches kept.old.items ≡ stretches (c ++ b ∷ []) →
+        seen_stretches kept.new.items ≡ stretches c }
 {
     let last = kept.take_last();
     if last.size > 1 {

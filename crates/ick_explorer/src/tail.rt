@@ -2,7 +2,8 @@
 
 ghost use Rattle.std.specs.Prelude.{◌≡◌, ◌++◌, ℕ, List, [], true, OnOk};
 ghost use Rattle.ick_backtrack.specs.Asked.{finish_of};
-ghost use Rattle.ick_explorer.specs.Lines.{end_text, tail_of};
+ghost use Rattle.ick_explorer.specs.Lines.{end_text};
+ghost use Rattle.ick_explorer.specs.Tails.{tail_of};
 
 use ick_bits::{NoMemory, append_decimal, append_quoted};
 use ick_backtrack::End;

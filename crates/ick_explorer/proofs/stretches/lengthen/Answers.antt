@@ -1,10 +1,11 @@
 use Rattle.std.proofs.Common.{◌≡◌, ◌+◌, ◌<◌, ◌≤◌, ◌∷◌, ◌++◌, [], false, length, take, get_or, ap, sym, ◌∙◌, arith, rules}
 use Rattle.std.specs.Prelude.{Some}
 use Rattle.ick_explorer.specs.ChoiceTexts.{Differs}
+use Rattle.ick_explorer.specs.Choices.{seen_stretch, seen_stretches}
 use Rattle.std.proofs.lemmas.Grind.{common_steps}
 use Rattle.std.proofs.lemmas.List.{nil_from_length, length-take-le}
 use Rattle.std.specs.Option.{option_to_list}
-use Rattle.ick_explorer.proofs.StretchLaws.{one_of, first_of_all, grown_at, begun_at, last_size}
+use Rattle.ick_explorer.proofs.StretchLaws.{one_of, first_of_all, grown_at, begun_at, last_size, seen_push}
 use Rattle.ick_explorer.proofs.stretches.lengthen.Goals as goal
 
 pub returns-in_default : goal.returns-in_default
@@ -12,18 +13,23 @@ returns-in_default c =
     let none : length c.args.kept.now.items ≡ 0 = grind (arith, common_steps) in
     let left : length c.pop.new.self.items ≡ 0 = grind (arith, common_steps) in
     let choice = get_or c.args.choices.now c.args.at false in
-    c.push_reserved.ensures.items
-    ∙ (ap (λ ss. ss ++ one_of choice ∷ []) (nil_from_length c.pop.new.self.items left)
-    ∙ first_of_all c.args.choices.now c.args.at c.args.kept.now.items c.requires.within c.requires.before
-    (nil_from_length c.args.kept.now.items none))
+    ap seen_stretches c.push_reserved.ensures.items
+    ∙ (ap (λ ss. seen_stretches (ss ++ record { choice = choice; size = 1 } ∷ []))
+    (nil_from_length c.pop.new.self.items left)
+    ∙ first_of_all c.args.choices.now c.args.at (seen_stretches c.args.kept.now.items) c.requires.within
+    c.requires.before (ap seen_stretches (nil_from_length c.args.kept.now.items none)))
 
 pub overflow_add-last : goal.overflow_add-last
 overflow_add-last c =
     let last = c.in-Some.last in
-    let kept : c.args.kept.now.items ≡ c.pop.new.self.items ++ last ∷ [] =
-    c.pop.ensures.items ∙ ap (λ o. c.pop.new.self.items ++ option_to_list o) c.in-Some.is in
+    let kept : seen_stretches c.args.kept.now.items
+    ≡ seen_stretches c.pop.new.self.items ++ seen_stretch last ∷ [] =
+    ap seen_stretches (c.pop.ensures.items
+    ∙ ap (λ o. c.pop.new.self.items ++ option_to_list o) c.in-Some.is)
+    ∙ seen_push c.pop.new.self.items last in
     let within = c.requires.within in
-    let le = last_size (take c.args.at c.args.choices.now) c.pop.new.self.items last (sym c.requires.before ∙ kept) in
+    let le = last_size (take c.args.at c.args.choices.now) (seen_stretches c.pop.new.self.items) (seen_stretch last)
+    (sym c.requires.before ∙ kept) in
     let size = length-take-le c.args.at c.args.choices.now (omega (arith, within)) in
     let fits : last.size + 1 ≤ length c.args.choices.now = omega (arith, le, size, within) in
     grind (arith, common_steps)
@@ -31,21 +37,30 @@ overflow_add-last c =
 pub returns-then-last-choice : goal.returns-then-last-choice
 returns-then-last-choice c =
     let last = c.in-Some.last in
-    let kept : c.args.kept.now.items ≡ c.pop.new.self.items ++ last ∷ [] =
-    c.pop.ensures.items ∙ ap (λ o. c.pop.new.self.items ++ option_to_list o) c.in-Some.is in
+    let kept : seen_stretches c.args.kept.now.items
+    ≡ seen_stretches c.pop.new.self.items ++ seen_stretch last ∷ [] =
+    ap seen_stretches (c.pop.ensures.items
+    ∙ ap (λ o. c.pop.new.self.items ++ option_to_list o) c.in-Some.is)
+    ∙ seen_push c.pop.new.self.items last in
     let same : last.choice ≡ get_or c.args.choices.now c.args.at false = search rules in
-    c.push_reserved-then-last-choice.ensures.items
-    ∙ grown_at c.args.choices.now c.args.at c.args.kept.now.items c.pop.new.self.items last c.requires.within
-    c.requires.before kept same
+    ap seen_stretches c.push_reserved-then-last-choice.ensures.items
+    ∙ (seen_push c.pop.new.self.items _
+    ∙ grown_at c.args.choices.now c.args.at (seen_stretches c.args.kept.now.items)
+    (seen_stretches c.pop.new.self.items) (seen_stretch last) c.requires.within c.requires.before kept same)
 
 pub returns : goal.returns
 returns c =
     let last = c.in-Some.last in
-    let kept : c.args.kept.now.items ≡ c.pop.new.self.items ++ last ∷ [] =
-    c.pop.ensures.items ∙ ap (λ o. c.pop.new.self.items ++ option_to_list o) c.in-Some.is in
+    let kept : seen_stretches c.args.kept.now.items
+    ≡ seen_stretches c.pop.new.self.items ++ seen_stretch last ∷ [] =
+    ap seen_stretches (c.pop.ensures.items
+    ∙ ap (λ o. c.pop.new.self.items ++ option_to_list o) c.in-Some.is)
+    ∙ seen_push c.pop.new.self.items last in
     let choice = get_or c.args.choices.now c.args.at false in
     let other : Differs (Some last.choice) choice = search rules in
-    c.push_reserved-3.ensures.items
-    ∙ (ap (λ ss. ss ++ one_of choice ∷ []) c.push_reserved-2.ensures.items
-    ∙ begun_at c.args.choices.now c.args.at c.args.kept.now.items c.pop.new.self.items last c.requires.within
-    c.requires.before kept other)
+    ap seen_stretches c.push_reserved-3.ensures.items
+    ∙ (seen_push c.push_reserved-2.new.self.items _
+    ∙ (ap (λ ss. ss ++ one_of choice ∷ [])
+    (ap seen_stretches c.push_reserved-2.ensures.items ∙ seen_push c.pop.new.self.items last)
+    ∙ begun_at c.args.choices.now c.args.at (seen_stretches c.args.kept.now.items)
+    (seen_stretches c.pop.new.self.items) (seen_stretch last) c.requires.within c.requires.before kept other))
