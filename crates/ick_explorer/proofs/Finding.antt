@@ -11,7 +11,8 @@ use Rattle.ick_explorer.specs.Listings.{IsLeastAfter, common, zeros_in}
 use Rattle.ick_explorer.specs.Paths.{Leads}
 use Rattle.ick_explorer.specs.Marked.{IsMarked}
 use Rattle.ick_explorer.specs.Standing.{Keeps, StandsAfter}
-use Rattle.ick_explorer.specs.Walks.{Walks, EndsHere, GoesDown, TurnsBack, Arrives, Finds}
+use Rattle.ick_explorer.specs.declared.walk.Way.TheVariants.{Down}
+use Rattle.ick_explorer.specs.Walks.{Walks, EndsHere, Goes, TurnsBack, Arrives, Finds}
 use Rattle.ick_explorer.proofs.RunLaws.{Leads-start, Leads-ends}
 use Rattle.ick_explorer.proofs.Orders.{least-first, least-turned, common-turned}
 
@@ -51,7 +52,7 @@ arrived s l p m c points n f e w a = record {
 }
 
 pub finds_first : (l : ℕ) (m m' : Machine) (c c' : List Bool) (points points' : List ℕ) (n : ℕ) (f : Finish) →
-    c ≡ [] → IsMarked l m c points → GoesDown l m c points 0 m' c' points' n → EndsHere l m' n f →
+    c ≡ [] → IsMarked l m c points → Goes Down l m c points 0 m' c' points' n → EndsHere l m' n f →
     Finds m.state l None m m' c' points' n f
 finds_first l m m' c c' points points' n f hc h down here =
     let p = m.program in
@@ -59,10 +60,10 @@ finds_first l m m' c c' points points' n f hc h down here =
     let w = down.moves.walks s (walks_start l m c points hc h) in
     let a = arrives s l p m' c' points' n f down.moves.program w here in
     let stands = arrived s l p m' c' points' n f down.moves.program w a in
-    let z : c' ≡ down.zeros.0 = down.zeros.2 ∙ ap (λ x. x ++ down.zeros.0) hc in
+    let z : c' ≡ down.taken.0 = down.taken.2 ∙ ap (λ x. x ++ down.taken.0) hc in
     record {
       least = subst (IsLeastAfter p s l None) (sym z)
-          (least-first p s l down.zeros.0 down.zeros.1 (subst (IsWhole p s l) z stands.whole));
+          (least-first p s l down.taken.0 down.taken.1 (subst (IsWhole p s l) z stands.whole));
       arrives = a;
       stands = stands;
       work = let x = down.moves.work in omega arith;
@@ -70,7 +71,7 @@ finds_first l m m' c c' points points' n f hc h down here =
 
 pub finds_next : (l : ℕ) (m m₁ m' : Machine) (c c₁ c' : List Bool) (points points₁ points' : List ℕ)
     (k n : ℕ) (f : Finish) → TurnsBack l m c points m₁ c₁ points₁ k →
-    GoesDown l m₁ c₁ points₁ k m' c' points' n → EndsHere l m' n f →
+    Goes Down l m₁ c₁ points₁ k m' c' points' n → EndsHere l m' n f →
     (s : State) → StandsAfter m.program s l c m.marks points → Finds s l (Some c) m m' c' points' n f
 finds_next l m m₁ m' c c₁ c' points points₁ points' k n f back down here s h =
     let p = m.program in
@@ -81,15 +82,15 @@ finds_next l m m₁ m' c c₁ c' points points₁ points' k n f back down here s
     let q : m'.program ≡ p = down.moves.program ∙ back.program in
     let a = arrives s l p m' c' points' n f q w here in
     let stands = arrived s l p m' c' points' n f q w a in
-    let z = down.zeros.0 in
+    let z = down.taken.0 in
     let d : c' ≡ pre ++ true ∷ z =
-    down.zeros.2 ∙ (ap (λ x. x ++ z) back.turned.2 ∙ append_assoc pre (true ∷ []) z) in
+    down.taken.2 ∙ (ap (λ x. x ++ z) back.turned.2 ∙ append_assoc pre (true ∷ []) z) in
     let shared : (run p s l (common c c')).steps ≡ (run p s l pre).steps =
     ap (λ x. (run p s l x).steps)
     (ap (common c) d ∙ (ap (λ x. common x (pre ++ true ∷ z)) turn.2 ∙ common-turned pre turn.0 z)) in
     record {
       least = subst (IsLeastAfter p s l (Some c)) (sym d)
-          (least-turned p s l c pre z turn down.zeros.1 (subst (IsWhole p s l) d stands.whole));
+          (least-turned p s l c pre z turn down.taken.1 (subst (IsWhole p s l) d stands.whole));
       arrives = a;
       stands = stands;
       work = let x = down.moves.work in let u = back.work in let v = both.1 in omega arith;

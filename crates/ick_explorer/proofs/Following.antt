@@ -1,11 +1,13 @@
 -- How a machine is led along the run of given choices.
 use Rattle.std.proofs.Common.{◌≡◌, ◌≢◌, ℕ, zero, suc, ◌+◌, ◌<◌, ◌≤◌, Bool, true, false}
-use Rattle.std.proofs.Common.{List, [], ◌∷◌, length, take, drop, nat_eq, refl, ap, sym, ◌∙◌, subst, arith}
+use Rattle.std.proofs.Common.{List, [], ◌∷◌, ◌++◌, length, take, drop, nat_eq, refl, ap, sym, ◌∙◌, subst, arith}
+use Rattle.std.specs.Prelude.{Option, Some, None, IfSome, IfNone, is_some, slice_get}
 use Rattle.std.proofs.lemmas.Bool.Decides.{nat_tests}
-use Rattle.std.proofs.lemmas.List.{take-append-drop}
+use Rattle.std.proofs.lemmas.List.{take-append-drop, length-take}
 use Rattle.ick_code.specs.meaning.Move.{ask}
 use Rattle.ick_backtrack.specs.Machine.{Machine}
-use Rattle.ick_backtrack.specs.Asked.{Finish}
+use Rattle.ick_backtrack.specs.Asked.{Finish, finish_of}
+use Rattle.ick_backtrack.specs.declared.asking.End.{End}
 use Rattle.ick_explorer.specs.Runs.{run, wants, IsWhole, IsEnd}
 use Rattle.ick_explorer.specs.Marked.{IsMarked}
 use Rattle.ick_explorer.specs.Walks.{Walks, IsChoosing, EndsHere, Moves, Follows}
@@ -22,7 +24,7 @@ pub record Led (l : ℕ) (old : Machine) (c : List Bool) (used : ℕ) (m : Machi
   pub work : m.work ≡ old.work + n
   pub walks : Walks old.state l m (take used c) points n
 
-pub led : (l : ℕ) (old m : Machine) (c₀ c₁ c : List Bool) (points₀ points : List ℕ) (used n : ℕ) →
+led : (l : ℕ) (old m : Machine) (c₀ c₁ c : List Bool) (points₀ points : List ℕ) (used n : ℕ) →
     c₀ ≡ [] → IsMarked l old c₀ points₀ → Moves l old c₀ points₀ 0 m c₁ points n →
     c₁ ≡ take used c → used ≤ length c → Led l old c used m points n
 led l old m c₀ c₁ c points₀ points used n e h moves t u = record {
@@ -32,6 +34,18 @@ led l old m c₀ c₁ c points₀ points used n e h moves t u = record {
   work = let x = moves.work in omega arith;
   walks = subst (λ x. Walks old.state l m x points n) t (moves.walks old.state (walks_start l old c₀ points₀ e h));
 }
+
+-- the same by the choices that it has taken from the start of a run
+pub led_along : (l : ℕ) (old m : Machine) (c₀ c₁ c z : List Bool) (points₀ points : List ℕ) (n : ℕ) →
+    c₀ ≡ [] → IsMarked l old c₀ points₀ → Moves l old c₀ points₀ 0 m c₁ points n →
+    z ≡ take (length z) c → c₁ ≡ c₀ ++ z → Led l old c (length c₁) m points n
+led_along l old m c₀ c₁ c z points₀ points n e h moves t is =
+    let same : c₁ ≡ z = is ∙ ap (λ x. x ++ z) e in
+    let taken : c₁ ≡ take (length c₁) c =
+    same ∙ (t ∙ ap (λ x. take (length x) c) (sym same)) in
+    let few = length-take (length c₁) c in
+    let size = ap length taken in
+    led l old m c₀ c₁ c points₀ points (length c₁) n e h moves taken (omega (arith, few, size))
 
 pub take_whole : (c : List Bool) (used : ℕ) → used ≡ length c → take used c ≡ c
 take_whole [] zero e = refl
@@ -50,9 +64,21 @@ tested_same a b t = grind (arith, nat_tests)
 tested_other : (a b : ℕ) → nat_eq a b ≡ false → a ≢ b
 tested_other a b t = grind (arith, nat_tests)
 
-pub ended_path : (path c : List Bool) (used : ℕ) → path ≡ take used c → nat_eq used (length c) ≡ true →
-    path ≡ c
-ended_path path c used e t = e ∙ take_whole c used (tested_same used (length c) t)
+pub ended_path : (c₀ path c z : List Bool) → c₀ ≡ [] → z ≡ take (length z) c → path ≡ c₀ ++ z →
+    nat_eq (length path) (length c) ≡ true → path ≡ c
+ended_path c₀ path c z e taken is t =
+    let same : path ≡ z = is ∙ ap (λ x. x ++ z) e in
+    same ∙ (taken ∙ take_whole c (length z) (ap length (sym same) ∙ tested_same (length path) (length c) t))
+
+-- the end that a way has come to
+pub end_of : (l : ℕ) (m : Machine) (n : ℕ) (end : Option End) → is_some end ≡ true →
+    IfSome end (λ e. EndsHere l m n (finish_of e)) → (f : Finish) × EndsHere l m n f
+end_of l m n (Some e) t h = (finish_of e, h)
+end_of l m n None t h = cc
+
+pub no_end_of : {P : Type 0} (end : Option End) → is_some end ≡ false → IfNone end P → P
+no_end_of (Some e) t h = cc
+no_end_of None t h = h
 
 -- at the end of a run with all choices used
 pub ended_whole : (l : ℕ) (old m : Machine) (c : List Bool) (used : ℕ) (points : List ℕ) (n : ℕ)
@@ -85,11 +111,19 @@ ended_not_whole l old m c used points n f h here t = λ whole.
     let r = nothing_left c used (sym u ∙ whole.all_used) in
     omega arith
 
+nothing_at : (c : List Bool) (used : ℕ) → slice_get c used ≡ None → length c ≤ used
+nothing_at [] used e = omega arith
+nothing_at (x ∷ c) zero e = cc
+nothing_at (x ∷ c) (suc k) e = let r = nothing_at c k e in omega arith
+
 -- where a choice is asked and none is left
 pub still_wants : (l : ℕ) (old m : Machine) (c : List Bool) (used : ℕ) (points : List ℕ) (n : ℕ) →
-    Led l old c used m points n → IsChoosing m → n < l → used ≡ length c →
+    Led l old c used m points n → IsChoosing m → n < l → slice_get c used ≡ None →
     ¬ IsWhole old.program old.state l c
-still_wants l old m c used points n h a lt all = λ whole.
+still_wants l old m c used points n h a lt none = λ whole.
+    let few = h.used_within in
+    let rest = nothing_at c used none in
+    let all : used ≡ length c = omega (arith, few, rest) in
     let k = choice_of (ask m.program m.state) a in
     let w = Leads-wants m.program old.state l (take used c) m.state n k.0 h.walks.leads k.1 lt in
     let v : (run old.program old.state l c).stop ≡ wants =

@@ -1,8 +1,9 @@
 -- How an explorer is led along a run, and back from its end.
 use Rattle.std.proofs.Common.{◌≡◌, ℕ, zero, suc, ◌+◌, ◌-◌, ◌<◌, ◌≤◌, inl, inr, Bool, true}
-use Rattle.std.proofs.Common.{false, List, [], ◌∷◌, ◌++◌, map, length, refl, ap, sym, ◌∙◌}
+use Rattle.std.proofs.Common.{false, List, [], ◌∷◌, ◌++◌, map, length, take, get_or, refl, ap, sym, ◌∙◌}
 use Rattle.std.proofs.Common.{subst, arith, append_assoc, length-append}
-use Rattle.std.proofs.lemmas.List.{map-append}
+use Rattle.std.proofs.lemmas.List.{map-append, length_push, take_more}
+use Rattle.std.proofs.lemmas.Option.{slice_get_within, get_or_from_slice_get}
 use Rattle.std.specs.Prelude.{Some}
 use Rattle.ick_code.specs.meaning.State.{State}
 use Rattle.ick_code.specs.meaning.Move.{plain, choice, ask, advance}
@@ -17,7 +18,9 @@ use Rattle.ick_explorer.specs.Listings.{before_zeros, zeros_in}
 use Rattle.ick_explorer.specs.Paths.{Leads, AllOnes, AllZeros, TurnsAt}
 use Rattle.ick_explorer.specs.Marked.{is_choice, IsMarked}
 use Rattle.ick_explorer.specs.Standing.{Keeps, StandsAfter}
-use Rattle.ick_explorer.specs.Walks.{Walks, IsChoosing, EndsHere, Moves, GoesDown, TurnsBack}
+use Rattle.ick_explorer.specs.declared.walk.Way.{Way}
+use Rattle.ick_explorer.specs.declared.walk.Way.TheVariants.{Down, Along}
+use Rattle.ick_explorer.specs.Walks.{Walks, IsChoosing, EndsHere, Moves, given_by, HasGiven, Goes, TurnsBack}
 use Rattle.ick_explorer.proofs.RunLaws.{Leads-on, Leads-choice, Leads-wants, Stops, wants-stops, use-wants, ends_finished}
 use Rattle.ick_explorer.proofs.Orders.{before_zeros-zero, before_zeros-one, before_zeros-turns}
 use Rattle.ick_explorer.proofs.Marks.{choice_of, zeros-ones, marked_step, marked_one, marked_zero, unmarked}
@@ -178,21 +181,48 @@ all_zeros-append [] z u v = v
 all_zeros-append (false ∷ y) z u v = all_zeros-append y z u v
 all_zeros-append (true ∷ y) z u v = absurd u
 
--- on by some zeros
-pub GoesDown-on : (l : ℕ) (m₀ : Machine) (c₀ : List Bool) (points₀ : List ℕ) (n₀ : ℕ) (m₁ : Machine)
-    (c₁ : List Bool) (points₁ : List ℕ) (n₁ : ℕ) (m₂ : Machine) (c₂ : List Bool) (points₂ : List ℕ)
-    (n₂ : ℕ) (z : List Bool) → AllZeros z → c₂ ≡ c₁ ++ z →
-    GoesDown l m₀ c₀ points₀ n₀ m₁ c₁ points₁ n₁ →
-    Moves l m₁ c₁ points₁ n₁ m₂ c₂ points₂ n₂ →
-    GoesDown l m₀ c₀ points₀ n₀ m₂ c₂ points₂ n₂
-GoesDown-on l m₀ c₀ points₀ n₀ m₁ c₁ points₁ n₁ m₂ c₂ points₂ n₂ z a e u v = record {
-  moves = Moves-on l m₀ c₀ points₀ n₀ m₁ c₁ points₁ n₁ m₂ c₂ points₂ n₂ u.moves v;
-  zeros = (
-    u.zeros.0 ++ z,
-    all_zeros-append u.zeros.0 z u.zeros.1 a,
-    e ∙ (ap (λ x. x ++ z) u.zeros.2 ∙ append_assoc c₀ u.zeros.0 z),
-  );
+-- a way gives one more choice
+gave_more : (way : Way) (z : List Bool) (b : Bool) → HasGiven way z → given_by way (length z) ≡ Some b →
+    HasGiven way (z ++ b ∷ [])
+gave_more Down z b gave given =
+    let zero : false ≡ b = cc in
+    subst (λ x. AllZeros (z ++ x ∷ [])) zero (all_zeros-append z (false ∷ []) gave tt)
+gave_more (Along choices) z b gave given =
+    let lt : length z < length choices.now = slice_get_within choices.now (length z) b given in
+    let at : get_or choices.now (length z) false ≡ b = get_or_from_slice_get choices.now (length z) b false given in
+    let size : length (z ++ b ∷ []) ≡ length z + 1 = length_push z b in
+    ap (λ x. x ++ b ∷ []) gave
+    ∙ (ap (λ x. take (length z) choices.now ++ x ∷ []) (sym at)
+    ∙ (sym (take_more choices.now (length z) false lt) ∙ ap (λ n. take n choices.now) (sym size)))
+
+-- on by steps that ask nothing ..
+pub goes_plainly : (way : Way) (l : ℕ) (m₀ : Machine) (c₀ : List Bool) (points₀ : List ℕ) (n₀ : ℕ) (m₁ : Machine)
+    (c : List Bool) (points : List ℕ) (n₁ : ℕ) (m₂ : Machine) (n₂ : ℕ) →
+    Goes way l m₀ c₀ points₀ n₀ m₁ c points n₁ → Moves l m₁ c points n₁ m₂ c points n₂ →
+    Goes way l m₀ c₀ points₀ n₀ m₂ c points n₂
+goes_plainly way l m₀ c₀ points₀ n₀ m₁ c points n₁ m₂ n₂ u v = record {
+  moves = Moves-on l m₀ c₀ points₀ n₀ m₁ c points n₁ m₂ c points n₂ u.moves v;
+  taken = u.taken;
 }
+
+-- .. and by a choice that the way gives
+pub goes_by : (way : Way) (l : ℕ) (m₀ : Machine) (c₀ : List Bool) (points₀ : List ℕ) (n₀ : ℕ) (m₁ : Machine)
+    (c₁ : List Bool) (points₁ : List ℕ) (n₁ : ℕ) (m₂ : Machine) (c₂ : List Bool) (points₂ : List ℕ)
+    (n₂ used : ℕ) (b : Bool) → length c₁ ≡ length c₀ + used → given_by way used ≡ Some b → c₂ ≡ c₁ ++ b ∷ [] →
+    Goes way l m₀ c₀ points₀ n₀ m₁ c₁ points₁ n₁ → Moves l m₁ c₁ points₁ n₁ m₂ c₂ points₂ n₂ →
+    Goes way l m₀ c₀ points₀ n₀ m₂ c₂ points₂ n₂
+goes_by way l m₀ c₀ points₀ n₀ m₁ c₁ points₁ n₁ m₂ c₂ points₂ n₂ used b count given e u v =
+    let z = u.taken.0 in
+    let all : length c₁ ≡ length c₀ + length z = ap length u.taken.2 ∙ length-append c₀ z in
+    let same : used ≡ length z = omega (arith, count, all) in
+    record {
+      moves = Moves-on l m₀ c₀ points₀ n₀ m₁ c₁ points₁ n₁ m₂ c₂ points₂ n₂ u.moves v;
+      taken = (
+        z ++ b ∷ [],
+        gave_more way z b u.taken.1 (ap (given_by way) (sym same) ∙ given),
+        e ∙ (ap (λ x. x ++ b ∷ []) u.taken.2 ∙ append_assoc c₀ z (b ∷ [])),
+      );
+    }
 
 -- two lists with one more element
 same_front : {A : Type 0} (xs ys : List A) (a b : A) → xs ++ a ∷ [] ≡ ys ++ b ∷ [] → (xs ≡ ys) × (a ≡ b)

@@ -1,6 +1,6 @@
 -- Describes how an explorer leads its machine along runs, for its private contracts.
-use Rattle.std.specs.Prelude.{◌≡◌, ℕ, ◌+◌, ◌-◌, ◌<◌, ◌≤◌, Bool, true, List, [], ◌∷◌}
-use Rattle.std.specs.Prelude.{◌++◌, Option, Some}
+use Rattle.std.specs.Prelude.{◌≡◌, ℕ, ◌+◌, ◌-◌, ◌<◌, ◌≤◌, Bool, true, false, List, [], ◌∷◌}
+use Rattle.std.specs.Prelude.{◌++◌, length, take, slice_get, Option, Some, None}
 use Rattle.ick_code.specs.meaning.State.{State}
 use Rattle.ick_code.specs.meaning.Move.{ask}
 use Rattle.ick_backtrack.specs.Machine.{Program, Machine}
@@ -9,6 +9,8 @@ use Rattle.ick_explorer.specs.Runs.{run, ends, stays}
 use Rattle.ick_explorer.specs.Listings.{IsLeastAfter}
 use Rattle.ick_explorer.specs.Paths.{Leads, AllZeros, TurnsAt}
 use Rattle.ick_explorer.specs.Marked.{is_choice, IsMarked}
+use Rattle.ick_explorer.specs.declared.walk.Way.{Way}
+use Rattle.ick_explorer.specs.declared.walk.Way.TheVariants.{Down, Along}
 use Rattle.ick_explorer.specs.Standing.{Explored, Keeps, Stands, StandsAfter, shared_from}
 
 -- the machine has made n steps of the run from s with these choices, and has the marks of their zeros
@@ -33,11 +35,27 @@ pub record Moves (limit : ℕ) (old : Machine) (c : List Bool) (points : List �
   pub marked : IsMarked limit old c points → IsMarked limit new c' points'
   pub walks : (s : State) → Walks s limit old c points n → Walks s limit new c' points' n'
 
--- the machine moves by zeros alone
-pub record GoesDown (limit : ℕ) (old : Machine) (c : List Bool) (points : List ℕ) (n : ℕ)
+-- the choice that a way gives after `used` choices, if it has one
+abbrev pub given_by : Way → ℕ → Option Bool
+given_by Down used = Some false
+given_by (Along choices) used = slice_get choices.now used
+
+-- a way has given these choices
+abbrev pub HasGiven : Way → List Bool → Type 0
+HasGiven Down taken = AllZeros taken
+HasGiven (Along choices) taken = taken ≡ take (length taken) choices.now
+
+-- the machine moves by the choices that a way gives
+pub record Goes (way : Way) (limit : ℕ) (old : Machine) (c : List Bool) (points : List ℕ) (n : ℕ)
     (new : Machine) (c' : List Bool) (points' : List ℕ) (n' : ℕ) : Type 0 where
   pub moves : Moves limit old c points n new c' points' n'
-  pub zeros : (z : List Bool) × AllZeros z × (c' ≡ c ++ z)
+  pub taken : (z : List Bool) × HasGiven way z × (c' ≡ c ++ z)
+
+-- the machine asks a choice below the limit after n steps, and the way has none after these choices
+pub record IsStranded (way : Way) (limit : ℕ) (m : Machine) (c c' : List Bool) (n : ℕ) : Type 0 where
+  pub choosing : IsChoosing m
+  pub below : n < limit
+  pub none : given_by way (length c' - length c) ≡ None
 
 -- the machine is back at the last zero of c, which is now a one, after n steps
 pub record TurnsBack (limit : ℕ) (old : Machine) (c : List Bool) (points : List ℕ)

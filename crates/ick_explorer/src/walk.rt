@@ -2,7 +2,7 @@
 
 ghost use Rattle.std.specs.Prelude.{◌≡◌, false, true, ℕ, ◌+◌, ◌-◌, ◌<◌};
 ghost use Rattle.std.specs.Prelude.{◌≤◌, ◌^◌, [], ◌∷◌, ◌++◌};
-ghost use Rattle.std.specs.Prelude.{length, None, Some, IfOk, OnOk, OnErr};
+ghost use Rattle.std.specs.Prelude.{length, None, Some, IfOk, IfSome, IfNone, OnOk, OnErr};
 ghost use Rattle.ick_code.specs.meaning.State.{State};
 ghost use Rattle.ick_code.specs.meaning.Move.{ask};
 ghost use Rattle.ick_backtrack.specs.Asked.{finish_of, IsGoing};
@@ -11,8 +11,9 @@ ghost use Rattle.ick_explorer.specs.Listings.{zeros_in};
 ghost use Rattle.ick_explorer.specs.Paths.{TurnsAt};
 ghost use Rattle.ick_explorer.specs.Marked.{IsMarked};
 ghost use Rattle.ick_explorer.specs.Standing.{StandsAfter, StandsFrom, place_of, has_failed};
-ghost use Rattle.ick_explorer.specs.Walks.{IsChoosing, EndsHere, Moves, GoesDown, TurnsBack, Finds};
-ghost use Rattle.ick_explorer.specs.Walks.{Follows};
+ghost use Rattle.ick_explorer.specs.Walks.{IsChoosing, EndsHere, Moves, given_by, Goes};
+ghost use Rattle.ick_explorer.specs.Walks.{IsStranded, TurnsBack, Finds, Follows};
+ghost use Rattle.ick_explorer.specs.declared.walk.Way.TheVariants.{Down};
 
 use crate::choices::Choices;
 use crate::path::{Path, Progress};
@@ -82,6 +83,74 @@ fn turn_back<M: Backtrack>(machine: &mut M, path: &mut Path, limit: u32) -> Resu
     Ok(steps + 1)
 }
 
+/// Where a machine is led from the state that it is in.
+#[derive(Clone, Copy)]
+enum Way<'a> {
+    /// By a zero at each choice.
+    Down,
+    /// By these choices.
+    Along(&'a [bool]),
+}
+
+impl<'a> Way<'a> {
+    /// Returns the choice after `used` choices, or `None` if no choice is left.
+    #[inline(always)]
+    fn at(self, used: usize) -> Option<bool>
+        ensures { result ≡ given_by self.entry used }
+    {
+        match self {
+            Way::Down => Some(false),
+            Way::Along(choices) => choices.get(used).copied(),
+        }
+    }
+}
+
+/// Leads the machine until the run ends, or until a choice is asked that the way doesn't have.
+/// `start` counts the steps made before this call, and must be at most `limit`. Returns the number
+/// of steps made from the start of the run, and the end, if the run has ended.
+#[inline(always)]
+fn lead<'c, M: Asks<'c>>(
+    machine: &mut M,
+    path: &mut Path,
+    limit: u32,
+    start: u32,
+    way: Way<'_>,
+) -> Result<(u32, Option<End<'c>>), NoMemory>
+    requires within { start ≤ limit }
+    requires room { (M.seen machine.old).work + limit < 2 ^ 64 + start }
+    ensures program { (M.seen machine.new).program ≡ (M.seen machine.old).program }
+    ensures goes { IfOk result (λ r. Goes way.entry limit
+        (M.seen machine.old) path.old.choices path.old.points.items start
+        (M.seen machine.new) path.new.choices path.new.points.items r.0) }
+    ensures end { IfOk result (λ r. IfSome r.1 (λ end.
+        EndsHere limit (M.seen machine.new) r.0 (finish_of end))) }
+    ensures stranded { IfOk result (λ r. IfNone r.1 (IsStranded way.entry limit
+        (M.seen machine.new) path.old.choices path.new.choices r.0)) }
+{
+    let mut steps = start;
+    let mut used = 0;
+    'on: loop {
+        let asked = machine.asks();
+        if let Ask::Ended(end) = asked {
+            return Ok((steps, Some(end)));
+        }
+        if steps == limit {
+            return Ok((steps, Some(End::Limit)));
+        }
+        if let Ask::Choice(_) = asked {
+            let Some(done) = way.at(used) else {
+                return Ok((steps, None));
+            };
+            choose(machine, path, limit, steps, done)?;
+            used += 1;
+            steps += 1;
+            continue;
+        }
+        let made = machine.run(limit - steps)?;
+        steps += made;
+    }
+}
+
 /// Goes on with a zero at each choice until the run ends. `start` counts the steps made before this
 /// call, and must be at most `limit`. Returns the number of steps made from the start of the run,
 /// and the end.
@@ -95,27 +164,14 @@ fn go_down<'c, M: Asks<'c>>(
     requires within { start ≤ limit }
     requires room { (M.seen machine.old).work + limit < 2 ^ 64 + start }
     ensures program { (M.seen machine.new).program ≡ (M.seen machine.old).program }
-    ensures down { IfOk result (λ r. GoesDown limit
+    ensures down { IfOk result (λ r. Goes Down limit
         (M.seen machine.old) path.old.choices path.old.points.items start
         (M.seen machine.new) path.new.choices path.new.points.items r.0) }
     ensures end { IfOk result (λ r. EndsHere limit (M.seen machine.new) r.0 (finish_of r.1)) }
 {
-    let mut steps = start;
-    'down: loop {
-        let asked = machine.asks();
-        if let Ask::Ended(end) = asked {
-            return Ok((steps, end));
-        }
-        if steps == limit {
-            return Ok((steps, End::Limit));
-        }
-        if let Ask::Choice(_) = asked {
-            choose(machine, path, limit, steps, false)?;
-            steps += 1;
-            continue;
-        }
-        let made = machine.run(limit - steps)?;
-        steps += made;
+    match lead(machine, path, limit, start, Way::Down)? {
+        (steps, Some(end)) => Ok((steps, end)),
+        (_, None) => unreachable!(),
     }
 }
 
@@ -141,28 +197,8 @@ pub(crate) fn follow<'c, M: Asks<'c>>(
     ensures not_whole { IfOk result (λ whole. whole ≡ false →
         ¬ IsWhole (M.seen machine.old).program (M.seen machine.old).state limit choices.now) }
 {
-    let mut steps = 0;
-    let mut used = 0;
-    'along: loop {
-        let asked = machine.asks();
-        if let Ask::Ended(_) = asked {
-            return Ok(used == choices.len());
-        }
-        if steps == limit {
-            return Ok(used == choices.len());
-        }
-        if let Ask::Choice(_) = asked {
-            if used == choices.len() {
-                return Ok(false);
-            }
-            choose(machine, path, limit, steps, choices[used])?;
-            used += 1;
-            steps += 1;
-            continue;
-        }
-        let made = machine.run(limit - steps)?;
-        steps += made;
-    }
+    let (_, end) = lead(machine, path, limit, 0, Way::Along(choices))?;
+    Ok(end.is_some() && path.choices.as_slice().len() == choices.len())
 }
 
 /// Drops all marks.

@@ -1,85 +1,52 @@
-use Rattle.std.proofs.Common.{◌≡◌, ◌<◌, length, arith}
-use Rattle.std.proofs.lemmas.Grind.{common_steps}
-use Rattle.ick_backtrack.specs.Asked.{at_limit, finish_of}
-use Rattle.ick_explorer.proofs.RunLaws.{ends_limit}
-use Rattle.ick_explorer.proofs.Walking.{asks_end, asks_choice, asks_plain, asks_going, moves_plain, made_some, Moves-on}
-use Rattle.ick_explorer.proofs.Following.{Led, led, ended_path, ended_whole, ended_not_whole, still_wants}
+use Rattle.std.proofs.Common.{◌≡◌, ◌-◌, length, nat_eq, ap, sym, ◌∙◌, arith}
+use Rattle.std.specs.Prelude.{None, slice_get, is_some}
+use Rattle.ick_explorer.proofs.Following.{Led, led_along, end_of, no_end_of, ended_path, ended_whole, ended_not_whole}
+use Rattle.ick_explorer.proofs.Following.{still_wants}
 use Rattle.ick_explorer.proofs.walk.follow.Goals as goal
 
-pub returns-in-Ended-clause-whole : goal.returns-in-Ended-clause-whole
-returns-in-Ended-clause-whole g c = λ t.
-    let m = g.M.Backtrack.seen c.along.machine in
-    let i = c.along.invariant in
-    ended_whole c.args.limit (g.M.Backtrack.seen c.args.machine.now) m c.args.choices.now c.along.used
-    c.along.path.points.items c.along.steps
-    (finish_of c.in-Ended.field-0) (led _ _ _ _ _ _ _ _ _ _ c.requires.none c.requires.marked i.moves i.taken i.used)
-    (asks_end c.asks-asked.result c.in-Ended.field-0 c.args.limit c.along.steps m c.in-Ended.is c.asks-asked.ensures) t
-
-pub returns-in-Ended-clause-not_whole : goal.returns-in-Ended-clause-not_whole
-returns-in-Ended-clause-not_whole g c = λ t.
-    let m = g.M.Backtrack.seen c.along.machine in
-    let i = c.along.invariant in
-    ended_not_whole c.args.limit (g.M.Backtrack.seen c.args.machine.now) m c.args.choices.now c.along.used
-    c.along.path.points.items c.along.steps
-    (finish_of c.in-Ended.field-0) (led _ _ _ _ _ _ _ _ _ _ c.requires.none c.requires.marked i.moves i.taken i.used)
-    (asks_end c.asks-asked.result c.in-Ended.field-0 c.args.limit c.along.steps m c.in-Ended.is c.asks-asked.ensures) t
-
-pub returns-then-steps-limit : goal.returns-then-steps-limit
-returns-then-steps-limit g c =
-    let m = g.M.Backtrack.seen c.along.machine in
-    let i = c.along.invariant in
-    let at : c.along.steps ≡ c.args.limit = grind (arith, common_steps) in
-    let here =
-    ends_limit c.args.limit m c.along.steps at
-    (asks_going c.asks-asked.result m c.in_default.not-Ended c.asks-asked.ensures) in
-    let l : Led c.args.limit (g.M.Backtrack.seen c.args.machine.now) c.args.choices.now c.along.used m
-    c.along.path.points.items c.along.steps =
-    led _ _ _ _ _ _ _ _ _ _ c.requires.none c.requires.marked i.moves i.taken i.used in
+pub returns-then-is_some : goal.returns-then-is_some
+returns-then-is_some g c =
+    let seen = g.M.Backtrack.seen in
+    let limit = c.args.limit in
+    let old = seen c.args.machine.now in
+    let new = seen c.lead.new.machine in
+    let choices = c.args.choices.now in
+    let path = c.lead.new.path.choices in
+    let goes = c.in_ok-end.ensures.goes in
+    let z = goes.taken.0 in
+    let l : Led limit old choices (length path) new c.lead.new.path.points.items c.in_ok-end.field-0-0 =
+    led_along limit old new c.args.path.now.choices path choices z c.args.path.now.points.items
+    c.lead.new.path.points.items c.in_ok-end.field-0-0 c.requires.none c.requires.marked goes.moves goes.taken.1
+    goes.taken.2 in
+    let here = end_of limit new c.in_ok-end.field-0-0 c.in_ok-end.end (sym c.is_some.ensures ∙ c.if-is_some.true)
+    c.in_ok-end.ensures.end in
+    let size = ap (λ x. nat_eq (length x) (length choices)) c.as_slice.ensures in
     record {
-      path = λ t. ended_path c.along.path.choices c.args.choices.now c.along.used i.taken t;
-      marked = i.moves.marked c.requires.marked;
-      whole = λ t. ended_whole _ _ _ _ _ _ _ at_limit l here t;
-      not_whole = λ t. ended_not_whole _ _ _ _ _ _ _ at_limit l here t;
+      path = λ t. ended_path c.args.path.now.choices path choices z c.requires.none goes.taken.1 goes.taken.2
+          (sym size ∙ t);
+      marked = goes.moves.marked c.requires.marked;
+      whole = λ t. ended_whole limit old new choices (length path) c.lead.new.path.points.items
+          c.in_ok-end.field-0-0 here.0 l here.1 (sym size ∙ t);
+      not_whole = λ t. ended_not_whole limit old new choices (length path) c.lead.new.path.points.items
+          c.in_ok-end.field-0-0 here.0 l here.1 (sym size ∙ t);
     }
 
-pub returns-then-used-choices : goal.returns-then-used-choices
-returns-then-used-choices g c =
-    let m = g.M.Backtrack.seen c.along.machine in
-    let i = c.along.invariant in
-    let lt : c.along.steps < c.args.limit = grind (arith, common_steps) in
-    let all : c.along.used ≡ length c.args.choices.now = grind (arith, common_steps) in
-    let l : Led c.args.limit (g.M.Backtrack.seen c.args.machine.now) c.args.choices.now c.along.used m
-    c.along.path.points.items c.along.steps =
-    led _ _ _ _ _ _ _ _ _ _ c.requires.none c.requires.marked i.moves i.taken i.used in
-    record {
-      path = λ t. cc;
-      marked = i.moves.marked c.requires.marked;
-      whole = λ t. cc;
-      not_whole =
-          λ t. still_wants _ _ _ _ _ _ _ l
-          (asks_choice c.asks-asked.result c.in-Choice.field-0 m c.in-Choice.is c.asks-asked.ensures) lt all;
-    }
-
-pub along-preserved : goal.along-preserved
-along-preserved g c =
-    let m = g.M.Backtrack.seen c.along.machine in
-    let i = c.along.invariant in
-    let lt : c.along.steps < c.args.limit = grind (arith, common_steps) in
-    let made = c.in_ok-made.ensures in
-    record {
-      used = i.used;
-      taken = i.taken;
-      moves = Moves-on _ _ _ _ _ _ _ _ _ _ _ _ _ i.moves
-          (moves_plain c.args.limit m (g.M.Backtrack.seen c.run.new.self) c.along.path.choices
-          c.along.path.points.items c.along.steps
-          c.in_ok-made.made (omega (arith, made.within, lt)) made.ok);
-    }
-
-pub along-smaller : goal.along-smaller
-along-smaller g c =
-    let m = g.M.Backtrack.seen c.along.machine in
-    let lt : c.along.steps < c.args.limit = grind (arith, common_steps) in
-    let some = made_some m (g.M.Backtrack.seen c.run.new.self) c.args.limit c.along.steps c.in_ok-made.made
-    c.in_ok-made.ensures.ok c.in_ok-made.ensures.rests
-    (asks_plain c.asks-asked.result m c.in_default-asked.not-Choice c.in_default.not-Ended c.asks-asked.ensures) lt in
-    omega (arith, some, lt)
+pub returns-else-is_some-clause-not_whole : goal.returns-else-is_some-clause-not_whole
+returns-else-is_some-clause-not_whole g c = λ t.
+    let seen = g.M.Backtrack.seen in
+    let limit = c.args.limit in
+    let old = seen c.args.machine.now in
+    let new = seen c.lead.new.machine in
+    let choices = c.args.choices.now in
+    let path = c.lead.new.path.choices in
+    let goes = c.in_ok-end.ensures.goes in
+    let stranded = no_end_of c.in_ok-end.end (sym c.is_some.ensures ∙ c.if-is_some.false)
+    c.in_ok-end.ensures.stranded in
+    let start = ap length c.requires.none in
+    let none : slice_get choices (length path) ≡ None =
+    ap (slice_get choices) (omega (arith, start)) ∙ stranded.none in
+    still_wants limit old new choices (length path) c.lead.new.path.points.items c.in_ok-end.field-0-0
+    (led_along limit old new c.args.path.now.choices path choices goes.taken.0 c.args.path.now.points.items
+    c.lead.new.path.points.items c.in_ok-end.field-0-0 c.requires.none c.requires.marked goes.moves goes.taken.1
+    goes.taken.2)
+    stranded.choosing stranded.below none
