@@ -13,8 +13,8 @@ use crate::lines::LineBuilder;
 use crate::path::{Path, Progress};
 use crate::run::Run;
 use crate::walk;
-use ick_bits::NoMemory;
 use ick_backtrack::{Asks, Backtrack, End};
+use ick_bits::NoMemory;
 use std::alloc::Global;
 
 /// Lists the runs of a machine's program from the machine's state. Each run is listed once, in the

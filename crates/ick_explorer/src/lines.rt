@@ -6,8 +6,8 @@ ghost use Rattle.ick_explorer.specs.Lines.{line_of};
 
 use crate::choices::Choices;
 use crate::tail::Tail;
-use ick_bits::NoMemory;
 use ick_backtrack::End;
+use ick_bits::NoMemory;
 use std::alloc::Global;
 
 /// Holds the line that was built last. The memory is kept from line to line.

@@ -5,8 +5,8 @@ ghost use Rattle.ick_backtrack.specs.Asked.{finish_of};
 ghost use Rattle.ick_explorer.specs.Lines.{end_text};
 ghost use Rattle.ick_explorer.specs.Tails.{tail_of};
 
-use ick_bits::{NoMemory, append_decimal, append_quoted};
 use ick_backtrack::End;
+use ick_bits::{NoMemory, append_decimal, append_quoted};
 use std::alloc::Global;
 use std::marker::Model;
 

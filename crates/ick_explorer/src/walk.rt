@@ -17,8 +17,8 @@ ghost use Rattle.ick_explorer.specs.declared.walk.Way.TheVariants.{Down};
 
 use crate::choices::Choices;
 use crate::path::{Path, Progress};
-use ick_bits::NoMemory;
 use ick_backtrack::{Ask, Asks, Backtrack, End};
+use ick_bits::NoMemory;
 
 /// Makes step `steps + 1` by the choice `done`, and adds the choice to the path. If the choice is a
 /// zero, this call first marks the state before the step. The machine must ask a choice, and

@@ -11,8 +11,8 @@ ghost use Rattle.ick_memory.specs.Met.{is_open};
 ghost use Rattle.ick_backtrack.specs.Asked.{asked_of, finish_of, finished};
 ghost use Rattle.ick_backtrack.specs.Steps.{IsPlain};
 
-use ick_backtrack::{Ask, End};
 use crate::met::met;
+use ick_backtrack::{Ask, End};
 use ick_bits::{Fault, FaultKind};
 use ick_code::Code;
 use ick_memory::{Ended, Memory};

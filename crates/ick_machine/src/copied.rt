@@ -10,9 +10,9 @@ ghost use Rattle.ick_machine.specs.Run.{IsReady};
 ghost use Rattle.ick_machine.specs.Marks.{copied_views};
 
 use crate::answer::{answer, is_plain};
-use ick_backtrack::{Ask, Asks, Backtrack};
 use crate::engine::{Engine, engine_for};
 use crate::whole::whole_step;
+use ick_backtrack::{Ask, Asks, Backtrack};
 use ick_bits::NoMemory;
 use ick_code::Code;
 use ick_memory::{Memory, Trail, copy_memory, fresh_memory};

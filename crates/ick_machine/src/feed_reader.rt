@@ -7,8 +7,8 @@ ghost use Rattle.ick_machine.specs.Feeds.{MayBeLeft, feed_failures, reads_failed
 ghost use Rattle.ick_machine.specs.Feeds.{line_with};
 
 use crate::feed::Feed;
-use ick_backtrack::FeedFault;
 use crate::reader::{Line, Reader};
+use ick_backtrack::FeedFault;
 use ick_bits::{DigitFault, NoMemory, digits_value};
 
 /// Reads the input of a step from a feed. Once no input was left, or a read has failed, the feed

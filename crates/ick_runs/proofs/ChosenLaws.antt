@@ -28,11 +28,11 @@ drawn_answer (listed choices) k chance word b g g' h step e = absurd h
 drawn_answer (seeded seed) k chance word b g g' h step e =
     ap Some (e ∙ ap (λ x. means_done x.0 chance) (step ∙ ap pcg32 h))
 
-some_same : (a b : Bool) → Some a ≡ Some b → a ≡ b
+pub some_same : (a b : Bool) → Some a ≡ Some b → a ≡ b
 some_same a b e = cc
 
 -- the next choice of a list
-listed_next : (choices : List Bool) (k : ℕ) (b : Bool) → slice_get choices k ≡ Some b →
+pub listed_next : (choices : List Bool) (k : ℕ) (b : Bool) → slice_get choices k ≡ Some b →
     (k < length choices) × (get_or choices k false ≡ b)
 listed_next choices k b e = elim (slice_get_cases choices k).1 [
   | inl h ↦ (h.1, get_or_from_slice_get choices k b false e)

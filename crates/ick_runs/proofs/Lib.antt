@@ -2,6 +2,7 @@ pub mod OrdinaryLaws
 pub mod DrawLaws
 pub mod SeededLaws
 pub mod ChosenLaws
+pub mod DriveLaws
 pub mod LineLaws
 pub mod OutputLaws
 pub mod StreamLaws

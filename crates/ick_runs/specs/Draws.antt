@@ -6,9 +6,8 @@ use Rattle.rand_pcg.specs.Lcg.{Lcg}
 use Rattle.rand_pcg.specs.Pcg.{pcg32, pcg32_of_seed}
 use Rattle.ick_code.specs.meaning.State.{State}
 use Rattle.ick_code.specs.meaning.Move.{choice, ask}
-use Rattle.ick_backtrack.specs.Machine.{Program, Machine}
+use Rattle.ick_backtrack.specs.Machine.{Program}
 use Rattle.ick_explorer.specs.Runs.{run, IsWhole}
-use Rattle.ick_explorer.specs.Paths.{RunsTo}
 
 -- the generator PCG32 of a seed, which is spread into its 16 bytes
 abbrev pub generator_of : ℕ → Lcg
@@ -36,10 +35,3 @@ AreDrawn p s limit word c = (k chance : ℕ) → k < length c →
 pub record IsDrawn (p : Program) (s : State) (limit : ℕ) (word : ℕ → ℕ) (c : List Bool) : Type 0 where
   pub whole : IsWhole p s limit c
   pub drawn : AreDrawn p s limit word c
-
--- for private contracts: the machine has made n steps from old along the run whose choices the generator drew
-pub record Draws (limit seed : ℕ) (old : Machine) (c : List Bool) (generator : Lcg) (new : Machine) (n : ℕ)
-    : Type 0 where
-  pub generator_is : generator ≡ generator_after (length c) (generator_of seed)
-  pub runs : RunsTo limit old c new n
-  pub drawn : AreDrawn old.program old.state limit (word_of seed) c

@@ -5,7 +5,7 @@
 //! |---|---|
 //! | `ordinary` | one run with given choices |
 //! | `draws`, `seeded` | one run whose choices a seed draws |
-//! | `chooser` | the choices of a run, from a list or a seed |
+//! | `chooser`, `drive` | the choices of a run, from a list or a seed, and a run by them |
 //! | `feeds` | a source of bytes as the input of a machine |
 //! | `turn`, `streamed` | one run whose input and output are streams |
 //! | `laws` | the law of draws |
@@ -13,6 +13,7 @@
 
 mod chooser;
 mod draws;
+mod drive;
 mod feeds;
 mod laws;
 mod ordinary;

@@ -7,9 +7,11 @@ ghost use Rattle.ick_backtrack.specs.Asked.{finish_of};
 ghost use Rattle.ick_explorer.specs.Runs.{run};
 ghost use Rattle.ick_runs.specs.Ordinary.{IsRan, IgnoresUnused, HasEnded, IsWanting};
 
+use crate::chooser::Chooser;
+use crate::drive::drive;
 use ick_bits::NoMemory;
 use ick_code::Code;
-use ick_machine::{Ask, Asks, Backtrack, End, Trailed};
+use ick_machine::{Asks, Backtrack, End, Trailed};
 use std::alloc::Global;
 
 /// Holds the result of a run with given choices.
@@ -60,8 +62,8 @@ fn wanting<'c, M: Backtrack>(alloc: Global, machine: &M, steps: u32) -> Result<R
 /// Runs a machine from its state with given choices, for at most `limit` steps (this profile).
 /// Unused choices change nothing.
 ///
-/// The machine's count of work must have `limit` left. The answer is `NoMemory` if the machine or
-/// the texts of the answer can't grow.
+/// The machine's count of work must have `limit` left. The answer is `NoMemory` if the machine, the
+/// list of used choices or the texts of the answer can't grow.
 pub fn run_from<'c, M: Asks<'c>>(
     alloc: Global,
     machine: M,
@@ -75,27 +77,11 @@ pub fn run_from<'c, M: Asks<'c>>(
         IgnoresUnused (M.seen machine).program (M.seen machine).state limit choices.now r) }
 {
     let mut machine = machine;
-    let mut steps = 0;
-    let mut used = 0;
-    'along: loop {
-        let asked = machine.asks();
-        if let Ask::Ended(end) = asked {
-            return ended(alloc, &machine, end, used, steps);
-        }
-        if steps == limit {
-            return ended(alloc, &machine, End::Limit, used, steps);
-        }
-        if let Ask::Choice(_) = asked {
-            if used == choices.len() {
-                return wanting(alloc, &machine, steps);
-            }
-            machine.step(choices[used])?;
-            used += 1;
-            steps += 1;
-            continue;
-        }
-        let made = machine.run(limit - steps)?;
-        steps += made;
+    let mut used = Vec::new(alloc);
+    let (steps, end) = drive(&mut machine, limit, Chooser::Listed(choices), &mut used)?;
+    match end {
+        Some(end) => ended(alloc, &machine, end, used.len(), steps),
+        None => wanting(alloc, &machine, steps),
     }
 }
 

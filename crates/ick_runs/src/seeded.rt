@@ -8,12 +8,12 @@ ghost use Rattle.ick_explorer.specs.Runs.{run};
 ghost use Rattle.ick_runs.specs.Ordinary.{IsRan, HasEnded, UsesAll};
 ghost use Rattle.ick_runs.specs.Draws.{IsDrawn, word_of};
 
-use crate::draws::{drawn, generator};
+use crate::chooser::Chooser;
+use crate::drive::drive;
 use crate::ordinary::{Ran, ended};
 use ick_bits::NoMemory;
 use ick_code::Code;
-use ick_machine::{Ask, Asks, Backtrack, End, Trailed};
-use rand_core::utils::NextWord;
+use ick_machine::{Asks, Backtrack, End, Trailed};
 use std::alloc::Global;
 
 /// Holds a run that ended, and the choices that a seed drew for it. The run used all of these
@@ -62,26 +62,11 @@ pub fn run_seeded_from<'c, M: Asks<'c>>(
         (run (M.seen machine).program (M.seen machine).state limit d.choices.items) d.ran) }
 {
     let mut machine = machine;
-    let mut generator = generator(seed);
     let mut choices = Vec::new(alloc);
-    let mut steps = 0;
-    'along: loop {
-        let asked = machine.asks();
-        if let Ask::Ended(end) = asked {
-            return drawn_run(alloc, &machine, end, choices, steps);
-        }
-        if steps == limit {
-            return drawn_run(alloc, &machine, End::Limit, choices, steps);
-        }
-        if let Ask::Choice(chance) = asked {
-            let done = drawn(generator.next_word(), chance);
-            choices.push(done)?;
-            machine.step(done)?;
-            steps += 1;
-            continue;
-        }
-        let made = machine.run(limit - steps)?;
-        steps += made;
+    let (steps, end) = drive(&mut machine, limit, Chooser::Seeded(seed), &mut choices)?;
+    match end {
+        Some(end) => drawn_run(alloc, &machine, end, choices, steps),
+        None => unreachable!(),
     }
 }
 

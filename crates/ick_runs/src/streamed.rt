@@ -12,9 +12,9 @@ ghost use Rattle.ick_runs.specs.Streaming.{Stops};
 ghost use Rattle.ick_explorer.specs.Writes.{write_failures};
 
 use crate::chooser::{Chooser, Picker};
-use ick_explorer::{ByteSink, ByteSource, RunsError};
 use crate::turn::{stride, turn};
 use ick_code::Code;
+use ick_explorer::{ByteSink, ByteSource, RunsError};
 use ick_machine::{EndKind, Live, LiveAsk};
 use std::alloc::Global;
 

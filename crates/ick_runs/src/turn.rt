@@ -11,8 +11,8 @@ ghost use Rattle.ick_runs.specs.Streams.{source_failures};
 ghost use Rattle.ick_runs.specs.Streaming.{Turns, Strides};
 ghost use Rattle.ick_explorer.specs.Writes.{write_failures};
 
-use ick_explorer::{ByteSink, ByteSource, RunsError, write_whole};
 use crate::feeds::SourceFeed;
+use ick_explorer::{ByteSink, ByteSource, RunsError, write_whole};
 use ick_machine::Live;
 
 /// Makes a step, which takes its input from `reader`. The answer is `NoMemory` or `Read` if the
