@@ -10,7 +10,7 @@ use std::alloc::{AllocError, AllocFailed};
 use thiserror::Error;
 
 /// Tells why a call was refused. Each reason has a number, from 1 on.
-#[derive(Clone, Copy, Debug, Error)]
+#[derive(Clone, Copy, Debug, PartialEq, Eq, Error)]
 pub enum RunsError {
     /// Tells that the call ran out of memory.
     #[error("out of memory")]

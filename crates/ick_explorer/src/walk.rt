@@ -243,8 +243,7 @@ fn find_first<'c, M: Asks<'c>>(
         (M.seen machine.old) (M.seen machine.new) path.new.choices path.new.points.items
         r.0 (finish_of r.1)) }
 {
-    let (steps, end) = go_down(machine, path, limit, 0)?;
-    Ok((steps, end))
+    go_down(machine, path, limit, 0)
 }
 
 /// Moves to the run after the run that the path names, and returns its number of steps and its end.
@@ -271,8 +270,7 @@ fn find_next<'c, M: Asks<'c>>(
         r.0 (finish_of r.1)) }
 {
     let turned = turn_back(machine, path, limit)?;
-    let (steps, end) = go_down(machine, path, limit, turned)?;
-    Ok((steps, end))
+    go_down(machine, path, limit, turned)
 }
 
 /// Moves to the run after the explorer's position, and returns its number of steps and its end. The
@@ -303,8 +301,8 @@ pub(crate) fn find<'c, M: Asks<'c>>(
         r.0 (finish_of r.1)) }
 {
     match progress {
-        Progress::Fresh => Ok(find_first(machine, path, limit)?),
-        Progress::Given => Ok(find_next(machine, path, limit)?),
+        Progress::Fresh => find_first(machine, path, limit),
+        Progress::Given => find_next(machine, path, limit),
         Progress::Spent => unreachable!(),
     }
 }

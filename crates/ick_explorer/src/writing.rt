@@ -115,6 +115,8 @@ fn write_lines<'c, M: Asks<'c>, W: ByteSink>(
 /// `LIMIT` or `Ennn@j`. In `Ennn@j`, `nnn` is the number of the fault and `j` the number of its
 /// statement.
 ///
+/// The writer's count of failures must be below its greatest value.
+///
 /// Each refusal leaves the earlier lines written whole:
 ///
 /// - `Failed` if the explorer had failed. Nothing is written and nothing changes.

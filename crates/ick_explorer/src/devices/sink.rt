@@ -23,6 +23,8 @@ pub trait ByteSink {
     /// Writes some bytes of the front of `text`, and returns their number. The number is at least 1
     /// if `text` isn't empty. An `Err` raises the count of failures by one and writes no byte. An
     /// `Ok` leaves the count unchanged.
+    ///
+    /// The count of failures must be below its greatest value.
     fn write(&mut self, text: &[u8]) -> Result<usize, DeviceFault>
         requires { failed self.old + 1 < 2 ^ 64 }
         ensures count { failed self.new ≡ failed self.old + (if is_ok result then 0 else 1) }

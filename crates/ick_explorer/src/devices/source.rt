@@ -26,6 +26,8 @@ pub trait ByteSource {
     /// Reads some bytes into the front of `target`, and returns their number. The answer 0 for a
     /// target that isn't empty means the end of the input. An `Err` raises the count of failures by
     /// one and takes no byte. An `Ok` leaves the count unchanged.
+    ///
+    /// The count of failures must be below its greatest value.
     fn read(&mut self, target: &mut [u8]) -> Result<usize, DeviceFault>
         requires { failed self.old + 1 < 2 ^ 64 }
         ensures count { failed self.new ≡ failed self.old + (if is_ok result then 0 else 1) }

@@ -20,6 +20,8 @@ pub enum ReadFault {
 /// Reads the first `most` bytes of a source, or all its bytes if it has fewer. The answer is
 /// `Failed` if a read fails, and then exactly one read has failed. The answer is `NoMemory` if the
 /// text can't grow. Each turn of the loop gains a byte or is the last.
+///
+/// The source's count of failures must be below its greatest value.
 pub fn read_first<R: ByteSource>(
     alloc: Global,
     source: &mut R,
@@ -52,6 +54,8 @@ pub fn read_first<R: ByteSource>(
 
 /// Writes a text whole. If a write fails, the answer is `DeviceFault`, and a prefix of the text is
 /// written. Each turn of the loop gains a byte or is the last.
+///
+/// The sink's count of failures must be below its greatest value.
 pub fn write_whole<W: ByteSink>(sink: &mut W, text: &[u8]) -> Result<(), DeviceFault>
     requires { W.failed sink.old + 1 < 2 ^ 64 }
     ensures count { W.failed sink.new ≡ W.failed sink.old + (if is_ok result then 0 else 1) }
