@@ -1,0 +1,38 @@
+use Rattle.std.proofs.Common.{◌≡◌, ℕ, ◌+◌, ◌-◌, ◌<◌, ◌≤◌, ◌++◌, [], ◌∷◌, sym, ap, ◌∙◌, subst, arith, length, get_or, Fits, w32}
+use Rattle.ick_engine.specs.declared.change.Entry.TheVariants.{Return}
+use Rattle.ick_engine.specs.Undo.{Rewinds}
+use Rattle.ick_engine.proofs.Undoing.{notes_return}
+use Rattle.ick_engine.proofs.trail.Trail.keep_returns.Goals as goal
+
+pub returns-preserved : goal.returns-preserved
+returns-preserved c =
+    let old = c.returns.invariant in
+    let pushed = c.push_reserved.ensures in
+    let t = c.returns.self in
+    let base = c.args.self.now.base in
+    let next : t.low ≡ t.low - 1 + 1 = omega arith in
+    let there : t.low - 1 < length c.args.returns.now = omega (arith, old.lower, c.requires.there, c.requires.stack) in
+    record {
+      room = omega (arith, old.room, pushed.len, pushed.capacity);
+      lower = omega (arith, old.lower);
+      base = old.base;
+      notes = λ k v m same h.
+          subst (λ es. Rewinds base es (t.low - 1) k v m)
+          (ap (λ n. t.entries.items ++ Return (t.low - 1) n ∷ []) (ap (λ l. get_or l (t.low - 1) 0) same)
+          ∙ sym pushed.items)
+          (notes_return base t.entries.items t.low (t.low - 1) k v m next
+          (omega (arith, there, ap length same)) (old.notes k v m same h));
+    }
+
+pub overflow_cast-at : goal.overflow_cast-at
+overflow_cast-at c =
+    let few : c.returns.self.low - 1 ≤ 79 = omega (arith, c.returns.invariant.lower, c.requires.there) in
+    few_fits (c.returns.self.low - 1) few
+  where
+    few_fits : (n : ℕ) → n ≤ 79 → Fits w32 n
+    few_fits n few = omega arith
+
+pub returns-clause-notes : goal.returns-clause-notes
+returns-clause-notes c = λ k v m same h.
+    let inv = c.returns.invariant in
+    subst (λ b. Rewinds b c.returns.self.entries.items c.returns.self.low k v m) (sym inv.base) (inv.notes k v m same h)

@@ -1,0 +1,18 @@
+use Rattle.std.proofs.Common.{◌≡◌, ◌-◌, ◌≤◌, ℕ, vec_len, vec_capacity}
+use Rattle.ick_engine.specs.Undo.{Rewinds}
+use Rattle.ick_engine.specs.View.{View}
+use Rattle.ick_engine.proofs.trail.Trail.keep_returns.Given as goal
+
+abbrev pub invariant-returns : goal.invariant-returns
+invariant-returns l = record {
+  room : l.self.low ≤ vec_capacity l.self.entries - vec_len l.self.entries;
+  lower : l.self.low ≤ l.initial.self.low;
+  base : l.self.base ≡ l.initial.self.base;
+  notes : (k : ℕ) (v m : View) →
+      v.returns ≡ l.returns →
+      Rewinds l.initial.self.base l.initial.self.entries.items l.initial.self.low k v m →
+      Rewinds l.initial.self.base l.self.entries.items l.self.low k v m;
+}
+
+abbrev pub decreases-returns : goal.decreases-returns
+decreases-returns l = l.self.low

@@ -1,0 +1,23 @@
+use Rattle.std.proofs.Common.{◌++◌, [], ◌∷◌, sym, ap, subst, arith, length, get_or}
+use Rattle.std.specs.Prelude.{slice_set}
+use Rattle.ick_engine.specs.declared.change.Entry.TheVariants.{Register}
+use Rattle.ick_engine.specs.Undo.{Rewinds}
+use Rattle.ick_engine.proofs.Undoing.{notes_register, skips_register}
+use Rattle.ick_engine.proofs.trail.TrailNotes.note_register.Goals as goal
+
+pub returns-then-at-self-clause-notes : goal.returns-then-at-self-clause-notes
+returns-then-at-self-clause-notes c = λ k number v m same h.
+    let t = c.args.self.now in
+    subst
+    (λ es. Rewinds t.base es t.low k (record v { registers = slice_set c.args.registers.now c.args.at number }) m)
+    (sym c.push_reserved.ensures.items)
+    (subst (λ l. Rewinds t.base (t.entries.items ++ Register c.args.at (get_or l c.args.at 0) ∷ []) t.low k
+    (record v { registers = slice_set l c.args.at number }) m) same
+    (notes_register t.base t.entries.items t.low k c.args.at number v m c.if-at-self.true
+    (omega (arith, c.requires.there, ap length same)) h))
+
+pub returns-else-at-self-clause-notes : goal.returns-else-at-self-clause-notes
+returns-else-at-self-clause-notes c = λ k number v m same h.
+    let t = c.args.self.now in
+    subst (λ l. Rewinds t.base t.entries.items t.low k (record v { registers = slice_set l c.args.at number }) m) same
+    (skips_register t.base t.entries.items t.low k c.args.at number v m c.if-at-self.false h)

@@ -1,0 +1,128 @@
+//! Marks: states that a run can go back to.
+
+ghost use Rattle.std.specs.Prelude.{◌≡◌, ◌≤◌, ℕ, map, slice_set, take};
+ghost use Rattle.ick_engine.specs.Memory.{view_in};
+ghost use Rattle.ick_engine.specs.Steady.{IsReady};
+ghost use Rattle.ick_engine.specs.Undo.{undone, with_number, IsRestored, Rewinds};
+ghost use Rattle.ick_engine.specs.View.{View, array_of, is_hidden};
+
+use crate::change::Entry;
+use crate::element::set_element;
+use crate::memory::{Array, Memory};
+use crate::trail::Trail;
+use ick_lowering::Lowered;
+
+/// A mark: the place and the depth of the NEXT stack, and how many changes were noted before it.
+#[derive(Clone, Copy)]
+pub struct Mark {
+    pub place: u32,
+    pub depth: usize,
+    pub changes: usize,
+}
+
+/// Marks the state of a run. What can be undone up to an older mark still can.
+pub fn make_mark(trail: &mut Trail, memory: &Memory) -> Mark
+    requires { trail.old.low ≤ memory.now.cursor.depth }
+    ensures place { result.place ≡ memory.now.cursor.place }
+    ensures depth { result.depth ≡ memory.now.cursor.depth }
+    ensures low { trail.new.low ≡ memory.now.cursor.depth }
+    ensures base { trail.new.base ≡ trail.old.base }
+    ensures marked { Rewinds trail.new.base trail.new.entries.items trail.new.low result.changes
+        (view_in memory.now) (view_in memory.now) }
+    ensures older { (k : ℕ) (m : View) →
+        Rewinds trail.old.base trail.old.entries.items trail.old.low k (view_in memory.now) m →
+        Rewinds trail.new.base trail.new.entries.items trail.new.low k (view_in memory.now) m }
+{
+    trail.low = memory.cursor.depth;
+    Mark {
+        place: memory.cursor.place,
+        depth: memory.cursor.depth,
+        changes: trail.entries.len(),
+    }
+}
+
+/// Puts a number back, if there is such a place.
+fn put_back(numbers: &mut Vec<u32>, at: u32, old: u32)
+    ensures { numbers.new.items ≡ slice_set numbers.old.items at old }
+{
+    if (at as usize) < numbers.len() {
+        numbers[at as usize] = old;
+    }
+}
+
+/// Puts a status back, if there is such a place.
+fn put_status(statuses: &mut Vec<u8>, at: u32, old: u8)
+    ensures { statuses.new.items ≡ slice_set statuses.old.items at old }
+{
+    if (at as usize) < statuses.len() {
+        statuses[at as usize] = old;
+    }
+}
+
+/// Puts the number of an element back, if there is such an element.
+fn put_element(arrays: &mut Vec<Array>, slot: u32, at: u32, old: u32)
+    ensures arrays { map array_of arrays.new.items
+        ≡ with_number (map array_of arrays.old.items) slot at old }
+    ensures hidden { map is_hidden arrays.new.items ≡ map is_hidden arrays.old.items }
+{
+    if slot as usize >= arrays.len() {
+        return;
+    }
+    if at as usize >= arrays[slot as usize].elements.len() {
+        return;
+    }
+    set_element(arrays, slot, at, old);
+}
+
+/// Undoes a change.
+fn undo(memory: &mut Memory, entry: Entry)
+    ensures { view_in memory.new ≡ undone entry (view_in memory.old) }
+{
+    match entry {
+        Entry::Register(at, old) => put_back(&mut memory.registers, at, old),
+        Entry::Home(at, old) => put_back(&mut memory.home, at, old),
+        Entry::Status(at, old) => put_status(&mut memory.statuses, at, old),
+        Entry::Return(at, old) => put_back(&mut memory.returns, at, old),
+        Entry::Element(slot, at, old) => put_element(&mut memory.rest.arrays, slot, at, old),
+    }
+}
+
+/// Goes back to a mark: undoes all changes noted since, and takes them off the trail. The number of
+/// steps left stays.
+pub fn back(trail: &mut Trail, mark: Mark, memory: &mut Memory, program: &Lowered<'_, '_>)
+    requires base { trail.old.base ≡ program.now.parts.layout.base }
+    requires ready { IsReady program.now.code.now program.now.parts (view_in memory.old) }
+    ensures back { (m : View) → m.place ≡ mark.place → m.depth ≡ mark.depth →
+        IsReady program.now.code.now program.now.parts m →
+        Rewinds trail.old.base trail.old.entries.items trail.old.low mark.changes
+        (view_in memory.old) m →
+        IsRestored program.now.code.now program.now.parts m (view_in memory.new) }
+    ensures entries { trail.new.entries.items ≡ take mark.changes trail.old.entries.items }
+    ensures low { trail.new.low ≡ mark.depth }
+    ensures base { trail.new.base ≡ trail.old.base }
+{
+    program.law();
+    let code = program.code;
+    code.law();
+    'changes: while trail.entries.len() > mark.changes {
+        if let Some(entry) = trail.entries.pop() {
+            undo(memory, entry);
+        }
+    }
+    trail.low = mark.depth;
+    memory.cursor.place = mark.place;
+    memory.cursor.depth = mark.depth;
+}
+
+/// States that the newest mark can be dropped: if an older mark could be gone back to from the state
+/// of the newer one, it can be gone back to from the present state.
+pub fn drop_mark(trail: &Trail, newer: Mark, older: Mark)
+    ensures { (v m n : View) → Rewinds trail.now.base trail.now.entries.items trail.now.low
+        newer.changes v m →
+        Rewinds trail.now.base (take newer.changes trail.now.entries.items) m.depth older.changes
+        m n → Rewinds trail.now.base trail.now.entries.items trail.now.low older.changes v n }
+{
+    let _ = trail;
+    let _ = newer;
+    let _ = older;
+}

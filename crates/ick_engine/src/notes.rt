@@ -1,0 +1,135 @@
+//! Who notes changes.
+
+ghost use Rattle.std.specs.Bool.{OnTrue};
+ghost use Rattle.std.specs.Prelude.{◌≡◌, ◌+◌, ◌<◌, ◌≤◌, ◌^◌, ℕ, length, map};
+ghost use Rattle.std.proofs.Common.{get_or};
+ghost use Rattle.ick_code.specs.meaning.State.{no_array};
+ghost use Rattle.ick_engine.specs.Undo.{AlikeUndo, NotesElement, NotesHome, NotesRegister};
+ghost use Rattle.ick_engine.specs.Undo.{NotesReturns, NotesStatus};
+ghost use Rattle.ick_engine.specs.View.{View, array_of};
+
+use crate::memory::Array;
+
+/// Notes changes before they are made, so that they can be undone.
+pub trait Notes: Drop {
+    /// How many changes can still be noted.
+    ghost room: { Self → ℕ };
+
+    /// The return addresses below this depth are those of the newest mark.
+    ghost low: { Self → ℕ };
+
+    /// Registers from this one on are never restored.
+    ghost base: { Self → ℕ };
+
+    /// Undoing all changes but the first ones leads from a view to one like another.
+    ghost Undoes: { Self → ℕ → View → View → Type 0 };
+
+    /// Returns whether so many changes can still be noted.
+    fn has_room(&self, changes: usize) -> bool
+        ensures { OnTrue result (changes ≤ room self.now) };
+
+    /// States that nothing else than the places that can be noted matters.
+    fn law(&self)
+        ensures { AlikeUndo Undoes self.now (base self.now) (low self.now) };
+
+    /// Notes that a register will change.
+    fn note_register(&mut self, registers: &[u32], at: u32)
+        requires room { 0 < room self.old }
+        requires there { at < length registers.now }
+        ensures room { room self.old ≤ room self.new + 1 }
+        ensures low { low self.new ≡ low self.old }
+        ensures base { base self.new ≡ base self.old }
+        ensures notes { NotesRegister Undoes self.old self.new at registers.now };
+
+    /// Notes that a register will lead to another one.
+    fn note_home(&mut self, home: &[u32], at: u32)
+        requires room { 0 < room self.old }
+        requires there { at < length home.now }
+        ensures room { room self.old ≤ room self.new + 1 }
+        ensures low { low self.new ≡ low self.old }
+        ensures base { base self.new ≡ base self.old }
+        ensures notes { NotesHome Undoes self.old self.new at home.now };
+
+    /// Notes that a statement will have another status.
+    fn note_status(&mut self, statuses: &[u8], at: u32)
+        requires room { 0 < room self.old }
+        requires there { at < length statuses.now }
+        ensures room { room self.old ≤ room self.new + 1 }
+        ensures low { low self.new ≡ low self.old }
+        ensures base { base self.new ≡ base self.old }
+        ensures notes { NotesStatus Undoes self.old self.new at statuses.now };
+
+    /// Notes that an element will have another number.
+    fn note_element(&mut self, arrays: &[Array], slot: u32, at: u32)
+        requires room { 0 < room self.old }
+        requires slot { slot < length arrays.now }
+        requires at { at < length (get_or (map array_of arrays.now) slot no_array).elements }
+        ensures room { room self.old ≤ room self.new + 1 }
+        ensures low { low self.new ≡ low self.old }
+        ensures base { base self.new ≡ base self.old }
+        ensures notes { NotesElement Undoes self.old self.new slot at (map array_of arrays.now) };
+
+    /// Notes that the return addresses from a depth on will be dropped.
+    fn note_dropped(&mut self, returns: &[u32], depth: usize)
+        requires room { 79 ≤ room self.old }
+        requires stack { length returns.now ≡ 79 }
+        requires there { low self.old ≤ 79 }
+        ensures low { low self.new ≤ depth }
+        ensures lower { low self.new ≤ low self.old }
+        ensures base { base self.new ≡ base self.old }
+        ensures notes { NotesReturns Undoes self.old self.new returns.now };
+}
+
+/// Notes nothing.
+#[derive(Drop)]
+pub struct Nobody;
+
+impl Notes for Nobody {
+    ghost room = { λ _. 2 ^ 64 };
+
+    ghost low = { λ _. 0 };
+
+    ghost base = { λ _. 0 };
+
+    ghost Undoes = { λ _ _ _ _. Unit {0} };
+
+    #[inline(always)]
+    fn has_room(&self, changes: usize) -> bool {
+        let _ = changes;
+        true
+    }
+
+    #[inline(always)]
+    fn law(&self) {}
+
+    #[inline(always)]
+    fn note_register(&mut self, registers: &[u32], at: u32) {
+        let _ = registers;
+        let _ = at;
+    }
+
+    #[inline(always)]
+    fn note_home(&mut self, home: &[u32], at: u32) {
+        let _ = home;
+        let _ = at;
+    }
+
+    #[inline(always)]
+    fn note_status(&mut self, statuses: &[u8], at: u32) {
+        let _ = statuses;
+        let _ = at;
+    }
+
+    #[inline(always)]
+    fn note_element(&mut self, arrays: &[Array], slot: u32, at: u32) {
+        let _ = arrays;
+        let _ = slot;
+        let _ = at;
+    }
+
+    #[inline(always)]
+    fn note_dropped(&mut self, returns: &[u32], depth: usize) {
+        let _ = returns;
+        let _ = depth;
+    }
+}

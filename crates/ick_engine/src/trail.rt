@@ -1,0 +1,132 @@
+//! A trail of changes, which can be undone.
+
+ghost use Rattle.std.specs.Prelude.{◌≡◌, ◌-◌, ◌<◌, ◌≤◌, ℕ, [], length, map, OnOk};
+ghost use Rattle.std.specs.Prelude.{vec_len, vec_capacity};
+ghost use Rattle.std.proofs.Common.{get_or};
+ghost use Rattle.ick_code.specs.meaning.State.{no_array};
+ghost use Rattle.ick_engine.specs.Undo.{Rewinds};
+ghost use Rattle.ick_engine.specs.View.{View, array_of};
+
+use crate::change::Entry;
+use crate::memory::Array;
+use crate::notes::Notes;
+use ick_bits::NoMemory;
+use std::alloc::Global;
+
+/// Changes, the newest last, the least depth of the NEXT stack since the newest mark, and the first
+/// temporary register. Temporaries, and what is behind them, are never noted.
+#[derive(Drop)]
+pub struct Trail {
+    pub(crate) entries: Vec<Entry>,
+    pub(crate) low: usize,
+    pub(crate) base: u32,
+}
+
+impl Trail {
+    /// Returns a trail without changes, of a program whose first temporary register is `base`.
+    pub fn new(alloc: Global, base: u32) -> Trail
+        ensures empty { result.entries.items ≡ [] }
+        ensures low { result.low ≡ 0 }
+        ensures base { result.base ≡ base }
+    {
+        Trail {
+            entries: Vec::new(alloc),
+            low: 0,
+            base,
+        }
+    }
+
+    /// Makes room for so many changes. Nothing else changes, also if memory runs out.
+    pub fn reserve(&mut self, changes: usize) -> Result<(), NoMemory>
+        ensures entries { self.new.entries.items ≡ self.old.entries.items }
+        ensures low { self.new.low ≡ self.old.low }
+        ensures base { self.new.base ≡ self.old.base }
+        ensures room { OnOk result (changes ≤
+            vec_capacity self.new.entries - vec_len self.new.entries) }
+    {
+        self.entries.reserve(changes)?;
+        Ok(())
+    }
+
+    /// Notes the return addresses from a depth on that aren't noted yet.
+    #[cold]
+    #[inline(never)]
+    fn keep_returns(&mut self, returns: &[u32], depth: usize)
+        requires room { 79 ≤ vec_capacity self.old.entries - vec_len self.old.entries }
+        requires stack { length returns.now ≡ 79 }
+        requires there { self.old.low ≤ 79 }
+        ensures low { self.new.low ≤ depth }
+        ensures lower { self.new.low ≤ self.old.low }
+        ensures base { self.new.base ≡ self.old.base }
+        ensures notes { (k : ℕ) (v m : View) → v.returns ≡ returns.now →
+            Rewinds self.old.base self.old.entries.items self.old.low k v m →
+            Rewinds self.new.base self.new.entries.items self.new.low k v m }
+    {
+        'returns: while self.low > depth {
+            self.low -= 1;
+            let at = self.low;
+            self.entries
+                .push_reserved(Entry::Return(at as u32, returns[at]));
+        }
+    }
+}
+
+impl Notes for Trail {
+    ghost room = { λ t. vec_capacity t.entries - vec_len t.entries };
+
+    ghost low = { λ t. t.low };
+
+    ghost base = { λ t. t.base };
+
+    ghost Undoes = { λ t k v m. Rewinds t.base t.entries.items t.low k v m };
+
+    #[inline(always)]
+    fn has_room(&self, changes: usize) -> bool {
+        self.entries.capacity() - self.entries.len() >= changes
+    }
+
+    #[inline(always)]
+    fn law(&self) {}
+
+    #[inline(always)]
+    fn note_register(&mut self, registers: &[u32], at: u32) {
+        if at < self.base {
+            let old = registers[at as usize];
+            self.entries.push_reserved(Entry::Register(at, old));
+        }
+    }
+
+    #[inline(always)]
+    fn note_home(&mut self, home: &[u32], at: u32) {
+        let old = home[at as usize];
+        self.entries.push_reserved(Entry::Home(at, old));
+    }
+
+    #[inline(always)]
+    fn note_status(&mut self, statuses: &[u8], at: u32) {
+        let old = statuses[at as usize];
+        self.entries.push_reserved(Entry::Status(at, old));
+    }
+
+    #[inline(always)]
+    fn note_element(&mut self, arrays: &[Array], slot: u32, at: u32) {
+        let old = element_of(arrays, slot, at);
+        self.entries.push_reserved(Entry::Element(slot, at, old));
+    }
+
+    #[inline(always)]
+    fn note_dropped(&mut self, returns: &[u32], depth: usize) {
+        if depth < self.low {
+            self.keep_returns(returns, depth);
+        }
+    }
+}
+
+/// Returns the number of an element.
+fn element_of(arrays: &[Array], slot: u32, at: u32) -> u32
+    requires slot { slot < length arrays.now }
+    requires at { at < length (get_or (map array_of arrays.now) slot no_array).elements }
+    ensures { result ≡ get_or (get_or (map array_of arrays.now) slot no_array).elements at 0 }
+{
+    arrays[slot as usize].elements[at as usize]
+}
