@@ -1,12 +1,18 @@
 -- Words of the contracts of feeds.
-use Rattle.std.specs.Prelude.{ℕ, ◌≡◌, Bool, true, List, [], slice_range, Option, Some, None, Result, Ok, Err}
+use Rattle.std.specs.Prelude.{ℕ, ◌≡◌, ◌<◌, Bool, true, List, [], slice_range, Option, Some, None, Result, Ok, Err}
+use Rattle.std.specs.Prelude.{if◌then◌else◌}
 use Rattle.std.proofs.Common.{false, refl, sym}
 use Rattle.std.proofs.lemmas.Bool.{false≢true}
 use Rattle.ick_bits.specs.declared.digits.DigitFault.{DigitFault}
 use Rattle.ick_bits.specs.declared.digits.DigitFault.TheVariants.{Word, TooLarge as TooLargeNumber}
+use Rattle.ick_source.specs.declared.kinds.Kind.TheVariants.{WriteIn}
+use Rattle.ick_code.specs.meaning.State.{State}
+use Rattle.ick_code.specs.Laws.{kind_at}
 use Rattle.ick_memory.specs.View.{Input}
 use Rattle.ick_machine.specs.declared.reader.Line.{Line}
 use Rattle.ick_machine.specs.declared.reader.Line.TheVariants.{Number, TooLarge, BadWord}
+use Rattle.ick_backtrack.specs.Machine.{Program}
+use Rattle.ick_backtrack.specs.Steps.{IsQuiet, RunsOn}
 use Rattle.ick_backtrack.specs.declared.feed_fault.FeedFault.{FeedFault}
 use Rattle.ick_backtrack.specs.declared.feed_fault.FeedFault.TheVariants.{NoMemory, Read}
 
@@ -60,3 +66,20 @@ some_left told false line left over = (
     none_left = λ ended place. absurd (false≢true ended);
   },
 )
+
+-- 1 for true, 0 for false
+abbrev pub one_if : Bool → ℕ
+one_if flag = if flag then 1 else 0
+
+-- a WRITE IN is the next statement
+abbrev pub MeetsInput : Program → State → Type 0
+MeetsInput program s = kind_at program s ≡ Some WriteIn
+
+-- after fewer steps than the limit, before each of which the run goes on by itself, a WRITE IN is the next statement
+pub record LeadsToInput (program : Program) (s : State) (limit : ℕ) : Type 0 where
+  pub steps : ℕ
+  pub within : steps < limit
+  pub state : State
+  pub runs : RunsOn IsQuiet program s steps state
+  pub quiet : IsQuiet program state
+  pub meets : MeetsInput program state

@@ -1,10 +1,10 @@
 //! A feed as the input of a step.
 
 ghost use Rattle.std.specs.Prelude.{◌≡◌, ◌+◌, ◌-◌, ◌<◌, ◌^◌, ◌∷◌, ℕ};
-ghost use Rattle.std.specs.Prelude.{List, [], true, false, Some, None, IsOk, OnOk};
+ghost use Rattle.std.specs.Prelude.{List, [], true, false, Some, None, Err, IsOk, OnOk};
 ghost use Rattle.ick_bits.specs.Digits.{line_answer};
 ghost use Rattle.ick_machine.specs.Feeds.{MayBeLeft, feed_failures, reads_failed, some_left};
-ghost use Rattle.ick_machine.specs.Feeds.{line_with};
+ghost use Rattle.ick_machine.specs.Feeds.{line_with, one_if};
 
 use crate::feed::Feed;
 use crate::reader::{Line, Reader};
@@ -12,33 +12,38 @@ use ick_backtrack::FeedFault;
 use ick_bits::{DigitFault, NoMemory, digits_value};
 
 /// Reads the input of a step from a feed. Once no input was left, or a read has failed, the feed
-/// isn't asked again.
+/// isn't asked again. It is never asked unless the step meets a WRITE IN.
 #[derive(Drop)]
 pub struct FeedReader<'f, F: Feed> {
     feed: &'f mut F,
     /// The last line that was read.
     line: &'f mut Vec<u8>,
+    /// Whether the step meets a WRITE IN.
+    allowed: bool,
     ended: bool,
     fault: Option<FeedFault>,
+    ghost shut: { allowed ≡ false → fault ≡ None },
     ghost room: { fault ≡ None → F.failed feed.now + 1 < 2 ^ 64 },
     ghost over: { ended ≡ true → F.told ≡ true → F.left feed.now ≡ [] },
 }
 
 impl<'f, F: Feed> FeedReader<'f, F> {
-    /// A reader of a feed, whose lines go to `line`. The feed's count of failures must be below its
-    /// greatest value.
-    pub fn new(feed: &'f mut F, line: &'f mut Vec<u8>) -> FeedReader<'f, F>
+    /// A reader of a feed, whose lines go to `line`. The feed isn't asked unless `allowed` is true.
+    /// Its count of failures must be below its greatest value.
+    pub fn new(feed: &'f mut F, line: &'f mut Vec<u8>, allowed: bool) -> FeedReader<'f, F>
         requires { F.failed feed.old + 1 < 2 ^ 64 }
         ensures feed { result.feed.ghost_name ≡ feed.entry.ghost_name }
         ensures feed_now { result.feed.now ≡ feed.old }
         ensures line { result.line.ghost_name ≡ line.entry.ghost_name }
         ensures line_now { result.line.now ≡ line.old }
+        ensures allowed { result.allowed ≡ allowed }
         ensures ended { result.ended ≡ false }
         ensures fault { result.fault ≡ None }
     {
         FeedReader {
             feed,
             line,
+            allowed,
             ended: false,
             fault: None,
         }
@@ -48,6 +53,7 @@ impl<'f, F: Feed> FeedReader<'f, F> {
     pub fn outcome(&self, stepped: Result<(), NoMemory>) -> Result<(), FeedFault>
         ensures ok { OnOk result (IsOk stepped) }
         ensures count { feed_failures result ≡ reads_failed self.now.fault }
+        ensures reads { result ≡ Err FeedFault.Read → self.now.allowed ≡ true }
     {
         match self.fault {
             Some(fault) => Err(fault),
@@ -60,12 +66,13 @@ impl<F: Feed> Reader for FeedReader<'_, F> {
     ghost Has = { λ reader input. MayBeLeft F.told reader.ended reader.line.now.items
         (F.left reader.feed.now) input };
 
-    // The names of the references, what the feed keeps, and one more than the reads that had failed
-    // before the step.
+    // The names of the references, what the feed keeps, one more than the reads that had failed
+    // before the step, and whether the feed may be asked.
     ghost Held = { List ℕ };
 
     ghost held = { λ reader. reader.feed.ghost_name ∷ reader.line.ghost_name ∷ F.held
-        reader.feed.now ∷ (F.failed reader.feed.now + 1 - reads_failed reader.fault) ∷ [] };
+        reader.feed.now ∷ (F.failed reader.feed.now + 1 - reads_failed reader.fault) ∷
+        one_if reader.allowed ∷ [] };
 
     ghost some = { λ reader. some_left F.told reader.ended reader.line.now.items
         (F.left reader.feed.now) reader.over };
@@ -75,6 +82,9 @@ impl<F: Feed> Reader for FeedReader<'_, F> {
             return Ok(Line::Nothing);
         }
         if self.fault.is_some() {
+            return Err(NoMemory);
+        }
+        if !self.allowed {
             return Err(NoMemory);
         }
         match self.feed.line(self.line) {
@@ -95,6 +105,9 @@ impl<F: Feed> Reader for FeedReader<'_, F> {
             return Ok(None);
         }
         if self.fault.is_some() {
+            return Err(NoMemory);
+        }
+        if !self.allowed {
             return Err(NoMemory);
         }
         match self.feed.byte() {

@@ -35,13 +35,13 @@ pub struct Live<'c, 'a> {
 
 impl<'c, 'a> Live<'c, 'a> {
     ghost use Rattle.std.specs.Prelude.{◌≡◌, ◌+◌, ◌<◌, ◌≤◌, ◌^◌, ◌++◌};
-    ghost use Rattle.std.specs.Prelude.{[], true, false, length};
+    ghost use Rattle.std.specs.Prelude.{[], true, false, length, Err};
     ghost use Rattle.std.specs.Prelude.{IfOk, OnOk, OnErr, vec_len, vec_capacity};
     ghost use Rattle.ick_code.specs.Compiled.{code_program};
     ghost use Rattle.ick_code.specs.meaning.Move.{ask, advance, first_state};
     ghost use Rattle.ick_backtrack.specs.Asked.{IsGoing};
     ghost use Rattle.ick_backtrack.specs.Steps.{IsQuiet, RunsOn, Rests};
-    ghost use Rattle.ick_machine.specs.Feeds.{feed_failures};
+    ghost use Rattle.ick_machine.specs.Feeds.{feed_failures, MeetsInput, LeadsToInput};
     ghost use Rattle.ick_machine.specs.Live.{seen, fed, cleared, live_ask, fault_message};
 
     /// A machine at the start of a program (Revised Manual, 3.1, 3.3). `NoMemory` is answered where
@@ -84,7 +84,8 @@ impl<'c, 'a> Live<'c, 'a> {
     /// Where a choice is asked, `done` is the choice; elsewhere it changes nothing. The machine
     /// must neither have ended nor failed, and the feed's count of failures must be below its
     /// greatest value. After an error it has failed, and its output is as before the step. `Read`
-    /// raises the feed's count of failures by one, and every other answer leaves it.
+    /// raises the feed's count of failures by one, and every other answer leaves it. A step answers
+    /// `Read` only if it meets a WRITE IN.
     #[tactic(auto, unfolding(crate::specs::Live::seen))]
     pub fn step<F: Feed>(&mut self, done: bool, feed: &mut F) -> Result<(), FeedFault>
         requires sound { (seen self.old).failed ≡ false }
@@ -100,6 +101,8 @@ impl<'c, 'a> Live<'c, 'a> {
             (seen self.old).state.output) }
         ensures count { F.failed feed.new ≡ F.failed feed.old + feed_failures result }
         ensures held { F.held feed.new ≡ F.held feed.old }
+        ensures reads { result ≡ Err FeedFault.Read →
+            MeetsInput (seen self.old).program (seen self.old).state }
     {
         let stepped = fed_step(
             self.alloc,
@@ -120,7 +123,8 @@ impl<'c, 'a> Live<'c, 'a> {
     ///
     /// The machine must not have failed, and the feed's count of failures must be below its
     /// greatest value. After an error it has failed, and holds no output. `Read` raises the feed's
-    /// count of failures by one, and every other answer leaves it.
+    /// count of failures by one, and every other answer leaves it. A run answers `Read`
+    /// only if it comes to a WRITE IN.
     #[tactic(auto, unfolding(crate::specs::Live::seen))]
     pub fn run<F: Feed>(&mut self, limit: u32, feed: &mut F) -> Result<u32, FeedFault>
         requires sound { (seen self.old).failed ≡ false }
@@ -139,6 +143,8 @@ impl<'c, 'a> Live<'c, 'a> {
         ensures output { OnErr result ((seen self.new).state.output ≡ []) }
         ensures count { F.failed feed.new ≡ F.failed feed.old + feed_failures result }
         ensures held { F.held feed.new ≡ F.held feed.old }
+        ensures reads { let old = seen self.old in F.told ≡ true → result ≡ Err FeedFault.Read
+            → LeadsToInput old.program (fed (F.left feed.old) old.state) limit }
     {
         let ran = fed_steps(
             self.alloc,
