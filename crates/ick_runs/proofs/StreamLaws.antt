@@ -15,17 +15,18 @@ use Rattle.ick_backtrack.specs.Machine.{Program, Machine}
 use Rattle.ick_backtrack.specs.Asked.{Finish, finished, at_limit, IsGoing}
 use Rattle.ick_backtrack.specs.Steps.{after_steps, IsQuiet, RunsOn}
 use Rattle.ick_machine.specs.LiveAsk.{end_kind_of, live_asked}
+use Rattle.ick_machine.specs.Feeds.{MeetsInput, LeadsToInput}
 use Rattle.ick_machine.specs.Live.{LiveMachine, fed, cleared, live_ask, fault_message}
 use Rattle.ick_machine.specs.Message.{asked_message}
 use Rattle.ick_machine.specs.declared.live_ask.LiveAsk.{LiveAsk}
 use Rattle.ick_machine.specs.declared.live_ask.LiveAsk.TheVariants.{Choice, Ended, Failed}
 use Rattle.ick_machine.specs.declared.live_ask.EndKind.{EndKind}
 use Rattle.ick_machine.specs.declared.live_ask.EndKind.TheVariants.{Wants, Limit}
-use Rattle.ick_explorer.specs.Runs.{ends, wants, run, Execution}
+use Rattle.ick_explorer.specs.Runs.{ends, wants, run, run_at_limit, Execution}
 use Rattle.ick_explorer.specs.Paths.{Leads}
 use Rattle.ick_explorer.specs.Walks.{EndsHere}
 use Rattle.ick_runs.specs.Chosen.{Chosen, IsChosen, answer_of}
-use Rattle.ick_runs.specs.Streams.{finish_kind, finish_message, stop_kind, stop_message, HasStreamed}
+use Rattle.ick_runs.specs.Streams.{finish_kind, finish_message, stop_kind, stop_message, HasStreamed, StopsAtInput}
 use Rattle.ick_runs.specs.Streaming.{Turns, Strides, IsAlong, AreTaken, HasStopped, IsCutOff}
 use Rattle.ick_runs.specs.declared.streamed.Streamed.{Streamed}
 use Rattle.ick_explorer.specs.declared.errors.RunsError.{RunsError}
@@ -159,30 +160,8 @@ pub stopped_cut : (told : Bool) (x : Execution) (c taken : List Bool) (message w
 stopped_cut told x c taken message w w' left kind n h =
     (length x.last.output, λ t. h.output t ∙ ap (λ o. w ++ o) (sym (take_whole x.last.output)))
 
--- a streamed run: whether its writer is told, its program, first state and limit
-module _ (told : Bool) (p : Program) (s : State) (l : ℕ) where
-  -- the start
-  pub along_start : (written : List ℕ) → IsAlong told p s l [] s written written 0
-  along_start written = record {
-    sent = [];
-    leads = Leads-start p s l;
-    text = λ t. sym (append-nil written);
-  }
-
-  -- a run that was refused where it had come to u, of whose output k bytes left
-  refused : (c taken : List Bool) (u : State) (sent before mid after : List ℕ) (n k : ℕ) →
-      AreTaken c taken → Leads p s l taken (after_output sent u) n → (told ≡ true → mid ≡ before ++ sent) →
-      k ≤ length u.output → (told ≡ true → after ≡ mid ++ take k u.output) →
-      IsCutOff told (run p s l c) before after
-  refused c taken u sent before mid after n k f w so_far le wrote =
-      let r = leads_grows p s l taken (drop (length taken) c) (after_output sent u) n w in (
-        length sent + k,
-        λ t. part_of before sent u.output r.0 (run p s l c).last.output after k le
-            (ap (λ x. (run p s l x).last.output) (sym (taken_split c taken f)) ∙ r.1)
-            (wrote t ∙ ap (λ x. x ++ take k u.output) (so_far t)),
-      )
-
-  -- one step onwards
+-- one step onwards of a run of a program from a state, under a limit
+module _ (p : Program) (s : State) (l : ℕ) where
   leads_choice : (c : List Bool) (now : State) (sent : List ℕ) (n chance : ℕ) (b : Bool) →
       Leads p s l c (after_output sent now) n → ask p now ≡ choice chance → n < l →
       Leads p s l (c ++ b ∷ []) (after_output sent (advance p now b)) (n + 1)
@@ -214,14 +193,83 @@ module _ (told : Bool) (p : Program) (s : State) (l : ℕ) where
           (leads_plain c (after_steps p now i) sent (n + i) (leads_up_to i (omega (arith, le))) (runs.on i lt).0
           (omega (arith, within, lt)))
 
-  turned : (c : List Bool) (u now' : State) (sent before mid after : List ℕ) (n : ℕ) →
-      Leads p s l c (after_output sent u) n → (told ≡ true → mid ≡ before ++ sent) →
+pub same_error : {A : Type 0} (r : Result A RunsError) (e f : RunsError) → r ≡ Err e → r ≡ Err f → e ≡ f
+same_error r e f is also = let same : Err e ≡ Err f = sym is ∙ also in cc
+
+-- the state after n steps is the last state of the run under the limit n
+last_here : (p : Program) (u : State) (c : List Bool) → (run p u 0 c).last ≡ u
+unfolding run
+last_here p u c =
+    elim (ask p u) as (λ a. (run_at_limit a u c).last ≡ u) [ plain ↦ refl | choice k ↦ refl | ended e ↦ refl ]
+
+last_at : (p : Program) (s : State) (c taken : List Bool) (u : State) (n : ℕ) → AreTaken c taken →
+    Leads p s n taken u n → (run p s n c).last ≡ u
+last_at p s c taken u n f h =
+    let rest = drop (length taken) c in
+    ap (λ x. (run p s n x).last) (sym (taken_split c taken f))
+    ∙ (ap (λ x. x.last) (h.goes_on 0 rest (omega arith)) ∙ last_here p u rest)
+
+-- a run makes all the steps that lead to one of its states
+steps_past : (p : Program) (s : State) (l : ℕ) (c taken : List Bool) (t : State) (n : ℕ) → AreTaken c taken →
+    Leads p s l taken t (n + 1) → n < (run p s l c).steps
+steps_past p s l c taken t n f h =
+    let rest = drop (length taken) c in
+    let le = h.within in
+    let m = l - (n + 1) in
+    let all : n + 1 + m ≡ l = omega (arith, le) in
+    let same : (run p s l c).steps ≡ n + 1 + (run p t m rest).steps =
+    ap (λ x. (run p s l x).steps) (sym (taken_split c taken f)) ∙ ap (λ x. x.steps) (h.goes_on m rest all) in
+    omega (arith, same)
+
+-- a streamed run: whether its writer is told, its program, first state and limit
+module _ (told : Bool) (p : Program) (s : State) (l : ℕ) where
+  -- the start
+  pub along_start : (written : List ℕ) → IsAlong told p s l [] s written written 0
+  along_start written = record {
+    sent = [];
+    within = omega arith;
+    leads = λ bound le. Leads-start p s bound;
+    text = λ t. sym (append-nil written);
+  }
+
+  -- a run that was refused where it had come to u, of whose output k bytes left
+  refused : (c taken : List Bool) (u : State) (sent before mid after : List ℕ) (n k : ℕ) →
+      AreTaken c taken → Leads p s l taken (after_output sent u) n → (told ≡ true → mid ≡ before ++ sent) →
+      k ≤ length u.output → (told ≡ true → after ≡ mid ++ take k u.output) →
+      IsCutOff told (run p s l c) before after
+  refused c taken u sent before mid after n k f w so_far le wrote =
+      let r = leads_grows p s l taken (drop (length taken) c) (after_output sent u) n w in (
+        length sent + k,
+        λ t. part_of before sent u.output r.0 (run p s l c).last.output after k le
+            (ap (λ x. (run p s l x).last.output) (sym (taken_split c taken f)) ∙ r.1)
+            (wrote t ∙ ap (λ x. x ++ take k u.output) (so_far t)),
+      )
+
+  turned : (c : List Bool) (u now' : State) (sent before mid after : List ℕ) (n : ℕ) → n ≤ l →
+      ((bound : ℕ) → n ≤ bound → Leads p s bound c (after_output sent u) n) →
+      (told ≡ true → mid ≡ before ++ sent) →
       now' ≡ cleared u → (told ≡ true → after ≡ mid ++ u.output) → IsAlong told p s l c now' before after n
-  turned c u now' sent before mid after n h so_far is wrote = record {
+  turned c u now' sent before mid after n within h so_far is wrote = record {
     sent = sent ++ u.output;
-    leads = subst (λ x. Leads p s l c x n) (left_then sent u ∙ ap (after_output (sent ++ u.output)) (sym is)) h;
+    within = within;
+    leads = λ bound le.
+        subst (λ x. Leads p s bound c x n) (left_then sent u ∙ ap (after_output (sent ++ u.output)) (sym is))
+        (h bound le);
     text = λ t. wrote t ∙ (ap (λ x. x ++ u.output) (so_far t) ∙ append_assoc before sent u.output);
   }
+
+  -- a run that has come to a WRITE IN in the state u, all of whose output is written
+  pub stopped_at_input : (c taken : List Bool) (u : State) (before after : List ℕ) (n : ℕ) → AreTaken c taken →
+      ((bound : ℕ) → n ≤ bound → Leads p s bound taken u n) → n < (run p s l c).steps →
+      MeetsInput p u → (told ≡ true → after ≡ before ++ u.output) → StopsAtInput told p s l c before after
+  stopped_at_input c taken u before after n f h lt meets wrote =
+      let last = last_at p s c taken u n f (h n (le_refl n)) in
+      record {
+        steps = n;
+        within = lt;
+        meets = subst (MeetsInput p) (sym last) meets;
+        output = λ t. wrote t ∙ ap (λ x. before ++ x.output) (sym last);
+      }
 
   -- the run has stopped at an end
   stopped_end : (c taken : List Bool) (now : State) (message before after left : List ℕ) (n : ℕ) (f : Finish)
@@ -243,7 +291,7 @@ module _ (told : Bool) (p : Program) (s : State) (l : ℕ) where
       ≡ record { last = m.state; stop = ends f; steps = n; unused = drop (length taken) c }) same
       (Leads-ends s l m taken (drop (length taken) c) n f
       (subst (λ q. Leads q s l taken m.state n) (sym same)
-      (subst (λ x. Leads p s l taken x n) (sym state) along.leads)) here)
+      (subst (λ x. Leads p s l taken x n) (sym state) (along.leads l along.within))) here)
       ∙ ap (λ x. record { last = x; stop = ends f; steps = n; unused = drop (length taken) c }) state) in
       record {
         end = is ∙ sym (ap (λ x. stop_kind x.stop) whole);
@@ -264,7 +312,7 @@ module _ (told : Bool) (p : Program) (s : State) (l : ℕ) where
       let sent = along.sent in
       let whole : run p s l c ≡ record { last = after_output sent now; stop = wants; steps = n; unused = [] } =
       ap (run p s l) (sym all)
-      ∙ Leads-wants p s l taken (after_output sent now) n chance along.leads (ask_after p now sent ∙ a) lt in
+      ∙ Leads-wants p s l taken (after_output sent now) n chance (along.leads l along.within) (ask_after p now sent ∙ a) lt in
       record {
         end = sym (ap (λ x. stop_kind x.stop) whole);
         message_is = no_text ∙ sym (ap (λ x. stop_message x.stop) whole);
@@ -289,7 +337,8 @@ module _ (told : Bool) (p : Program) (s : State) (l : ℕ) where
 
     pub here_stays : (c : List Bool) → AreTaken c taken → IsCutOff told (run p s l c) before mid
     here_stays c f =
-        refused c taken (fed left m.state) h.along.sent before mid mid n 0 f h.along.leads h.along.text
+        refused c taken (fed left m.state) h.along.sent before mid mid n 0 f (h.along.leads l h.along.within)
+        h.along.text
         (omega arith) (λ t. sym (append-nil mid))
 
     abbrev machine_here : Machine
@@ -331,16 +380,17 @@ module _ (told : Bool) (p : Program) (s : State) (l : ℕ) where
           AreTaken c taken → Some b ≡ answer_of chosen (length taken) chance → taken' ≡ taken ++ b ∷ [] →
           AreTaken c taken'
       taken_choice chosen c taken' b is f answer x =
-          taken_on p s l chosen c taken taken' machine_here.state n chance b is h.along.leads
+          taken_on p s l chosen c taken taken' machine_here.state n chance b is (h.along.leads l h.along.within)
           (ask_after p (fed left m.state) h.along.sent ∙ asks_choice) lt f answer x
 
-      leads_by_choice : (taken' : List Bool) (b : Bool) → taken' ≡ taken ++ b ∷ [] →
-          Leads p s l taken' (after_output h.along.sent (advance m.program (fed left m.state) b)) (n + 1)
-      leads_by_choice taken' b x =
+      leads_by_choice : (taken' : List Bool) (b : Bool) → taken' ≡ taken ++ b ∷ [] → (bound : ℕ) → n + 1 ≤ bound →
+          Leads p s bound taken' (after_output h.along.sent (advance m.program (fed left m.state) b)) (n + 1)
+      leads_by_choice taken' b x bound le =
           let state : Program → State = λ q. after_output h.along.sent (advance q (fed left m.state) b) in
-          subst (λ y. Leads p s l y (state m.program) (n + 1)) (sym x)
-          (subst (λ q. Leads p s l (taken ++ b ∷ []) (state q) (n + 1)) (sym h.program)
-          (leads_choice taken (fed left m.state) h.along.sent n chance b h.along.leads asks_choice lt))
+          subst (λ y. Leads p s bound y (state m.program) (n + 1)) (sym x)
+          (subst (λ q. Leads p s bound (taken ++ b ∷ []) (state q) (n + 1)) (sym h.program)
+          (leads_choice p s bound taken (fed left m.state) h.along.sent n chance b
+          (h.along.leads bound (omega (arith, le))) asks_choice (omega (arith, le))))
 
       pub choice_turned : (taken' : List Bool) (b : Bool) (now' : State) (after : List ℕ) (unit : Unit {0}) →
           taken' ≡ taken ++ b ∷ [] →
@@ -348,7 +398,7 @@ module _ (told : Bool) (p : Program) (s : State) (l : ℕ) where
           IsAlong told p s l taken' now' before after (n + 1)
       choice_turned taken' b now' after unit x turns =
           turned taken' (advance m.program (fed left m.state) b) now' h.along.sent before mid after (n + 1)
-          (leads_by_choice taken' b x) h.along.text turns.0 turns.1
+          (omega (arith, lt)) (leads_by_choice taken' b x) h.along.text turns.0 turns.1
 
       pub choice_refused : (c taken' : List Bool) (b : Bool) (now' : State) (after : List ℕ) (error : RunsError) →
           AreTaken c taken' → taken' ≡ taken ++ b ∷ [] →
@@ -356,32 +406,59 @@ module _ (told : Bool) (p : Program) (s : State) (l : ℕ) where
           IsCutOff told (run p s l c) before after
       choice_refused c taken' b now' after error f x (k, le, wrote) =
           refused c taken' (advance m.program (fed left m.state) b) h.along.sent before mid after (n + 1) k
-          f (leads_by_choice taken' b x) h.along.text le wrote
+          f (leads_by_choice taken' b x l (omega (arith, lt))) h.along.text le wrote
+
+      pub choice_at_input : (c taken' : List Bool) (b : Bool) (after : List ℕ) → AreTaken c taken →
+          AreTaken c taken' → taken' ≡ taken ++ b ∷ [] → MeetsInput m.program m.state → after ≡ mid →
+          StopsAtInput told p s l c before after
+      choice_at_input c taken' b after f f' x meets same =
+          stopped_at_input c taken (after_output h.along.sent (fed left m.state)) before after n f h.along.leads
+          (steps_past p s l c taken' (after_output h.along.sent (advance m.program (fed left m.state) b)) n f'
+          (leads_by_choice taken' b x l (omega (arith, lt))))
+          (subst (λ q. MeetsInput q m.state) h.program meets)
+          (λ t. same ∙ (h.along.text t ∙ ap (λ o. before ++ o) (sym (last_of h.along.sent (fed left m.state) h.empty))))
 
     -- and where nothing is asked
     module _ {r : LiveAsk} (e : r ≡ live_ask m) (i : (k : ℕ) → r ≡ Choice k → ⊥)
         (j : (kind : EndKind) → r ≡ Ended kind → ⊥) (lt : n < l) where
-      -- the state that the run came to by itself
-      module _ (answer : Result ℕ RunsError) (now' : State) (after : List ℕ)
-          (strides : Strides told m.program (fed left m.state) (l - n) now' mid after answer) where
-        leads_by_itself : Leads p s l taken (after_output h.along.sent strides.state) (n + strides.steps)
-        leads_by_itself =
-            leads_on taken (fed left m.state) strides.state h.along.sent n strides.steps h.along.leads
-            (subst (λ q. RunsOn IsQuiet q (fed left m.state) strides.steps strides.state) h.program strides.runs)
-            (let within = strides.within in omega (arith, within, lt))
+      leads_by_steps : (k : ℕ) (u : State) → RunsOn IsQuiet m.program (fed left m.state) k u → (bound : ℕ) →
+          n + k ≤ bound → Leads p s bound taken (after_output h.along.sent u) (n + k)
+      leads_by_steps k u runs bound le =
+          leads_on p s bound taken (fed left m.state) u h.along.sent n k (h.along.leads bound (omega (arith, le)))
+          (subst (λ q. RunsOn IsQuiet q (fed left m.state) k u) h.program runs) le
 
       pub plain_turned : (k : ℕ) (now' : State) (after : List ℕ) →
           Strides told m.program (fed left m.state) (l - n) now' mid after (Ok k) →
           IsAlong told p s l taken now' before after (n + k)
       plain_turned k now' after strides =
+          let within = strides.within in
           subst (λ steps. IsAlong told p s l taken now' before after (n + steps)) (sym strides.made)
           (turned taken strides.state now' h.along.sent before mid after (n + strides.steps)
-          (leads_by_itself (Ok k) now' after strides) h.along.text strides.turns.0 strides.turns.1)
+          (omega (arith, within, lt)) (leads_by_steps strides.steps strides.state strides.runs)
+          h.along.text strides.turns.0 strides.turns.1)
 
       pub plain_refused : (c : List Bool) (now' : State) (after : List ℕ) (error : RunsError) →
           AreTaken c taken → Strides told m.program (fed left m.state) (l - n) now' mid after (Err error) →
           IsCutOff told (run p s l c) before after
       plain_refused c now' after error f strides =
           let (k, le, wrote) = strides.turns in
+          let within = strides.within in
           refused c taken strides.state h.along.sent before mid after (n + strides.steps) k
-          f (leads_by_itself (Err error) now' after strides) h.along.text le wrote
+          f (leads_by_steps strides.steps strides.state strides.runs l (omega (arith, within, lt))) h.along.text le wrote
+
+      pub plain_at_input : (c : List Bool) (after : List ℕ) → AreTaken c taken →
+          LeadsToInput m.program (fed left m.state) (l - n) → after ≡ mid → StopsAtInput told p s l c before after
+      plain_at_input c after f to same =
+          let sent = h.along.sent in
+          let k = to.steps in
+          let u = to.state in
+          let within = to.within in
+          let leads = leads_by_steps k u to.runs in
+          let asks : ask p u ≡ plain = subst (λ q. ask q u ≡ plain) h.program to.quiet.0 in
+          let next : Leads p s l taken (after_output sent (advance p u false)) (n + k + 1) =
+          leads_plain p s l taken u sent (n + k) (leads l (omega (arith, within, lt))) asks
+          (omega (arith, within, lt)) in
+          stopped_at_input c taken (after_output sent u) before after (n + k) f leads
+          (steps_past p s l c taken (after_output sent (advance p u false)) (n + k) f next)
+          (subst (λ q. MeetsInput q u) h.program to.meets)
+          (λ t. same ∙ (h.along.text t ∙ ap (λ o. before ++ o) (sym (last_of sent u to.quiet.1))))

@@ -37,7 +37,8 @@ pub record Strides (told : Bool) (p : Program) (s : State) (limit : ℕ) (now : 
 pub record IsAlong (told : Bool) (p : Program) (s : State) (limit : ℕ) (c : List Bool) (now : State)
     (written written' : List ℕ) (n : ℕ) : Type 0 where
   pub sent : List ℕ
-  pub leads : Leads p s limit c (after_output sent now) n
+  pub within : n ≤ limit
+  pub leads : (bound : ℕ) → n ≤ bound → Leads p s bound c (after_output sent now) n
   pub text : told ≡ true → written' ≡ written ++ sent
 
 -- the choices taken so far are a prefix of c

@@ -1,11 +1,15 @@
 -- Describes the answer, the output and the input of a streamed run.
-use Rattle.std.specs.Prelude.{◌≡◌, ℕ, Bool, true, List, [], ◌++◌, take, Result, Ok, Err}
+use Rattle.std.specs.Prelude.{◌≡◌, ℕ, ◌<◌, Bool, true, List, [], ◌++◌, take, Some, Result, Ok, Err}
+use Rattle.ick_source.specs.declared.kinds.Kind.TheVariants.{WriteIn}
+use Rattle.ick_code.specs.meaning.State.{State}
+use Rattle.ick_code.specs.Laws.{kind_at}
+use Rattle.ick_backtrack.specs.Machine.{Program}
 use Rattle.ick_backtrack.specs.Asked.{Finish, finished, at_limit}
 use Rattle.ick_machine.specs.LiveAsk.{end_kind_of}
 use Rattle.ick_machine.specs.Message.{end_message}
 use Rattle.ick_machine.specs.declared.live_ask.EndKind.{EndKind}
 use Rattle.ick_machine.specs.declared.live_ask.EndKind.TheVariants.{Limit, Wants}
-use Rattle.ick_explorer.specs.Runs.{Stop, ends, wants, Execution}
+use Rattle.ick_explorer.specs.Runs.{Stop, ends, wants, Execution, run}
 use Rattle.ick_explorer.specs.declared.errors.RunsError.{RunsError}
 use Rattle.ick_explorer.specs.declared.errors.RunsError.TheVariants.{NoMemory, NoSuchRun, WorkFull, Failed, BadCursor, Read}
 use Rattle.ick_explorer.specs.declared.errors.RunsError.TheVariants.{Write}
@@ -45,6 +49,15 @@ abbrev pub Streams : Bool → Execution → List Bool → List ℕ → List ℕ 
 Streams told x c written written' left (Ok answer) = HasStreamed told x c written written' left answer
 Streams told x c written written' left (Err error) =
     (n : ℕ) × (told ≡ true → written' ≡ written ++ take n x.last.output)
+
+-- after so many steps of the run with the choices c, a WRITE IN is the next statement of the run, and exactly the
+-- output of these steps is written
+pub record StopsAtInput (told : Bool) (program : Program) (s : State) (limit : ℕ) (c : List Bool)
+    (written written' : List ℕ) : Type 0 where
+  pub steps : ℕ
+  pub within : steps < (run program s limit c).steps
+  pub meets : kind_at program (run program s steps c).last ≡ Some WriteIn
+  pub output : told ≡ true → written' ≡ written ++ (run program s steps c).last.output
 
 -- the amount by which a call raises the source's count of failures
 abbrev pub source_failures : {T : Type 0} → Result T RunsError → ℕ

@@ -1,13 +1,13 @@
 //! Runs a program whose input and output are streams.
 
 ghost use Rattle.std.specs.Prelude.{◌≡◌, ◌+◌, ◌<◌, ◌^◌, ◌⊎◌};
-ghost use Rattle.std.specs.Prelude.{ℕ, List, Bool, [], true, false, IfOk, IfErr};
+ghost use Rattle.std.specs.Prelude.{ℕ, List, Bool, [], true, false, Err, IfOk, IfErr};
 ghost use Rattle.ick_code.specs.meaning.Move.{first_state};
 ghost use Rattle.ick_code.specs.Compiled.{code_program};
 ghost use Rattle.ick_machine.specs.Live.{seen, fed, fault_message};
 ghost use Rattle.ick_explorer.specs.Runs.{run, Execution};
 ghost use Rattle.ick_runs.specs.Chosen.{Chosen, IsChosen, Picks, chosen_of};
-ghost use Rattle.ick_runs.specs.Streams.{Streams, source_failures};
+ghost use Rattle.ick_runs.specs.Streams.{Streams, StopsAtInput, source_failures};
 ghost use Rattle.ick_runs.specs.Streaming.{Stops};
 ghost use Rattle.ick_explorer.specs.Writes.{write_failures};
 
@@ -43,6 +43,7 @@ fn finish(
     ensures run { (told : Bool) (run : Execution) (c : List Bool) (before after left : List ℕ) →
         Stops told run c choices.items (fault_message (seen machine.now)) before after left ran →
         Streams told run c before after left result }
+    ensures input { result ≡ Err RunsError.Read → ran ≡ Err RunsError.Read }
     ensures reads { source_failures result ≡ source_failures ran }
     ensures writes { write_failures result ≡ write_failures ran }
     ensures errors { IfErr ran (λ e. (e ≡ RunsError.NoMemory)
@@ -85,6 +86,12 @@ fn run_on<R: ByteSource, W: ByteSink>(
         Stops W.told (run program state limit c) c choices.new.items
         (fault_message (seen machine.new))
         (W.written writer.old) (W.written writer.new) (R.left reader.new) result }
+    ensures input { R.told ≡ true → let program = (seen machine.old).program in
+        let state = fed (R.left reader.old) (seen machine.old).state in
+        (chosen : Chosen) → Picks chosen 0 picker.old →
+        (c : List Bool) → IsChosen program state limit chosen c →
+        result ≡ Err RunsError.Read → StopsAtInput W.told program state limit c
+        (W.written writer.old) (W.written writer.new) }
     ensures reads { R.failed reader.new ≡ R.failed reader.old + source_failures result }
     ensures writes { W.failed writer.new ≡ W.failed writer.old + write_failures result }
     ensures errors { IfErr result (λ e. (e ≡ RunsError.NoMemory)
@@ -123,7 +130,8 @@ fn run_on<R: ByteSource, W: ByteSink>(
 /// a refusal is a prefix of the run's output. The refusals are:
 ///
 /// - `NoMemory` if the run, its choices or its message can't grow.
-/// - `Read` if the reader fails. It fails once.
+/// - `Read` if the reader fails. It fails once, when the run needs input for a WRITE IN. Exactly the
+///   output of the steps before this WRITE IN is written.
 /// - `Write` if the writer fails. It fails once.
 pub fn run_stream<R: ByteSource, W: ByteSink>(
     alloc: Global,
@@ -140,6 +148,11 @@ pub fn run_stream<R: ByteSource, W: ByteSink>(
         (c : List Bool) → IsChosen program first limit (chosen_of chooser.entry) c →
         Streams W.told (run program first limit c) c
         (W.written writer.old) (W.written writer.new) (R.left reader.new) result }
+    ensures input { R.told ≡ true → let program = code_program code.now in
+        let first = first_state program (R.left reader.old) in
+        (c : List Bool) → IsChosen program first limit (chosen_of chooser.entry) c →
+        result ≡ Err RunsError.Read → StopsAtInput W.told program first limit c
+        (W.written writer.old) (W.written writer.new) }
     ensures reads { R.failed reader.new ≡ R.failed reader.old + source_failures result }
     ensures writes { W.failed writer.new ≡ W.failed writer.old + write_failures result }
     ensures errors { IfErr result (λ e. (e ≡ RunsError.NoMemory)

@@ -2,10 +2,11 @@
 
 ghost use Rattle.std.specs.Prelude.{◌≡◌, ◌+◌, ◌<◌, ◌≤◌, ◌^◌, ◌⊎◌};
 ghost use Rattle.std.specs.Prelude.{◌++◌, ℕ, [], true, false};
-ghost use Rattle.std.specs.Prelude.{IfOk, IfErr, OnOk, length, take};
+ghost use Rattle.std.specs.Prelude.{Err, IfOk, IfErr, OnOk, length, take};
 ghost use Rattle.ick_code.specs.meaning.Move.{ask, advance};
 ghost use Rattle.ick_backtrack.specs.Asked.{IsGoing};
 ghost use Rattle.ick_backtrack.specs.Steps.{IsQuiet, RunsOn};
+ghost use Rattle.ick_machine.specs.Feeds.{MeetsInput, LeadsToInput};
 ghost use Rattle.ick_machine.specs.Live.{seen, fed, cleared};
 ghost use Rattle.ick_runs.specs.Streams.{source_failures};
 ghost use Rattle.ick_runs.specs.Streaming.{Turns, Strides};
@@ -30,6 +31,8 @@ fn step_from<R: ByteSource>(
         ≡ advance old.program (fed (R.left reader.old) old.state) done) }
     ensures program { (seen machine.new).program ≡ (seen machine.old).program }
     ensures sound { OnOk result ((seen machine.new).failed ≡ false) }
+    ensures input { result ≡ Err RunsError.Read
+        → MeetsInput (seen machine.old).program (seen machine.old).state }
     ensures reads { R.failed reader.new ≡ R.failed reader.old + source_failures result }
     ensures errors { IfErr result (λ e. (e ≡ RunsError.NoMemory) ⊎ (e ≡ RunsError.Read)) }
 {
@@ -56,6 +59,8 @@ fn run_from<R: ByteSource>(
         old.program old.state → 0 < limit → 0 < k) }
     ensures program { (seen machine.new).program ≡ (seen machine.old).program }
     ensures sound { OnOk result ((seen machine.new).failed ≡ false) }
+    ensures input { let old = seen machine.old in R.told ≡ true → result ≡ Err RunsError.Read
+        → LeadsToInput old.program (fed (R.left reader.old) old.state) limit }
     ensures reads { R.failed reader.new ≡ R.failed reader.old + source_failures result }
     ensures errors { IfErr result (λ e. (e ≡ RunsError.NoMemory) ⊎ (e ≡ RunsError.Read)) }
 {
@@ -107,6 +112,10 @@ pub(crate) fn turn<R: ByteSource, W: ByteSink>(
     ensures program { (seen machine.new).program ≡ (seen machine.old).program }
     ensures sound { OnOk result ((seen machine.new).failed ≡ false) }
     ensures empty { OnOk result ((seen machine.new).state.output ≡ []) }
+    ensures input { result ≡ Err RunsError.Read
+        → MeetsInput (seen machine.old).program (seen machine.old).state }
+    ensures unwritten { result ≡ Err RunsError.Read
+        → W.written writer.new ≡ W.written writer.old }
     ensures reads { R.failed reader.new ≡ R.failed reader.old + source_failures result }
     ensures writes { W.failed writer.new ≡ W.failed writer.old + write_failures result }
     ensures errors { IfErr result (λ e. (e ≡ RunsError.NoMemory)
@@ -139,6 +148,10 @@ pub(crate) fn stride<R: ByteSource, W: ByteSink>(
     ensures program { (seen machine.new).program ≡ (seen machine.old).program }
     ensures sound { OnOk result ((seen machine.new).failed ≡ false) }
     ensures empty { OnOk result ((seen machine.new).state.output ≡ []) }
+    ensures input { let old = seen machine.old in R.told ≡ true → result ≡ Err RunsError.Read
+        → LeadsToInput old.program (fed (R.left reader.old) old.state) limit }
+    ensures unwritten { result ≡ Err RunsError.Read
+        → W.written writer.new ≡ W.written writer.old }
     ensures reads { R.failed reader.new ≡ R.failed reader.old + source_failures result }
     ensures writes { W.failed writer.new ≡ W.failed writer.old + write_failures result }
     ensures errors { IfErr result (λ e. (e ≡ RunsError.NoMemory)

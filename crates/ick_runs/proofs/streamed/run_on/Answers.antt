@@ -3,14 +3,14 @@ use Rattle.std.specs.Prelude.{Err, Some, None}
 use Rattle.std.proofs.lemmas.Grind.{common_steps}
 use Rattle.ick_code.proofs.AskLaws.{chance_between}
 use Rattle.ick_machine.specs.Live.{seen, fed, fault_message}
-use Rattle.ick_explorer.specs.declared.errors.RunsError.TheVariants.{NoMemory}
+use Rattle.ick_explorer.specs.declared.errors.RunsError.TheVariants.{NoMemory, Read}
 use Rattle.ick_explorer.specs.Runs.{run}
 use Rattle.ick_runs.specs.Chosen.{Picks, answer_of}
 use Rattle.ick_runs.specs.Streaming.{IsAlong, AreTaken, Stops}
 use Rattle.ick_runs.proofs.ChosenLaws.{all_taken, picked, one_more}
 use Rattle.ick_runs.proofs.StreamLaws.{along_start, none_taken, asks_chance, here_stays, here_ended, here_limit}
 use Rattle.ick_runs.proofs.StreamLaws.{here_wants, taken_choice, choice_turned, choice_refused, plain_turned}
-use Rattle.ick_runs.proofs.StreamLaws.{plain_refused, goes_by_itself}
+use Rattle.ick_runs.proofs.StreamLaws.{plain_refused, goes_by_itself, same_error, choice_at_input, plain_at_input}
 use Rattle.ick_runs.proofs.streamed.run_on.Goals as goal
 
 pub along-init : goal.along-init
@@ -121,6 +121,29 @@ returns-in_err-turn-clause-run g c = λ t chosen at c' is_chosen.
     (written c.turn.new.writer) c.in_err-turn.field-0.0 are_taken
     c.in_ok-push.ensures.items (c.in_err-turn.ensures.moved t))
 
+pub returns-in_err-turn-clause-input : goal.returns-in_err-turn-clause-input
+returns-in_err-turn-clause-input g c = λ t chosen at c' is_chosen is_read.
+    let i = c.along.invariant in
+    let left = g.R.ByteSource.left in
+    let first = seen c.args.machine.now in
+    let begin = fed (left c.args.reader.now) first.state in
+    let limit = c.args.limit in
+    let taken = c.along.choices.items in
+    let lt : c.along.steps < limit = grind (arith, common_steps) in
+    let size : length taken ≡ c.len.result = omega (arith, c.len.ensures, c.along.choices.ok.0) in
+    let some : Some c.in-Some.done ≡ answer_of chosen (length taken) c.in-Choice.chance =
+    picked chosen c.along.picker c.len.result (length taken) c.in-Choice.chance (Some c.in-Some.done) size
+    (i.picks chosen at) (c.in-Some.ensures.answer chosen) in
+    let are_taken =
+    taken_choice g.W.ByteSink.told first.program begin limit (i.here t) c.asks-asked.ensures c.in-Choice.is lt chosen
+    c' c.push.new.self.items c.in-Some.done is_chosen (i.taken t chosen at c' is_chosen) some
+    c.in_ok-push.ensures.items in
+    let e : c.from_residual-in_err-turn.result ≡ Err c.in_err-turn.field-0.0 = search rules in
+    let read = ap Err (same_error c.from_residual-in_err-turn.result c.in_err-turn.field-0.0 Read e is_read) in
+    choice_at_input g.W.ByteSink.told first.program begin limit (i.here t) c.asks-asked.ensures c.in-Choice.is lt c'
+    c.push.new.self.items c.in-Some.done (g.W.ByteSink.written c.turn.new.writer) (i.taken t chosen at c' is_chosen)
+    are_taken c.in_ok-push.ensures.items (c.in_err-turn.ensures.input read) (c.in_err-turn.ensures.unwritten read)
+
 pub along-preserved-in-Choice : goal.along-preserved-in-Choice
 along-preserved-in-Choice g c =
     let i = c.along.invariant in
@@ -185,6 +208,19 @@ returns-in_err-made-clause-run g c = λ t chosen at c' is_chosen.
     c.in_default.not-Ended lt c' (fed (left c.stride.new.reader) (seen c.stride.new.machine).state)
     (written c.stride.new.writer) c.in_err-made.field-0.0
     (i.taken t chosen at c' is_chosen) (c.in_err-made.ensures.moved t))
+
+pub returns-in_err-made-clause-input : goal.returns-in_err-made-clause-input
+returns-in_err-made-clause-input g c = λ t chosen at c' is_chosen is_read.
+    let i = c.along.invariant in
+    let first = seen c.args.machine.now in
+    let begin = fed (g.R.ByteSource.left c.args.reader.now) first.state in
+    let limit = c.args.limit in
+    let lt : c.along.steps < limit = grind (arith, common_steps) in
+    let e : c.from_residual-in_err-made.result ≡ Err c.in_err-made.field-0.0 = search rules in
+    let read = ap Err (same_error c.from_residual-in_err-made.result c.in_err-made.field-0.0 Read e is_read) in
+    plain_at_input g.W.ByteSink.told first.program begin limit (i.here t) c.asks-asked.ensures
+    c.in_default-asked.not-Choice c.in_default.not-Ended lt c' (g.W.ByteSink.written c.stride.new.writer)
+    (i.taken t chosen at c' is_chosen) (c.in_err-made.ensures.input t read) (c.in_err-made.ensures.unwritten read)
 
 pub along-preserved : goal.along-preserved
 along-preserved g c =
