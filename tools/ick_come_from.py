@@ -63,8 +63,10 @@ def come_froms(source, statements):
                 handed = statements[statement.number]
                 handed.start, handed.label, statement.end = after, None, label.end()
             yield ComeFrom(statement, ick_source.value(label[1]))
-        elif label or not statement.abstained or not source[words.end():words.end() + 1].isalpha():
-            raise Unconvertible(statement.start, "only COME FROM (n) can be rewritten, with nothing behind it")
+        elif label:
+            raise Unconvertible(statement.start, "COME FROM (n) can be rewritten only if nothing stands behind it, as ONCE")
+        elif not statement.abstained or not source[words.end():words.end() + 1].isalpha():
+            raise Unconvertible(statement.start, "a computed COME FROM can't be rewritten, only COME FROM (n)")
 
 
 class Abstention:

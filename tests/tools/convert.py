@@ -74,8 +74,8 @@ COME_FROM = (
 NO_COME_FROM = (
     ("DO COME FROM (7)\nPLEASE GIVE UP", "1:1", "no statement has the label (7)"),
     ("(1) DO COME FROM (1)\nPLEASE COME FROM (1)", "2:1", "threads"),
-    ("DO COME FROM .1\nPLEASE GIVE UP", "1:1", "only COME FROM (n)"),
-    ("(1) DO GIVE UP\nPLEASE COME FROM (1) AGAIN\nDO GIVE UP", "2:1", "nothing behind it"),
+    ("DO COME FROM .1\nPLEASE GIVE UP", "1:1", "a computed COME FROM"),
+    ("(1) DO GIVE UP\nPLEASE COME FROM (1) AGAIN\nDO GIVE UP", "2:1", "nothing stands behind it"),
     ("(1) DO GIVE UP\nDO NOT COME FROM (1)\nPLEASE ABSTAIN FROM NEXTING", "3:1", "NEXTING would"),
     ("(1) DO GIVE UP\nDO COME FROM (1)\nDO ABSTAIN FROM NEXTING\nPLEASE ABSTAIN FROM REINSTATING", "4:1", "is needed"),
     ("(1) DO GIVE UP\nDO COME FROM (1)\nDO REINSTATE COMING FROM + NEXTING", "3:1", "NEXTING would"),
@@ -107,11 +107,14 @@ def try_refusals(tally):
         tally.check(status == 2 and not out and err.count(b"\n") == 1, f"ick-convert --from {code}: {status} {err!r}")
 
 
+def widths_program(expression):
+    return ("DO .1 <- #5\nDO :1 <- #3\nDO :2 <- #65535$#65535\nPLEASE ;1 <- #1\nDO ;1SUB#1 <- #9\n"
+            f"DO :9 <- {expression}\nPLEASE READ OUT :9\nDO GIVE UP")
+
+
 def try_widths(tally):
-    before = "DO .1 <- #5 DO :1 <- #3 DO :2 <- #65535$#65535 PLEASE ;1 <- #1 DO ;1SUB#1 <- #9"
-    after = "PLEASE READ OUT :9 DO GIVE UP"
     for written, wanted, number in WIDTHS:
-        texts = [f"{before} DO :9 <- {expression} {after}".encode() for expression in (written, wanted)]
+        texts = [widths_program(expression).encode() for expression in (written, wanted)]
         status, out, err = tally.tool("ick-convert", "--widths", given=texts[0])
         tally.same(f"--widths of {written}", (status, out, err.count(b"\n")), (0, texts[1], int(written != wanted)))
         tally.same(f"the number of {wanted}", [pieces(tally.ick("run", given=out)[1])], [[number]])
