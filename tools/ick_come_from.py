@@ -118,7 +118,8 @@ class Rewriting:
         known = {}
         for one in self.found:
             if one.target not in self.labelled:
-                raise Unconvertible(one.statement.start, f"no statement has the label ({one.target})")
+                first = ": use ick-join first" if any(one.target in labels for labels in LIBRARIES) else ""
+                raise Unconvertible(one.statement.start, f"no statement has the label ({one.target}){first}")
             if known.setdefault(one.target, one) is not one:
                 raise Unconvertible(one.statement.start, f"a second COME FROM ({one.target}) makes threads")
         named = {one.label for one in self.by_label}

@@ -93,10 +93,11 @@ def content(path):
 def find_ick():
     """Returns the path of ick: beside the tool, or else in this repository, or else on the PATH; or what ICK names.
 
+    The tool's own folder comes before that of a link to it: there `ick` can be C-INTERCAL's.
     Raises FileNotFoundError if there is none, or if it is another program, as C-INTERCAL's is.
     """
     named = os.environ.get("ICK")
-    beside = [os.path.join(folder, "ick") for folder in (os.path.dirname(sys.argv[0]), HERE)]
+    beside = [os.path.join(folder, "ick") for folder in (HERE, os.path.dirname(sys.argv[0]))]
     places = [named] if named else [*beside, os.path.join(HERE, BUILT), "ick"]
     found = next(filter(None, map(shutil.which, places)), None)
     if not found:

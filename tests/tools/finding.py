@@ -18,10 +18,10 @@ def script(path, text):
 
 def try_all(tally):
     top = os.path.join(tally.folder, "a prefix")
-    tools, beside, built, on_path, other = (os.path.join(top, name) for name in (
-        "lib/tools", "bin/ick", "lib/crates/ick/out/ick", "path/ick", "other/ick"))
+    tools, inside, beside, built, on_path, other = (os.path.join(top, name) for name in (
+        "lib/tools", "lib/tools/ick", "bin/ick", "lib/crates/ick/out/ick", "path/ick", "other/ick"))
     shutil.copytree(TOOLS, tools, ignore=shutil.ignore_patterns("__pycache__"))
-    for path in (beside, built, on_path):
+    for path in (inside, beside, built, on_path):
         script(path, f"exec '{tally.program}' \"$@\"")
     script(other, "echo ICL998I EXCUSE ME")
 
@@ -32,7 +32,7 @@ def try_all(tally):
         return os.path.normpath(out.decode().strip()) if status == 0 else err.decode().splitlines()[-1]
 
     tally.same("ick that ICK names", found(ICK=on_path), on_path)
-    for path in (beside, built, on_path):
+    for path in (inside, beside, built, on_path):
         tally.same(f"the first ick of {path}", found(), path)
         os.remove(path)
     tally.check("is another program" in found(PATH=f"{top}/other:{os.environ['PATH']}"), "C-INTERCAL's ick on the PATH")
