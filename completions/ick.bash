@@ -40,7 +40,7 @@ _ick() {
 _ick_tool() {
     local word=${COMP_WORDS[COMP_CWORD]} commands='' command=''
     case ${1##*/} in
-        ick-parts) commands='begin plan part join check' ;;
+        ick-parts) commands='begin plan part status join verify check' ;;
         ick-wimp) commands='in out' ;;
     esac
     [ "${1##*/}" != ick-parts ] || [ "$COMP_CWORD" = 1 ] || command=${COMP_WORDS[1]}
