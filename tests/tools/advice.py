@@ -57,6 +57,8 @@ ROWS = (
      "1:1: statement 1 {E}: what stands in front of the first DO or PLEASE is a statement of its own"),
     ("PLEASE NOTE: NOTHING RANDOM HERE\nDO GIVE UP", "1:25: the comment in front is cut at RANDOM: statement 2 {E}"),
     ("DOES IT WORK?\nPLEASE GIVE UP", "1:1: statement 1 {E}: it begins inside the word DOES"),
+    # the word before is in the line before
+    ("DO (1) NEXT\nDO FOO\n(1) PLEASE GIVE UP", "2:4: statement 2 {E}: no statement of this language begins so"),
     ("PLEASE NOTE: SEE (5)\nDO GIVE UP",
      "1:18: the comment in front hands its (5) to statement 2 as its label"),
     ("PLEASE NOTE: SEE (5)\nDO (5) NEXT\n(5) DO GIVE UP",
