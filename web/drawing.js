@@ -2,6 +2,7 @@
 'use strict';
 
 const LETTER = 8.43, LETTERS = 26, NUMERALS = 5; // the width of a letter, and how much of a text is shown
+const KINDS = 3; // kinds of ends that a part names which isn't drawn further
 const SPOKEN = 20; // pieces of an output in the name of an end
 const ROW = 34, BOX = 26, COLUMN = 56, MARGIN = 18, DOT = 5;
 
@@ -62,8 +63,20 @@ function labelOf(part) {
     const end = [span(part.end, 'end'), ...(spans.length ? [span('  '), ...spans] : [])];
     return part.count > 1 ? [...end, span(`  ${counted(part.count, 'run')}`, 'many')] : end;
   }
-  if (part.sides.length) return spans;
-  return [...spans, span(`${spans.length ? '  ' : ''}… ${counted(part.count, 'run')}`, 'rest')];
+  if (!part.isCut) return spans;
+  return [...spans, span(`${spans.length ? '  ' : ''}… ${behind(part)}`, 'rest')];
+}
+
+// Returns how many runs a part has that isn't drawn further, and how they end.
+function behind(part) {
+  const kinds = new Map();
+  for (const [end, count] of part.ends) {
+    const [kind] = end.split('@');
+    kinds.set(kind, (kinds.get(kind) ?? 0) + count * part.times);
+  }
+  const most = [...kinds].toSorted((one, other) => other[1] - one[1]);
+  const shown = most.slice(0, KINDS).map(([kind, count]) => `${count.toLocaleString('en')} ${kind}`);
+  return `${counted(part.count, 'run')}: ${[...shown, ...(most.length > KINDS ? ['…'] : [])].join(', ')}`;
 }
 
 const widthOf = (spans) => spans.reduce((sum, { text }) => sum + text.length, 0) * LETTER + 16;
@@ -169,22 +182,24 @@ class Drawing {
     return drawn('g', { class: 'branch' }, ...this.box(part));
   }
 
-  // An end, which can be run again by the choices of its first run.
+  // An end, which can be run again by the choices of the first run that comes here.
   leaf(part) {
-    const { choices, pieces } = part.first, many = part.count > 1 ? `, the first of ${counted(part.count, 'run')}` : '';
+    const { choices, pieces } = part, many = part.count > 1 ? `, the first of ${counted(part.count, 'run')}` : '';
     const name = `Run ${choices}${many}: ${part.end}, output ${spoken(pieces)}`;
     return drawn('g', { class: `leaf${kindOf(part.end)}`, role: 'button', tabindex: -1, 'aria-label': name,
       'data-choices': choices }, drawn('title', {}, name), ...this.box(part));
   }
 
   svg() {
-    const size = { width: Math.ceil(this.right + MARGIN), height: this.rows * ROW + 2 * MARGIN - (ROW - BOX) };
+    const height = this.rows * ROW + 2 * MARGIN - (ROW - BOX);
+    const size = { width: Math.ceil(this.right + MARGIN), height: Math.ceil(height) };
     const lines = this.parts.flatMap((part) => this.linesOf(part));
     const [paths, texts] = ['path', 'text'].map((name) => lines.filter((it) => it.tagName === name));
     const branches = this.parts.filter((part) => !part.end).map((part) => this.branch(part));
     const leaves = this.parts.filter((part) => part.end).toSorted((one, other) => one.row - other.row);
     // A screen reader reads the ends alone, which say their choices. The listing has the rest.
-    return drawn('svg', size, drawn('g', { 'aria-hidden': true }, ...paths, ...texts, ...branches),
+    const viewBox = `0 0 ${size.width} ${size.height}`;
+    return drawn('svg', { ...size, viewBox }, drawn('g', { 'aria-hidden': true }, ...paths, ...texts, ...branches),
       ...leaves.map((part) => this.leaf(part)));
   }
 }

@@ -7,10 +7,13 @@ const argvOf = (words) => bytesOf(words.map((word) => `${word}\0`).join(''));
 
 const MOST = 1 << 22; // bytes of an answer that the page takes
 const SHOWN = 200000; // characters of a text that it shows
-const DRAWN = 1000, DEPTH = 40; // runs that are drawn, and choices of each
+const DRAWN = 200; // parts of the tree that are drawn
+const DEEPEST = 1e6; // choices of a run that are read
+const PAUSE = 250; // milliseconds without a key, after which the program is looked over
 const LIMIT_OF_RUNS = '10000'; // the default of `ick runs`, which is another one than that of `ick run`
 const FIRST = 'quiet'; // the example that the page begins with
 const FIELDS = ['source', 'input', 'choices', 'seed', 'limit', 'count'];
+const STORE = 'ick.form'; // where the tab keeps the form
 const PARTS = ['drawn', 'written', 'said', 'question', 'listed'];
 const HEADLINES = {
   0: ['ok', 'Done'], 1: ['bad', 'The run ends by a fault'], 2: ['bad', 'The program is refused'],
@@ -21,10 +24,15 @@ const GAVE_UP = ['ok', 'The program gave up'];
 const BROWSERS = 'This page needs WebAssembly with 64-bit memory, which Chrome, Chromium and Edge have from version '
   + '133 on, and Firefox from version 134 on.';
 
-const { examples, library, made } = JSON.parse($('content').textContent);
+const { examples, library, advice: tables, made } = JSON.parse($('content').textContent);
+const advice = new Advice(tables);
+const editor = new Editor($('source'), $('numbers'), $('shown'));
 let engine = null; // null if this browser can't run the module
 let listing = null; // the runs that are shown, and what was asked for them
 let isBusy = false;
+let filled = ''; // the form as it was last filled, as text: what differs was typed
+let kept = null; // the form that was typed before an example or a file took its place
+let failing = null; // the line of the last fault or refusal, and what is to be said of it
 
 /* The form */
 
@@ -39,6 +47,124 @@ function form() {
 function fill(fields) {
   for (const id of FIELDS) $(id).value = String(fields[id] ?? '');
   for (const box of boxes()) box.checked = Array.isArray(fields.library) && fields.library.includes(box.value);
+  filled = JSON.stringify(form());
+  changed();
+}
+
+// Fills the form, and keeps what was typed before.
+function replace(fields) {
+  if (JSON.stringify(form()) !== filled) kept = form();
+  fill(fields);
+  clear();
+  $('kept').hidden = kept === null;
+}
+
+function undo() {
+  if (kept === null) return;
+  fill(kept);
+  [kept, filled] = [null, ''];
+  $('kept').hidden = true;
+  $('example').value = '';
+  clear();
+  $('source').focus();
+}
+
+// The tab keeps the form for a page that is loaded again. A browser may refuse that.
+function store() {
+  try {
+    const fields = form(), isTyped = JSON.stringify(fields) !== filled;
+    const found = { address: location.href, fields, isTyped, example: $('example').value };
+    sessionStorage.setItem(STORE, JSON.stringify(found));
+  } catch { /* the form is kept no longer than the page */ }
+}
+
+function restore() {
+  try {
+    const { address, fields, isTyped, example } = JSON.parse(sessionStorage.getItem(STORE));
+    if (address !== location.href) return false;
+    fill(fields);
+    if (isTyped) filled = '';
+    $('example').value = example;
+    return true;
+  } catch {
+    return false;
+  }
+}
+
+/* The program's lines */
+
+let looking = 0;
+
+// Draws the program anew, and looks it over when no key was pressed for a while.
+function changed() {
+  failing = null;
+  editor.draw();
+  clearTimeout(looking);
+  looking = setTimeout(() => {
+    store();
+    lookOver();
+  }, PAUSE);
+}
+
+// Marks the lines of all advice, and of the last fault or refusal.
+function lookOver() {
+  clearTimeout(looking);
+  const fields = form(), most = fields.source.split('\n').length, marks = new Map();
+  const isLookedOver = fields.source.trim() !== '' && fields.source.length <= COLOURED;
+  const found = (isLookedOver ? advice.of(sourceOf(fields)) : []).map(({ line, text }) =>
+    ({ line: Math.min(line, most), text, kind: text.startsWith('refused') ? 'bad' : 'wait' }));
+  const all = failing ? [failing, ...found] : found;
+  for (const { line, text, kind } of all) {
+    const before = marks.get(line);
+    marks.set(line, { kind: before?.kind === 'bad' ? 'bad' : kind, text: before ? `${before.text}\n${text}` : text });
+  }
+  editor.mark(marks);
+  $('advice').replaceChildren(...all.map(adviceItem));
+}
+
+function adviceItem({ line, text, kind }) {
+  const button = Object.assign(document.createElement('button'), { type: 'button' });
+  button.append(Object.assign(document.createElement('b'), { textContent: `Line ${line}` }), ` ${text}`);
+  button.onclick = () => goToLine(line);
+  const item = Object.assign(document.createElement('li'), { className: kind });
+  item.append(button);
+  return item;
+}
+
+function goToLine(line) {
+  const lines = $('source').value.split('\n'), at = lines.slice(0, line - 1).join('\n').length + (line > 1 ? 1 : 0);
+  $('source').focus();
+  $('source').setSelectionRange(at, at + lines[line - 1].length);
+  const height = $('source').scrollHeight / lines.length;
+  $('source').scrollTop = Math.max(0, (line - 3) * height);
+}
+
+// Marks the line of the statement that a message names by the number behind it.
+function markFailing(file, errors) {
+  const found = /^ICL(\d+)I .*\n\s+ON THE WAY TO (\d+)\n/s.exec(errors);
+  const statement = found && cut(file)[Number(found[2]) - 2];
+  failing = null;
+  if (statement) {
+    const line = file.slice(0, statement.start).split('\n').length, most = $('source').value.split('\n').length;
+    const where = line > most ? ', in the library' : '';
+    failing = { line: Math.min(line, most), kind: 'bad', text: `E${found[1]} at statement ${statement.number}${where}` };
+  }
+  lookOver();
+}
+
+/* Files */
+
+async function openFile(file) {
+  if (file) replace({ ...form(), source: await file.text() });
+  $('example').value = '';
+}
+
+function save() {
+  const link = document.createElement('a');
+  link.href = URL.createObjectURL(new Blob([$('source').value], { type: 'text/plain' }));
+  link.download = `${$('example').value || 'program'}.i`;
+  link.click();
+  setTimeout(() => URL.revokeObjectURL(link.href), 1000);
 }
 
 // Returns the whole source: the program, and behind it the library's files.
@@ -47,10 +173,7 @@ function sourceOf({ source, library: names }) {
   return source + (source.endsWith('\n') ? '' : '\n') + names.map((name) => library[name]).join('');
 }
 
-function choose(name) {
-  fill(examples.find((it) => it.name === name) ?? {});
-  clear();
-}
+const choose = (name) => replace(examples.find((it) => it.name === name) ?? {});
 
 function makeForm() {
   for (const name of Object.keys(library)) {
@@ -101,6 +224,7 @@ function showRun(answer, request, output, errors) {
   const more = `${run}status ${answer.status}, ${took(answer.milliseconds)}`;
   put('written', 'output', output, answer.written);
   put('said', 'errors', asks ? '' : errors);
+  if (request.file === sourceOf(form())) markFailing(request.file, errors);
   $('question').hidden = !asks;
   $('back').hidden = request.choices === '';
   if (asks) {
@@ -113,32 +237,42 @@ function showRun(answer, request, output, errors) {
 
 function showListing(answer, request, output, errors) {
   const { runs, isWhole } = readListing(output);
-  const before = request.from === undefined ? [] : listing.runs;
-  listing = { request, runs: before.concat(runs), isWhole };
+  const { runs: before, tree } = request.from === undefined ? { runs: [], tree: new Joining() } : listing;
+  addRuns(tree, runs);
+  listing = { request, runs: before.concat(runs), isWhole, tree };
   const found = listing.runs.length;
   const outcomes = new Set(listing.runs.map(({ end, quoted }) => `${end} ${quoted}`)).size;
   const headline = isWhole ? `${counted(found, 'run')}, and no other` : `The first ${counted(found, 'run')}`;
-  const more = `${counted(outcomes, 'outcome')}, status ${answer.status}, ${took(answer.milliseconds)}`;
+  const cut = answer.written > MOST ? 'cut at 4 MiB, and “Further runs” goes on, ' : '';
+  const more = `${cut}${counted(outcomes, 'outcome')}, status ${answer.status}, ${took(answer.milliseconds)}`;
   say(answer.status === 0 ? ['ok', headline] : HEADLINES[answer.status], more);
   const lines = listing.runs.map(({ line }) => `${line}\n`);
   put('listed', 'listing', lines.join('') + (isWhole ? 'DONE\n' : 'MORE\n'));
   put('said', 'errors', errors);
+  if (request.file === sourceOf(form())) markFailing(request.file, errors);
   $('more').hidden = isWhole || found === 0;
   drawTree();
 }
 
 function drawTree() {
-  const { runs, isWhole } = listing, drawnRuns = runs.slice(0, DRAWN);
+  const { runs, isWhole, tree } = listing;
   $('drawn').hidden = runs.length === 0 || runs[0].choices === '-';
   if ($('drawn').hidden) return;
-  const parts = treeOf(drawnRuns, DEPTH);
-  const ends = parts.filter((part) => part.end).length;
-  const first = drawnRuns.length < runs.length ? `The first ${counted(DRAWN, 'run')}. ` : '';
-  $('parts').textContent = `${first}Ends: ${ends}. Equal parts of the tree are drawn once.`
-    + (isWhole ? '' : ' “…” is not listed yet.');
+  const parts = drawnParts(tree.root(), DRAWN);
+  const ends = parts.filter((part) => part.end).length, isCut = parts.some((part) => part.isCut);
+  $('parts').textContent = `Ends: ${ends}. Equal parts of the tree are drawn once.`
+    + (isCut ? ` A part with “…” says what lies behind it: the drawing has at most ${DRAWN} parts.` : '')
+    + (isWhole ? '' : ' “…” alone is not listed yet.');
   $('tree').replaceChildren(new Drawing(parts).svg());
   $('tree').querySelector('.leaf')?.setAttribute('tabindex', '0');
-  $('tree').scrollTo(0, 0);
+  $('tree').scrollTo(0, parts.at(-1).y - $('tree').clientHeight / 2);
+}
+
+// Shows the whole tree in its frame, or each part in its full size.
+function fit() {
+  const isFitted = $('fit').getAttribute('aria-pressed') !== 'true';
+  $('fit').setAttribute('aria-pressed', isFitted);
+  $('tree').classList.toggle('fitted', isFitted);
 }
 
 // Scrolls so that an element is in the upper part of the window.
@@ -230,6 +364,7 @@ function stop() {
 // Puts the form into the page's address, and the address on the clipboard if the browser allows it.
 async function copyLink() {
   history.replaceState(null, '', await fragmentOf(form()));
+  store();
   try {
     await navigator.clipboard.writeText(location.href);
     say(['ok', 'The link is copied'], 'it holds the program, its input and the options');
@@ -242,8 +377,7 @@ async function followLink() {
   try {
     const fields = await formOf(location.hash);
     if (fields === null) return false;
-    fill(fields);
-    clear();
+    replace(fields);
     $('example').value = '';
   } catch {
     say(['bad', 'The link can’t be read'], 'it was cut off or changed');
@@ -275,8 +409,14 @@ function listen() {
     askForm('run');
   };
   $('form').onkeydown = (event) => {
-    if (event.key === 'Enter' && (event.ctrlKey || event.metaKey)) askForm('run');
+    const isShort = event.ctrlKey || event.metaKey;
+    if (event.key === 'Enter' && isShort) askForm('run');
+    if (event.key === 'z' && isShort && kept !== null && JSON.stringify(form()) === filled) {
+      event.preventDefault();
+      undo();
+    }
   };
+  $('form').oninput = changed;
   document.onkeydown = (event) => {
     if (event.key === 'Escape') stop();
   };
@@ -289,6 +429,14 @@ function listen() {
   $('back').onclick = () => goOn(withoutLast($('choices').value.trim()));
   $('more').onclick = () => ask({ ...listing.request, from: listing.runs.at(-1).choices });
   $('stop').onclick = stop;
+  $('undo').onclick = undo;
+  $('fit').onclick = fit;
+  $('open').onclick = () => $('file').click();
+  $('file').onchange = async () => {
+    await openFile($('file').files[0]);
+    $('file').value = '';
+  };
+  $('save').onclick = save;
   $('link').onclick = copyLink;
   $('example').onchange = () => choose($('example').value);
   $('tree').onkeydown = moveInTree;
@@ -305,6 +453,7 @@ function listen() {
 
 async function begin() {
   makeForm();
+  filled = JSON.stringify(form());
   listen();
   $('made').textContent = made;
   if (canRun()) {
@@ -314,7 +463,7 @@ async function begin() {
     $('notice').textContent = BROWSERS;
   }
   setBusy(false);
-  if (await followLink()) return;
+  if (restore() || await followLink()) return;
   $('example').value = FIRST;
   choose(FIRST);
 }

@@ -1,68 +1,133 @@
 // The tree of choices of listed runs, in which equal parts are one.
 'use strict';
 
-// A part of the tree: an end of a run, a branch with one or two sides, or a rest that isn't drawn further.
-// `wrote` has the pieces of output that all its runs begin with, and `first` is the first of its runs.
-function partOf(runs, wrote, sides = []) {
-  return { first: runs[0], count: runs.length, wrote, sides, end: null };
+// A part of the tree: an end of a run, or a branch with two sides, of which one is null if no run of it is listed.
+// `since` has the pieces that all its runs wrote first behind the branch before, and `ends` has the count of its runs
+// for each end, and parts with the same id are equal.
+
+// Returns how many pieces both lists begin with.
+function commonLength(one, other) {
+  let length = 0;
+  while (length < one.length && length < other.length && one[length] === other[length]) length += 1;
+  return length;
 }
 
-// Returns the pieces that all these runs begin with.
-function commonPieces(runs) {
-  let length = runs[0].pieces.length;
-  for (const { pieces } of runs) {
-    let same = 0;
-    while (same < length && pieces[same] === runs[0].pieces[same]) same += 1;
-    length = same;
-  }
-  return runs[0].pieces.slice(0, length);
-}
+const sumOf = (parts) => {
+  const ends = new Map();
+  for (const part of parts) for (const [end, count] of part.ends) ends.set(end, (ends.get(end) ?? 0) + count);
+  return ends;
+};
 
-// Returns the tree of runs whose first choices, as many as `at`, are equal. It goes no deeper than `depth`.
-function grow(runs, depth, at = 0) {
-  const part = partOf(runs, commonPieces(runs));
-  if (runs.length === 1 && runs[0].digits.length === at) return { ...part, end: runs[0].end };
-  if (at === depth) return part;
-  part.sides = ['0', '1'].map((digit) => {
-    const side = runs.filter(({ digits }) => digits[at] === digit);
-    return side.length ? grow(side, depth, at + 1) : null;
-  });
-  return part;
-}
-
-// Makes equal parts one. Parts are equal if they write the same since the branch before, and end the same way.
-class Sharing {
+// Joins equal parts while runs come one by one, in the order of a listing.
+class Joining {
   constructor() {
     this.known = new Map();
-    this.parts = [];
+    this.waiting = []; // left sides of branches whose right side isn't there yet, each with its depth
+    this.last = null;
+    this.ids = 0;
   }
 
-  // Returns the one part for this part, behind a branch at which so many pieces were written. Its sides come before it
-  // in `parts`.
-  share(part, written) {
-    const sides = part.sides.map((side) => side && this.share(side, part.wrote.length));
-    const since = part.wrote.slice(written);
-    const isWhole = part.end || (sides.length === 2 && sides.every(Boolean));
-    const key = isWhole && JSON.stringify([since, part.end, sides.map((side) => side.id)]);
-    const known = isWhole && this.known.get(key);
-    if (known) {
-      known.count += part.count;
-      return known;
+  add(run) {
+    if (this.last) {
+      const digits = this.last.digits, fork = commonLength(digits, run.digits);
+      this.waiting.push({ depth: fork, grown: this.joined(fork + 1) });
     }
-    const made = { ...part, since, sides, id: this.parts.length };
-    this.parts.push(made);
-    if (isWhole) this.known.set(key, made);
+    this.last = run;
+    this.grown = { wrote: run.pieces, end: run.end, sides: [], ends: new Map([[run.end, 1]]) };
+  }
+
+  // Returns what is read behind the first choices of the last run, as many as `to`.
+  joined(to) {
+    const { digits } = this.last;
+    let grown = this.grown;
+    for (let depth = digits.length - 1; depth >= to; depth -= 1) {
+      const isLeft = this.waiting.at(-1)?.depth === depth && digits[depth] === '1';
+      const before = isLeft ? this.waiting.pop().grown : null;
+      grown = this.branch(digits[depth] === '1' ? [before, grown] : [grown, null]);
+    }
+    return grown;
+  }
+
+  branch(sides) {
+    const there = sides.filter(Boolean), [{ wrote }] = there;
+    const common = wrote.slice(0, commonLength(wrote, there.at(-1).wrote));
+    return { wrote: common, end: null, sides: sides.map((side) => side && this.part(side, common.length)),
+      ends: sumOf(there) };
+  }
+
+  // Returns the one part for what is read, behind a branch where so many pieces were written.
+  part(grown, written) {
+    const since = grown.wrote.slice(written), { end, sides, ends } = grown;
+    const key = sides.includes(null) ? null : JSON.stringify([since, end, sides.map(({ id }) => id)]);
+    const made = this.known.get(key) ?? { id: this.ids++, since, end, sides, ends };
+    if (key !== null) this.known.set(key, made);
     return made;
+  }
+
+  root() {
+    const waiting = [...this.waiting], root = this.part(this.joined(0), 0);
+    this.waiting = waiting;
+    return root;
   }
 }
 
-// Returns the parts of the tree of these runs. The sides of a part come before it, and the root is the last.
-function treeOf(runs, depth) {
-  const read = runs.map((run) => ({
-    choices: run.choices, end: run.end,
-    digits: choicesOf(run.choices, depth + 1), pieces: piecesOf(unquoted(run.quoted)),
-  }));
-  const sharing = new Sharing();
-  sharing.share(grow(read, depth), 0);
-  return sharing.parts;
+// Returns the parts of a tree that are drawn: at most so many, or those of the first two levels. A part that isn't
+// drawn further is cut. An end is drawn once for each level, so that no line to it is long. `count` is how many runs
+// pass a part, and `choices` and `pieces` are those of the first one.
+function drawnParts(root, most) {
+  const made = new Map(), copy = (part, key) => {
+    if (!made.has(key)) made.set(key, { ...part, isCut: false, count: 0 });
+    return made.get(key);
+  };
+  let level = [copy(root, root.id)], drawn = level, depth = 0;
+  for (;;) {
+    depth += 1;
+    const below = level.flatMap((part) => part.sides.filter((side) => side && !made.has(keyOf(side, depth))));
+    const added = new Map(below.map((side) => [keyOf(side, depth), side]));
+    if (drawn.length + added.size > most && depth > 1) {
+      for (const part of level) part.isCut = part.sides.length > 0;
+      break;
+    }
+    const next = [...added].map(([key, side]) => copy(side, key)), here = depth;
+    for (const part of level) part.sides = part.sides.map((side) => side && made.get(keyOf(side, here)));
+    if (next.length === 0) break;
+    drawn = drawn.concat(next);
+    level = next;
+  }
+  for (const part of level) if (part.isCut) part.sides = [];
+  return countedParts(drawn);
+}
+
+const keyOf = (part, depth) => (part.end ? `${part.id} ${depth}` : part.id);
+
+// Orders drawn parts so that each stands in front of all that lead to it, and the root is the last. Counts the runs
+// that pass each one.
+function countedParts(parts) {
+  const leading = new Map(parts.map((part) => [part, 0]));
+  for (const part of parts) for (const side of part.sides) if (side) leading.set(side, leading.get(side) + 1);
+  for (const part of parts) Object.assign(part, { times: 0, digits: null });
+  Object.assign(parts[0], { times: 1, digits: '', pieces: parts[0].since });
+  const order = [parts[0]];
+  for (const part of order) {
+    part.count = part.times * [...part.ends.values()].reduce((sum, count) => sum + count, 0);
+    part.choices = textOf(groupsOf(part.digits));
+    part.sides.forEach((side, choice) => {
+      if (!side) return;
+      const digits = part.digits + choice;
+      if (side.digits === null || digits < side.digits) {
+        Object.assign(side, { digits, pieces: part.pieces.concat(side.since) });
+      }
+      side.times += part.times;
+      leading.set(side, leading.get(side) - 1);
+      if (leading.get(side) === 0) order.push(side);
+    });
+  }
+  return order.reverse();
+}
+
+// Adds runs of a listing to a tree.
+function addRuns(tree, runs) {
+  for (const { choices, end, quoted } of runs) {
+    tree.add({ choices, end, digits: choicesOf(choices, DEEPEST), pieces: piecesOf(unquoted(quoted)) });
+  }
 }

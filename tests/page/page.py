@@ -69,8 +69,8 @@ def started(browser, address):
 
 
 def in_both(tally, page):
-    for work in (shown.shown_examples, shown.question, shown.stopping, shown.going_on, shown.tree, shown.links,
-                 shown.failures, keys.by_keyboard):
+    for work in (shown.shown_examples, shown.question, shown.stopping, shown.going_on, shown.tree, shown.large_trees,
+                 shown.keeping, shown.lines, shown.links, shown.failures, keys.by_keyboard):
         page.open()
         part(tally, f"{work.__name__} in {type(page.browser).__name__}", work, page)
 
@@ -85,7 +85,8 @@ def in_chromium(tally, address, asked):
         numbers = range(1, asked.programs + 1)
         part(tally, "programs", compared.compare_programs, module, asked.program, asked.seed, numbers)
         in_both(tally, page)
-        for work in (shown.equal_parts, shown.alone, shown.contrast, shown.unable):
+        for work in (shown.equal_parts, shown.same_advice, shown.same_colours, shown.files, shown.alone, shown.contrast,
+                     shown.unable):
             page.open()
             part(tally, work.__name__, work, page)
 

@@ -2,8 +2,11 @@
 import glob
 import json
 import os
+import random
 import re
 import subprocess
+import sys
+import tempfile
 
 from compared import TOP, example_words, read
 
@@ -155,15 +158,50 @@ def tree(tally, page):
     tally.equal(page.browser.evaluate("document.querySelectorAll('.rest').length"), 1, "the rest of a listing")
 
 
+CUT = "".join(f"{'DO' if at % 4 else 'PLEASE'} %50 READ OUT #3888\n" for at in range(16)) + "DO GIVE UP\n"
+COINS = "".join(f"{'DO' if at % 4 else 'PLEASE'} %50 FORGET #0\n" for at in range(14)) + "DO GIVE UP\n"
+ROOT_IS_SEEN = """(() => {
+  const tree = document.getElementById('tree'), frame = tree.getBoundingClientRect();
+  const dots = [...tree.querySelectorAll('.dot, .branch')].map((it) => it.getBoundingClientRect());
+  const first = dots.reduce((one, other) => (other.left < one.left ? other : one));
+  return first.top >= frame.top && first.bottom <= frame.bottom && first.left >= frame.left;
+})()"""
+
+
+def large_trees(tally, page):
+    """Equal parts are one before the tree is cut. A drawing is limited by its parts, begins at its root, and fits."""
+    page.set(source=COINS, count="20000", limit="", seed="", choices="", input="")
+    page.job("runs")
+    tally.check("16,384 runs, and no other" in page.status() and "1 outcome" in page.status(), "14 coins aren't listed")
+    parts = "document.querySelectorAll('#tree :is(.dot, .branch, .leaf)').length"
+    tally.equal(page.browser.evaluate(parts), 15, "the parts of 14 quiet coins")
+    page.set(source=CUT, count="70000")
+    page.job("runs")
+    tally.check("cut at 4 MiB" in page.status(), f"the status {page.status()!r} of a listing of more than 4 MiB")
+    tally.check(page.browser.evaluate(parts) <= 200, "a drawing has more than 200 parts")
+    tally.equal(page.browser.evaluate(ROOT_IS_SEEN), True, "whether the root of a large tree is seen first")
+    page.press("#fit")
+    tree = "document.getElementById('tree')"
+    tally.check(page.browser.evaluate(f"{tree}.scrollWidth <= {tree}.clientWidth"), "a tree isn't fitted")
+    page.press("#fit")
+    page.set(source=CUT.replace("#3888", "#1 + #2") + "DO READ OUT #7\n", count="900")
+    page.job("runs")
+    rests = page.browser.evaluate("[...document.querySelectorAll('#tree .rest')].map((it) => it.textContent).join('|')")
+    tally.check("…" in rests, f"a listing that goes on has no rest: {rests!r}")
+
+
 def equal_parts(tally, page):
     """The tree has as many parts as ick-tree draws of the same listing. Numerals have their bars."""
     for path in sorted(glob.glob(f"{TOP}/examples/*.runs")):
         page.choose(os.path.basename(path)[:-5])
         page.job("runs")
         found = page.browser.evaluate("document.querySelectorAll('#tree :is(.dot, .branch, .leaf)').length")
-        words = [f"{TOP}/tools/ick-tree", "--format", "dot", "--depth", "40", "--width", "10000", path]
+        words = [f"{TOP}/tools/ick-tree", "--format", "dot", "--depth", "200", "--width", "10000", path]
         dot = subprocess.run(words, capture_output=True, check=True).stdout.decode()
         wanted = 0 if page.text("tree-name") is None else len(re.findall(r"^  n\d+ \[", dot, re.MULTILINE))
+        if wanted > 200:
+            tally.check(found <= 200, f"the tree of {path} has {found} parts")
+            continue
         tally.equal(found if wanted else 0, wanted, f"the parts of the tree of {path}")
     page.set(source="DO READ OUT #3999 + #4000\nDO %50 READ OUT #0\nPLEASE GIVE UP\n", limit="", seed="", choices="")
     page.job("runs")
@@ -171,6 +209,117 @@ def equal_parts(tally, page):
                          ("leaf title", "Run 0: GIVE-UP, output 3999, 4000,Run 1: GIVE-UP, output 3999, 4000, 0")):
         texts = f"[...document.querySelectorAll('#tree .{kind}')].map((it) => it.textContent).join()"
         tally.equal(page.browser.evaluate(texts), wanted, f"the texts of .{kind} in the tree")
+
+
+def type_source(page, text):
+    """Writes a program as a user does: the page sees it being typed."""
+    page.set(source=text)
+    page.browser.evaluate("document.getElementById('source').dispatchEvent(new Event('input', { bubbles: true }))")
+    page.browser.wait(f"JSON.parse(sessionStorage.getItem('ick.form')).fields.source === {json.dumps(text)}")
+
+
+def keeping(tally, page):
+    """What was typed outlives a reload. It comes back after an example took its place, by the button and by Ctrl-Z."""
+    text = "DO READ OUT #7\nPLEASE GIVE UP\n"
+    type_source(page, text)
+    page.set(seed="5")
+    page.browser.evaluate("document.getElementById('seed').dispatchEvent(new Event('input', { bubbles: true }))")
+    page.browser.wait("JSON.parse(sessionStorage.getItem('ick.form')).fields.seed === '5'")
+    page.browser.evaluate("(window.isOld = true, location.reload())")
+    page.browser.wait("!window.isOld && document.getElementById('made').textContent !== ''")
+    page.idle()
+    tally.equal((page.value("source"), page.value("seed")), (text, "5"), "the form after a reload")
+    for how in ("the button", "Ctrl-Z"):
+        page.choose("hello")
+        page.choose("liars")
+        tally.check(page.text("kept") is not None, "a page that doesn't say that it keeps what was typed")
+        if how == "the button":
+            page.press("#undo")
+        else:
+            page.browser.evaluate("document.getElementById('source').focus()")
+            page.browser.press("z", control=True)
+        tally.equal((page.value("source"), page.value("seed"), page.text("kept")), (text, "5", None),
+                    f"the form after {how}")
+    page.choose("hello")
+    page.press("#undo")
+    page.choose("hello")
+    page.open()
+    page.choose("hello")
+    tally.equal(page.text("kept"), None, "what is kept if nothing was typed")
+
+
+def marked(page):
+    """The lines that are marked, with their kinds."""
+    texts = "[...document.querySelectorAll('#numbers b')].map((it) => `${it.textContent} ${it.className}`).join()"
+    return page.browser.evaluate(texts)
+
+
+def lines(tally, page):
+    """Each line has its number. The lines of a fault, of a refusal and of advice are marked, and advice leads there."""
+    type_source(page, "DO READ OUT #1\nDO .1 <- 5\nPLEASE GIVE UP\n")
+    tally.equal(page.text("numbers"), "1\n2\n3\n4\n", "the numbers of the lines")
+    page.browser.wait("document.querySelector('#numbers b') !== null")
+    tally.equal(marked(page), "2 wait", "the line of an advice")
+    page.press("#advice button")
+    source = "document.getElementById('source')"
+    chosen = page.browser.evaluate(f"{source}.value.slice({source}.selectionStart, {source}.selectionEnd)")
+    tally.equal(chosen, "DO .1 <- 5", "where an advice leads")
+    page.job("run")
+    tally.equal(marked(page), "2 bad", "the line of a fault")
+    tally.check("Line 2 E000 at statement 2" in page.text("advice"), f"the list of advice {page.text('advice')!r}")
+    page.set(source="DO READ OUT #1\nPLEASE\nREAD OUT #70000\nDO GIVE UP\n")
+    page.job("check")
+    tally.equal(marked(page), "2 bad,3 bad", "the line of a refusal, and of its advice")
+    page.choose("sort")
+    page.job("run")
+    tally.equal(marked(page), "", "marks in a program without a mistake")
+
+
+def same_advice(tally, page):
+    """The page's advice is that of ick-advice."""
+    sys.path[:0] = [f"{TOP}/tests/tools", f"{TOP}/tools"]
+    import advice
+    import common
+    chance = random.Random(51)
+    texts = [row[0] for row in advice.ROWS]
+    texts += [common.content(path).decode() for path in common.EXAMPLES + common.LIBRARY]
+    texts += [text for text in (advice.random_text(chance).decode("latin-1") for _ in range(100)) if text.isascii()]
+    for text in texts:
+        found = page.browser.evaluate(f"advice.of({json.dumps(text)})"
+                                      ".map(({ line, text }) => `${line}: ${text}\n`).join('')")
+        told = subprocess.run([f"{TOP}/tools/ick-advice"], input=text.encode(), capture_output=True, check=False).stdout
+        wanted = re.sub(r"^-:(\d+):\d+:", r"\1:", told.decode(), flags=re.MULTILINE)
+        tally.equal(found, wanted, f"the advice on {text!r}")
+
+
+def same_colours(tally, page):
+    """The page colours programs as the syntax file for vim does."""
+    sys.path[:0] = [f"{TOP}/tests/tools", f"{TOP}/tools"]
+    import vim
+    with tempfile.TemporaryDirectory() as folder:
+        for name, source in vim.sources():
+            page_groups = page.browser.evaluate(f"groupsIn({json.dumps(source.decode('latin-1'))})"
+                                                ".map(({ text, group }) => `${group} ${text}`).join('\\0')")
+            with open(f"{folder}/tried.i", "wb") as file:
+                file.write(source)
+            vim_groups = vim.groups_of([f"{folder}/tried.i"])[0]
+            wanted = ["ick" + group for group, text in (it.split(" ", 1) for it in page_groups.split("\0") if it)
+                      for letter in text if not letter.isspace()]
+            found = [group for byte, group in zip(source, vim_groups) if not bytes([byte]).isspace()]
+            tally.equal(found, wanted, f"vim's groups in {name}")
+
+
+def files(tally, page):
+    """A program is opened from a file and saved as one."""
+    page.open()
+    page.browser.evaluate("openFile(new File(['DO GIVE UP\\n'], 'x.i'))")
+    page.browser.wait("document.getElementById('source').value === 'DO GIVE UP\\n'")
+    page.browser.evaluate("""
+        HTMLAnchorElement.prototype.click = function () { window.saved = this.download; };
+        URL.createObjectURL = (blob) => { window.blob = blob; return 'blob:x'; }; 0""")
+    page.press("#save")
+    tally.equal(page.browser.evaluate("window.blob.text().then((text) => `${window.saved} ${text}`)"),
+                "program.i DO GIVE UP\n", "the file that is saved")
 
 
 def links(tally, page):

@@ -36,9 +36,7 @@ def places(source):
     return identifiers, comments, recognised
 
 
-def try_groups(tally, name, source, groups):
-    # the end of a line has no group of its own
-    names = groups.decode().replace("\n", " . ").split()
+def try_groups(tally, name, source, names):
     identifiers, comments, recognised = places(source)
     ends = {place for place, byte in enumerate(source) if byte in b" \n"}
     for group, wanted in (("ickIdentifier", identifiers), ("ickComment", comments)):
@@ -46,6 +44,13 @@ def try_groups(tally, name, source, groups):
         tally.same(f"{group} in {name}", sorted(found - ends), sorted(wanted - ends))
     wrong = sorted(place for place in recognised if names[place] == "ickUnread")
     tally.check(not wrong, f"{name}: vim shows {[source[place:place + 20] for place in wrong[:3]]} as an error")
+
+
+def groups_of(paths):
+    """The names of vim's groups, byte by byte, for each file. The end of a line has no group of its own."""
+    called(["vim", "-es", "-u", "NONE", "-N", "-S", f"{TOP}/tests/tools/groups.vim", *paths], b"",
+           dict(os.environ, SYNTAX=f"{TOP}/editors/vim/syntax/ick.vim"))
+    return [content(f"{path}.groups").decode().replace("\n", " . ").split() for path in paths]
 
 
 def try_all(tally):
@@ -56,7 +61,5 @@ def try_all(tally):
     for _, source, path in tried:
         with open(path, "wb") as file:
             file.write(source)
-    called(["vim", "-es", "-u", "NONE", "-N", "-S", f"{TOP}/tests/tools/groups.vim", *[path for *_, path in tried]], b"",
-           dict(os.environ, SYNTAX=f"{TOP}/editors/vim/syntax/ick.vim"))
-    for name, source, path in tried:
-        try_groups(tally, name, source, content(f"{path}.groups"))
+    for (name, source, _), names in zip(tried, groups_of([path for *_, path in tried])):
+        try_groups(tally, name, source, names)

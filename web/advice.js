@@ -1,0 +1,208 @@
+// Tells what is likely a mistake in a program, as tools/ick-advice does. The tables of reasons are those of the tools.
+'use strict';
+
+const LIBRARY = [1000, 1999], BYTES = [1600, 1699], FLOATS = [5000, 5999];
+const within = (label, [least, most]) => label >= least && label <= most;
+const SMALL_LETTERS =
+  /\b(do|please|forget|resume|stash|retrieve|ignore|remember|abstain|reinstate|give|write|read|next)\b/;
+const isRead = (statement) => statement.kind !== 'UNRECOGNISED';
+const mayBeDone = (statement) => !statement.abstained && statement.chance > 0;
+
+// Returns how alike two words are, from 0 to 1: twice the letters in common blocks, by the letters of both.
+function likeness(one, other) {
+  const common = (a, b) => {
+    let best = [0, 0, 0];
+    for (let i = 0; i < a.length; i += 1) {
+      for (let j = 0; j < b.length; j += 1) {
+        let size = 0;
+        while (i + size < a.length && j + size < b.length && a[i + size] === b[j + size]) size += 1;
+        if (size > best[2]) best = [i, j, size];
+      }
+    }
+    const [i, j, size] = best;
+    if (size === 0) return 0;
+    return size + common(a.slice(0, i), b.slice(0, j)) + common(a.slice(i + size), b.slice(j + size));
+  };
+  return 2 * common(one, other) / (one.length + other.length);
+}
+
+class Advice {
+  // The tables are lists of patterns and reasons, words of the language, and for each message what it means.
+  constructor({ bodies, stops, words, faults }) {
+    const front = (pattern) => new RegExp(`^(?:${pattern})`);
+    this.bodies = bodies.map(([pattern, reason]) => [front(pattern), reason]);
+    this.stops = stops.map(([behind, here, reason]) => [new RegExp(behind, 's'), front(here), reason]);
+    Object.assign(this, { words, faults });
+    this.begins = front([...words.slice(0, 13), ...words.slice(16)].join('|'));
+  }
+
+  // Returns what is found in a program, in order of the places: each a place and a text.
+  of(source) {
+    Object.assign(this, { source, found: [], statements: cut(source), labelled: new Map() });
+    this.ends = [...source.matchAll(/\n/g)].map(({ index }) => index);
+    for (const statement of this.statements) {
+      if (statement.label !== null && !this.labelled.has(statement.label)) this.labelled.set(statement.label, statement);
+    }
+    this.refusals();
+    this.lookOver();
+    return this.found.sort((one, other) => one.at - other.at || (one.text < other.text ? -1 : 1));
+  }
+
+  tell(at, text) {
+    this.found.push({ at, line: this.line(at), text });
+  }
+
+  line(at) {
+    return this.ends.filter((end) => end < at).length + 1;
+  }
+
+  before({ number }) {
+    return number > 1 ? this.statements[number - 2] : null;
+  }
+
+  // What hands its label to the statement: a statement in front that isn't read and ends in this line, or ''.
+  handing(statement) {
+    const before = this.before(statement);
+    if (!before || isRead(before) || statement.label === null) return '';
+    if (this.line(before.end) !== this.line(statement.start)) return '';
+    if (/^(COME|NEXT)\s*FROM$/.test(this.source.slice(before.body, before.end))) return 'COME FROM';
+    return before.abstained ? 'the comment in front' : "the statement in front, which can't be read,";
+  }
+
+  refusals() {
+    const hasLibrary = [...this.labelled.keys()].some((label) => within(label, LIBRARY)), calls = [];
+    for (const [number, statement, at] of refusalsOf(this.statements)) {
+      const label = statement.labels.find(([, place]) => place >= at)?.[0] ?? null;
+      if (number === 129 && within(label, LIBRARY) && !hasLibrary) calls.push([at, label]);
+      else this.tell(at, `refused, E${String(number).padStart(3, '0')}: ${this.refusal(number, statement, at, label)}`);
+    }
+    if (calls.length === 0) return;
+    const labels = [...new Set(calls.map(([, label]) => label))].sort((one, other) => one - other);
+    const files = labels.some((label) => within(label, BYTES))
+      ? 'library/text.i and library/arithmetic.i' : 'library/arithmetic.i';
+    this.tell(calls[0][0], `refused, E129: paste ${files} behind the program, for its calls of `
+      + labels.map((label) => `(${label})`).join(', '));
+  }
+
+  refusal(number, statement, at, label) {
+    if (number === 79 || number === 99) {
+      const count = this.statements.length, polite = this.statements.filter((it) => it.polite).length;
+      const [least, most] = [Math.floor(count / 5), Math.floor(count / 3)];
+      const wanted = polite < least ? `${least - polite} more` : `${polite - most} fewer`;
+      return `${count} statements, ${polite} with PLEASE: say PLEASE in ${wanted}`;
+    }
+    if ((number === 182 || number === 197) && at === statement.start) return this.labels(statement, number === 182);
+    if (number === 129 || number === 139) {
+      const floats = within(label, FLOATS) ? "; C-INTERCAL's library of floating-point numbers isn't here" : '';
+      return `no statement has the label (${label})${floats}`;
+    }
+    const [meant, todo] = this.faults[number];
+    return `${meant} ${todo}`;
+  }
+
+  labels(statement, twice) {
+    let text = `(${statement.label}) is the label of statement ${statement.number}`;
+    if (this.handing(statement)) text += `, since ${this.handing(statement)} hands it on`;
+    const first = this.labelled.get(statement.label);
+    if (twice) text += `, and of statement ${first.number} at line ${this.line(first.start)}`;
+    if (twice && this.handing(first)) text += `, since ${this.handing(first)} hands it on`;
+    return text;
+  }
+
+  lookOver() {
+    const told = new Set(this.found.map(({ at }) => at)), library = this.ofLibrary();
+    for (const statement of this.statements) {
+      if (this.handing(statement) && !told.has(statement.start)) {
+        this.tell(statement.start, `${this.handing(statement)} hands its (${statement.label}) to statement `
+          + `${statement.number} as its label`);
+      }
+    }
+    for (const statement of this.reached()) {
+      if (!isRead(statement) && mayBeDone(statement) && !library.has(statement.number)) this.unread(statement);
+    }
+    if (!this.statements.some((it) => it.kind === 'GIVE-UP' && mayBeDone(it))) {
+      this.tell(trimmed(this.source).length, 'no GIVE UP is ever done: the program can only end by a fault');
+    }
+  }
+
+  // The numbers of statements with a label of the library, and of those that can't be read in front of them.
+  ofLibrary() {
+    const found = new Set();
+    let inside = false;
+    for (const statement of this.statements.toReversed()) {
+      inside = within(statement.label ?? 0, LIBRARY) || (inside && !isRead(statement));
+      if (inside) found.add(statement.number);
+    }
+    return found;
+  }
+
+  // The statements that may be reached: not those without label behind GIVE UP or RESUME.
+  reached() {
+    let isOpen = true;
+    return this.statements.filter((it) => {
+      const isReached = isOpen || it.label !== null;
+      isOpen = isReached && !(['GIVE-UP', 'RESUME'].includes(it.kind) && !it.abstained && it.chance === 100);
+      return isReached;
+    });
+  }
+
+  unread(statement) {
+    const before = this.before(statement), word = this.wordAround(statement.start);
+    const fault = `statement ${statement.number} is fault 000 when it is done`;
+    const behind = before && !isRead(before);
+    const beside = behind && before.abstained && this.line(before.end) === this.line(statement.start);
+    if ((behind && word) || beside) {
+      this.tell(statement.start, `the comment in front is cut at ${word || 'DO or PLEASE'}: ${fault}`);
+    } else if (word) {
+      this.tell(statement.start, `${fault}: it begins inside the word ${word}`);
+    } else {
+      const [at, reason] = this.why(statement);
+      this.tell(at, `${fault}: ${reason}`);
+    }
+  }
+
+  // The word that DO or PLEASE at a place, without a label, is a part of, or ''.
+  wordAround(at) {
+    const [before] = /[A-Z]*$/.exec(this.source.slice(Math.max(0, at - 40), at));
+    const found = /^(PLEASE|DO)([A-Z]*)/.exec(this.source.slice(at, at + 40));
+    if (!found) return '';
+    const [, first, rest] = found;
+    if (!before && (!rest || rest.startsWith('NOT') || rest.startsWith('DO') || this.begins.test(rest))) return '';
+    return before + first + rest;
+  }
+
+  // The place where an unrecognised statement goes wrong, and what is wrong there.
+  why(statement) {
+    const body = this.source.slice(statement.body, statement.end);
+    if (SMALL_LETTERS.test(body) && !/[A-Z]{2}/.test(body)) {
+      return [statement.start, 'small letters are no letters of the language: write capitals, or use ick-convert'];
+    }
+    if (statement.expected === 'DO or PLEASE') {
+      return [statement.start, 'what stands in front of the first DO or PLEASE is a statement of its own'];
+    }
+    if (statement.stop === statement.body) {
+      const reason = this.bodies.find(([pattern]) => pattern.test(body))?.[1] ?? this.nearWord(body);
+      if (reason) return [statement.stop, reason];
+      if (statement.expected === ANY) return [statement.stop, 'no statement of this language begins so'];
+    }
+    return this.stopped(statement);
+  }
+
+  nearWord(body) {
+    const word = /[A-Z]+/.exec(body)?.[0];
+    if (!word) return '';
+    const near = this.words.map((known) => [likeness(known, word), known])
+      .filter(([like]) => like >= .7).sort((one, other) => other[0] - one[0] || (one[1] < other[1] ? 1 : -1))[0];
+    return near && near[1] !== word ? `${word} is no word of this language; ${near[1]} is` : '';
+  }
+
+  // What is wrong at the place where reading stopped.
+  stopped({ body, stop, start, end, expected }) {
+    const before = this.source.slice(body, stop), after = this.source.slice(stop, Math.max(stop, end));
+    for (const [behind, here, reason] of this.stops) {
+      if (here.test(after) && behind.test(before)) return [stop, reason];
+    }
+    if (!after) return [start, `${expected} is missing at its end`];
+    return [stop, `reading stops here, where ${expected} is expected`];
+  }
+}
