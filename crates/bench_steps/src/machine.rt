@@ -4,7 +4,7 @@ ghost use Rattle.std.specs.Prelude.{◌≡◌, ◌≢◌, ◌-◌, ◌^◌, ◌�
 ghost use Rattle.std.specs.Prelude.{[], IfSome, IfNone, IfOk, IfErr};
 ghost use Rattle.ick_code.specs.Compiled.{code_program};
 ghost use Rattle.ick_code.specs.meaning.Move.{first_state};
-ghost use Rattle.ick_runs.specs.Runs.{Execution, run};
+ghost use Rattle.ick_explorer.specs.Runs.{Execution, run};
 ghost use Rattle.ick_runs.specs.Ordinary.{IsRan};
 ghost use Rattle.bench_steps.specs.Machines.{name_of};
 

@@ -1,8 +1,8 @@
 use Rattle.std.proofs.Common.{[], subst}
 use Rattle.ick_code.specs.Compiled.{code_program}
 use Rattle.ick_code.specs.meaning.Move.{first_state}
-use Rattle.ick_machine.specs.Machine.{Machine}
-use Rattle.ick_runs.specs.Runs.{Execution, run}
+use Rattle.ick_backtrack.specs.Machine.{Machine}
+use Rattle.ick_explorer.specs.Runs.{Execution, run}
 use Rattle.ick_runs.specs.Ordinary.{IsRan}
 use Rattle.bench_steps.proofs.machine.Machine.run.Goals as goal
 
