@@ -15,15 +15,17 @@ sys.dont_write_bytecode = True
 import common
 import advice
 import convert
+import emacs
 import filters
 import finding
 import join
+import lsp
 import parts
 import tree
 import vim
 
-TRIED = {"advice": advice, "tree": tree, "filters": filters, "convert": convert, "join": join, "vim": vim, "parts": parts,
-         "finding": finding}
+TRIED = {"advice": advice, "tree": tree, "filters": filters, "convert": convert, "join": join, "vim": vim, "lsp": lsp,
+         "emacs": emacs, "parts": parts, "finding": finding}
 
 
 def main():

@@ -1,0 +1,207 @@
+"""What an editor asks of a program: advice, explanations, labels and their uses, and PLEASE added or taken away.
+
+Places are those of the language server protocol: a line and a count of UTF-16 units, both from 0.
+"""
+import bisect
+import importlib.machinery
+import importlib.util
+import os
+import pathlib
+import re
+
+import ick_source
+import ick_tool
+from ick_faults import FAULTS
+
+ERROR, WARNING, INFORMATION = 1, 2, 3
+FUNCTION, QUICK_FIX = 12, "quickfix"
+ROUTINES = range(1000, 2000)
+PLACES = ("../library", "../../share/ick/library")  # of the library: in the repository, and as it is installed
+MESSAGE = re.compile(rb"(?:ICL|E)(\d{3})I?")
+
+# what a statement does, and the faults that it can have
+KINDS = {
+    "CALCULATE": ("stores a value in a variable or an element, or gives an array its dimensions", (240, 241, 275, 533)),
+    "NEXT": ("goes to a label, and keeps the way back on the NEXT stack", (123,)),
+    "FORGET": ("drops entries of the NEXT stack", (241, 533)),
+    "RESUME": ("goes back by entries of the NEXT stack", (241, 533, 621, 632)),
+    "STASH": ("keeps values aside", ()),
+    "RETRIEVE": ("brings back values that a STASH kept", (436,)),
+    "IGNORE": ("lets variables keep their values, whatever is stored", ()),
+    "REMEMBER": ("lets variables change again", ()),
+    "ABSTAIN": ("keeps statements from being done", ()),
+    "REINSTATE": ("lets statements be done again", ()),
+    "GIVE-UP": ("ends the run", ()),
+    "WRITE-IN": ("reads a line of digit names, or for a whole tail bytes", (241, 275, 533, 562, 579)),
+    "READ-OUT": ("writes numerals, or for a whole tail bytes", (241,)),
+    "UNRECOGNISED": ("can't be read", (0,)),
+}
+
+
+def load_advice():
+    """The script ick-advice as a module."""
+    loader = importlib.machinery.SourceFileLoader("ick_advice", os.path.join(ick_tool.HERE, "ick-advice"))
+    module = importlib.util.module_from_spec(importlib.util.spec_from_loader("ick_advice", loader))
+    loader.exec_module(module)
+    return module
+
+
+ADVICE = load_advice()
+
+
+def library_file(name):
+    found = (os.path.join(ick_tool.HERE, place, name) for place in PLACES)
+    return next((os.path.realpath(path) for path in found if os.path.exists(path)), None)
+
+
+def routines():
+    """What each routine of the library gives, by its label, from the table of the library's README."""
+    path = library_file("README.md")
+    rows = re.findall(rb"^\| \((\d+)\) \| (.*?) \| (.*?) \|", ick_tool.content(path) if path else b"", re.MULTILINE)
+    return {int(label): (gives.decode(), stops.decode()) for label, gives, stops in rows}
+
+
+class Document:
+    """A program that an editor shows."""
+
+    def __init__(self, uri, text):
+        self.uri, self.text, self.source = uri, text, text.encode("utf-8", "replace")
+        self.lines = [0] + [found.end() for found in re.finditer(b"\n", self.source)]
+        self.program = ADVICE.Program(uri, self.source)
+        self.statements = self.program.statements
+
+    def place(self, at):
+        line = bisect.bisect_right(self.lines, at) - 1
+        before = self.source[self.lines[line]:at].decode("utf-8", "replace")
+        return {"line": line, "character": len(before.encode("utf-16-le")) // 2}
+
+    def range(self, start, end):
+        return {"start": self.place(start), "end": self.place(end)}
+
+    def offset(self, place):
+        if place["line"] >= len(self.lines):
+            return len(self.source)
+        start = self.lines[place["line"]]
+        line = self.source[start:].split(b"\n", 1)[0].decode("utf-8", "replace").encode("utf-16-le")
+        return start + len(line[:2 * place["character"]].decode("utf-16-le", "replace").encode())
+
+    def statement_at(self, at):
+        """The statement that has a place, or that ends there."""
+        return next((one for one in self.statements if one.start <= at <= one.end), None)
+
+    def diagnostics(self):
+        """The advice: each from its place to the end of its statement in this line."""
+        return [{"range": self.range(at, self.end_of(at)), "message": text, "source": "ick",
+                 "severity": ERROR if text.startswith("refused") else
+                 INFORMATION if "--widths" in text or text.startswith("no GIVE UP") else WARNING}
+                for at, text in ADVICE.look_over(self.program)]
+
+    def end_of(self, at):
+        line = (self.source.find(b"\n", at) + 1 or len(self.source) + 1) - 1
+        statement = next((one for one in self.statements if one.start <= at < one.end), None)
+        return max(at, min(line, statement.end if statement else line))
+
+    def hover(self, at):
+        """What a message's number means, or what the statement is, its faults, and the routine that it calls."""
+        for found in MESSAGE.finditer(self.source, self.lines[self.place(at)["line"]]):
+            if found.start() <= at <= found.end() and int(found[1]) in FAULTS:
+                return self.explained(int(found[1])), self.range(*found.span())
+        one = self.statement_at(at)
+        if one is None:
+            return None
+        does, faults = KINDS[one.kind]
+        text = [f"**Statement {one.number}**" + (f", label ({one.label})" if one.label is not None else "")
+                + f": `{one.kind}` {does}."]
+        if one.abstained:
+            text.append("It is abstained from, so it isn't done until a REINSTATE.")
+        if one.chance < 100:
+            text.append(f"Its chance is {one.chance}%: each time a run meets it, it asks for a choice."
+                        if one.chance else "Its chance is 0%, so it is never done.")
+        labels = [label for label, _ in one.labels]
+        text += [f"({label}): {' '.join(self.routine(label))}" for label in labels if label in self.routines()]
+        text += [self.explained(number) for number in faults if one.may_be_done() or one.kind == "UNRECOGNISED"]
+        return "\n\n".join(text), self.range(one.start, one.end)
+
+    @staticmethod
+    def routines():
+        if not hasattr(Document, "known"):
+            Document.known = routines()
+        return Document.known
+
+    def routine(self, label):
+        gives, stops = self.routines()[label]
+        return [gives + ".", *([f"It ends the program if the result is {stops}."] if stops else [])]
+
+    @staticmethod
+    def explained(number):
+        meant, _, _, todo = FAULTS[number]
+        return f"**E{number:03}**: {meant} {todo}"
+
+    def label_at(self, at):
+        """The label that stands at a place: as a statement's own, or in its body."""
+        one = self.statement_at(at)
+        if one is None:
+            return None
+        own = one.label is not None and at <= self.source.index(b")", one.start) + 1
+        return one.label if own else next((label for label, start in one.labels
+                                           if start - 1 <= at <= self.source.index(b")", start) + 1), None)
+
+    def definition(self, label):
+        """Where a label is: in this program, or in the library."""
+        one = self.program.labelled.get(label)
+        if one:
+            return {"uri": self.uri, "range": self.label_range(one)}
+        for name in ("arithmetic.i", "text.i") if label in ROUTINES else ():
+            path = library_file(name)
+            library = path and Document(pathlib.Path(path).as_uri(), ick_tool.content(path).decode())
+            if library and label in library.program.labelled:
+                return library.definition(label)
+        return None
+
+    def label_range(self, one):
+        return self.range(one.start, self.source.index(b")", one.start) + 1)
+
+    def references(self, label, declared):
+        """Each place where a statement names a label, and the label itself."""
+        found = [{"uri": self.uri, "range": self.range(start, start + len(re.match(rb"\d+", self.source[start:])[0]))}
+                 for one in self.statements for value, start in one.labels if value == label]
+        one = self.program.labelled.get(label)
+        return found + ([{"uri": self.uri, "range": self.label_range(one)}] if one and declared else [])
+
+    def symbols(self):
+        """The statements that have a label."""
+        return [{"name": f"({one.label})", "kind": FUNCTION, "range": self.range(one.start, one.end),
+                 "detail": " ".join(self.source[one.start:one.end].decode("utf-8", "replace").split())[:60],
+                 "selectionRange": self.label_range(one)} for one in self.statements if one.label is not None]
+
+    def actions(self, start, end):
+        """PLEASE for a statement at these places, and for as many statements as the program needs."""
+        found, wanted = [], self.wanted()
+        for one in self.statements:
+            if one.start <= end and start <= one.end and self.has_identifier(one):
+                found.append(self.action("Say DO without PLEASE" if one.polite else "Say PLEASE", [one]))
+        if wanted:
+            able = [one for one in self.statements if one.polite == (wanted < 0) and self.has_identifier(one)]
+            count = min(abs(wanted), len(able))
+            chosen = [able[len(able) * place // count] for place in range(count)]
+            text = f"Say PLEASE in {wanted} more" if wanted > 0 else f"Say PLEASE in {-wanted} fewer"
+            many = self.action(f"{text} statement{'s' * (count > 1)}", chosen)
+            found.insert(0, {**many, "isPreferred": True})
+        return found
+
+    def has_identifier(self, one):
+        return one.expected != "DO or PLEASE"
+
+    def wanted(self):
+        """How many PLEASE are missing, or too many, as a number below 0."""
+        count, polite = len(self.statements), sum(one.polite for one in self.statements)
+        least, most = count // 5, count // 3
+        return 0 if count < 3 else max(0, least - polite) + min(0, most - polite)
+
+    def action(self, title, statements):
+        edits = []
+        for one in statements:
+            label = ick_source.LABEL.match(self.source, one.start)
+            found = ick_source.IDENTIFIER.search(self.source, label.end() if label else one.start)
+            edits.append({"range": self.range(*found.span()), "newText": "DO" if one.polite else "PLEASE"})
+        return {"title": title, "kind": QUICK_FIX, "edit": {"changes": {self.uri: edits}}}
