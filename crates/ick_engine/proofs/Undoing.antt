@@ -62,6 +62,19 @@ pub newest_first : (entries : List Entry) (entry : Entry) (k : ℕ) → k ≤ le
 newest_first entries entry k within =
     ap reverse (drop-append-le k entries (entry ∷ []) within) ∙ reverse-append (drop k entries) (entry ∷ [])
 
+-- a return address that is pushed changes nothing below its depth
+pub pushed_like : (base low depth place : ℕ) (v : View) → low ≤ depth →
+    Like base low v (record v { returns = slice_set v.returns depth place })
+pushed_like base low depth place v above = record {
+  registers_count = refl;
+  registers_same = λ r few. refl;
+  home_same = refl;
+  statuses_same = refl;
+  parts_same = refl;
+  returns_count = length-set v.returns depth place;
+  returns_same = λ k few. get_or-set_other v.returns depth k place 0 (λ e. absurd (omega (arith, e, few, above)));
+}
+
 -- an entry whose change is undone first
 noted : (base : ℕ) (entries : List Entry) (low low' k : ℕ) (entry : Entry) (u v m : View) →
     Rewinds base entries low k v m →

@@ -20,6 +20,8 @@ pub enum Ended {
 pub enum Exit {
     /// As many steps were made as are allowed.
     Limit,
+    /// There may be no room to note the changes of a statement. The run goes on from here.
+    Room,
     /// A choice is asked: whether the statement is done.
     Asked,
     /// The run has ended.

@@ -114,8 +114,8 @@ pub fn back(trail: &mut Trail, mark: Mark, memory: &mut Memory, program: &Lowere
     memory.cursor.depth = mark.depth;
 }
 
-/// States that the newest mark can be dropped: if an older mark could be gone back to from the state
-/// of the newer one, it can be gone back to from the present state.
+/// States that the newest mark can be dropped: if an older mark could be gone back to from the
+/// state of the newer one, it can be gone back to from the present state.
 pub fn drop_mark(trail: &Trail, newer: Mark, older: Mark)
     ensures { (v m n : View) → Rewinds trail.now.base trail.now.entries.items trail.now.low
         newer.changes v m →

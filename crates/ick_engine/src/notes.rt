@@ -1,6 +1,6 @@
 //! Who notes changes.
 
-ghost use Rattle.std.specs.Bool.{OnTrue};
+ghost use Rattle.std.specs.Bool.{MatchBool};
 ghost use Rattle.std.specs.Prelude.{◌≡◌, ◌+◌, ◌<◌, ◌≤◌, ◌^◌, ℕ, length, map};
 ghost use Rattle.std.proofs.Common.{get_or};
 ghost use Rattle.ick_code.specs.meaning.State.{no_array};
@@ -24,9 +24,9 @@ pub trait Notes: Drop {
     /// Undoing all changes but the first ones leads from a view to one like another.
     ghost Undoes: { Self → ℕ → View → View → Type 0 };
 
-    /// Returns whether so many changes can still be noted.
+    /// Returns whether so many changes can still be noted, and all return addresses.
     fn has_room(&self, changes: usize) -> bool
-        ensures { OnTrue result (changes ≤ room self.now) };
+        ensures { MatchBool result (changes + 79 ≤ room self.now) (room self.now < changes + 79) };
 
     /// States that nothing else than the places that can be noted matters.
     fn law(&self)
@@ -85,7 +85,7 @@ pub trait Notes: Drop {
 pub struct Nobody;
 
 impl Notes for Nobody {
-    ghost room = { λ _. 2 ^ 64 };
+    ghost room = { λ _. 2 ^ 65 };
 
     ghost low = { λ _. 0 };
 

@@ -82,7 +82,8 @@ impl Notes for Trail {
 
     #[inline(always)]
     fn has_room(&self, changes: usize) -> bool {
-        self.entries.capacity() - self.entries.len() >= changes
+        let room = self.entries.capacity() - self.entries.len();
+        room >= 79 && room - 79 >= changes
     }
 
     #[inline(always)]
