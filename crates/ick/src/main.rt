@@ -1,10 +1,6 @@
 //! The program `ick`: the command line over the files and the streams of the system.
 //!
-//! - `words`: the arguments that the system hands over
 //! - `serving`: the arguments served over any devices
-//! - `counted`: reads and writes that count their failures
-//! - `streams`: sources and sinks over streams
-//! - `disk`: the files of the system
 #![tactic(auto)]
 
 ghost use Rattle.std.specs.Prelude.{◌≡◌, ◌+◌, ◌<◌, ◌^◌, IfErr, IfOk};
@@ -14,22 +10,16 @@ ghost use Rattle.ick_cli.specs.Notice.{notice_text};
 ghost use Rattle.ick_cli.specs.Serve.{Finishes, FinishesDue, IsStatus};
 ghost use Rattle.ick_cli.specs.Usage.{AreMistakes, IsRefused, words_notice, words_status};
 ghost use Rattle.ick_cli.specs.Words.{ick_app};
-ghost use Rattle.ick.specs.Arguments.{after_name};
+ghost use Rattle.ick_system.specs.Arguments.{after_name};
 
-mod counted;
-mod disk;
 mod serving;
-mod streams;
-mod words;
 
-use disk::DiskFiles;
 use ick_cli::{Status, WordsFault, refuse_words};
 use ick_runs::ByteSink;
+use ick_system::{DiskFiles, InStream, OutStream, arguments};
 use serving::serve_arguments;
 use std::io::Lock;
 use std::process::ExitCode;
-use streams::{InStream, OutStream};
-use words::arguments;
 
 fn main(rt: HostRuntime) -> ExitCode {
     let mut errors = OutStream::new(rt.stderr());

@@ -10,11 +10,11 @@ ghost use Rattle.ick_cli.specs.Tool.{Answer, IsToolAnswer};
 ghost use Rattle.ick_cli.specs.Usage.{AreMistakes, AreRequests, IsHelped, IsRefused};
 ghost use Rattle.ick_cli.specs.Words.{ick_app};
 ghost use Rattle.ick_cli.specs.declared.notice.Notice.{Notice};
-ghost use Rattle.ick.specs.Arguments.{after_name};
+ghost use Rattle.ick_system.specs.Arguments.{after_name};
 
-use crate::words::words_of;
 use ick_cli::{Files, Status, WordsFault, refuse_words, serve};
 use ick_runs::{ByteSink, ByteSource};
+use ick_system::words_of;
 use std::alloc::Global;
 
 /// Serves all arguments after the program's own name, and returns the exit status. The clauses are

@@ -8,7 +8,7 @@ use Rattle.ick_cli.specs.Words.{ick_app}
 use Rattle.ick_cli.specs.declared.driver.WordsFault.{WordsFault}
 use Rattle.ick_cli.specs.declared.driver.WordsFault.TheVariants.{NoMemory, NotText}
 use Rattle.ick_cli.proofs.Served.{finished_status}
-use Rattle.ick.specs.Arguments.{after_name}
+use Rattle.ick_system.specs.Arguments.{after_name}
 use Rattle.ick.proofs.answer.Goals as goal
 
 -- what is due where the arguments can't be read

@@ -1,7 +1,7 @@
 //! The arguments that the system hands to the program.
 ghost use Rattle.std.specs.Prelude.{◌≡◌, ◌≢◌, IfOk};
 ghost use Rattle.clap.specs.Walk.{texts};
-ghost use Rattle.ick.specs.Arguments.{after_name};
+ghost use Rattle.ick_system.specs.Arguments.{after_name};
 
 use ick_cli::WordsFault;
 use std::alloc::{AllocError, Global};
