@@ -9,7 +9,7 @@
 #![tactic(auto)]
 
 ghost use Rattle.std.specs.Prelude.{◌≡◌, length};
-ghost use Rattle.ick_runs.specs.Written.{Written};
+ghost use Rattle.ick_explorer.specs.Written.{Written};
 ghost use Rattle.ick_cli.specs.Serve.{IsStatus};
 ghost use Rattle.ick_c.specs.Call.{ServesBytes, nothing};
 ghost use Rattle.ick_c.specs.Room.{filled};

@@ -5,8 +5,8 @@ use Rattle.std.proofs.Math.Seq.{take-append-add, take-append_seam}
 use Rattle.std.proofs.lemmas.Grind.{flat_map-append}
 use Rattle.std.proofs.lemmas.List.{take-append-drop}
 use Rattle.ick_code.specs.meaning.State.{State}
-use Rattle.ick_machine.specs.Machine.{Program}
-use Rattle.ick_runs.specs.Lines.{last_line, line_after, line_next, listed_of, run_line, run_lines, shown}
+use Rattle.ick_backtrack.specs.Machine.{Program}
+use Rattle.ick_explorer.specs.Lines.{last_line, line_after, line_next, listed_of, run_line, run_lines, shown}
 
 -- the text begins so
 abbrev pub IsBeginning : List ℕ → List ℕ → Type 0

@@ -6,14 +6,14 @@ use Rattle.std.proofs.lemmas.List.{append-nil}
 use Rattle.std.specs.Prelude.{unwrap_or}
 use Rattle.ick_code.specs.meaning.State.{gave_up, faulted}
 use Rattle.ick_code.specs.meaning.Move.{first_state}
-use Rattle.ick_machine.specs.Asked.{finished, at_limit}
-use Rattle.ick_machine.specs.Machine.{Program}
+use Rattle.ick_backtrack.specs.Asked.{finished, at_limit}
+use Rattle.ick_backtrack.specs.Machine.{Program}
 use Rattle.ick_runs.specs.Draws.{IsDrawn, word_of}
-use Rattle.ick_runs.specs.Runs.{Execution, Stop, ends, run, wants}
+use Rattle.ick_explorer.specs.Runs.{Execution, Stop, ends, run, wants}
 use Rattle.ick_runs.specs.Streams.{HasStreamed, stop_kind, stop_message}
-use Rattle.ick_runs.specs.declared.errors.RunsError.{RunsError}
-use Rattle.ick_runs.specs.declared.errors.RunsError.TheVariants.{NoMemory as NoMemory_error, NoSuchRun, WorkFull}
-use Rattle.ick_runs.specs.declared.errors.RunsError.TheVariants.{Failed, BadCursor, Read, Write}
+use Rattle.ick_explorer.specs.declared.errors.RunsError.{RunsError}
+use Rattle.ick_explorer.specs.declared.errors.RunsError.TheVariants.{NoMemory as NoMemory_error, NoSuchRun, WorkFull}
+use Rattle.ick_explorer.specs.declared.errors.RunsError.TheVariants.{Failed, BadCursor, Read, Write}
 use Rattle.ick_runs.specs.declared.streamed.Streamed.{Streamed}
 use Rattle.ick_cli.specs.Ending.{Answers, EndsBy, refused_ending}
 use Rattle.ick_cli.specs.Input.{EndsUnread}

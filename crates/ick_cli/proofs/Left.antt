@@ -10,13 +10,13 @@ use Rattle.ick_source.specs.RefusalAnswers.{IsOnlyRefused}
 use Rattle.ick_source.specs.Refusals.{Compiles, longest}
 use Rattle.ick_source.specs.StatementTree.{StatementTree}
 use Rattle.ick_code.specs.meaning.Move.{first_state}
-use Rattle.ick_machine.specs.Machine.{Program}
+use Rattle.ick_backtrack.specs.Machine.{Program}
 use Rattle.ick_runs.specs.Draws.{IsDrawn, word_of}
-use Rattle.ick_runs.specs.Runs.{Execution, run}
+use Rattle.ick_explorer.specs.Runs.{Execution, run}
 use Rattle.ick_runs.specs.Streams.{HasStreamed}
-use Rattle.ick_runs.specs.declared.errors.RunsError.{RunsError}
-use Rattle.ick_runs.specs.declared.errors.RunsError.TheVariants.{NoMemory, NoSuchRun, WorkFull, Failed, BadCursor, Read}
-use Rattle.ick_runs.specs.declared.errors.RunsError.TheVariants.{Write}
+use Rattle.ick_explorer.specs.declared.errors.RunsError.{RunsError}
+use Rattle.ick_explorer.specs.declared.errors.RunsError.TheVariants.{NoMemory, NoSuchRun, WorkFull, Failed, BadCursor, Read}
+use Rattle.ick_explorer.specs.declared.errors.RunsError.TheVariants.{Write}
 use Rattle.ick_runs.specs.declared.streamed.Streamed.{Streamed}
 use Rattle.ick_cli.specs.Ending.{WhereAnswered, ending_status, ending_text, refused_ending}
 use Rattle.ick_cli.specs.Input.{EndsUnread}

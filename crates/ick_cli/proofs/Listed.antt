@@ -5,16 +5,16 @@ use Rattle.std.proofs.Common.{take}
 use Rattle.std.proofs.lemmas.List.{append-nil}
 use Rattle.std.proofs.lemmas.Nat.{mul-le}
 use Rattle.ick_code.specs.meaning.State.{State}
-use Rattle.ick_machine.specs.Machine.{Machine, Program}
-use Rattle.ick_runs.specs.Listings.{IsListing}
-use Rattle.ick_runs.specs.Lines.{shown as shown_runs}
-use Rattle.ick_runs.specs.Runs.{IsWhole}
-use Rattle.ick_runs.specs.Standing.{Explored, IsListingAt, Stands, StandsFrom}
-use Rattle.ick_runs.specs.Writes.{Writes, write_failures}
-use Rattle.ick_runs.specs.declared.errors.RunsError.{RunsError}
-use Rattle.ick_runs.specs.declared.errors.RunsError.TheVariants.{NoMemory, NoSuchRun, WorkFull, Failed, BadCursor, Read}
-use Rattle.ick_runs.specs.declared.errors.RunsError.TheVariants.{Write}
-use Rattle.ick_runs.specs.declared.listing.Listed2.{Listed2}
+use Rattle.ick_backtrack.specs.Machine.{Machine, Program}
+use Rattle.ick_explorer.specs.Listings.{IsListing}
+use Rattle.ick_explorer.specs.Lines.{shown as shown_runs}
+use Rattle.ick_explorer.specs.Runs.{IsWhole}
+use Rattle.ick_explorer.specs.Standing.{Explored, IsListingAt, Stands, StandsFrom}
+use Rattle.ick_explorer.specs.Writes.{Writes, write_failures}
+use Rattle.ick_explorer.specs.declared.errors.RunsError.{RunsError}
+use Rattle.ick_explorer.specs.declared.errors.RunsError.TheVariants.{NoMemory, NoSuchRun, WorkFull, Failed, BadCursor, Read}
+use Rattle.ick_explorer.specs.declared.errors.RunsError.TheVariants.{Write}
+use Rattle.ick_explorer.specs.declared.listing.Listed2.{Listed2}
 use Rattle.ick_cli.specs.Ending.{Answers, LeavesWriter, refused_ending}
 use Rattle.ick_cli.specs.Placed.{IsPlaced, IsRunsAnswerAt, IsUnplaced}
 use Rattle.ick_cli.specs.Tool.{Answer, IsRunsAnswer, listed, no_such_run, refusal, shown}

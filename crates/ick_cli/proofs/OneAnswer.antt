@@ -9,13 +9,13 @@ use Rattle.ick_source.proofs.CutLemmas.{cut_exists}
 use Rattle.ick_source.proofs.RefusalLemmas.{compiles_unique, refused_not, refused_unique}
 use Rattle.ick_code.specs.meaning.State.{State}
 use Rattle.ick_code.specs.meaning.Move.{first_state}
-use Rattle.ick_machine.specs.Machine.{Program}
+use Rattle.ick_backtrack.specs.Machine.{Program}
 use Rattle.ick_runs.specs.Draws.{word_of}
-use Rattle.ick_runs.specs.Lines.{shown as shown_runs}
-use Rattle.ick_runs.specs.Runs.{IsEnd, IsWhole, Stop, ends, run, wants}
+use Rattle.ick_explorer.specs.Lines.{shown as shown_runs}
+use Rattle.ick_explorer.specs.Runs.{IsEnd, IsWhole, Stop, ends, run, wants}
 use Rattle.ick_runs.proofs.DrawLaws.{one_drawn, some_drawn}
-use Rattle.ick_runs.proofs.Existence.{listing_exists}
-use Rattle.ick_runs.proofs.ListingLaws.{listing_unique}
+use Rattle.ick_explorer.proofs.Existence.{listing_exists}
+use Rattle.ick_explorer.proofs.ListingLaws.{listing_unique}
 use Rattle.clap.specs.Words.{Text}
 use Rattle.ick_cli.specs.Job.{Task, to_check, to_list, to_run, to_list_runs}
 use Rattle.ick_cli.specs.Notice.{notice_text}

@@ -3,7 +3,7 @@ use Rattle.std.proofs.Common.{◌≡◌, ◌∙◌, ℕ, List, Bool, Option, Som
 use Rattle.std.proofs.Common.{length}
 use Rattle.std.specs.Prelude.{option_map}
 use Rattle.clap.specs.Words.{Text}
-use Rattle.ick_runs.proofs.GroupLaws.{reads_one}
+use Rattle.ick_explorer.proofs.GroupLaws.{reads_one}
 use Rattle.ick_cli.specs.Job.{Task, takes_input, to_check, to_list, to_run, to_list_runs}
 use Rattle.ick_cli.specs.Plan.{AreChoices, IsPlanned, IsUnplanned, IsUnread, bad, check_planned, choices_unread}
 use Rattle.ick_cli.specs.Plan.{from_unread, list_planned, long, most_choices, reads_input, run_planned, runs_planned}

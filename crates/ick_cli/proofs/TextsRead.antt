@@ -7,11 +7,11 @@ use Rattle.std.specs.Char.{digit_value}
 use Rattle.std.specs.Str.Parse.{AllDigits}
 use Rattle.std.proofs.lemmas.Bool.{cases_eq, cases_lt}
 use Rattle.std.proofs.lemmas.List.{length-append}
-use Rattle.ick_runs.specs.ChoiceTexts.{AreGroups, Differs, Group, IsLength, IsPlain, IsTextOf, digit_of, group_text}
-use Rattle.ick_runs.specs.ChoiceTexts.{groups_text, is_digit, later_text, spread}
-use Rattle.ick_runs.specs.Readings.{HasNoDigit}
-use Rattle.ick_runs.proofs.GroupLaws.{digits_one, front_one, later_no_digit}
-use Rattle.ick_runs.proofs.TextLaws.{empty_reads, reads_digits, reads_nothing}
+use Rattle.ick_explorer.specs.ChoiceTexts.{AreGroups, Differs, Group, IsLength, IsPlain, IsTextOf, digit_of, group_text}
+use Rattle.ick_explorer.specs.ChoiceTexts.{groups_text, is_digit, later_text, spread}
+use Rattle.ick_explorer.specs.Readings.{HasNoDigit}
+use Rattle.ick_explorer.proofs.GroupLaws.{digits_one, front_one, later_no_digit}
+use Rattle.ick_explorer.proofs.TextLaws.{empty_reads, reads_digits, reads_nothing}
 
 -- plain texts
 abbrev PlainDecided : List ℕ → Type 0

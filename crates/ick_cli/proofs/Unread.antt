@@ -2,10 +2,10 @@
 use Rattle.std.proofs.Common.{◌≡◌, ◌∙◌, ◌<◌, ◌≤◌, ◌⊎◌, inl, inr, ℕ, List, Bool, Option, Some, ap, length, refl, subst}
 use Rattle.std.proofs.Common.{sym}
 use Rattle.std.specs.Prelude.{option_map}
-use Rattle.ick_runs.specs.ChoiceTexts.{IsTextOf}
-use Rattle.ick_runs.specs.declared.errors.RunsError.{RunsError}
-use Rattle.ick_runs.specs.declared.errors.RunsError.TheVariants.{NoMemory, NoSuchRun, WorkFull, Failed, BadCursor, Read}
-use Rattle.ick_runs.specs.declared.errors.RunsError.TheVariants.{Write}
+use Rattle.ick_explorer.specs.ChoiceTexts.{IsTextOf}
+use Rattle.ick_explorer.specs.declared.errors.RunsError.{RunsError}
+use Rattle.ick_explorer.specs.declared.errors.RunsError.TheVariants.{NoMemory, NoSuchRun, WorkFull, Failed, BadCursor, Read}
+use Rattle.ick_explorer.specs.declared.errors.RunsError.TheVariants.{Write}
 use Rattle.ick_cli.specs.Ending.{refused_ending}
 use Rattle.ick_cli.specs.Plan.{AreChoices, EndsByLine, HasChoices, IsUnread, bad, long}
 use Rattle.ick_cli.specs.declared.ending.Ending.{Ending}

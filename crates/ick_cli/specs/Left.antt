@@ -3,9 +3,9 @@ use Rattle.std.specs.Prelude.{◌≡◌, ◌+◌, ℕ, Bool, false, List, [], Op
 use Rattle.ick_source.specs.Refusals.{Compiles, longest}
 use Rattle.ick_source.specs.StatementTree.{StatementTree}
 use Rattle.ick_code.specs.meaning.Move.{first_state}
-use Rattle.ick_machine.specs.Machine.{Program}
+use Rattle.ick_backtrack.specs.Machine.{Program}
 use Rattle.ick_runs.specs.Draws.{IsDrawn, word_of}
-use Rattle.ick_runs.specs.Runs.{run}
+use Rattle.ick_explorer.specs.Runs.{run}
 use Rattle.ick_cli.specs.Job.{Asked}
 use Rattle.ick_cli.specs.Plan.{IsPlanned, IsUnplanned, reads_input}
 use Rattle.ick_cli.specs.Tool.{longest_input}

@@ -1,11 +1,11 @@
 -- Where the explorer of a listing stands, or that it has no place.
 use Rattle.std.specs.Prelude.{◌≡◌, ◌≤◌, ℕ, Bool, List, Option, Some}
 use Rattle.ick_code.specs.meaning.State.{State}
-use Rattle.ick_machine.specs.Machine.{Machine}
-use Rattle.ick_runs.specs.Runs.{IsWhole}
-use Rattle.ick_runs.specs.Standing.{Explored, Stands}
-use Rattle.ick_runs.specs.declared.errors.RunsError.{RunsError}
-use Rattle.ick_runs.specs.declared.errors.RunsError.TheVariants.{NoMemory, NoSuchRun, WorkFull}
+use Rattle.ick_backtrack.specs.Machine.{Machine}
+use Rattle.ick_explorer.specs.Runs.{IsWhole}
+use Rattle.ick_explorer.specs.Standing.{Explored, Stands}
+use Rattle.ick_explorer.specs.declared.errors.RunsError.{RunsError}
+use Rattle.ick_explorer.specs.declared.errors.RunsError.TheVariants.{NoMemory, NoSuchRun, WorkFull}
 use Rattle.ick_cli.specs.Tool.{Answer, IsRunsAnswer}
 
 -- the explorer stands at a place in the runs from the machine's state, and its count is the limit at most

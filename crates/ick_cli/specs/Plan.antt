@@ -1,7 +1,7 @@
 -- What a task comes to once its text of choices was read, before anything else is.
 use Rattle.std.specs.Prelude.{◌≡◌, ◌<◌, ◌≤◌, ℕ, Bool, true, false, List, Option, Some, None, length}
 use Rattle.clap.specs.Words.{Text}
-use Rattle.ick_runs.specs.ChoiceTexts.{IsTextOf}
+use Rattle.ick_explorer.specs.ChoiceTexts.{IsTextOf}
 use Rattle.ick_cli.specs.Job.{Task, to_check, to_list, to_run, to_list_runs}
 use Rattle.ick_cli.specs.declared.ending.Ending.{Ending}
 use Rattle.ick_cli.specs.declared.ending.Ending.TheVariants.{Answered, NoMemory}

@@ -8,11 +8,11 @@ use Rattle.ick_source.specs.StatementTree.{StatementTree}
 use Rattle.ick_source.specs.Refusals.{Compiles, IsRefused, longest}
 use Rattle.ick_code.specs.meaning.State.{State, gave_up, faulted}
 use Rattle.ick_code.specs.meaning.Move.{first_state}
-use Rattle.ick_machine.specs.Asked.{Finish, finished, at_limit}
-use Rattle.ick_machine.specs.Machine.{Program}
-use Rattle.ick_runs.specs.Runs.{Execution, Stop, ends, wants, run, IsWhole}
-use Rattle.ick_runs.specs.Listings.{IsListing}
-use Rattle.ick_runs.specs.Lines.{shown as shown_runs}
+use Rattle.ick_backtrack.specs.Asked.{Finish, finished, at_limit}
+use Rattle.ick_backtrack.specs.Machine.{Program}
+use Rattle.ick_explorer.specs.Runs.{Execution, Stop, ends, wants, run, IsWhole}
+use Rattle.ick_explorer.specs.Listings.{IsListing}
+use Rattle.ick_explorer.specs.Lines.{shown as shown_runs}
 use Rattle.ick_runs.specs.Draws.{IsDrawn, word_of}
 use Rattle.ick_cli.specs.Job.{Task}
 use Rattle.ick_cli.specs.Plan.{IsPlanned, IsUnplanned}

@@ -1,6 +1,6 @@
 //! What a command becomes after its text of choices is read, and before anything else is.
 ghost use Rattle.std.specs.Prelude.{◌≡◌, ◌≤◌, IfErr, IfOk, Some, length, option_map};
-ghost use Rattle.ick_runs.specs.ChoiceTexts.{IsTextOf};
+ghost use Rattle.ick_explorer.specs.ChoiceTexts.{IsTextOf};
 ghost use Rattle.ick_cli.specs.Job.{task_of};
 ghost use Rattle.ick_cli.specs.Plan.{AreChoices, EndsByLine, HasChoices, HasPlan, IsPlanned};
 ghost use Rattle.ick_cli.specs.Plan.{IsUnplanned, IsUnread, most_choices};

@@ -4,7 +4,7 @@ ghost use Rattle.std.specs.Prelude.{unwrap_or};
 ghost use Rattle.ick_code.specs.Compiled.{code_program};
 ghost use Rattle.ick_code.specs.meaning.Move.{first_state};
 ghost use Rattle.ick_runs.specs.Chosen.{IsChosen, chosen_of};
-ghost use Rattle.ick_runs.specs.Runs.{run};
+ghost use Rattle.ick_explorer.specs.Runs.{run};
 ghost use Rattle.ick_cli.specs.Ending.{Answers, EndsBy, LeavesStreams, WhereAnswered};
 ghost use Rattle.ick_cli.specs.Left.{IsLeftByRuns};
 ghost use Rattle.ick_cli.specs.Stopped.{kind_status, kind_text};

@@ -1,5 +1,5 @@
 use Rattle.std.proofs.Common.{◌∙◌, Err, ap, subst, sym}
-use Rattle.ick_runs.specs.Explorers.{explored}
+use Rattle.ick_explorer.specs.Explorers.{explored}
 use Rattle.ick_cli.specs.Ending.{Answers}
 use Rattle.ick_cli.specs.declared.ending.Ending.{Ending}
 use Rattle.ick_cli.proofs.Listed.{is_listed, wrote_cut}
