@@ -6,7 +6,7 @@ use crate::notice::{Message, Notice};
 use ick_runs::RunsError;
 
 /// How the work ends: with an answer, or because memory or a device failed.
-#[derive(Debug, Drop)]
+#[derive(Drop)]
 pub enum Ending {
     Answered { status: u8, message: Message },
     NoMemory,

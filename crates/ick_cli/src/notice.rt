@@ -4,7 +4,7 @@ ghost use Rattle.ick_cli.specs.Ending.{message_text};
 ghost use Rattle.ick_cli.specs.Notice.{notice_text};
 
 /// A line that the program has itself, so that it takes no memory.
-#[derive(Clone, Copy, Debug)]
+#[derive(Clone, Copy)]
 pub enum Notice {
     ChoicesAndSeed,
     BadCursor,
@@ -39,7 +39,7 @@ impl Notice {
 }
 
 /// The error text of an answer.
-#[derive(Debug, Drop)]
+#[derive(Drop)]
 pub enum Message {
     Nothing,
     Notice(Notice),

@@ -12,7 +12,7 @@ use clap::{ArgMatches, Error};
 use std::alloc::Global;
 
 /// What is to be done with a program.
-#[derive(Clone, Copy, Debug)]
+#[derive(Clone, Copy)]
 pub enum Subcommand<'a> {
     /// Its statements are counted.
     Check,
@@ -34,7 +34,7 @@ pub enum Subcommand<'a> {
 
 /// What the arguments ask for: what is to be done with the source in a file, or with the source
 /// that the reader has if no file is named.
-#[derive(Clone, Copy, Debug)]
+#[derive(Clone, Copy)]
 pub struct Job<'a> {
     pub subcommand: Subcommand<'a>,
     pub file: Option<&'a str>,
