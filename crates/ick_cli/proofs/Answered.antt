@@ -1,37 +1,44 @@
 -- An answer to a source, and the ending that has it.
-use Rattle.std.proofs.Common.{◌≡◌, ◌<◌, ◌≤◌, ◌==◌, ℕ, Bool, List, [], Option, Some, None, ap₂}
-use Rattle.std.proofs.Common.{inl, refl, sym, subst, arith, take, if◌then◌else◌, eq-eqb, true}
+use Rattle.std.proofs.Common.{◌≡◌, ◌<◌, ◌≤◌, ◌==◌, ℕ, Bool, List, [], Option, Some, None, ap₂, length}
+use Rattle.std.proofs.Common.{◌+◌, inl, refl, sym, subst, arith, take, if◌then◌else◌, eq-eqb, ne_eqb, true, false}
 use Rattle.std.proofs.lemmas.List.{append-nil, length-take, take_all}
 use Rattle.ick_bits.specs.Faults.{message_of}
 use Rattle.ick_bits.specs.declared.faults.FaultKind.{FaultKind}
 use Rattle.ick_source.specs.RefusalAnswers.{IsOnlyRefused}
 use Rattle.ick_source.specs.Refusals.{Compiles, IsRefused, longest}
 use Rattle.ick_source.specs.StatementTree.{StatementTree}
-use Rattle.ick_cli.specs.Ending.{Answers, EndsBy, LeavesStreams, input_of, source_of}
+use Rattle.ick_cli.specs.Ending.{Answers, EndsBy, Leaves, LeavesStreams, failed_files, input_of, source_of}
+use Rattle.ick_cli.specs.Input.{EndsCut, EndsUnopened}
 use Rattle.ick_cli.specs.Job.{Task}
+use Rattle.ick_cli.specs.Notice.{notice_text}
 use Rattle.ick_cli.specs.Tool.{Answer, IsExecuted, IsProgramAnswer, IsReadAnswer, IsSourceAnswer, IsToolAnswer}
-use Rattle.ick_cli.specs.Tool.{compiled, executed, read, refusal, refused, too_long}
+use Rattle.ick_cli.specs.Tool.{compiled, executed, not_read, read, refusal, refused, too_long}
 use Rattle.ick_cli.specs.declared.ending.Ending.{Ending}
 use Rattle.ick_cli.specs.declared.ending.Ending.TheVariants.{Answered, NoMemory, InputTooLong, FileNotRead, ReadFailed}
 use Rattle.ick_cli.specs.declared.ending.Ending.TheVariants.{WriteFailed}
+use Rattle.ick_cli.specs.declared.notice.Notice.TheVariants as notice
 use Rattle.ick_cli.specs.declared.plan.Plan.{Plan}
 use Rattle.ick_cli.specs.declared.plan.Plan.TheVariants.{Execute}
 use Rattle.ick_cli.specs.declared.plan.Runs.{Runs}
 
-pub answered_program : (plan : Plan) (source input : List ℕ) (trees : List StatementTree) (ending : Ending)
-    (before after : List ℕ) → Compiles source trees
+-- the answer to a source that compiles is that of its program
+pub source_program : (plan : Plan) (source input : List ℕ) (trees : List StatementTree) → Compiles source trees
     → ((others : List StatementTree) → Compiles source others → others ≡ trees)
     → ((kind : FaultKind) (n : ℕ) → IsRefused source kind n → ⊥)
-    → ((answer : Answer) → IsProgramAnswer trees input plan answer → Answers answer ending before after)
-    → (answer : Answer) → IsSourceAnswer plan source input answer → Answers answer ending before after
-answered_program plan source input trees ending before after compiles only not_refused answered answer (too_long h) =
+    → (answer : Answer) → IsSourceAnswer plan source input answer → IsProgramAnswer trees input plan answer
+source_program plan source input trees compiles only not_refused answer (too_long h) =
     let fits = compiles.fits in absurd (omega arith)
-answered_program plan source input trees ending before after compiles only not_refused answered answer
-    (refused kind n h) =
+source_program plan source input trees compiles only not_refused answer (refused kind n h) =
     absurd (not_refused kind n h)
-answered_program plan source input trees ending before after compiles only not_refused answered answer
-    (compiled others given h is) =
-    answered answer (subst (λ (ts : List StatementTree). IsProgramAnswer ts input plan answer) (only others h) is)
+source_program plan source input trees compiles only not_refused answer (compiled others given h is) =
+    subst (λ (ts : List StatementTree). IsProgramAnswer ts input plan answer) (only others h) is
+
+pub long_answer : (plan : Plan) (source input : List ℕ) → longest < length source
+    → (answer : Answer) → IsSourceAnswer plan source input answer
+    → refusal 2 (notice_text notice.SourceTooLong) ≡ answer
+long_answer plan source input long answer (too_long h) = refl
+long_answer plan source input long answer (refused kind n h) = let fits = h.fits in absurd (omega arith)
+long_answer plan source input long answer (compiled trees given h is) = let fits = h.fits in absurd (omega arith)
 
 refused_answer : (plan : Plan) (source input : List ℕ) (kind : FaultKind) (n : ℕ) → IsOnlyRefused source kind n
     → (answer : Answer) → IsSourceAnswer plan source input answer → refusal 2 (message_of kind n []) ≡ answer
@@ -70,6 +77,16 @@ leaves_by status text FileNotRead reads reads' writes writes' small h calm_reads
 leaves_by status text ReadFailed reads reads' writes writes' small h calm_reads calm_writes = absurd h
 leaves_by status text WriteFailed reads reads' writes writes' small h calm_reads calm_writes = absurd h
 
+-- counts of failures that rose as much have the same ending
+pub leaves_as : (ending : Ending) (f f' r r' w w' g g' s s' x x' : ℕ) → Leaves ending f f' r r' w w'
+    → g' + f ≡ f' + g → s' + r ≡ r' + s → x' + w ≡ w' + x → Leaves ending g g' s s' x x'
+leaves_as ending f f' r r' w w' g g' s s' x x' leaves files reads writes = record {
+  proper = leaves.proper;
+  opened = let rose = leaves.opened in omega arith;
+  read = let rose = leaves.read in omega arith;
+  wrote = let rose = leaves.wrote in omega arith;
+}
+
 -- the front of a source has the answer of the whole, where it is long enough to show what is too long
 pub answer_of_front : (plan : Plan) (most : ℕ) (source input : List ℕ) → longest < most → (answer : Answer)
     → IsSourceAnswer plan source input answer
@@ -88,7 +105,7 @@ pub source_read : (plan : Plan) (input source : List ℕ) (answer : Answer)
     → IsSourceAnswer plan source input answer
 source_read plan input source answer (read same given h) = h
 
--- the source of a job whose file was read
+-- the source of a job whose file was read, and of one whose file was not
 pub read_source_of : (plan : Plan) (source input : List ℕ) (failed failed' : ℕ) → failed' ≡ failed
     → (answer : Answer)
     → IsReadAnswer plan input (if failed == failed' then Some source else None) answer
@@ -97,6 +114,36 @@ read_source_of plan source input failed failed' same answer h =
     let unread : (failed == failed') ≡ true = eq-eqb failed failed' (sym same) in
     source_read plan input source answer
     (subst (λ (b : Bool). IsReadAnswer plan input (if b then Some source else None) answer) unread h)
+
+no_source : (plan : Plan) (input : List ℕ) (answer : Answer) → IsReadAnswer plan input None answer
+    → refusal 4 (notice_text notice.FileNotRead) ≡ answer
+no_source plan input answer not_read = refl
+
+pub answers_unopened : (plan : Plan) (source input : List ℕ) (failed failed' : ℕ) (ending : Ending) (before : List ℕ)
+    → EndsUnopened ending → failed' ≡ failed + failed_files ending → (answer : Answer)
+    → IsReadAnswer plan input (if failed == failed' then Some source else None) answer
+    → Answers answer ending before before
+answers_unopened plan source input failed failed' FileNotRead before h count answer is =
+    let other : (failed == failed') ≡ false = ne_eqb failed failed' (λ e. omega arith) in
+    subst (λ (a : Answer). Answers a FileNotRead before before)
+    (no_source plan input answer
+    (subst (λ (b : Bool). IsReadAnswer plan input (if b then Some source else None) answer) other is))
+    ((refl, refl), sym (append-nil before))
+answers_unopened plan source input failed failed' NoMemory before h count answer is =
+    (tt, (0, sym (append-nil before)))
+answers_unopened plan source input failed failed' (Answered status message) before h count answer is = absurd h
+answers_unopened plan source input failed failed' InputTooLong before h count answer is = absurd h
+answers_unopened plan source input failed failed' ReadFailed before h count answer is = absurd h
+answers_unopened plan source input failed failed' WriteFailed before h count answer is = absurd h
+
+pub answers_cut : (answer : Answer) (ending : Ending) (before : List ℕ) → EndsCut ending
+    → Answers answer ending before before
+answers_cut answer NoMemory before h = (tt, (0, sym (append-nil before)))
+answers_cut answer ReadFailed before h = (tt, (0, sym (append-nil before)))
+answers_cut answer (Answered status message) before h = absurd h
+answers_cut answer InputTooLong before h = absurd h
+answers_cut answer FileNotRead before h = absurd h
+answers_cut answer WriteFailed before h = absurd h
 
 -- the answer of a program's runs is that of the code that was compiled
 pub executed_so : (trees program : List StatementTree) (input : List ℕ) (runs : Runs) (answer : Answer)

@@ -1,6 +1,6 @@
 -- The answers of runs that were made.
-use Rattle.std.proofs.Common.{◌≡◌, ◌∙◌, ◌≤◌, ◌++◌, ℕ, Bool, true, List, [], Option, ap, arith}
-use Rattle.std.proofs.Common.{◌⊎◌, inl, inr, length, refl, subst, sym, take}
+use Rattle.std.proofs.Common.{◌≡◌, ◌∙◌, ◌+◌, ◌≤◌, ◌++◌, ℕ, Bool, true, List, [], Option, ap, arith}
+use Rattle.std.proofs.Common.{◌⊎◌, inl, inr, length, refl, subst, sym, take, Result, Ok, Err, IfErr}
 use Rattle.std.proofs.Math.Seq.{take-length}
 use Rattle.std.proofs.lemmas.List.{append-nil}
 use Rattle.std.specs.Prelude.{unwrap_or}
@@ -10,20 +10,25 @@ use Rattle.ick_backtrack.specs.Asked.{finished, at_limit}
 use Rattle.ick_backtrack.specs.Machine.{Program}
 use Rattle.ick_runs.specs.Draws.{IsDrawn, word_of}
 use Rattle.ick_explorer.specs.Runs.{Execution, Stop, ends, run, wants}
-use Rattle.ick_runs.specs.Streams.{HasStreamed, stop_kind, stop_message}
+use Rattle.ick_machine.specs.declared.live_ask.EndKind.{EndKind}
+use Rattle.ick_machine.specs.declared.live_ask.EndKind.TheVariants.{GiveUp, Fault, Limit, Wants}
+use Rattle.ick_runs.specs.Streams.{HasStreamed, Streams, source_failures, stop_kind, stop_message}
+use Rattle.ick_explorer.specs.Writes.{write_failures}
 use Rattle.ick_explorer.specs.declared.errors.RunsError.{RunsError}
 use Rattle.ick_explorer.specs.declared.errors.RunsError.TheVariants.{NoMemory as NoMemory_error, NoSuchRun, WorkFull}
 use Rattle.ick_explorer.specs.declared.errors.RunsError.TheVariants.{Failed, BadCursor, Read, Write}
 use Rattle.ick_runs.specs.declared.streamed.Streamed.{Streamed}
-use Rattle.ick_cli.specs.Ending.{Answers, EndsBy, refused_ending}
+use Rattle.ick_cli.specs.Ending.{Answers, Comes, EndsBy, LeavesStreams, WhereAnswered, refused_ending}
 use Rattle.ick_cli.specs.Input.{EndsUnread}
-use Rattle.ick_cli.specs.Stopped.{kind_status, kind_text}
+use Rattle.ick_cli.specs.Stopped.{EndsAs, kind_status, kind_text}
 use Rattle.ick_cli.specs.Tool.{Answer, IsExecuted, IsRunsAnswer, run_answer, stop_status, stop_text}
 use Rattle.ick_cli.specs.Tool.{drawn, input_too_long, listed_runs, longest_input, ran}
 use Rattle.ick_cli.specs.declared.ending.Ending.{Ending}
 use Rattle.ick_cli.specs.declared.ending.Ending.TheVariants.{Answered, NoMemory, InputTooLong, FileNotRead, ReadFailed}
 use Rattle.ick_cli.specs.declared.ending.Ending.TheVariants.{WriteFailed}
 use Rattle.ick_cli.specs.declared.plan.Runs.TheVariants.{Given, Drawn, Listed}
+use Rattle.ick_cli.proofs.Answered.{leaves_by}
+use Rattle.ick_cli.proofs.Left.{where_answered, where_refused}
 
 -- the status and the error text of a run, by how it stopped
 status_of_kind : (stop : Stop) → kind_status (stop_kind stop) ≡ stop_status stop
@@ -78,6 +83,75 @@ pub answers_refused : (answer : Answer) (e : RunsError) (ending : Ending) (befor
     → (n : ℕ) × (after ≡ before ++ take n answer.output) → Answers answer ending before after
 answers_refused answer e ending before after so one cut =
     subst (λ (x : Ending). Answers answer x before after) (sym so) (refused_so answer e before after one cut)
+
+-- a run that was answered or refused
+abbrev pub IsRunError : RunsError → Type 0
+IsRunError e = (e ≡ NoMemory_error) ⊎ ((e ≡ Read) ⊎ (e ≡ Write))
+
+pub answers_ran : (told : Bool) (x : Execution) (c : List Bool) (before after left : List ℕ)
+    (r : Result Streamed RunsError) (ending : Ending)
+    → Streams told x c before after left r → IfErr r IsRunError → EndsAs r ending → told ≡ true
+    → Answers (run_answer x) ending before after
+answers_ran told x c before after left (Ok s) ending has one ended is_told =
+    answers_streamed told x c before after left s ending is_told has ended
+answers_ran told x c before after left (Err e) ending cut one ended is_told =
+    answers_refused (run_answer x) e ending before after ended one (cut.0, cut.1 is_told)
+
+pub left_ran : (told : Bool) (x : Execution) (c : List Bool) (before after left : List ℕ)
+    (r : Result Streamed RunsError) (ending : Ending)
+    → Streams told x c before after left r → IfErr r IsRunError → EndsAs r ending
+    → WhereAnswered ending (left ≡ x.last.input)
+left_ran told x c before after left (Ok s) ending has one ended = where_answered ending (left ≡ x.last.input) has.input
+left_ran told x c before after left (Err e) ending cut one ended = where_refused e ending _ ended one
+
+small_kind : (kind : EndKind) → kind_status kind ≤ 3
+small_kind GiveUp = omega arith
+small_kind (Fault kind statement) = omega arith
+small_kind Limit = omega arith
+small_kind Wants = omega arith
+
+refused_leaves : (e : RunsError) (reads reads' writes writes' : ℕ)
+    → reads' ≡ reads + source_failures {T = Streamed} (Err e) → writes' ≡ writes + write_failures {T = Streamed} (Err e)
+    → IsRunError e → LeavesStreams (refused_ending e) reads reads' writes writes'
+refused_leaves NoMemory_error reads reads' writes writes' r w one =
+    record { proper = tt; opened = refl; read = r; wrote = w }
+refused_leaves Read reads reads' writes writes' r w one = record { proper = tt; opened = refl; read = r; wrote = w }
+refused_leaves Write reads reads' writes writes' r w one = record { proper = tt; opened = refl; read = r; wrote = w }
+refused_leaves WorkFull reads reads' writes writes' r w one =
+    record { proper = tt; opened = refl; read = r; wrote = w }
+refused_leaves Failed reads reads' writes writes' r w one = record { proper = tt; opened = refl; read = r; wrote = w }
+refused_leaves NoSuchRun reads reads' writes writes' r w one =
+    record { proper = inr refl; opened = refl; read = r; wrote = w }
+refused_leaves BadCursor reads reads' writes writes' r w one =
+    record { proper = inr refl; opened = refl; read = r; wrote = w }
+
+pub leaves_ran : (r : Result Streamed RunsError) (ending : Ending) (reads reads' writes writes' : ℕ)
+    → reads' ≡ reads + source_failures r → writes' ≡ writes + write_failures r
+    → IfErr r IsRunError → EndsAs r ending → LeavesStreams ending reads reads' writes writes'
+leaves_ran (Ok s) ending reads reads' writes writes' r w one ended =
+    leaves_by (kind_status s.end) _ ending reads reads' writes writes' (small_kind s.end) ended (omega arith)
+    (omega arith)
+leaves_ran (Err e) ending reads reads' writes writes' r w one ended =
+    subst (λ (x : Ending). LeavesStreams x reads reads' writes writes') (sym ended)
+    (refused_leaves e reads reads' writes writes' r w one)
+
+-- an error of such a run may come
+run_error_comes : (e : RunsError) → IsRunError e → Comes e
+run_error_comes NoMemory_error one = tt
+run_error_comes NoSuchRun one = tt
+run_error_comes BadCursor one = tt
+run_error_comes Read one = tt
+run_error_comes Write one = tt
+run_error_comes WorkFull (inl e) = cc
+run_error_comes WorkFull (inr (inl e)) = cc
+run_error_comes WorkFull (inr (inr e)) = cc
+run_error_comes Failed (inl e) = cc
+run_error_comes Failed (inr (inl e)) = cc
+run_error_comes Failed (inr (inr e)) = cc
+
+pub run_comes : (r : Result Streamed RunsError) → IfErr r IsRunError → IfErr r Comes
+run_comes (Ok s) one = tt
+run_comes (Err e) one = run_error_comes e one
 
 -- the answer of runs, by what they are
 pub answers_given : (p : Program) (input : List ℕ) (choices : Option (List Bool)) (limit : ℕ) (answer : Answer)

@@ -12,14 +12,12 @@ use Rattle.ick_source.specs.StatementTree.{StatementTree}
 use Rattle.ick_code.specs.meaning.Move.{first_state}
 use Rattle.ick_backtrack.specs.Machine.{Program}
 use Rattle.ick_runs.specs.Draws.{IsDrawn, word_of}
-use Rattle.ick_explorer.specs.Runs.{Execution, run}
-use Rattle.ick_runs.specs.Streams.{HasStreamed}
+use Rattle.ick_explorer.specs.Runs.{run}
 use Rattle.ick_explorer.specs.declared.errors.RunsError.{RunsError}
 use Rattle.ick_explorer.specs.declared.errors.RunsError.TheVariants.{NoMemory, NoSuchRun, WorkFull, Failed, BadCursor, Read}
 use Rattle.ick_explorer.specs.declared.errors.RunsError.TheVariants.{Write}
-use Rattle.ick_runs.specs.declared.streamed.Streamed.{Streamed}
 use Rattle.ick_cli.specs.Ending.{WhereAnswered, ending_status, ending_text, refused_ending}
-use Rattle.ick_cli.specs.Input.{EndsUnread}
+use Rattle.ick_cli.specs.Input.{EndsCut, EndsUnopened, EndsUnread}
 use Rattle.ick_cli.specs.Left.{IsLeftByProgram, IsLeftByRuns, IsLeftBySource, left_alone, left_by_drawn, left_by_given}
 use Rattle.ick_cli.specs.Left.{left_by_listed, left_by_runs, left_compiled, left_refused}
 use Rattle.ick_cli.specs.Job.{Asked}
@@ -75,6 +73,30 @@ pub where_refused : (e : RunsError) (ending : Ending) (Fact : Type 0) → ending
 where_refused e ending Fact so one =
     subst (λ (x : Ending). WhereAnswered x Fact) (sym so) (refused_by e Fact one)
 
+pub where_cut : (ending : Ending) (Fact : Type 0) → EndsCut ending → WhereAnswered ending Fact
+where_cut (Answered status message) Fact h = absurd h
+where_cut WithoutMemory Fact h = tt
+where_cut InputTooLong Fact h = tt
+where_cut FileNotRead Fact h = tt
+where_cut ReadFailed Fact h = tt
+where_cut WriteFailed Fact h = tt
+
+pub where_unopened : (ending : Ending) (Fact : Type 0) → EndsUnopened ending → WhereAnswered ending Fact
+where_unopened (Answered status message) Fact h = absurd h
+where_unopened WithoutMemory Fact h = tt
+where_unopened InputTooLong Fact h = tt
+where_unopened FileNotRead Fact h = tt
+where_unopened ReadFailed Fact h = tt
+where_unopened WriteFailed Fact h = tt
+
+pub cut_unread : (input : List ℕ) (ending : Ending) → EndsCut ending → EndsUnread input ending
+cut_unread input (Answered status message) h = absurd h
+cut_unread input WithoutMemory h = tt
+cut_unread input InputTooLong h = absurd h
+cut_unread input FileNotRead h = absurd h
+cut_unread input ReadFailed h = tt
+cut_unread input WriteFailed h = absurd h
+
 pub where_unread : (input : List ℕ) (ending : Ending) (Fact : Type 0) → EndsUnread input ending
     → WhereAnswered ending Fact
 where_unread input (Answered status message) Fact h = absurd h
@@ -85,10 +107,6 @@ where_unread input ReadFailed Fact h = tt
 where_unread input WriteFailed Fact h = tt
 
 -- what runs leave
-pub streamed_left : (told : Bool) (x : Execution) (c : List Bool) (before after left : List ℕ) (s : Streamed)
-    (ending : Ending) → HasStreamed told x c before after left s → WhereAnswered ending (left ≡ x.last.input)
-streamed_left told x c before after left s ending has = where_answered ending (left ≡ x.last.input) has.input
-
 pub given_left : (p : Program) (input : List ℕ) (choices : Option (List Bool)) (limit : ℕ) (left : List ℕ)
     → left ≡ (run p (first_state p input) limit (unwrap_or choices [])).last.input
     → IsLeftByRuns p input (Given choices limit) left

@@ -13,3 +13,4 @@ pub mod Rows
 pub mod Served
 pub mod TextsRead
 pub mod Unread
+pub mod Works

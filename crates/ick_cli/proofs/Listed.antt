@@ -9,13 +9,13 @@ use Rattle.ick_backtrack.specs.Machine.{Machine, Program}
 use Rattle.ick_explorer.specs.Listings.{IsListing}
 use Rattle.ick_explorer.specs.Lines.{shown as shown_runs}
 use Rattle.ick_explorer.specs.Runs.{IsWhole}
-use Rattle.ick_explorer.specs.Standing.{Explored, IsListingAt, Stands, StandsFrom}
+use Rattle.ick_explorer.specs.Standing.{Explored, IsListingAt, IsMachineFull, Stands, StandsFrom}
 use Rattle.ick_explorer.specs.Writes.{Writes, write_failures}
 use Rattle.ick_explorer.specs.declared.errors.RunsError.{RunsError}
 use Rattle.ick_explorer.specs.declared.errors.RunsError.TheVariants.{NoMemory, NoSuchRun, WorkFull, Failed, BadCursor, Read}
 use Rattle.ick_explorer.specs.declared.errors.RunsError.TheVariants.{Write}
 use Rattle.ick_explorer.specs.declared.listing.Listed2.{Listed2}
-use Rattle.ick_cli.specs.Ending.{Answers, LeavesWriter, refused_ending}
+use Rattle.ick_cli.specs.Ending.{Answers, Comes, LeavesWriter, refused_ending}
 use Rattle.ick_cli.specs.Placed.{IsPlaced, IsRunsAnswerAt, IsUnplaced}
 use Rattle.ick_cli.specs.Tool.{Answer, IsRunsAnswer, listed, no_such_run, refusal, shown}
 use Rattle.ick_cli.specs.Notice.{notice_text}
@@ -148,8 +148,7 @@ answers_unplaced m limit count from NoSuchRun ending before answer so h is =
     (subst (λ (a : Answer). Answers a (refused_ending NoSuchRun) before before)
     (sym (unplaced_by m.program m.state limit count from h.0 answer h.1 h.2 is))
     ((refl, refl), sym (append-nil before)))
-answers_unplaced m limit count from WorkFull ending before answer so h is =
-    subst (λ (x : Ending). Answers answer x before before) (sym so) (tt, (0, sym (append-nil before)))
+answers_unplaced m limit count from WorkFull ending before answer so h is = absurd h
 answers_unplaced m limit count from Failed ending before answer so h is = absurd h
 answers_unplaced m limit count from BadCursor ending before answer so h is = absurd h
 answers_unplaced m limit count from Read ending before answer so h is = absurd h
@@ -163,33 +162,57 @@ leaves_unplaced m limit from NoMemory ending writes so h =
 leaves_unplaced m limit from NoSuchRun ending writes so h =
     subst (λ (x : Ending). LeavesWriter x writes writes) (sym so)
     (record { proper = inr refl; opened = refl; read = refl; wrote = omega arith })
-leaves_unplaced m limit from WorkFull ending writes so h =
-    subst (λ (x : Ending). LeavesWriter x writes writes) (sym so)
-    (record { proper = tt; opened = refl; read = refl; wrote = omega arith })
+leaves_unplaced m limit from WorkFull ending writes so h = absurd h
 leaves_unplaced m limit from Failed ending writes so h = absurd h
 leaves_unplaced m limit from BadCursor ending writes so h = absurd h
 leaves_unplaced m limit from Read ending writes so h = absurd h
 leaves_unplaced m limit from Write ending writes so h = absurd h
 
--- why a cursor has no explorer
+-- why a cursor has no explorer: the count of a machine that made no step is not full
+not_full : (m : Machine) (limit : ℕ) → m.work ≡ 0 → limit < 2 ^ 32 → IsMachineFull m limit → ⊥
+not_full m limit unworn small full = omega arith
+
 pub is_unplaced : (m : Machine) (limit : ℕ) (from : Option (List Bool)) (c : List Bool) (e : RunsError) → from ≡ Some c
+    → m.work ≡ 0 → limit < 2 ^ 32 → (e ≡ WorkFull → IsMachineFull m limit)
     → (e ≡ NoSuchRun → ¬ IsWhole m.program m.state limit c)
     → (e ≡ NoMemory) ⊎ ((e ≡ NoSuchRun) ⊎ (e ≡ WorkFull)) → IsUnplaced m limit from e
-is_unplaced m limit from c NoMemory is none one = tt
-is_unplaced m limit from c NoSuchRun is none one = (c, is, none refl)
-is_unplaced m limit from c WorkFull is none one = tt
-is_unplaced m limit from c Failed is none (inl e) = cc
-is_unplaced m limit from c Failed is none (inr (inl e)) = cc
-is_unplaced m limit from c Failed is none (inr (inr e)) = cc
-is_unplaced m limit from c BadCursor is none (inl e) = cc
-is_unplaced m limit from c BadCursor is none (inr (inl e)) = cc
-is_unplaced m limit from c BadCursor is none (inr (inr e)) = cc
-is_unplaced m limit from c Read is none (inl e) = cc
-is_unplaced m limit from c Read is none (inr (inl e)) = cc
-is_unplaced m limit from c Read is none (inr (inr e)) = cc
-is_unplaced m limit from c Write is none (inl e) = cc
-is_unplaced m limit from c Write is none (inr (inl e)) = cc
-is_unplaced m limit from c Write is none (inr (inr e)) = cc
+is_unplaced m limit from c NoMemory is unworn small full none one = tt
+is_unplaced m limit from c NoSuchRun is unworn small full none one = (c, is, none refl)
+is_unplaced m limit from c WorkFull is unworn small full none one = not_full m limit unworn small (full refl)
+is_unplaced m limit from c Failed is unworn small full none (inl e) = cc
+is_unplaced m limit from c Failed is unworn small full none (inr (inl e)) = cc
+is_unplaced m limit from c Failed is unworn small full none (inr (inr e)) = cc
+is_unplaced m limit from c BadCursor is unworn small full none (inl e) = cc
+is_unplaced m limit from c BadCursor is unworn small full none (inr (inl e)) = cc
+is_unplaced m limit from c BadCursor is unworn small full none (inr (inr e)) = cc
+is_unplaced m limit from c Read is unworn small full none (inl e) = cc
+is_unplaced m limit from c Read is unworn small full none (inr (inl e)) = cc
+is_unplaced m limit from c Read is unworn small full none (inr (inr e)) = cc
+is_unplaced m limit from c Write is unworn small full none (inl e) = cc
+is_unplaced m limit from c Write is unworn small full none (inr (inl e)) = cc
+is_unplaced m limit from c Write is unworn small full none (inr (inr e)) = cc
+
+-- the errors that come of an explorer that was not made, and of one that was made here
+pub unplaced_comes : (m : Machine) (limit : ℕ) (from : Option (List Bool)) (e : RunsError) → IsUnplaced m limit from e
+    → Comes e
+unplaced_comes m limit from NoMemory h = tt
+unplaced_comes m limit from NoSuchRun h = tt
+unplaced_comes m limit from WorkFull h = h
+unplaced_comes m limit from Failed h = h
+unplaced_comes m limit from BadCursor h = tt
+unplaced_comes m limit from Read h = tt
+unplaced_comes m limit from Write h = tt
+
+pub listing_comes : (work limit count : ℕ) (e : RunsError) → limit < 2 ^ 32 → count < 2 ^ 32 → work ≤ limit
+    → (e ≡ WorkFull → 2 ^ 64 ≤ work + count * limit) → (e ≡ Failed → ⊥) → Comes e
+listing_comes work limit count NoMemory small few fresh full failed = tt
+listing_comes work limit count NoSuchRun small few fresh full failed = tt
+listing_comes work limit count WorkFull small few fresh full failed =
+    never_full work limit count small few fresh (full refl)
+listing_comes work limit count Failed small few fresh full failed = failed refl
+listing_comes work limit count BadCursor small few fresh full failed = tt
+listing_comes work limit count Read small few fresh full failed = tt
+listing_comes work limit count Write small few fresh full failed = tt
 
 -- the answer of a machine that was made is the one from the state that it stands in
 pub answer_from : (m made : Machine) (limit count : ℕ) (from : Option (List Bool)) (answer : Answer) → m ≡ made

@@ -6,7 +6,7 @@ use Rattle.ick_explorer.specs.ChoiceTexts.{IsTextOf}
 use Rattle.ick_explorer.specs.declared.errors.RunsError.{RunsError}
 use Rattle.ick_explorer.specs.declared.errors.RunsError.TheVariants.{NoMemory, NoSuchRun, WorkFull, Failed, BadCursor, Read}
 use Rattle.ick_explorer.specs.declared.errors.RunsError.TheVariants.{Write}
-use Rattle.ick_cli.specs.Ending.{refused_ending}
+use Rattle.ick_cli.specs.Ending.{Comes, refused_ending}
 use Rattle.ick_cli.specs.Plan.{AreChoices, EndsByLine, HasChoices, IsUnread, bad, long}
 use Rattle.ick_cli.specs.declared.ending.Ending.{Ending}
 use Rattle.ick_cli.specs.declared.ending.Ending.TheVariants.{NoMemory as WithoutMemory}
@@ -22,6 +22,19 @@ named f text t read is same = given_some f text t is ∙ ap (λ (x : List ℕ). 
 -- the errors of a text
 abbrev pub IsTextError : RunsError → Type 0
 IsTextError e = (e ≡ NoMemory) ⊎ ((e ≡ NoSuchRun) ⊎ (e ≡ BadCursor))
+
+pub text_error_comes : (e : RunsError) → IsTextError e → Comes e
+text_error_comes NoMemory one = tt
+text_error_comes NoSuchRun one = tt
+text_error_comes BadCursor one = tt
+text_error_comes Read one = tt
+text_error_comes Write one = tt
+text_error_comes WorkFull (inl e) = cc
+text_error_comes WorkFull (inr (inl e)) = cc
+text_error_comes WorkFull (inr (inr e)) = cc
+text_error_comes Failed (inl e) = cc
+text_error_comes Failed (inr (inl e)) = cc
+text_error_comes Failed (inr (inr e)) = cc
 
 ends_by : (most : ℕ) (text : Option (List ℕ)) (read : List ℕ) (e : RunsError) → text ≡ Some read
     → (e ≡ BadCursor → (c : List Bool) → ¬ IsTextOf read c)

@@ -102,12 +102,17 @@ source_of (Some name) named before after left = if before == after then Some (na
 abbrev pub input_of : Option (List ℕ) → List ℕ → List ℕ
 input_of file left = if is_some file then left else []
 
--- How work ends that a call of ick_runs refused. A count of work is never full here, and no explorer has failed.
+-- An error that work may get from a call of ick_runs. Each count of work begins at 0, so that none is ever full, and
+-- an explorer that has failed is never used again.
+abbrev pub Comes : RunsError → Type 0
+Comes error.WorkFull = ⊥
+Comes error.Failed = ⊥
+Comes _ = Unit {0}
+
+-- how work ends that a call of ick_runs refused
 abbrev pub refused_ending : RunsError → Ending
-refused_ending error.NoMemory = NoMemory
 refused_ending error.NoSuchRun = Answered 64 (message.Notice notice.NoSuchRun)
-refused_ending error.WorkFull = NoMemory
-refused_ending error.Failed = NoMemory
 refused_ending error.BadCursor = Answered 64 (message.Notice notice.BadCursor)
 refused_ending error.Read = ReadFailed
 refused_ending error.Write = WriteFailed
+refused_ending _ = NoMemory

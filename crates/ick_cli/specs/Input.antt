@@ -1,12 +1,24 @@
--- What is left of work whose input was not read.
+-- How work ends that did not read what it needs.
 use Rattle.std.specs.Prelude.{◌<◌, ℕ, List, length}
 use Rattle.ick_cli.specs.Tool.{longest_input}
 use Rattle.ick_cli.specs.declared.ending.Ending.{Ending}
-use Rattle.ick_cli.specs.declared.ending.Ending.TheVariants.{InputTooLong, NoMemory, ReadFailed}
+use Rattle.ick_cli.specs.declared.ending.Ending.TheVariants.{FileNotRead, InputTooLong, NoMemory, ReadFailed}
 
--- the ending of work whose input is too long, or was not read for want of memory or since a read failed
+-- the file was not read, or memory ran out
+abbrev pub EndsUnopened : Ending → Type 0
+EndsUnopened FileNotRead = Unit {0}
+EndsUnopened NoMemory = Unit {0}
+EndsUnopened _ = ⊥
+
+-- a read of the reader failed, or memory ran out
+abbrev pub EndsCut : Ending → Type 0
+EndsCut ReadFailed = Unit {0}
+EndsCut NoMemory = Unit {0}
+EndsCut _ = ⊥
+
+-- or the input is too long
 abbrev pub EndsUnread : List ℕ → Ending → Type 0
 EndsUnread input InputTooLong = longest_input < length input
-EndsUnread input NoMemory = Unit {0}
 EndsUnread input ReadFailed = Unit {0}
+EndsUnread input NoMemory = Unit {0}
 EndsUnread input _ = ⊥

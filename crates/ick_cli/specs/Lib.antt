@@ -13,3 +13,4 @@ pub mod Summary
 pub mod Tool
 pub mod Usage
 pub mod Words
+pub mod Work

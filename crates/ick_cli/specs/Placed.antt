@@ -5,7 +5,7 @@ use Rattle.ick_backtrack.specs.Machine.{Machine}
 use Rattle.ick_explorer.specs.Runs.{IsWhole}
 use Rattle.ick_explorer.specs.Standing.{Explored, Stands}
 use Rattle.ick_explorer.specs.declared.errors.RunsError.{RunsError}
-use Rattle.ick_explorer.specs.declared.errors.RunsError.TheVariants.{NoMemory, NoSuchRun, WorkFull}
+use Rattle.ick_explorer.specs.declared.errors.RunsError.TheVariants.{NoMemory, NoSuchRun}
 use Rattle.ick_cli.specs.Tool.{Answer, IsRunsAnswer}
 
 -- the explorer stands at a place in the runs from the machine's state, and its count is the limit at most
@@ -16,11 +16,10 @@ pub record IsPlaced (m : Machine) (limit : ℕ) (from : Option (List Bool)) (e :
   pub limit_is : e.limit ≡ limit
   pub work : e.work ≤ limit
 
--- Why there is no explorer: memory ran out, or the list isn't whole. A count of work that begins at 0 is never full.
+-- why there is no explorer: memory ran out, or the list isn't whole
 abbrev pub IsUnplaced : Machine → ℕ → Option (List Bool) → RunsError → Type 0
 IsUnplaced m limit from NoMemory = Unit {0}
 IsUnplaced m limit from NoSuchRun = (c : List Bool) × (from ≡ Some c) × ¬ IsWhole m.program m.state limit c
-IsUnplaced m limit from WorkFull = Unit {0}
 IsUnplaced m limit from _ = ⊥
 
 -- the answer of the listing after the place of an explorer

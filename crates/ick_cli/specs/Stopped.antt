@@ -1,7 +1,17 @@
--- What is said of a streamed run that stopped.
-use Rattle.std.specs.Prelude.{ℕ, List, [], ◌++◌, codes, decimal}
+-- What is said of a streamed run that stopped, and how work ends with it, or with a source that is refused.
+use Rattle.std.specs.Prelude.{◌≡◌, ℕ, List, [], ◌++◌, Result, Ok, Err, codes, decimal}
+use Rattle.ick_bits.specs.Faults.{message_of}
+use Rattle.ick_source.specs.declared.refusals.Refusal.{Refusal}
+use Rattle.ick_source.specs.declared.refusals.Refusal.TheVariants as refusal
 use Rattle.ick_machine.specs.declared.live_ask.EndKind.{EndKind}
 use Rattle.ick_machine.specs.declared.live_ask.EndKind.TheVariants.{GiveUp, Fault, Limit, Wants}
+use Rattle.ick_explorer.specs.declared.errors.RunsError.{RunsError}
+use Rattle.ick_runs.specs.declared.streamed.Streamed.{Streamed}
+use Rattle.ick_cli.specs.Ending.{EndsBy, refused_ending}
+use Rattle.ick_cli.specs.declared.ending.Ending.{Ending}
+use Rattle.ick_cli.specs.declared.ending.Ending.TheVariants.{Answered, NoMemory}
+use Rattle.ick_cli.specs.declared.notice.Message.TheVariants.{Notice as Line}
+use Rattle.ick_cli.specs.declared.notice.Notice.TheVariants.{SourceTooLong}
 
 -- the error text and the status of an end, by the message of its fault and the steps that were made
 abbrev pub kind_text : EndKind → List ℕ → ℕ → List ℕ
@@ -15,3 +25,14 @@ kind_status GiveUp = 0
 kind_status (Fault kind statement) = 1
 kind_status Limit = 3
 kind_status Wants = 3
+
+-- how work ends with a streamed run that stopped, or was refused
+abbrev pub EndsAs : Result Streamed RunsError → Ending → Type 0
+EndsAs (Ok s) ending = EndsBy (kind_status s.end) (kind_text s.end s.message.items s.steps) ending
+EndsAs (Err error) ending = ending ≡ refused_ending error
+
+-- how work ends with a source that is refused
+abbrev pub EndsRefused : Refusal → Ending → Type 0
+EndsRefused (refusal.Fault kind statement) ending = EndsBy 2 (message_of kind statement []) ending
+EndsRefused refusal.TooLong ending = ending ≡ Answered 2 (Line SourceTooLong)
+EndsRefused refusal.NoMemory ending = ending ≡ NoMemory

@@ -7,5 +7,5 @@ mod runs;
 
 pub use check::answer_check;
 pub use list::answer_list;
-pub use run::{answer_drawn, answer_run};
+pub use run::{choices_in, ended};
 pub use runs::answer_runs;

@@ -1,6 +1,6 @@
 //! How the work ends, before its error text is written.
 ghost use Rattle.std.specs.Prelude.{◌≡◌};
-ghost use Rattle.ick_cli.specs.Ending.{ending_status, ending_text, refused_ending};
+ghost use Rattle.ick_cli.specs.Ending.{Comes, ending_status, ending_text, refused_ending};
 
 use crate::notice::{Message, Notice};
 use ick_runs::RunsError;
@@ -31,13 +31,14 @@ impl Ending {
     /// a line and a status. `WorkFull` and `Failed` never come: each count of work begins at 0, and
     /// a failed explorer is never used again.
     pub fn refused(error: RunsError) -> Ending
+        requires { Comes error }
         ensures { result ≡ refused_ending error }
     {
         match error {
             RunsError::NoMemory => Ending::NoMemory,
             RunsError::NoSuchRun => Ending::usage(Notice::NoSuchRun),
-            RunsError::WorkFull => Ending::NoMemory,
-            RunsError::Failed => Ending::NoMemory,
+            RunsError::WorkFull => unreachable!(),
+            RunsError::Failed => unreachable!(),
             RunsError::BadCursor => Ending::usage(Notice::BadCursor),
             RunsError::Read => Ending::ReadFailed,
             RunsError::Write => Ending::WriteFailed,

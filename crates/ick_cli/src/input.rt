@@ -1,16 +1,59 @@
-//! The input of a run, which is read whole.
+//! What a job reads: its source, and the input of a listing of runs.
 ghost use Rattle.std.specs.Prelude.{◌≡◌, ◌+◌, ◌<◌, ◌≤◌, ◌^◌, IfErr, IfOk};
-ghost use Rattle.std.specs.Prelude.{drop, length, true};
-ghost use Rattle.ick_cli.specs.Ending.{LeavesStreams};
-ghost use Rattle.ick_cli.specs.Input.{EndsUnread};
+ghost use Rattle.std.specs.Prelude.{drop, length, take, true};
+ghost use Rattle.ick_source.specs.Refusals.{longest};
+ghost use Rattle.ick_cli.specs.Ending.{Leaves, LeavesStreams};
+ghost use Rattle.ick_cli.specs.Input.{EndsCut, EndsUnopened, EndsUnread};
 ghost use Rattle.ick_cli.specs.Tool.{longest_input};
 
 use crate::ending::Ending;
+use crate::files::Files;
 use ick_runs::{ByteSource, ReadFault, read_first};
 use std::alloc::Global;
 
-/// How many bytes the longest input has (this profile).
+/// How many bytes the longest source has, and the longest input (this profile).
 const LONGEST: usize = 1_048_576;
+
+/// Reads a file, and at most one byte more than the longest source. Without the source it returns
+/// the ending of the work.
+pub fn read_file<F: Files>(alloc: Global, name: &str, files: &mut F) -> Result<Vec<u8>, Ending>
+    requires { F.failed files.old + 1 < 2 ^ 64 }
+    ensures count { IfOk result (λ _. F.failed files.new ≡ F.failed files.old) }
+    ensures front { F.told ≡ true → IfOk result (λ text.
+        text.items ≡ take (longest + 1) (F.named files.old name.now)) }
+    ensures leaves { IfErr result (λ ending.
+        Leaves ending (F.failed files.old) (F.failed files.new) 0 0 0 0) }
+    ensures unopened { IfErr result EndsUnopened }
+{
+    if files.open_named(name).is_err() {
+        return Err(Ending::FileNotRead);
+    }
+    match read_first(alloc, files, LONGEST + 1) {
+        Ok(text) => Ok(text),
+        Err(ReadFault::NoMemory) => Err(Ending::NoMemory),
+        Err(ReadFault::Failed) => Err(Ending::FileNotRead),
+    }
+}
+
+/// Reads a reader, and at most one byte more than the longest source. Without the bytes it returns
+/// the ending of the work.
+pub fn read_front<R: ByteSource>(alloc: Global, reader: &mut R) -> Result<Vec<u8>, Ending>
+    requires { R.failed reader.old + 1 < 2 ^ 64 }
+    ensures count { IfOk result (λ _. R.failed reader.new ≡ R.failed reader.old) }
+    ensures front { R.told ≡ true → IfOk result (λ text.
+        text.items ≡ take (longest + 1) (R.left reader.old)) }
+    ensures rest { R.told ≡ true → IfOk result (λ _.
+        R.left reader.new ≡ drop (longest + 1) (R.left reader.old)) }
+    ensures leaves { IfErr result (λ ending.
+        LeavesStreams ending (R.failed reader.old) (R.failed reader.new) 0 0) }
+    ensures cut { IfErr result EndsCut }
+{
+    match read_first(alloc, reader, LONGEST + 1) {
+        Ok(text) => Ok(text),
+        Err(ReadFault::NoMemory) => Err(Ending::NoMemory),
+        Err(ReadFault::Failed) => Err(Ending::ReadFailed),
+    }
+}
 
 /// Reads an input whole, and one byte more than the longest input if there is more. Without the
 /// input it returns the ending of the work.
@@ -25,10 +68,9 @@ pub fn read_input<R: ByteSource>(alloc: Global, reader: &mut R) -> Result<Vec<u8
         LeavesStreams ending (R.failed reader.old) (R.failed reader.new) 0 0) }
     ensures unread { R.told ≡ true → IfErr result (EndsUnread (R.left reader.old)) }
 {
-    match read_first(alloc, reader, LONGEST + 1) {
+    match read_front(alloc, reader) {
         Ok(input) if input.len() <= LONGEST => Ok(input),
         Ok(_) => Err(Ending::InputTooLong),
-        Err(ReadFault::NoMemory) => Err(Ending::NoMemory),
-        Err(ReadFault::Failed) => Err(Ending::ReadFailed),
+        Err(ending) => Err(ending),
     }
 }

@@ -6,10 +6,10 @@
 //! - `notice`: error texts
 //! - `ending`: how the work of a job ends
 //! - `output`: the output of an answer
-//! - `input`: the input of a run
+//! - `input`: what a job reads
 //! - `stopped`: the status and the error text of a run that has stopped
 //! - `commands`: what each command does with a program
-//! - `dispatch`: from a job to its command
+//! - `dispatch`: from a job to its command, by its source and its program
 //! - `status`: the exit status
 //! - `report`: the error text and the status at the end of a call
 //! - `usage`: the answer to arguments that ask for no job

@@ -1,6 +1,7 @@
 use Rattle.std.proofs.Common.{◌≡◌, ◌∙◌, ◌+◌, ◌<◌, ◌≤◌, ℕ, List, ap, arith, length, take}
 use Rattle.std.proofs.lemmas.List.{length-take, take_all}
 use Rattle.ick_cli.specs.Tool.{longest_input}
+use Rattle.ick_cli.proofs.Left.{cut_unread}
 use Rattle.ick_cli.proofs.input.read_input.Goals as goal
 
 -- a front that ends before its most bytes is all
@@ -31,3 +32,6 @@ returns-in-Ok-2-clause-unread g c = λ told.
 pub returns-in-Ok-clause-rest : goal.returns-in-Ok-clause-rest
 unfolding longest_input
 returns-in-Ok-clause-rest g c = λ told. c.in-Ok.ensures.rest told
+
+pub returns-in-Err-clause-unread : goal.returns-in-Err-clause-unread
+returns-in-Err-clause-unread g c = λ told. cut_unread _ c.in-Err.ending c.in-Err.ensures.cut

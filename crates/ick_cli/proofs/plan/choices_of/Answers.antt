@@ -1,6 +1,9 @@
 use Rattle.std.proofs.Common.{◌∙◌, Err, ap}
-use Rattle.ick_cli.proofs.Unread.{ends_unread, named, unread_memory}
+use Rattle.ick_cli.proofs.Unread.{ends_unread, named, text_error_comes, unread_memory}
 use Rattle.ick_cli.proofs.plan.choices_of.Goals as goal
+
+pub refused-requires : goal.refused-requires
+refused-requires c = text_error_comes c.in-Err.error c.in-Err.ensures.errors
 
 pub returns-in-Err-clause-err : goal.returns-in-Err-clause-err
 returns-in-Err-clause-err c =

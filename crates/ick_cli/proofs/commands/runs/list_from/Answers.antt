@@ -2,8 +2,15 @@ use Rattle.std.proofs.Common.{◌∙◌, Err, ap, subst, sym}
 use Rattle.ick_explorer.specs.Explorers.{explored}
 use Rattle.ick_cli.specs.Ending.{Answers}
 use Rattle.ick_cli.specs.declared.ending.Ending.{Ending}
-use Rattle.ick_cli.proofs.Listed.{is_listed, wrote_cut}
+use Rattle.ick_cli.proofs.Listed.{is_listed, listing_comes, wrote_cut}
 use Rattle.ick_cli.proofs.commands.runs.list_from.Goals as goal
+
+pub refused-requires : goal.refused-requires
+refused-requires g c =
+    listing_comes _ _ c.args.count c.in-Err.error c.requires.small c.ranges.count.fits c.requires.fresh
+    (λ full. c.write_runs.ensures.enough (c.in-Err.is ∙ ap (λ e. Err e) full))
+    (λ failed. let some = c.write_runs.ensures.failed.0 (c.in-Err.is ∙ ap (λ e. Err e) failed) in
+    let none = c.requires.unfailed in cc)
 
 pub returns-clause-answer : goal.returns-clause-answer
 returns-clause-answer g c = λ told s stands answer is.

@@ -1,5 +1,9 @@
-use Rattle.ick_cli.proofs.Listed.{answers_unplaced, leaves_unplaced}
+use Rattle.ick_cli.proofs.Listed.{answers_unplaced, leaves_unplaced, unplaced_comes}
 use Rattle.ick_cli.proofs.commands.runs.list_runs.Goals as goal
+
+pub refused-requires : goal.refused-requires
+refused-requires g c =
+    unplaced_comes (g.M.Backtrack.seen c.args.machine) c.args.limit _ c.in-Err.error c.in-Err.ensures.err
 
 pub returns-in-Err-clause-leaves : goal.returns-in-Err-clause-leaves
 returns-in-Err-clause-leaves g c =
