@@ -10,7 +10,8 @@ pub trait Files: ByteSource {
     ghost named: { Self → List ℕ → List ℕ };
 
     /// Opens a file. After `Ok`, `read` reads it from its front. An `Err` raises the count of
-    /// failures by one, also if memory ran out; an `Ok` leaves it.
+    /// failures by one, also if memory ran out; an `Ok` leaves it. The count of failures must be
+    /// below its greatest value.
     fn open_named(&mut self, name: &str) -> Result<(), DeviceFault>
         requires { Self.failed self.old + 1 < 2 ^ 64 }
         ensures count { Self.failed self.new
