@@ -3,12 +3,13 @@
 //! - `serving`: the arguments served over any devices
 #![tactic(auto)]
 
-ghost use Rattle.std.specs.Prelude.{◌≡◌, ◌+◌, ◌<◌, ◌^◌, IfErr, IfOk};
+ghost use Rattle.std.specs.Prelude.{◌≡◌, ◌+◌, ◌<◌, ◌^◌, ◌⊎◌, IfErr, IfOk};
 ghost use Rattle.std.specs.Process.{exit_status};
 ghost use Rattle.clap.specs.Words.{fault_of};
 ghost use Rattle.ick_cli.specs.Notice.{notice_text};
 ghost use Rattle.ick_cli.specs.Serve.{Finishes, FinishesDue, IsStatus};
-ghost use Rattle.ick_cli.specs.Usage.{AreMistakes, IsRefused, words_notice, words_status};
+ghost use Rattle.ick_cli.specs.Usage.{AreMistakes, AreRequests, IsRefused};
+ghost use Rattle.ick_cli.specs.Usage.{words_notice, words_status};
 ghost use Rattle.ick_cli.specs.Words.{ick_app};
 ghost use Rattle.ick_system.specs.Arguments.{after_name};
 
@@ -40,6 +41,8 @@ fn answer<E: ByteSink>(
     ensures usage { IfOk arguments (λ a. AreMistakes (fault_of ick_app (after_name a.items)) →
         FinishesDue IsRefused E.told (E.failed errors.old) (E.failed errors.new)
         (E.written errors.old) (E.written errors.new) result) }
+    ensures help { IfOk arguments (λ a. AreRequests (fault_of ick_app (after_name a.items)) →
+        (result ≡ 0) ⊎ (result ≡ 4)) }
     ensures failed { E.failed errors.old < E.failed errors.new → result ≡ 4 }
     ensures status { IsStatus result }
 {

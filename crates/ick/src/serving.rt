@@ -5,7 +5,7 @@ ghost use Rattle.ick_cli.specs.Ending.{input_of, source_of};
 ghost use Rattle.ick_cli.specs.Job.{HasJob, has_file, job_of, takes_input};
 ghost use Rattle.ick_cli.specs.Left.{IsLeft};
 ghost use Rattle.ick_cli.specs.Plan.{IsUnplanned};
-ghost use Rattle.ick_cli.specs.Serve.{FinishesDue, IsDue, IsServed, IsStatus, counts};
+ghost use Rattle.ick_cli.specs.Serve.{FinishesDue, IsDue, IsLineDue, IsServed, IsStatus, counts};
 ghost use Rattle.ick_cli.specs.Tool.{Answer, IsToolAnswer};
 ghost use Rattle.ick_cli.specs.Usage.{AreMistakes, AreRequests, IsHelped, IsRefused};
 ghost use Rattle.ick_cli.specs.Words.{ick_app};
@@ -59,9 +59,19 @@ pub fn serve_arguments<F: Files, R: ByteSource, W: ByteSink, E: ByteSink>(
         → has_file (job_of (after_name arguments.now)) ≡ false → files.new ≡ files.old }
     ensures unplanned { HasJob (after_name arguments.now) → (line : Notice)
         → IsUnplanned (job_of (after_name arguments.now)).task line
-        → (files.new ≡ files.old) × (reader.new ≡ reader.old) }
+        → (files.new ≡ files.old) × (reader.new ≡ reader.old) × (writer.new ≡ writer.old)
+        × FinishesDue (IsLineDue line) E.told (E.failed errors.old) (E.failed errors.new)
+        (E.written errors.old) (E.written errors.new) result }
 
     // Other arguments.
+    ensures no_job { (fault_of ick_app (after_name arguments.now) ≢ [])
+        → ((writer.new ≡ writer.old) × FinishesDue IsRefused
+        E.told (E.failed errors.old) (E.failed errors.new)
+        (E.written errors.old) (E.written errors.new) result) ⊎ FinishesDue
+        (IsHelped W.told (W.failed writer.old) (W.failed writer.new)
+        (W.written writer.old) (W.written writer.new))
+        E.told (E.failed errors.old) (E.failed errors.new)
+        (E.written errors.old) (E.written errors.new) result }
     ensures usage { AreMistakes (fault_of ick_app (after_name arguments.now))
         → (writer.new ≡ writer.old) × FinishesDue IsRefused
         E.told (E.failed errors.old) (E.failed errors.new)

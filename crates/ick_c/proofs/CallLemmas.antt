@@ -26,6 +26,7 @@ without_memory law arguments file input writer errors errors' status done =
     let found = law job.task (Some (source_in job file input)) (input_of job.file input) in
     record {
       job = λ has_job. (found.0, found.1, (_, _, cut_by_memory 0 refl (sym (append-nil _)), done));
+      no_job = λ faults. inl (refl, (_, _, refused_without_memory, done));
       usage = λ mistakes. (refl, (_, _, refused_without_memory, done));
       help = λ requests. (_, _, help_without_memory refl refl, done);
       said = (_, _, memory_failed refl, done);

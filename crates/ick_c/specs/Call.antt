@@ -1,5 +1,5 @@
 -- What a call over a file and an input in memory leaves.
-use Rattle.std.specs.Prelude.{◌≡◌, ◌<◌, ◌⊎◌, if◌then◌else◌, ℕ, true, List, [], Some}
+use Rattle.std.specs.Prelude.{◌≡◌, ◌≢◌, ◌<◌, ◌⊎◌, if◌then◌else◌, ℕ, true, List, [], Some}
 use Rattle.clap.specs.Words.{Text, fault_of}
 use Rattle.ick_explorer.specs.Written.{Written}
 use Rattle.ick_cli.specs.Ending.{input_of}
@@ -38,6 +38,8 @@ pub record Serves (arguments : List Text) (file input : List ℕ)
       (input_of (job_of arguments).file input) answer
       × Reports (IsServed answer (failures_of writer) (failures_of writer') writer.bytes writer'.bytes)
       errors errors' status
+  pub no_job : fault_of ick_app arguments ≢ [] → ((writer' ≡ writer) × Reports IsRefused errors errors' status)
+      ⊎ Reports (IsHelped true writer.failures writer'.failures writer.bytes writer'.bytes) errors errors' status
   pub usage : AreMistakes (fault_of ick_app arguments) → (writer' ≡ writer) × Reports IsRefused errors errors' status
   pub help : AreRequests (fault_of ick_app arguments)
       → Reports (IsHelped true writer.failures writer'.failures writer.bytes writer'.bytes) errors errors' status

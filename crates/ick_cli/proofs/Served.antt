@@ -1,12 +1,17 @@
 -- From the ending of the work to what the whole call leaves.
-use Rattle.std.proofs.Common.{◌≡◌, ◌<◌, ◌++◌, ◌⊎◌, inl, inr, ℕ, Bool, List, ap, refl, sym, subst}
+use Rattle.std.proofs.Common.{◌≡◌, ◌∙◌, ◌<◌, ◌++◌, ◌⊎◌, inl, inr, ℕ, Bool, List, ap, refl, sym, subst}
 use Rattle.std.proofs.Common.{arith}
 use Rattle.std.proofs.lemmas.Bool.{cases_order}
 use Rattle.ick_cli.specs.Ending.{Answers, Leaves, ending_status, ending_text, message_text}
 use Rattle.ick_cli.specs.Serve.{Failures, Finishes, FinishesDue, IsDue, IsServed, IsStatus, counts}
 use Rattle.ick_cli.specs.Serve.{nothing_failed, file_failed, read_failed, write_failed, input_long, memory_failed}
 use Rattle.ick_cli.specs.Serve.{answered, cut_by_read, cut_by_write, cut_by_memory}
+use Rattle.ick_cli.specs.Serve.{IsLineDue, line_due}
+use Rattle.ick_cli.specs.Notice.{notice_text}
 use Rattle.ick_cli.specs.Tool.{Answer}
+use Rattle.ick_cli.specs.Usage.{IsHelped, help_cut, help_without_memory, helped}
+use Rattle.ick_cli.specs.declared.notice.Message.TheVariants as message
+use Rattle.ick_cli.specs.declared.notice.Notice.{Notice}
 use Rattle.ick_cli.specs.declared.ending.Ending.{Ending}
 use Rattle.ick_cli.specs.declared.ending.Ending.TheVariants.{Answered, NoMemory, InputTooLong, FileNotRead, ReadFailed}
 use Rattle.ick_cli.specs.declared.ending.Ending.TheVariants.{WriteFailed}
@@ -117,3 +122,35 @@ finished_status old new told e e' errs errs' code due = elim (cases_order e' e) 
   | inr (inl less) ↦ let grows = due.3.grows in absurd (omega arith)
   | inr (inr more) ↦ let four = due.3.fault more in inl (omega arith)
 ]
+
+-- what is due to a job that ended by its line
+pub line_finished : (told : Bool) (line : Notice) (ending : Ending) (e e' : ℕ) (errs errs' : List ℕ) (code : ℕ)
+    → ending ≡ Answered 64 (message.Notice line)
+    → Finishes told (ending_status ending) (ending_text ending) e e' errs errs' code
+    → FinishesDue (IsLineDue line) told e e' errs errs' code
+line_finished told line ending e e' errs errs' code is done = (
+  notice_text line,
+  64,
+  line_due,
+  subst (λ (x : Ending). Finishes told (ending_status x) (ending_text x)
+      e e' errs errs' code) is done,
+)
+
+-- the status of help
+pub help_status : (told told' : Bool) (failed failed' : ℕ) (before after : List ℕ) (e e' : ℕ) (errs errs' : List ℕ)
+    (code : ℕ) → FinishesDue (IsHelped told failed failed' before after) told' e e' errs errs' code
+    → (code ≡ 0) ⊎ (code ≡ 4)
+help_status told told' failed failed' before after e e' errs errs' code due = elim (cases_order e' e) [
+  | inl same ↦ elim (helped_status due.0 due.1 due.2) [
+    | inl nought ↦ inl ((due.3.whole same).0 ∙ nought)
+    | inr four ↦ inr ((due.3.whole same).0 ∙ four)
+  ]
+  | inr (inl less) ↦ let grows = due.3.grows in absurd (omega arith)
+  | inr (inr more) ↦ inr (due.3.fault more)
+]
+  where
+    helped_status : (text : List ℕ) (status : ℕ) → IsHelped told failed failed' before after text status
+        → (status ≡ 0) ⊎ (status ≡ 4)
+    helped_status text status (helped t calm all) = inl refl
+    helped_status text status (help_cut t more cut) = inr refl
+    helped_status text status (help_without_memory calm none) = inr refl

@@ -2,6 +2,7 @@
 use Rattle.std.specs.Prelude.{◌≡◌, ◌+◌, ◌<◌, ◌≤◌, ◌++◌, ◌⊎◌, ℕ, Bool, true, List, take}
 use Rattle.ick_cli.specs.Notice.{notice_text}
 use Rattle.ick_cli.specs.Tool.{Answer}
+use Rattle.ick_cli.specs.declared.notice.Notice.{Notice}
 use Rattle.ick_cli.specs.declared.notice.Notice.TheVariants.{InputTooLong, FileNotRead, ReadFailed}
 use Rattle.ick_cli.specs.declared.notice.Notice.TheVariants.{WriteFailed, OutOfMemory}
 
@@ -42,6 +43,11 @@ pub data IsServed (answer : Answer) (old new : Failures) (before after : List �
       → IsServed answer old new before after (notice_text WriteFailed) 4
   cut_by_memory : (n : ℕ) → new ≡ old → after ≡ before ++ take n answer.output
       → IsServed answer old new before after (notice_text OutOfMemory) 4
+
+-- what is due to a job without a plan: its line, with status 64; or memory ran out
+pub data IsLineDue (line : Notice) : List ℕ → ℕ → Type 0 where
+  line_due : IsLineDue line (notice_text line) 64
+  line_without_memory : IsLineDue line (notice_text OutOfMemory) 4
 
 -- The text was written behind what stood on the error stream, and the status is the one given; or a beginning of the
 -- text was, a write of it failed, and the status is 4.

@@ -10,7 +10,8 @@ ghost use Rattle.ick_cli.specs.Left.{IsLeft};
 ghost use Rattle.ick_cli.specs.Notice.{notice_text};
 ghost use Rattle.ick_cli.specs.Plan.{IsUnplanned};
 ghost use Rattle.ick_cli.specs.declared.notice.Notice.{Notice};
-ghost use Rattle.ick_cli.specs.Serve.{Finishes, FinishesDue, IsDue, IsServed, IsStatus, counts};
+ghost use Rattle.ick_cli.specs.Serve.{Finishes, FinishesDue, IsDue, IsLineDue, IsServed, IsStatus};
+ghost use Rattle.ick_cli.specs.Serve.{counts};
 ghost use Rattle.ick_cli.specs.Tool.{Answer, IsToolAnswer};
 ghost use Rattle.ick_cli.specs.Usage.{AreMistakes, AreRequests, IsHelped, IsRefused};
 ghost use Rattle.ick_cli.specs.Usage.{words_notice, words_status};
@@ -34,6 +35,8 @@ use std::alloc::Global;
 /// the input is empty. The output goes to `writer`. The text of a refusal, a fault or a failure
 /// goes to `errors`, after the output. The arguments, the statuses and the texts are this
 /// profile's.
+///
+/// The counts of failures of all devices must be below their greatest values.
 pub fn serve<F: Files, R: ByteSource, W: ByteSink, E: ByteSink>(
     alloc: Global,
     words: &[&str],
@@ -75,9 +78,19 @@ pub fn serve<F: Files, R: ByteSource, W: ByteSink, E: ByteSink>(
         → has_file (job_of (texts words.entry.now)) ≡ false → files.new ≡ files.old }
     ensures unplanned { HasJob (texts words.entry.now) → (line : Notice)
         → IsUnplanned (job_of (texts words.entry.now)).task line
-        → (files.new ≡ files.old) × (reader.new ≡ reader.old) }
+        → (files.new ≡ files.old) × (reader.new ≡ reader.old) × (writer.new ≡ writer.old)
+        × FinishesDue (IsLineDue line) E.told (E.failed errors.old) (E.failed errors.new)
+        (E.written errors.old) (E.written errors.new) result }
 
-    // Other words: a mistake in them, or a request for help.
+    // Other words: a mistake in them, or a request for help. Words may be both, as `help nope`.
+    ensures no_job { (fault_of ick_app (texts words.entry.now) ≢ [])
+        → ((writer.new ≡ writer.old) × FinishesDue IsRefused
+        E.told (E.failed errors.old) (E.failed errors.new)
+        (E.written errors.old) (E.written errors.new) result) ⊎ FinishesDue
+        (IsHelped W.told (W.failed writer.old) (W.failed writer.new)
+        (W.written writer.old) (W.written writer.new))
+        E.told (E.failed errors.old) (E.failed errors.new)
+        (E.written errors.old) (E.written errors.new) result }
     ensures usage { AreMistakes (fault_of ick_app (texts words.entry.now))
         → (writer.new ≡ writer.old) × FinishesDue IsRefused
         E.told (E.failed errors.old) (E.failed errors.new)
@@ -121,7 +134,8 @@ pub enum WordsFault {
 }
 
 /// Answers instead of `serve` if the arguments can't be read: 4 if memory ran out, and else 64,
-/// with its line on `errors` (this profile).
+/// with its line on `errors` (this profile). The count of failures of `errors` must be below its
+/// greatest value.
 pub fn refuse_words<E: ByteSink>(fault: WordsFault, errors: &mut E) -> Status
     requires { E.failed errors.old + 1 < 2 ^ 64 }
     ensures { Finishes E.told (words_status fault) (notice_text (words_notice fault))

@@ -1,5 +1,5 @@
 //! The answer to arguments that ask for no job.
-ghost use Rattle.std.specs.Prelude.{◌≡◌, ◌+◌, ◌<◌, ◌^◌, ℕ};
+ghost use Rattle.std.specs.Prelude.{◌≡◌, ◌+◌, ◌<◌, ◌^◌, ◌⊎◌, ℕ};
 ghost use Rattle.clap.specs.Words.{kind_of};
 ghost use Rattle.ick_cli.specs.Notice.{notice_text};
 ghost use Rattle.ick_cli.specs.Serve.{Finishes, FinishesDue, IsDue, counts};
@@ -29,6 +29,13 @@ pub fn answer_words<W: ByteSink, E: ByteSink>(
         E.told (E.failed errors.old) (E.failed errors.new)
         (E.written errors.old) (E.written errors.new) result }
     ensures help { IsRequest (kind_of error.now) → FinishesDue
+        (IsHelped W.told (W.failed writer.old) (W.failed writer.new)
+        (W.written writer.old) (W.written writer.new))
+        E.told (E.failed errors.old) (E.failed errors.new)
+        (E.written errors.old) (E.written errors.new) result }
+    ensures either { ((writer.new ≡ writer.old) × FinishesDue IsRefused
+        E.told (E.failed errors.old) (E.failed errors.new)
+        (E.written errors.old) (E.written errors.new) result) ⊎ FinishesDue
         (IsHelped W.told (W.failed writer.old) (W.failed writer.new)
         (W.written writer.old) (W.written writer.new))
         E.told (E.failed errors.old) (E.failed errors.new)

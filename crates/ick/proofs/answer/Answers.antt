@@ -3,11 +3,11 @@ use Rattle.std.specs.Prelude.{◌≡◌, IfOk, Ok, Result}
 use Rattle.clap.specs.Words.{fault_of}
 use Rattle.ick_cli.specs.Notice.{notice_text}
 use Rattle.ick_cli.specs.Serve.{IsDue, counts, memory_failed, nothing_failed}
-use Rattle.ick_cli.specs.Usage.{AreMistakes, words_notice, words_status}
+use Rattle.ick_cli.specs.Usage.{AreMistakes, AreRequests, words_notice, words_status}
 use Rattle.ick_cli.specs.Words.{ick_app}
 use Rattle.ick_cli.specs.declared.driver.WordsFault.{WordsFault}
 use Rattle.ick_cli.specs.declared.driver.WordsFault.TheVariants.{NoMemory, NotText}
-use Rattle.ick_cli.proofs.Served.{finished_status}
+use Rattle.ick_cli.proofs.Served.{finished_status, help_status}
 use Rattle.ick_system.specs.Arguments.{after_name}
 use Rattle.ick.proofs.answer.Goals as goal
 
@@ -30,6 +30,12 @@ returns-in-Ok-clause-usage g c =
     on_ok (λ a. AreMistakes (fault_of ick_app (after_name a.items))) c.in-Ok.is (λ mistakes.
     (c.serve_arguments.ensures.usage (subst (λ w. AreMistakes (fault_of ick_app (after_name w)))
     (sym c.deref.ensures.value) mistakes)).1)
+
+pub returns-in-Ok-clause-help : goal.returns-in-Ok-clause-help
+returns-in-Ok-clause-help g c =
+    on_ok (λ a. AreRequests (fault_of ick_app (after_name a.items))) c.in-Ok.is (λ requests.
+    help_status _ _ _ _ _ _ _ _ _ _ _ (c.serve_arguments.ensures.help
+    (subst (λ w. AreRequests (fault_of ick_app (after_name w))) (sym c.deref.ensures.value) requests)))
 
 pub returns-in-Ok-clause-failed : goal.returns-in-Ok-clause-failed
 returns-in-Ok-clause-failed g c = λ more. c.serve_arguments.ensures.failed (inr (inr (inr more)))

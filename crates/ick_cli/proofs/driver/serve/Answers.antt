@@ -1,4 +1,4 @@
-use Rattle.std.proofs.Common.{◌≡◌, ◌∙◌, inl, inr, [], ◌∷◌, ap, arith, false, subst, sym}
+use Rattle.std.proofs.Common.{◌≡◌, ◌∙◌, inl, inr, [], ◌∷◌, ap, arith, false, refl, subst, sym}
 use Rattle.clap.specs.Kinds.{HasKind, IsAmong}
 use Rattle.clap.specs.Words.{Kinds, kind_of}
 use Rattle.clap.specs.declared.error.ErrorKind.{ErrorKind}
@@ -7,14 +7,14 @@ use Rattle.clap.specs.declared.error.Error.{Error}
 use Rattle.ick_cli.specs.Ending.{input_of, source_of}
 use Rattle.ick_cli.specs.Job.{Asked, asked, has_file}
 use Rattle.std.proofs.lemmas.List.{append-nil}
-use Rattle.ick_cli.specs.Serve.{counts, cut_by_memory}
+use Rattle.ick_cli.specs.Serve.{counts, cut_by_memory, line_without_memory}
 use Rattle.ick_cli.specs.Tool.{IsToolAnswer}
 use Rattle.ick_cli.specs.Usage.{EachIs, IsMistake, IsRequest, help_without_memory}
 use Rattle.ick_cli.specs.Left.{IsLeft}
 use Rattle.ick_cli.specs.Plan.{IsUnplanned}
 use Rattle.ick_cli.proofs.Left.{was_answered, without_memory}
 use Rattle.ick_cli.proofs.OneAnswer.{tool_answer}
-use Rattle.ick_cli.proofs.Served.{due, failed_due, finished_status, served}
+use Rattle.ick_cli.proofs.Served.{due, failed_due, finished_status, line_finished, served}
 use Rattle.ick_cli.proofs.driver.serve.Goals as goal
 
 -- what holds of each of several kinds holds of one among them
@@ -118,7 +118,19 @@ returns-in-Ok-clause-source_first g c = λ has_job none more.
 pub returns-in-Ok-clause-unplanned : goal.returns-in-Ok-clause-unplanned
 returns-in-Ok-clause-unplanned g c = λ has_job line h.
     let kept = c.perform-ending.ensures.unplanned line
-    (subst (λ (job : Asked). IsUnplanned job.task line) (sym c.in-Ok.ensures.job) h) in (kept.0, kept.1)
+    (subst (λ (job : Asked). IsUnplanned job.task line) (sym c.in-Ok.ensures.job) h) in
+    (kept.0, kept.1, kept.2, line_finished g.E.ByteSink.told line _ _ _ _ _ _ kept.3 c.report.ensures)
+
+pub returns-in-Ok-clause-no_job : goal.returns-in-Ok-clause-no_job
+returns-in-Ok-clause-no_job g c = λ faults. absurd (faults c.in-Ok.ensures.law)
+
+pub returns-in-Err-clause-no_job : goal.returns-in-Err-clause-no_job
+returns-in-Err-clause-no_job g c = λ faults. c.answer_words.ensures.either
+
+pub returns-in-Err-clause-unplanned : goal.returns-in-Err-clause-unplanned
+returns-in-Err-clause-unplanned g c = λ has_job line h.
+    let memory = c.answer_words.ensures.memory (memory_ran_out c.in-Err.error _ has_job c.in-Err.ensures.law) in
+    (refl, refl, memory.0, (_, _, line_without_memory, memory.1))
 
 pub returns-in-Err-clause-source_first : goal.returns-in-Err-clause-source_first
 returns-in-Err-clause-source_first g c = λ has_job none more. absurd (omega arith)

@@ -17,6 +17,28 @@ cut before after text most h = (h.0, h.2)
 pub returns-then-eq-clause-usage : goal.returns-then-eq-clause-usage
 returns-then-eq-clause-usage g c = λ mistake. (refl, (_, _, refused_without_memory, c.report.ensures))
 
+pub returns-then-eq-clause-either : goal.returns-then-eq-clause-either
+returns-then-eq-clause-either g c = inl (refl, (_, _, refused_without_memory, c.report.ensures))
+
+pub returns-in_default-clause-either : goal.returns-in_default-clause-either
+returns-in_default-clause-either g c = inl (refl, (_, _, refused_without_memory, c.report-in_default.ensures))
+
+pub returns-then-use_stderr-clause-either : goal.returns-then-use_stderr-clause-either
+returns-then-use_stderr-clause-either g c = inl (refl, (_, _, refused _, c.finish.ensures))
+
+pub returns-in-Ok-write_whole-clause-either : goal.returns-in-Ok-write_whole-clause-either
+returns-in-Ok-write_whole-clause-either g c =
+    inr (_, _, helped _ (steady g c) c.in-Ok-write_whole.ensures.all, c.finish-in-Ok-write_whole.ensures)
+
+pub returns-clause-either : goal.returns-clause-either
+returns-clause-either g c = inr (
+  _,
+  _,
+  help_cut _ c.in-Err.ensures.count
+      (λ told. cut _ _ _ _ (c.in-Err.ensures.beginning told)),
+  c.report-in-Err.ensures,
+)
+
 pub returns-then-eq-clause-said : goal.returns-then-eq-clause-said
 returns-then-eq-clause-said g c = λ files reads. (_, _, memory_failed refl, c.report.ensures)
 
