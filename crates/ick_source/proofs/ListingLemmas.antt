@@ -6,9 +6,23 @@ use Rattle.std.proofs.Math.Seq.{take-append_seam}
 use Rattle.std.proofs.lemmas.List.{append-nil, take-append-drop}
 use Rattle.std.specs.List.{enumerate_from, flat_map}
 use Rattle.std.specs.Prelude.{codes, decimal, if◌then◌else◌}
+use Rattle.ick_bits.specs.Quoted.{quoted}
 use Rattle.ick_source.specs.Kinds.{kind_of, kind_word}
 use Rattle.ick_source.specs.Listing.{front_of, line_of, listing}
 use Rattle.ick_source.specs.StatementTree.{StatementTree}
+
+-- a line is its front, the text in quotes, and the end of the line
+pub line_joined : (number : ℕ) (t : StatementTree) →
+    line_of number t ≡ front_of number t ++ (quoted t.text ++ codes "\n")
+unfolding line_of
+line_joined number t = simp append_assoc refl
+
+pub line_size : (number : ℕ) (t : StatementTree) →
+    length (line_of number t) ≡ length (front_of number t) + (length (quoted t.text) + 1)
+line_size number t =
+    ap length (line_joined number t)
+    ∙ (length-append (front_of number t) (quoted t.text ++ codes "\n")
+    ∙ ap (λ n. length (front_of number t) + n) (length-append (quoted t.text) (codes "\n")))
 
 -- what precedes the text of a statement that has a label
 pub front_labelled : (number : ℕ) (t : StatementTree) (label : ℕ) → t.label ≡ Some label →

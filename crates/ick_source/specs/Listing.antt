@@ -9,7 +9,19 @@ abbrev pub label_text : Option ℕ → List ℕ
 label_text None = codes "-"
 label_text (Some n) = codes "(" ++ decimal n ++ codes ")"
 
--- number, label, PLEASE or DO, NOT if the statement is abstained from, chance and kind
+-- number, label, PLEASE or DO, NOT if the statement is abstained from, chance, kind, and the text in quotes
+unfoldable pub line_of : ℕ → StatementTree → List ℕ
+line_of number t =
+    decimal number
+    ++ codes " " ++ label_text t.label
+    ++ (if t.polite then codes " PLEASE" else codes " DO")
+    ++ (if t.abstained then codes " NOT " else codes " - ")
+    ++ decimal t.chance
+    ++ codes " " ++ kind_word (kind_of t.body)
+    ++ codes " " ++ quoted t.text
+    ++ codes "\n"
+
+-- for private contracts: what precedes the text
 abbrev pub front_of : ℕ → StatementTree → List ℕ
 front_of number t =
     decimal number
@@ -18,10 +30,6 @@ front_of number t =
     ++ (if t.abstained then codes " NOT " else codes " - ")
     ++ decimal t.chance
     ++ codes " " ++ kind_word (kind_of t.body) ++ codes " "
-
--- this, and the text in quotes
-unfoldable pub line_of : ℕ → StatementTree → List ℕ
-line_of number t = front_of number t ++ quoted t.text ++ codes "\n"
 
 -- a line for each statement, numbered from 1
 unfoldable pub listing : List StatementTree → List ℕ

@@ -49,7 +49,6 @@ fn push_lines(out: &mut Vec<u8>, statements: &[Statement<'_>]) -> Result<(), NoM
 }
 
 /// Appends the line of a statement, or a prefix of it when out of memory.
-#[tactic(auto, unfolding(crate::specs::Listing::line_of))]
 fn push_line(out: &mut Vec<u8>, statement: &Statement<'_>) -> Result<(), NoMemory>
     ensures ok { let line = line_of statement.now.number (statement_tree_of statement.now) in
         OnOk result (out.new.items ≡ out.old.items ++ line) }
