@@ -42,7 +42,11 @@ ROWS = (
      "1:10: statement 1 {E}: a unary operator stands behind the first mark of its operand, as in #&77"),
     ("DO COME FROM (5) DO GIVE UP",
      "1:4: statement 1 {E}: COME FROM is C-INTERCAL's, and not in this language: ick-convert --come-from rewrites it\n"
-     "1:14: COME FROM hands its (5) to statement 2 as its label"),
+     "1:14: COME FROM hands its (5) to statement 2 as its label: ick-convert --come-from rewrites it"),
+    ("PLEASE GIVE UP DO NEXT FROM (5) DO GIVE UP", "1:29: NEXT FROM hands its (5) to statement 3 as its label"),
+    ("(5) DO GIVE UP DO COME FROM (5) PLEASE GIVE UP",
+     "1:29: refused, E182: (5) is the label of statement 3, since COME FROM hands it on, and of statement 1 at line 1: "
+     "ick-convert --come-from rewrites it"),
     ("DO .1 <- #1 ONCE PLEASE GIVE UP", "1:13: statement 1 {E}: ONCE and AGAIN are C-INTERCAL's, and not in this language"),
     ("DO ABSTAIN #1 FROM GIVING UP PLEASE GIVE UP",
      "1:4: statement 1 {E}: ABSTAIN with a count is C-INTERCAL's, and not in this language"),
