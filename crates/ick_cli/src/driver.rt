@@ -30,11 +30,11 @@ use std::alloc::Global;
 ///
 /// The arguments are without the program's own name. If they name a file, `files` opens it, its
 /// bytes are the source, and the input of a run comes from `reader`. A run leaves in `reader`
-/// exactly the input that it has not read, and a listing of runs reads the input whole. Without a
-/// file the source comes from `reader`, which is read to its end before anything is written, and
-/// the input is empty. The output goes to `writer`. The text of a refusal, a fault or a failure
-/// goes to `errors`, after the output. The arguments, the statuses and the texts are this
-/// profile's.
+/// exactly the input that it has not read, and a listing of runs reads the input whole if the
+/// source compiles. Without a file the source comes from `reader`, which is read to its end before
+/// anything is written, and the input is empty. The output goes to `writer`. The text of a refusal,
+/// a fault or a failure goes to `errors`, after the output. The arguments, the statuses and the
+/// texts are this profile's.
 ///
 /// The counts of failures of all devices must be below their greatest values.
 pub fn serve<F: Files, R: ByteSource, W: ByteSink, E: ByteSink>(

@@ -78,8 +78,8 @@ impl<'a> Code<'a> {
     }
 
     /// States that the operations do what the statements of the program do. Each operation names
-    /// only slots and statements that exist, and only the last operation of a statement may lead
-    /// elsewhere or end the run.
+    /// only slots and statements that exist. Only the last operation of a statement may set where
+    /// the run goes on, give up, or be the fault of an unrecognised statement.
     pub fn law(&self)
         ensures { IsCompiled (code_program self.now) self.now }
     {}
