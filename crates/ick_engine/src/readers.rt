@@ -1,0 +1,117 @@
+//! Readers of the state that a memory represents.
+
+use crate::memory::Memory;
+use ick_lowering::Lowered;
+
+impl Memory {
+    ghost use Rattle.std.specs.Prelude.{◌≡◌, ◌<◌, ◌≤◌, length, reverse, slice_get, Some};
+    ghost use Rattle.ick_code.specs.Compiled.{code_program};
+    ghost use Rattle.ick_source.specs.declared.tree.Name.{Name};
+    ghost use Rattle.ick_engine.specs.Memory.{view_in};
+    ghost use Rattle.ick_engine.specs.Steady.{IsReady};
+    ghost use Rattle.ick_engine.specs.View.{Input, array_names, scalar_names, state_of};
+
+    /// Returns the number of the scalar in a slot.
+    pub fn number(&self, program: &Lowered<'_, '_>, slot: u32) -> u32
+        requires slot { slot < length (scalar_names program.now.code.now) }
+        requires ready { IsReady program.now.code.now program.now.parts (view_in self.now) }
+        ensures { (input : Input) (name : Name) →
+            slice_get (scalar_names program.now.code.now) slot ≡ Some name →
+            (state_of program.now.code.now program.now.parts input (view_in self.now)).scalars name
+            ≡ result }
+    {
+        program.law();
+        let code = program.code;
+        code.law();
+        self.registers[slot as usize]
+    }
+
+    /// Returns whether the scalar in a slot is ignored.
+    pub fn is_scalar_ignored(&self, program: &Lowered<'_, '_>, slot: u32) -> bool
+        requires slot { slot < length (scalar_names program.now.code.now) }
+        requires ready { IsReady program.now.code.now program.now.parts (view_in self.now) }
+        ensures { (input : Input) (name : Name) →
+            slice_get (scalar_names program.now.code.now) slot ≡ Some name →
+            (state_of program.now.code.now program.now.parts input (view_in self.now)).ignored name
+            ≡ result }
+    {
+        program.law();
+        let code = program.code;
+        code.law();
+        self.home[slot as usize] as usize == self.registers.len() - 1
+    }
+
+    /// Returns whether statement `n`, from 1 to the number of statements, is abstained from.
+    pub fn is_abstained_from(&self, program: &Lowered<'_, '_>, n: u32) -> bool
+        requires last { n ≤ length (code_program program.now.code.now) }
+        requires ready { IsReady program.now.code.now program.now.parts (view_in self.now) }
+        ensures { (input : Input) →
+            (state_of program.now.code.now program.now.parts input (view_in self.now)).abstained n
+            ≡ result }
+    {
+        self.statuses[n as usize] >= 128
+    }
+
+    /// Returns the number of the statement that is met next.
+    pub fn place(&self, program: &Lowered<'_, '_>) -> u32
+        ensures { (input : Input) →
+            (state_of program.now.code.now program.now.parts input (view_in self.now)).place
+            ≡ result }
+    {
+        let _ = program;
+        self.cursor.place
+    }
+
+    /// Returns the return addresses, the newest last.
+    pub fn return_addresses(&self, program: &Lowered<'_, '_>) -> &[u32]
+        requires ready { IsReady program.now.code.now program.now.parts (view_in self.now) }
+        ensures { (input : Input) →
+            (state_of program.now.code.now program.now.parts input (view_in self.now)).returns
+            ≡ reverse result.now }
+    {
+        let _ = program;
+        &self.returns[..self.cursor.depth]
+    }
+
+    /// Returns the dimensions of the array in a slot, none if it has none yet.
+    pub fn dimensions(&self, program: &Lowered<'_, '_>, slot: u32) -> &[u32]
+        requires slot { slot < length (array_names program.now.code.now) }
+        requires ready { IsReady program.now.code.now program.now.parts (view_in self.now) }
+        ensures { (input : Input) (name : Name) →
+            slice_get (array_names program.now.code.now) slot ≡ Some name →
+            ((state_of program.now.code.now program.now.parts input (view_in self.now)).arrays
+            name).dimensions ≡ result.now }
+    {
+        let code = program.code;
+        code.law();
+        &self.rest.arrays[slot as usize].dimensions
+    }
+
+    /// Returns the numbers of all elements of the array in a slot, row by row.
+    pub fn elements(&self, program: &Lowered<'_, '_>, slot: u32) -> &[u32]
+        requires slot { slot < length (array_names program.now.code.now) }
+        requires ready { IsReady program.now.code.now program.now.parts (view_in self.now) }
+        ensures { (input : Input) (name : Name) →
+            slice_get (array_names program.now.code.now) slot ≡ Some name →
+            ((state_of program.now.code.now program.now.parts input (view_in self.now)).arrays
+            name).elements ≡ result.now }
+    {
+        let code = program.code;
+        code.law();
+        &self.rest.arrays[slot as usize].elements
+    }
+
+    /// Returns whether the array in a slot is ignored.
+    pub fn is_array_ignored(&self, program: &Lowered<'_, '_>, slot: u32) -> bool
+        requires slot { slot < length (array_names program.now.code.now) }
+        requires ready { IsReady program.now.code.now program.now.parts (view_in self.now) }
+        ensures { (input : Input) (name : Name) →
+            slice_get (array_names program.now.code.now) slot ≡ Some name →
+            (state_of program.now.code.now program.now.parts input (view_in self.now)).ignored name
+            ≡ result }
+    {
+        let code = program.code;
+        code.law();
+        self.rest.arrays[slot as usize].hidden
+    }
+}
