@@ -14,7 +14,7 @@ import sys
 import time
 from concurrent.futures import ThreadPoolExecutor
 
-from common import SECONDS, TOOLS, called, content
+from common import SECONDS, TOOLS, TOP, called, content
 
 from ick_parts import Refused
 from ick_parts.cursors import FIRST, LAST, argument_of, first_run, follows, read_place, show_place
@@ -343,6 +343,9 @@ def try_arguments(tally):
         path = os.path.join(TOOLS, name)
         status, out, err = called([path, "--help"])
         tally.check(status == 0 and b"Example" in out and b"Exit status" in out and not err, f"{name} --help: {err!r}")
+        status, out, err = called([path, "--version"])
+        tally.same(f"{name} --version", (status, out, err),
+                   (0, f"{name} ".encode() + content(os.path.join(TOP, "VERSION")), b""))
         for words in (["--no-such-option"], [], ["job"]):
             status, out, err = called([path, *words])
             tally.check(status == 2 and not out and err.count(b"\n") < 6, f"{name} {words}: {status} {err!r}")
