@@ -80,7 +80,7 @@ class Advice {
     const labels = [...new Set(calls.map(([, label]) => label))].sort((one, other) => one - other);
     const files = labels.some((label) => within(label, BYTES))
       ? 'library/text.i and library/arithmetic.i' : 'library/arithmetic.i';
-    this.tell(calls[0][0], `refused, E129: paste ${files} behind the program, for its calls of `
+    this.tell(calls[0][0], `refused, E129: ick-join pastes ${files} behind the program, for its calls of `
       + labels.map((label) => `(${label})`).join(', '));
   }
 
@@ -93,7 +93,7 @@ class Advice {
     }
     if ((number === 182 || number === 197) && at === statement.start) return this.labels(statement, number === 182);
     if (number === 129 || number === 139) {
-      const floats = within(label, FLOATS) ? "; C-INTERCAL's library of floating-point numbers isn't here" : '';
+      const floats = within(label, FLOATS) ? "; ick-join --with pastes C-INTERCAL's floatlib.i" : '';
       return `no statement has the label (${label})${floats}`;
     }
     const [meant, todo] = this.faults[number];
@@ -110,18 +110,29 @@ class Advice {
   }
 
   lookOver() {
-    const told = new Set(this.found.map(({ at }) => at)), library = this.ofLibrary();
+    const told = new Set(this.found.map(({ at }) => at)), library = this.ofLibrary(), reached = this.reached();
     for (const statement of this.statements) {
       if (this.handing(statement) && !told.has(statement.start)) {
         this.tell(statement.start, `${this.handing(statement)} hands its (${statement.label}) to statement `
           + `${statement.number} as its label`);
       }
     }
-    for (const statement of this.reached()) {
+    this.widths(new Set(reached.map(({ number }) => number)));
+    for (const statement of reached) {
       if (!isRead(statement) && mayBeDone(statement) && !library.has(statement.number)) this.unread(statement);
     }
     if (!this.statements.some((it) => it.kind === 'GIVE-UP' && mayBeDone(it))) {
       this.tell(trimmed(this.source).length, 'no GIVE UP is ever done: the program can only end by a fault');
+    }
+  }
+
+  // Tells of each select in these statements whose width C-INTERCAL fixes, if a unary operator shows it.
+  widths(numbers) {
+    for (const { number, at, start } of doubtsIn(this.source)) {
+      if (numbers.has(number)) {
+        this.tell(at, `the operand of ${this.source[start - 1]} has 16 bits if its select takes at most 16; in C-INTERCAL `
+          + 'it has 32: ick-convert --widths');
+      }
     }
   }
 

@@ -288,11 +288,15 @@ function cut(source) {
   return statements;
 }
 
-// Turns places in the text where each wow is two marks into places in the source.
-function moveBack(statements, source) {
+// Returns what turns places in the text where each wow is two marks into places in the source.
+function movedIn(source) {
   const wows = [...source.matchAll(/!/g)].map(({ index }, before) => index + before);
-  if (wows.length === 0) return;
-  const moved = (at) => at - wows.filter((wow) => wow < at).length;
+  return (at) => at - wows.filter((wow) => wow < at).length;
+}
+
+function moveBack(statements, source) {
+  if (!source.includes('!')) return;
+  const moved = movedIn(source);
   for (const statement of statements) {
     for (const name of ['start', 'end', 'body', 'stop']) {
       if (statement[name] !== null) statement[name] = moved(statement[name]);

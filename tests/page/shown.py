@@ -137,11 +137,11 @@ def going_on(tally, page):
 def tree(tally, page):
     """Equal parts of the tree are one, and an end runs again."""
     leaves = "[...document.querySelectorAll('.leaf')].map((it) => it.textContent)"
-    page.choose("race")
+    page.choose("box")
     page.job("runs")
     names = page.browser.evaluate(f"{leaves}.join('|')").split("|")
     tally.equal(names[0].startswith("Run 000000: E241@21"), True, f"the first of the ends {names}")
-    tally.equal(len(names), 3, "the ends of the race")
+    tally.equal(len(names), 3, "the ends of the box")
     tally.equal(sum("62 runs" in name for name in names), 1, "an end of 62 runs")
     tally.equal(names[1].startswith("Run 000001: GIVE-UP, output “Safe”"), True, f"the second of the ends {names}")
     page.press_leaf(2)
@@ -280,10 +280,12 @@ def same_advice(tally, page):
     sys.path[:0] = [f"{TOP}/tests/tools", f"{TOP}/tools"]
     import advice
     import common
+    import programs
     chance = random.Random(51)
     texts = [row[0] for row in advice.ROWS]
     texts += [common.content(path).decode() for path in common.EXAMPLES + common.LIBRARY]
     texts += [text for text in (advice.random_text(chance).decode("latin-1") for _ in range(100)) if text.isascii()]
+    texts += [programs.source_of(programs.Maker(random.Random(seed)).program()).decode() for seed in range(60)]
     for text in texts:
         found = page.browser.evaluate(f"advice.of({json.dumps(text)})"
                                       ".map(({ line, text }) => `${line}: ${text}\n`).join('')")
