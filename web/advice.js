@@ -2,6 +2,7 @@
 'use strict';
 
 const LIBRARY = [1000, 1999], BYTES = [1600, 1699], FLOATS = [5000, 5999];
+const WAY_OUT = ': ick-convert --come-from rewrites it';
 const within = (label, [least, most]) => label >= least && label <= most;
 const SMALL_LETTERS =
   /\b(do|please|forget|resume|stash|retrieve|ignore|remember|abstain|reinstate|give|write|read|next)\b/;
@@ -65,7 +66,8 @@ class Advice {
     const before = this.before(statement);
     if (!before || isRead(before) || statement.label === null) return '';
     if (this.line(before.end) !== this.line(statement.start)) return '';
-    if (/^(COME|NEXT)\s*FROM$/.test(this.source.slice(before.body, before.end))) return 'COME FROM';
+    const words = /^(COME|NEXT)\s*FROM$/.exec(this.source.slice(before.body, before.end));
+    if (words) return `${words[1]} FROM`;
     return before.abstained ? 'the comment in front' : "the statement in front, which can't be read,";
   }
 
@@ -106,7 +108,7 @@ class Advice {
     const first = this.labelled.get(statement.label);
     if (twice) text += `, and of statement ${first.number} at line ${this.line(first.start)}`;
     if (twice && this.handing(first)) text += `, since ${this.handing(first)} hands it on`;
-    return text;
+    return text.includes('COME FROM') ? text + WAY_OUT : text;
   }
 
   lookOver() {
@@ -114,7 +116,7 @@ class Advice {
     for (const statement of this.statements) {
       if (this.handing(statement) && !told.has(statement.start)) {
         this.tell(statement.start, `${this.handing(statement)} hands its (${statement.label}) to statement `
-          + `${statement.number} as its label`);
+          + `${statement.number} as its label${this.handing(statement) === 'COME FROM' ? WAY_OUT : ''}`);
       }
     }
     this.widths(new Set(reached.map(({ number }) => number)));
