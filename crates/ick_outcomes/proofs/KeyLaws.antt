@@ -1,0 +1,89 @@
+-- Proves laws of keys.
+use Prim.Native.Nat.{zero, suc}
+use Rattle.std.proofs.Common.{◌≡◌, ℕ, ◌+◌, ◌*◌, ◌%◌, ◌<◌, ◌≤◌, length, drop, List, [], ◌∷◌, ◌++◌, slice_index_or}
+use Rattle.std.proofs.Common.{slice_set}
+use Rattle.std.proofs.Common.{refl, ap, sym, ◌∙◌, subst, arith}
+use Rattle.std.specs.List.{Contains}
+use Rattle.std.specs.BTreeMap.{BTreeMap}
+use Rattle.ick_outcomes.specs.Keys.{mix, key_of, Lacks, IsIndexed}
+use Rattle.ick_outcomes.specs.declared.outcome.Outcome.{Outcome}
+use Rattle.ick_outcomes.specs.Accounts.{AreApart}
+use Rattle.ick_outcomes.specs.Seen.{row_of, rows_of}
+use Rattle.ick_outcomes.specs.Summaries.{Row}
+use Rattle.ick_outcomes.proofs.Lists.{mapped-at, any_default}
+
+pub mix_start : (h : ℕ) (bs : List ℕ) → mix h (drop 0 bs) ≡ mix h bs
+mix_start h bs = refl
+
+drop-more : (bs : List ℕ) (i d : ℕ) → i < length bs → drop i bs ≡ slice_index_or bs i d ∷ drop (suc i) bs
+drop-more [] i d lt = absurd (omega (arith, lt))
+drop-more (b ∷ bs) zero d lt = refl
+drop-more (b ∷ bs) (suc i) d lt = drop-more bs i d (omega (arith, lt))
+
+pub mix_more : (start h i d : ℕ) (bs : List ℕ) → i < length bs → mix h (drop i bs) ≡ mix start bs →
+    mix ((h * 1000003 + slice_index_or bs i d) % 1000000000039) (drop (i + 1) bs) ≡ mix start bs
+mix_more start h i d bs lt e =
+    let n : i + 1 ≡ suc i = omega arith in
+    ap (λ z. mix ((h * 1000003 + slice_index_or bs i d) % 1000000000039) (drop z bs)) n
+    ∙ (ap (mix h) (sym (drop-more bs i d lt)) ∙ e)
+
+drop-all : (bs : List ℕ) (i : ℕ) → length bs ≤ i → drop i bs ≡ []
+drop-all [] zero h = refl
+drop-all [] (suc i) h = refl
+drop-all (b ∷ bs) zero h = absurd (omega (arith, h))
+drop-all (b ∷ bs) (suc i) h = drop-all bs i (omega (arith, h))
+
+pub mix_end : (start h i : ℕ) (bs : List ℕ) → length bs ≤ i → mix h (drop i bs) ≡ mix start bs → h ≡ mix start bs
+mix_end start h i bs le e = ap (mix h) (sym (drop-all bs i le)) ∙ e
+
+-- if nothing is noted for the key of an outcome, no row has the outcome
+pub apart_by_key : (places : BTreeMap ℕ ℕ) (rs : List Outcome) (more : Outcome) → IsIndexed places rs →
+    Lacks places (key_of more.output.items more.end.items) →
+    (x : Row) → Contains (rows_of rs) x → AreApart x (row_of more)
+apart_by_key places rs more h n x m =
+    let i = mapped-at row_of rs more x m in
+    λ a b.
+    h i.0 more i.1
+    (subst (λ z. Lacks places z)
+    (sym (ap (λ z. key_of z.output z.end) i.2
+    ∙ (ap (λ z. key_of z x.end) a ∙ ap (λ z. key_of more.output.items z) b))) n)
+
+pub indexed_none : (places : BTreeMap ℕ ℕ) → IsIndexed places []
+indexed_none places i d lt = absurd (omega (arith, lt))
+
+index-push : (rs : List Outcome) (more : Outcome) (i : ℕ) (d : Outcome) (P : Outcome → Type 0) →
+    i < length (rs ++ more ∷ []) → (i < length rs → P (slice_index_or rs i d)) → P more →
+    P (slice_index_or (rs ++ more ∷ []) i d)
+index-push [] more zero d P lt f h = h
+index-push [] more (suc i) d P lt f h = absurd (omega (arith, lt))
+index-push (r ∷ rs) more zero d P lt f h = f (omega arith)
+index-push (r ∷ rs) more (suc i) d P lt f h =
+    index-push rs more i d P (omega (arith, lt)) (λ u. f (omega (arith, u))) h
+
+pub indexed_push : (places places' : BTreeMap ℕ ℕ) (rs rs' : List Outcome) (more : Outcome) → IsIndexed places rs →
+    ((k : ℕ) → Lacks places' k → Lacks places k) → (Lacks places' (key_of more.output.items more.end.items) → ⊥) →
+    rs' ≡ rs ++ more ∷ [] → IsIndexed places' rs'
+indexed_push places places' rs rs' more h f n e =
+    subst (λ z. IsIndexed places' z) (sym e)
+    (λ i d lt. index-push rs more i d (λ o. Lacks places' (key_of o.output.items o.end.items) → ⊥) lt
+    (λ u v. h i d u (f _ v)) n)
+
+index-set : (rs : List Outcome) (j : ℕ) (new : Outcome) (i : ℕ) (d : Outcome) (P : Outcome → Type 0) →
+    i < length (slice_set rs j new) → (i < length rs → P (slice_index_or rs i d)) →
+    (j < length rs → P (slice_index_or rs j d) → P new) → P (slice_index_or (slice_set rs j new) i d)
+index-set [] j new i d P lt f g = absurd (omega (arith, lt))
+index-set (r ∷ rs) zero new zero d P lt f g = g (omega arith) (f (omega arith))
+index-set (r ∷ rs) zero new (suc i) d P lt f g = f (omega (arith, lt))
+index-set (r ∷ rs) (suc j) new zero d P lt f g = f (omega arith)
+index-set (r ∷ rs) (suc j) new (suc i) d P lt f g =
+    index-set rs j new i d P (omega (arith, lt)) (λ u. f (omega (arith, u))) (λ u p. g (omega (arith, u)) p)
+
+pub indexed_set : (places : BTreeMap ℕ ℕ) (rs : List Outcome) (j : ℕ) (old new : Outcome) → IsIndexed places rs →
+    j < length rs → old ≡ slice_index_or rs j old →
+    new.output.items ≡ old.output.items → new.end.items ≡ old.end.items →
+    IsIndexed places (slice_set rs j new)
+indexed_set places rs j old new h lt e a b = λ i d lt'.
+    index-set rs j new i d (λ o. Lacks places (key_of o.output.items o.end.items) → ⊥) lt' (λ u. h i d u)
+    (λ u p n. p (subst (λ z. Lacks places (key_of z.output.items z.end.items)) (e ∙ any_default rs j old d lt)
+    (subst (λ z. Lacks places (key_of z old.end.items)) a
+    (subst (λ z. Lacks places (key_of new.output.items z)) b n))))

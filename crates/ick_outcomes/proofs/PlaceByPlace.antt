@@ -1,0 +1,71 @@
+-- Proves what comparing lists of choices position by position shows.
+use Prim.Native.Nat.{zero, suc}
+use Rattle.std.proofs.Common.{◌≡◌, ℕ, ◌<◌, ◌≤◌, Bool, true, false, length, take, List, [], ◌∷◌}
+use Rattle.std.proofs.Common.{refl, ap, arith, slice_index_or}
+use mathlib.Core.Bool.{beq, not}
+use Rattle.ick_explorer.specs.Listings.{IsBelow}
+use Rattle.ick_outcomes.specs.Tallies.{lesser}
+
+pub differs-below : (one other : List Bool) (i : ℕ) (c d : Bool) → i < length one → i < length other →
+    take i one ≡ take i other → slice_index_or one i c ≡ false → slice_index_or other i d ≡ true → IsBelow one other
+differs-below [] other i c d u v e f g = absurd (omega arith)
+differs-below (x ∷ one) [] i c d u v e f g = absurd (omega arith)
+differs-below (false ∷ one) (true ∷ other) zero c d u v e f g = tt
+differs-below (true ∷ one) (y ∷ other) zero c d u v e f g = let z : true ≡ false = f in cc
+differs-below (false ∷ one) (false ∷ other) zero c d u v e f g = let z : false ≡ true = g in cc
+differs-below (false ∷ one) (false ∷ other) (suc i) c d u v e f g =
+    let z : take i one ≡ take i other = cc in
+    differs-below one other i c d (omega (arith, u)) (omega (arith, v)) z f g
+differs-below (true ∷ one) (true ∷ other) (suc i) c d u v e f g =
+    let z : take i one ≡ take i other = cc in
+    differs-below one other i c d (omega (arith, u)) (omega (arith, v)) z f g
+differs-below (false ∷ one) (true ∷ other) (suc i) c d u v e f g =
+    let z : false ∷ take i one ≡ true ∷ take i other = e in cc
+differs-below (true ∷ one) (false ∷ other) (suc i) c d u v e f g =
+    let z : true ∷ take i one ≡ false ∷ take i other = e in cc
+
+pub is_short : (one other : List Bool) (i : ℕ) → length one ≤ i → i ≤ length other →
+    take i one ≡ take i other → lesser one other ≡ one
+is_short [] other i u v e = refl
+is_short (x ∷ one) other zero u v e = absurd (omega arith)
+is_short (x ∷ one) [] (suc i) u v e = absurd (omega arith)
+is_short (false ∷ one) (false ∷ other) (suc i) u v e =
+    let z : take i one ≡ take i other = cc in
+    ap (λ w. false ∷ w) (is_short one other i (omega (arith, u)) (omega (arith, v)) z)
+is_short (true ∷ one) (true ∷ other) (suc i) u v e =
+    let z : take i one ≡ take i other = cc in
+    ap (λ w. true ∷ w) (is_short one other i (omega (arith, u)) (omega (arith, v)) z)
+is_short (false ∷ one) (true ∷ other) (suc i) u v e = refl
+is_short (true ∷ one) (false ∷ other) (suc i) u v e = let z : true ∷ take i one ≡ false ∷ take i other = e in cc
+
+pub is_longer : (one other : List Bool) (i : ℕ) → i < length one → i ≡ length other →
+    take i one ≡ take i other → lesser one other ≡ other
+is_longer [] other i u v e = absurd (omega arith)
+is_longer (x ∷ one) [] i u v e = refl
+is_longer (x ∷ one) (y ∷ other) zero u v e = absurd (omega arith)
+is_longer (false ∷ one) (false ∷ other) (suc i) u v e =
+    let z : take i one ≡ take i other = cc in
+    ap (λ w. false ∷ w) (is_longer one other i (omega (arith, u)) (omega (arith, v)) z)
+is_longer (true ∷ one) (true ∷ other) (suc i) u v e =
+    let z : take i one ≡ take i other = cc in
+    ap (λ w. true ∷ w) (is_longer one other i (omega (arith, u)) (omega (arith, v)) z)
+is_longer (false ∷ one) (true ∷ other) (suc i) u v e = let z : false ∷ take i one ≡ true ∷ take i other = e in cc
+is_longer (true ∷ one) (false ∷ other) (suc i) u v e = refl
+
+pub lesser-before : (one other : List Bool) → IsBelow one other → lesser one other ≡ one
+lesser-before [] d h = absurd h
+lesser-before (x ∷ c) [] h = absurd h
+lesser-before (false ∷ c) (false ∷ d) h = ap (λ x. false ∷ x) (lesser-before c d h)
+lesser-before (false ∷ c) (true ∷ d) h = refl
+lesser-before (true ∷ c) (false ∷ d) h = absurd h
+lesser-before (true ∷ c) (true ∷ d) h = ap (λ x. true ∷ x) (lesser-before c d h)
+
+pub differ-other : (a b : Bool) → not (beq a b) ≡ true → b ≡ true → a ≡ false
+differ-other false b h e = refl
+differ-other true true h e = let z : false ≡ true = h in cc
+differ-other true false h e = cc
+
+pub differ-true : (a b : Bool) → not (beq a b) ≡ true → b ≡ false → a ≡ true
+differ-true true b h e = refl
+differ-true false false h e = let z : false ≡ true = h in cc
+differ-true false true h e = cc

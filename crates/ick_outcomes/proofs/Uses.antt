@@ -1,0 +1,250 @@
+-- Proves the lemmas in the form in which functions use them.
+use Prim.Native.Nat.{suc}
+use Rattle.std.proofs.Common.{◌≡◌, inl, inr, ℕ, ◌+◌, ◌*◌, ◌-◌, ◌^◌, ◌<◌, ◌≤◌, Bool, true, false, length, List, []}
+use Rattle.std.proofs.Common.{◌∷◌, ◌++◌, Option, Some, None}
+use Rattle.std.proofs.Common.{refl, ap, sym, ◌∙◌, subst, arith, slice_index_or, slice_set}
+use Rattle.std.specs.List.{Contains}
+use Rattle.std.proofs.lemmas.List.{map-append}
+use Rattle.ick_code.specs.meaning.State.{State}
+use Rattle.ick_code.specs.meaning.Move.{Asking, plain, choice, ended, ask}
+use Rattle.ick_backtrack.specs.Machine.{Program}
+use Rattle.ick_backtrack.specs.Asked.{Finish, finished, at_limit, IsGoing, asked_at_end}
+use Rattle.ick_backtrack.specs.Steps.{IsPlain, RunsOn}
+use Rattle.ick_explorer.specs.Lines.{end_text}
+use Rattle.ick_explorer.specs.Listings.{IsBelow}
+use Rattle.ick_outcomes.specs.Tallies.{lesser, join, after, tally}
+use Rattle.ick_outcomes.specs.Weights.{amount}
+use Rattle.ick_outcomes.specs.Fractions.{top_of, IsSum, IsPart}
+use Rattle.ick_outcomes.specs.declared.fraction.Fraction.{Fraction}
+use Rattle.ick_outcomes.proofs.Amounts.{amount-end, amount-run, amount-plus, amount-part}
+use Rattle.ick_code.proofs.AskLaws.{chance_between}
+use Rattle.ick_outcomes.specs.Summaries.{Row}
+use Rattle.ick_outcomes.specs.Accounts.{Place, Pending, ahead, counted, AreApart, Admits, CanMerge, Counts}
+use Rattle.ick_outcomes.specs.Accounts.{SameRow, Settles}
+use Rattle.ick_outcomes.specs.Accounts.{GoesOn, IsChoosing, chosen, SettlesAll, IsAccount, AreCounted, all_counted}
+use Rattle.ick_outcomes.proofs.Algebra.{none-join}
+use Rattle.ick_outcomes.proofs.Sums.{account-starts, account-goes_on, settles-more, settles-none}
+use Rattle.ick_outcomes.specs.Seen.{natural, pending_of, nodes_of, row_of, rows_of}
+use Rattle.ick_outcomes.specs.declared.pending.Node.{Node}
+use Rattle.ick_outcomes.specs.declared.outcome.Outcome.{Outcome}
+use Rattle.ick_outcomes.proofs.PlaceByPlace.{lesser-before}
+use Rattle.ick_outcomes.proofs.Ends.{lesser-flip}
+use Rattle.ick_outcomes.proofs.Lists.{get-mapped, set-mapped, mapped-at}
+use Rattle.ick_outcomes.proofs.Sums.{admits-merge, admits-push, counts-set, counts-push, settles-admits, settles-counts}
+use Rattle.ick_outcomes.proofs.Sums.{settles-like, settles-both, ahead-ended, ahead-limit, ahead-choice, ahead-runs}
+
+pub lesser_kept : (c d : List Bool) → IsBelow c d → lesser c d ≡ c
+lesser_kept c d h = lesser-before c d h
+
+pub lesser_given : (c d : List Bool) → IsBelow d c → lesser c d ≡ d
+lesser_given c d h = lesser-flip c d h
+
+pub admits_at : {M : Type 0} (seen : M → Place) (ns : List (Node M)) (i : ℕ) (more old new : Node M) →
+    i < length ns →
+    ((d : Node M) → CanMerge (pending_of seen (slice_index_or ns i d)) (pending_of seen more)) →
+    old ≡ slice_index_or ns i old →
+    pending_of seen new ≡ record (pending_of seen old) {
+      count = natural old.count + natural more.count;
+      weight = (pending_of seen old).weight + (pending_of seen more).weight;
+      choices = lesser old.choices.items more.choices.items;
+    } → Admits (nodes_of seen ns) (pending_of seen more) (nodes_of seen (slice_set ns i new))
+admits_at seen ns i more old new lt m e f =
+    subst (λ xs. Admits (nodes_of seen ns) (pending_of seen more) xs) (sym (set-mapped (pending_of seen) ns i new))
+    (admits-merge (nodes_of seen ns) i (pending_of seen old) (pending_of seen more) (pending_of seen new)
+    (get-mapped (pending_of seen) ns i old lt ∙ ap (λ x. Some (pending_of seen x)) (sym e))
+    (subst (λ x. CanMerge (pending_of seen x) (pending_of seen more)) (sym e) (m old)) f)
+
+pub admits_new : {M : Type 0} (seen : M → Place) (ns ns' : List (Node M)) (more : Node M) → ns' ≡ ns ++ more ∷ [] →
+    Admits (nodes_of seen ns) (pending_of seen more) (nodes_of seen ns')
+admits_new seen ns ns' more e =
+    subst (λ xs. Admits (nodes_of seen ns) (pending_of seen more) xs)
+    (sym (map-append (pending_of seen) ns (more ∷ [])) ∙ ap (nodes_of seen) (sym e))
+    (admits-push (nodes_of seen ns) (pending_of seen more))
+
+pub counts_at : (rs : List Outcome) (i : ℕ) (more old new : Outcome) → i < length rs →
+    ((d : Outcome) → SameRow (row_of (slice_index_or rs i d)) (row_of more)) →
+    old ≡ slice_index_or rs i old →
+    row_of new ≡ record (row_of old) {
+      count = natural old.count + natural more.count;
+      weight = (row_of old).weight + (row_of more).weight;
+      first = lesser old.first.items more.first.items;
+    } → Counts (rows_of rs) (row_of more) (rows_of (slice_set rs i new))
+counts_at rs i more old new lt m e f =
+    let s : SameRow (row_of old) (row_of more) = subst (λ x. SameRow (row_of x) (row_of more)) (sym e) (m old) in
+    subst (λ xs. Counts (rows_of rs) (row_of more) xs) (sym (set-mapped row_of rs i new))
+    (counts-set (rows_of rs) i (row_of old) (row_of more) (row_of new)
+    (get-mapped row_of rs i old lt ∙ ap (λ x. Some (row_of x)) (sym e)) s.same_output s.same_end f)
+
+pub counts_new : (rs rs' : List Outcome) (more : Outcome) → rs' ≡ rs ++ more ∷ [] →
+    ((x : Row) → Contains (rows_of rs) x → AreApart x (row_of more)) →
+    Counts (rows_of rs) (row_of more) (rows_of rs')
+counts_new rs rs' more e f =
+    subst (λ xs. Counts (rows_of rs) (row_of more) xs)
+    (sym (map-append row_of rs (more ∷ [])) ∙ ap rows_of (sym e))
+    (counts-push (rows_of rs) (row_of more) f)
+
+pub no_row_at : (rs : List Outcome) (more : Outcome) (at : ℕ) → length rs ≤ at →
+    ((k : ℕ) (d : Outcome) → k < at → AreApart (row_of (slice_index_or rs k d)) (row_of more)) →
+    (x : Row) → Contains (rows_of rs) x → AreApart x (row_of more)
+no_row_at rs more at n f x m =
+    let i = mapped-at row_of rs more x m in
+    let lt : i.0 < length rs = i.1 in
+    subst (λ z. AreApart z (row_of more)) i.2 (f i.0 more (omega (arith, n, lt)))
+
+pub going_plain : (a : Asking) → (let x : Option Asking = Some plain in x) ≡ Some a → IsGoing a
+going_plain plain e = tt
+going_plain (choice k) e = tt
+going_plain (ended x) e = cc
+
+pub going_choice : (k : ℕ) (a : Asking) → (let x : Option Asking = Some (choice k) in x) ≡ Some a → IsGoing a
+going_choice k plain e = tt
+going_choice k (choice j) e = tt
+going_choice k (ended x) e = cc
+
+pub settles_waiting : (n : Pending) (ns ns' : List Pending) (rs : List Row) → Admits ns n ns' →
+    Settles n ns rs ns' rs
+settles_waiting = settles-admits
+
+pub settles_limit : (n : Pending) (ns : List Pending) (rs rs' : List Row) (r : Row) →
+    IsGoing (ask n.place.program n.place.state) → (0 < n.left → ⊥) →
+    r ≡ record {
+      output = n.place.state.output;
+      end = end_text at_limit;
+      count = n.count;
+      weight = n.weight * 100 ^ n.left;
+      first = n.choices;
+    } →
+    Counts rs r rs' → Settles n ns rs ns rs'
+settles_limit n ns rs rs' r g lt e h =
+    settles-counts n ns rs rs' r
+    (λ q. ahead-limit q n g (omega (arith, lt)) ∙ ap (λ z. counted q z) (sym e)) h
+
+pub settles_ended : (n : Pending) (ns : List Pending) (rs rs' : List Row) (r : Row) (f : Finish) →
+    asked_at_end f ≡ Some (ask n.place.program n.place.state) →
+    r ≡ record {
+      output = n.place.state.output;
+      end = end_text f;
+      count = n.count;
+      weight = n.weight * 100 ^ n.left;
+      first = n.choices;
+    } →
+    Counts rs r rs' → Settles n ns rs ns rs'
+settles_ended n ns rs rs' r (finished x) a e h =
+    let z : ended x ≡ ask n.place.program n.place.state = cc in
+    settles-counts n ns rs rs' r
+    (λ q. ahead-ended q n x (sym z) ∙ ap (λ z. counted q z) (sym e)) h
+settles_ended n ns rs rs' r at_limit a e h =
+    let z : None ≡ Some (ask n.place.program n.place.state) = a in cc
+
+pub goes_on_here : (n : Pending) → GoesOn n n
+goes_on_here n = record { same_runs = λ q. refl }
+
+pub goes_on_runs : (n m : Pending) (k : ℕ) →
+    RunsOn IsPlain n.place.program n.place.state k m.place.state → m.place.program ≡ n.place.program →
+    k ≤ n.left → m.left ≡ n.left - k → m.count ≡ n.count → m.weight ≡ n.weight * 100 ^ k → m.choices ≡ n.choices →
+    GoesOn n m
+goes_on_runs n m k h p le s c v w = record {
+  same_runs = λ q.
+      let u = m.place.state in
+      let t = tally m.place.program u m.left q in
+      ahead-runs q n k u h le
+      ∙ (ap (λ z. after n.count (n.weight * 100 ^ k) n.choices (tally z u (n.left - k) q)) (sym p)
+      ∙ (ap (λ z. after n.count (n.weight * 100 ^ k) n.choices (tally m.place.program u z q)) (sym s)
+      ∙ (ap (λ z. after z (n.weight * 100 ^ k) n.choices t) (sym c)
+      ∙ (ap (λ z. after m.count z n.choices t) (sym v)
+      ∙ ap (λ z. after m.count m.weight z t) (sym w)))));
+}
+
+pub settles_on : (n m : Pending) (ns ns' : List Pending) (rs rs' : List Row) → GoesOn n m →
+    Settles m ns rs ns' rs' → Settles n ns rs ns' rs'
+settles_on n m ns ns' rs rs' h k = settles-like n m ns ns' rs rs' h.same_runs k
+
+pub choosing : (n : Pending) (k : ℕ) →
+    (let x : Option Asking = Some (choice k) in x) ≡ Some (ask n.place.program n.place.state) → IsChoosing n k
+choosing n k e = let z : ask n.place.program n.place.state ≡ choice k = cc in record { asked = z }
+
+pub chance_within : (p : Program) (s : State) (k : ℕ) →
+    (let x : Option Asking = Some (choice k) in x) ≡ Some (ask p s) → k ≤ 100
+chance_within p s k e =
+    let z : ask p s ≡ choice k = cc in let b = chance_between p s k z in omega (arith, b)
+
+pub going_chosen : (n : Pending) (k : ℕ) → IsChoosing n k → IsGoing (ask n.place.program n.place.state)
+going_chosen n k h = subst IsGoing (sym h.asked) tt
+
+pub settles_choice : (n a b : Pending) (k : ℕ) (ns ns' ns'' : List Pending) (rs rs' rs'' : List Row) →
+    IsChoosing n k → 0 < n.left → a ≡ chosen k n false → b ≡ chosen k n true →
+    Settles a ns rs ns' rs' → Settles b ns' rs' ns'' rs'' → Settles n ns rs ns'' rs''
+settles_choice n a b k ns ns' ns'' rs rs' rs'' c lt e f h i =
+    settles-both n a b ns ns' ns'' rs rs' rs''
+    (λ q. ahead-choice q n k c.asked lt
+    ∙ (ap (λ z. join (ahead q z) (ahead q (chosen k n true))) (sym e)
+    ∙ ap (λ z. join (ahead q a) (ahead q z)) (sym f))) h i
+
+-- amounts of fractions
+pub merge_sum : (f g r : Fraction) (l : ℕ) → IsSum f g r → l + r.places ≤ 4294967295 →
+    amount (top_of r) r.places l ≡ amount (top_of f) f.places l + amount (top_of g) g.places l
+merge_sum f g r l h le =
+    amount-plus (top_of f) (top_of g) (top_of r) f.places g.places r.places l h.one h.other le h.same
+
+pub sum_fits : (f g r : Fraction) (l m : ℕ) → IsSum f g r → l + f.places ≤ 4294967295 → m + g.places ≤ 4294967295 →
+    l ≡ m → l + r.places ≤ 4294967295
+sum_fits f g r l m h u v e = elim h.is_either [
+  | inl x ↦ omega (arith, x, u)
+  | inr x ↦ omega (arith, x, v, e)
+]
+
+pub part_fits : (n l : ℕ) (f r : Fraction) → IsPart n f r → l + f.places ≤ 4294967295 → 0 < l →
+    l - 1 + r.places ≤ 4294967295
+part_fits n l f r h le lt = let w = h.within in omega (arith, w, le, lt)
+
+pub chosen_part : (n l : ℕ) (f r : Fraction) → IsPart n f r → l + f.places ≤ 4294967295 → 0 < l →
+    amount (top_of r) r.places (l - 1) ≡ n * amount (top_of f) f.places l
+chosen_part n l f r h le lt =
+    let m = l - 1 in
+    let e : l ≡ suc m = omega (arith, lt) in
+    amount-part n (top_of f) (top_of r) f.places r.places m h.within (omega (arith, le, e)) h.same
+    ∙ ap (λ z. n * amount (top_of f) f.places z) (sym e)
+
+pub row_end : (f : Fraction) (l : ℕ) → l + f.places ≤ 4294967295 →
+    amount (top_of f) f.places 0 ≡ amount (top_of f) f.places l * 100 ^ l
+row_end f l le = sym (amount-end (top_of f) f.places l le)
+
+pub row_sum : (f g r : Fraction) → IsSum f g r → r.places ≤ 4294967295 →
+    amount (top_of r) r.places 0 ≡ amount (top_of f) f.places 0 + amount (top_of g) g.places 0
+row_sum f g r h le = merge_sum f g r 0 h (omega (arith, le))
+
+pub moved_on : (f : Fraction) (k l : ℕ) → l + f.places ≤ 4294967295 → k ≤ l →
+    amount (top_of f) f.places (l - k) ≡ amount (top_of f) f.places l * 100 ^ k
+moved_on f k l le lt =
+    let e : l ≡ k + (l - k) = omega (arith, lt) in
+    sym (ap (λ z. amount (top_of f) f.places z * 100 ^ k) e
+    ∙ amount-run k (top_of f) f.places (l - k) (omega (arith, le, lt)))
+
+pub counts_start : (n m : Pending) (ns : List Pending) (rs : List Row) → Settles n [] [] ns rs →
+    m ≡ n → IsAccount m ns rs
+counts_start n m ns rs h e = subst (λ z. IsAccount z ns rs) (sym e) (account-starts n ns rs h)
+
+pub counts_on : (n : Pending) (ns ns' : List Pending) (rs rs' : List Row) → IsAccount n ns rs →
+    SettlesAll ns [] rs ns' rs' → IsAccount n ns' rs'
+counts_on = account-goes_on
+
+pub counts_end : {M : Type 0} (seen : M → Place) (limit : ℕ) (p : Place) (ns : List (Node M)) (rs : List Row) →
+    IsAccount (record { place = p; left = limit; count = 1; weight = amount 1 0 limit; choices = [] })
+    (nodes_of seen ns) rs → length ns ≡ 0 → AreCounted p.program p.state limit rs
+counts_end seen limit p [] rs h e = record {
+  counted_all = λ q. h.whole q ∙ none-join (all_counted q rs);
+  distinct = h.apart;
+}
+counts_end seen limit p (n ∷ ns) rs h e = absurd (omega arith)
+
+pub settles_more : {M : Type 0} (seen : M → Place) (ms ms' : List (Node M)) (n : Node M)
+    (ns' ns'' : List Pending) (rs rs' rs'' : List Row) → ms' ≡ ms ++ n ∷ [] →
+    SettlesAll (nodes_of seen ms) [] rs ns' rs' → Settles (pending_of seen n) ns' rs' ns'' rs'' →
+    SettlesAll (nodes_of seen ms') [] rs ns'' rs''
+settles_more seen ms ms' n ns' ns'' rs rs' rs'' e h k =
+    subst (λ z. SettlesAll z [] rs ns'' rs'')
+    (sym (map-append (pending_of seen) ms (n ∷ [])) ∙ ap (nodes_of seen) (sym e))
+    (settles-more (nodes_of seen ms) (pending_of seen n) [] ns' ns'' rs rs' rs'' h k)
+
+pub settles_nothing : (rs : List Row) → SettlesAll [] [] rs [] rs
+settles_nothing rs = settles-none [] rs

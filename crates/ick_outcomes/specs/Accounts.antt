@@ -1,0 +1,137 @@
+-- Defines what the search for outcomes keeps the same: the runs of its rows and those of its nodes are all runs.
+use Rattle.std.specs.Prelude.{◌≡◌, ◌⊎◌, ℕ, ◌*◌, ◌-◌, Bool, true, false, List, [], ◌∷◌, ◌++◌, Some}
+use Rattle.std.specs.List.{Contains}
+use Rattle.ick_code.specs.meaning.State.{State}
+use Rattle.ick_code.specs.meaning.Move.{ask, advance, choice}
+use Rattle.ick_explorer.specs.Listings.{IsBelow}
+use Rattle.ick_backtrack.specs.Machine.{Program}
+use Rattle.ick_outcomes.specs.Tallies.{Test, Tally, lesser, none, join, after, tally}
+use Rattle.ick_outcomes.specs.Weights.{amount, part}
+use Rattle.ick_outcomes.specs.Summaries.{Row}
+
+-- what contracts see of a machine: its program and its state
+pub record Place : Type 0 where
+  pub program : Program
+  pub state : State
+
+-- a node: a place, the number of steps left there, how many runs lead there, their weight in units of 100 ^ left parts,
+-- and the choices of the first of them
+pub record Pending : Type 0 where
+  pub place : Place
+  pub left : ℕ
+  pub count : ℕ
+  pub weight : ℕ
+  pub choices : List Bool
+
+-- the tally of the runs that go on from a node
+abbrev pub ahead : Test → Pending → Tally
+ahead q n = after n.count n.weight n.choices (tally n.place.program n.place.state n.left q)
+
+-- and from each of these nodes
+abbrev pub all_ahead : Test → List Pending → Tally
+all_ahead q [] = none
+all_ahead q (n ∷ ns) = join (ahead q n) (all_ahead q ns)
+
+-- these runs, if they pass
+abbrev pub counted_if : Bool → ℕ → ℕ → List Bool → Tally
+counted_if true count weight first = record { count = count; weight = weight; first = Some first }
+counted_if false count weight first = none
+
+-- the tally of the runs of a row
+abbrev pub counted : Test → Row → Tally
+counted q r = counted_if (q r.output r.end) r.count r.weight r.first
+
+-- and of these rows
+abbrev pub all_counted : Test → List Row → Tally
+all_counted q [] = none
+all_counted q (r ∷ rs) = join (counted q r) (all_counted q rs)
+
+-- two rows have different outcomes
+abbrev pub AreApart : Row → Row → Type 0
+AreApart r x = r.output ≡ x.output → r.end ≡ x.end → ⊥
+
+-- no two rows have the same outcome
+abbrev pub AreDistinct : List Row → Type 0
+AreDistinct [] = Unit {0}
+AreDistinct (r ∷ rs) = ((x : Row) → Contains rs x → AreApart r x) × AreDistinct rs
+
+-- the first run of a row doesn't come after that of a later row
+abbrev pub AreOrdered : List Row → Type 0
+AreOrdered [] = Unit {0}
+AreOrdered (r ∷ rs) = ((x : Row) → Contains rs x → lesser r.first x.first ≡ r.first) × AreOrdered rs
+
+-- a node was added to nodes, or merged into one of them
+pub record Admits (old : List Pending) (n : Pending) (new : List Pending) : Type 0 where
+  pub admitted : (q : Test) → all_ahead q new ≡ join (ahead q n) (all_ahead q old)
+
+-- the runs of a row were added to rows
+pub record Counts (old : List Row) (r : Row) (new : List Row) : Type 0 where
+  pub added : (q : Test) → all_counted q new ≡ join (counted q r) (all_counted q old)
+  pub apart : AreDistinct old → AreDistinct new
+
+-- all runs from a node were added to nodes and rows
+pub record Settles (n : Pending) (ns : List Pending) (rs : List Row) (ns' : List Pending) (rs' : List Row)
+    : Type 0 where
+  pub settled : (q : Test) → join (all_ahead q ns') (all_counted q rs')
+      ≡ join (ahead q n) (join (all_ahead q ns) (all_counted q rs))
+  pub apart : AreDistinct rs → AreDistinct rs'
+
+-- all runs from these nodes were added to nodes and rows
+pub record SettlesAll (ms : List Pending) (ns : List Pending) (rs : List Row) (ns' : List Pending)
+    (rs' : List Row) : Type 0 where
+  pub settled : (q : Test) → join (all_ahead q ns') (all_counted q rs')
+      ≡ join (all_ahead q ms) (join (all_ahead q ns) (all_counted q rs))
+  pub apart : AreDistinct rs → AreDistinct rs'
+
+-- two nodes have the same place and the same number of steps left, and their choices differ
+pub record CanMerge (x n : Pending) : Type 0 where
+  pub same_place : x.place ≡ n.place
+  pub same_left : x.left ≡ n.left
+  pub differ : IsBelow x.choices n.choices ⊎ IsBelow n.choices x.choices
+
+-- the node after a choice of a statement with this chance
+abbrev pub chosen : ℕ → Pending → Bool → Pending
+chosen chance n b = record {
+  place = record { program = n.place.program; state = advance n.place.program n.place.state b };
+  left = n.left - 1;
+  count = n.count;
+  weight = part chance b * n.weight;
+  choices = n.choices ++ b ∷ [];
+}
+
+-- two rows have the same outcome
+pub record SameRow (x r : Row) : Type 0 where
+  pub same_output : x.output ≡ r.output
+  pub same_end : x.end ≡ r.end
+
+-- the runs from n are those of these nodes and rows
+pub record IsAccount (n : Pending) (ns : List Pending) (rs : List Row) : Type 0 where
+  pub whole : (q : Test) → ahead q n ≡ join (all_ahead q ns) (all_counted q rs)
+  pub apart : AreDistinct rs
+
+-- the same runs go on from two nodes
+pub record GoesOn (n m : Pending) : Type 0 where
+  pub same_runs : (q : Test) → ahead q n ≡ ahead q m
+
+-- a node asks for a choice of a statement with this chance
+pub record IsChoosing (n : Pending) (chance : ℕ) : Type 0 where
+  pub asked : ask n.place.program n.place.state ≡ choice chance
+
+-- all runs from s are in rows with different outcomes
+pub record AreCounted (p : Program) (s : State) (limit : ℕ) (rs : List Row) : Type 0 where
+  pub counted_all : (q : Test) → after 1 (amount 1 0 limit) [] (tally p s limit q) ≡ all_counted q rs
+  pub distinct : AreDistinct rs
+
+-- a row was inserted into rows in order
+pub record Inserts (old : List Row) (r : Row) (new : List Row) : Type 0 where
+  pub added : (q : Test) → all_counted q new ≡ join (counted q r) (all_counted q old)
+  pub apart : AreDistinct old → ((x : Row) → Contains old x → AreApart x r) → AreDistinct new
+  pub members : (x : Row) → Contains new x → Contains old x ⊎ (x ≡ r)
+  pub ordered : AreOrdered old → AreOrdered new
+
+-- the same rows, in order
+pub record Sorts (old new : List Row) : Type 0 where
+  pub same_counted : (q : Test) → all_counted q new ≡ all_counted q old
+  pub distinct : AreDistinct old → AreDistinct new
+  pub members : (x : Row) → Contains new x → Contains old x
+  pub ordered : AreOrdered new

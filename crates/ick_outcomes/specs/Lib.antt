@@ -1,0 +1,10 @@
+pub mod Weights
+pub mod Tallies
+pub mod Summaries
+pub mod Accounts
+pub mod Naturals
+pub mod Seen
+pub mod Fractions
+pub mod Texts
+pub mod Keys
+pub mod Laws

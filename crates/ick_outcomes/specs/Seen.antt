@@ -1,0 +1,40 @@
+-- Defines what contracts see of numbers, outcomes and nodes.
+use Rattle.std.specs.Prelude.{ℕ, List, map}
+use Rattle.ick_outcomes.specs.Naturals.{value_of}
+use Rattle.ick_outcomes.specs.Accounts.{Place, Pending}
+use Rattle.ick_outcomes.specs.Summaries.{Row}
+use Rattle.ick_outcomes.specs.declared.natural.Natural.{Natural}
+use Rattle.ick_outcomes.specs.declared.pending.Node.{Node}
+use Rattle.ick_outcomes.specs.Fractions.{top_of}
+use Rattle.ick_outcomes.specs.Weights.{amount}
+use Rattle.ick_outcomes.specs.declared.outcome.Outcome.{Outcome}
+
+-- the value of a number
+abbrev pub natural : Natural → ℕ
+natural n = value_of n.digits.items
+
+-- what a node represents, if `seen` is what contracts see of its machine
+abbrev pub pending_of : {M : Type 0} → (M → Place) → Node M → Pending
+pending_of seen n = record {
+  place = seen n.machine;
+  left = n.left;
+  count = natural n.count;
+  weight = amount (top_of n.weight) n.weight.places n.left;
+  choices = n.choices.items;
+}
+
+-- the row that an outcome represents
+abbrev pub row_of : Outcome → Row
+row_of o = record {
+  output = o.output.items;
+  end = o.end.items;
+  count = natural o.count;
+  weight = amount (top_of o.weight) o.weight.places 0;
+  first = o.first.items;
+}
+
+abbrev pub rows_of : List Outcome → List Row
+rows_of os = map row_of os
+
+abbrev pub nodes_of : {M : Type 0} → (M → Place) → List (Node M) → List Pending
+nodes_of seen ns = map (pending_of seen) ns

@@ -1,0 +1,63 @@
+//! Compares lists of choices.
+
+ghost use Rattle.std.specs.Prelude.{◌≡◌, ◌⊎◌, true, false};
+ghost use Rattle.ick_explorer.specs.Listings.{IsBelow};
+ghost use Rattle.ick_outcomes.specs.Tallies.{lesser};
+
+/// Tells how a list of choices compares with another list: at the first position at which they
+/// differ it has 0 (`Before`) or 1 (`Behind`); or it is a prefix of the other list (`Short`); or
+/// the other list is a prefix of it (`Longer`).
+#[derive(Clone, Copy)]
+pub(crate) enum Order {
+    Before,
+    Behind,
+    Short,
+    Longer,
+}
+
+/// Compares two lists.
+pub(crate) fn compare(one: &[bool], other: &[bool]) -> Order
+    ensures below { result ≡ Order.Before → IsBelow one.now other.now }
+    ensures above { result ≡ Order.Behind → IsBelow other.now one.now }
+    ensures beginning { result ≡ Order.Short → lesser one.now other.now ≡ one.now }
+    ensures longer { result ≡ Order.Longer → lesser one.now other.now ≡ other.now }
+{
+    'places: for at in 0..one.len() {
+        if at == other.len() {
+            return Order::Longer;
+        }
+        if one[at] != other[at] {
+            return if other[at] {
+                Order::Before
+            } else {
+                Order::Behind
+            };
+        }
+    }
+    Order::Short
+}
+
+/// Returns whether the first list is the earlier one, which is kept.
+#[tactic(auto, using(crate::proofs::Uses::lesser_kept, crate::proofs::Uses::lesser_given))]
+pub(crate) fn keeps(one: &[bool], other: &[bool]) -> bool
+    ensures kept { result ≡ true → lesser one.now other.now ≡ one.now }
+    ensures given { result ≡ false → lesser one.now other.now ≡ other.now }
+{
+    match compare(one, other) {
+        Order::Before => true,
+        Order::Short => true,
+        Order::Behind => false,
+        Order::Longer => false,
+    }
+}
+
+/// Returns whether the lists differ at a position that both have.
+pub(crate) fn differ(one: &[bool], other: &[bool]) -> bool
+    ensures { result ≡ true → IsBelow one.now other.now ⊎ IsBelow other.now one.now }
+{
+    match compare(one, other) {
+        Order::Before => true,
+        Order::Behind => true,
+        _ => false,
+    }
+}

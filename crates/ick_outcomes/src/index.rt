@@ -1,0 +1,63 @@
+//! Finds rows by keys.
+
+ghost use Rattle.std.specs.Prelude.{◌≡◌, ◌<◌, ℕ, OnOk, IfNone};
+ghost use Rattle.ick_outcomes.specs.Keys.{mix, key_of, Lacks};
+
+use ick_bits::NoMemory;
+use std::alloc::Global;
+use std::collections::BTreeMap;
+
+/// Keeps for each key the index of the last row that has it.
+#[derive(Drop)]
+pub(crate) struct Index {
+    pub(crate) places: BTreeMap<u64, usize>,
+}
+
+impl Index {
+    /// Returns an index of no row.
+    pub(crate) fn new(alloc: Global) -> Index {
+        Index {
+            places: BTreeMap::new(alloc),
+        }
+    }
+
+    /// Returns the index that was noted last for a key, or `None` if none was noted.
+    pub(crate) fn place(&self, key: u64) -> Option<usize>
+        ensures { IfNone result (Lacks self.now.places key) }
+    {
+        match self.places.get(&key) {
+            Some(at) => Some(*at),
+            None => None,
+        }
+    }
+
+    /// Notes an index for a key.
+    pub(crate) fn note(&mut self, key: u64, at: usize) -> Result<(), NoMemory>
+        ensures stays { (k : ℕ) → Lacks self.new.places k → Lacks self.old.places k }
+        ensures noted { OnOk result (Lacks self.new.places key → ⊥) }
+    {
+        self.places.insert(key, at)?;
+        Ok(())
+    }
+}
+
+/// Mixes bytes into a key.
+#[tactic(auto, using(crate::proofs::KeyLaws::mix_start, crate::proofs::KeyLaws::mix_more, crate::proofs::KeyLaws::mix_end))]
+fn mixed(start: u64, bytes: &[u8]) -> u64
+    requires { start < 1000000000039 }
+    ensures value { result ≡ mix start bytes.now }
+    ensures small { result < 1000000000039 }
+{
+    let mut hash = start;
+    for at in 0..bytes.len() {
+        hash = (hash * 1_000_003 + u64::from(bytes[at])) % 1_000_000_000_039;
+    }
+    hash
+}
+
+/// Returns the key of an outcome, by its output and the text of its end.
+pub(crate) fn row_key(output: &[u8], end: &[u8]) -> u64
+    ensures { result ≡ key_of output.now end.now }
+{
+    mixed(mixed(7, output), end)
+}

@@ -1,0 +1,17 @@
+//! States laws of all summaries. Each function does nothing, and its contract is the law.
+
+ghost use Rattle.std.specs.Prelude.{ℕ};
+ghost use Rattle.ick_code.specs.meaning.State.{State};
+ghost use Rattle.ick_backtrack.specs.Machine.{Program};
+ghost use Rattle.ick_outcomes.specs.Laws.{HasOneSummaryAtMost, AreProducts};
+
+/// States that a program, a state and a limit have at most one summary.
+pub fn one_summary()
+    ensures { (p : Program) (s : State) (limit : ℕ) → HasOneSummaryAtMost p s limit }
+{}
+
+/// States that both definitions of a run's weight agree: its share of 100 ^ limit, and the product
+/// of the parts over its choices.
+pub fn weights_are_products()
+    ensures { (p : Program) (s : State) (limit : ℕ) → AreProducts p s limit }
+{}

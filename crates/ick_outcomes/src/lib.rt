@@ -1,0 +1,39 @@
+//! Counts what a program can do: each outcome once, with the number of the runs that have it, their
+//! weight together, and the first of them. States that are equal after equally many steps are
+//! merged, so there may be far fewer steps than the listing of all runs has.
+//!
+//! | Module | Contents |
+//! |---|---|
+//! | `copies` | the trait of machines that can be copied and compared |
+//! | `sorting` | the summary: all outcomes in order |
+//! | `search` | the search for all outcomes |
+//! | `pending`, `node`, `hints` | nodes, their steps, and how equal ones are found and merged |
+//! | `outcome`, `table`, `filing`, `index` | outcomes, and how runs are added to them |
+//! | `comparing` | the order of lists of choices |
+//! | `natural`, `fraction`, `text` | counts and weights of any length, and the text of a weight |
+//! | `laws` | laws of all summaries |
+#![tactic(auto)]
+
+mod comparing;
+mod copies;
+mod filing;
+mod fraction;
+mod hints;
+mod index;
+mod laws;
+mod natural;
+mod node;
+mod outcome;
+mod pending;
+mod search;
+mod sorting;
+mod table;
+mod text;
+
+pub use copies::Copies;
+pub use fraction::Fraction;
+pub use laws::{one_summary, weights_are_products};
+pub use natural::Natural;
+pub use outcome::Outcome;
+pub use sorting::outcomes;
+pub use text::fraction_text;
