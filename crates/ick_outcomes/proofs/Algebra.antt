@@ -60,13 +60,13 @@ sooner-none : (a : Option (List Bool)) → sooner a None ≡ a
 sooner-none None = refl
 sooner-none (Some c) = refl
 
-sooner-swap : (a b : Option (List Bool)) → sooner a b ≡ sooner b a
+pub sooner-swap : (a b : Option (List Bool)) → sooner a b ≡ sooner b a
 sooner-swap None None = refl
 sooner-swap None (Some d) = refl
 sooner-swap (Some c) None = refl
 sooner-swap (Some c) (Some d) = ap (λ e. Some e) (lesser-swap c d)
 
-sooner-assoc : (a b c : Option (List Bool)) → sooner (sooner a b) c ≡ sooner a (sooner b c)
+pub sooner-assoc : (a b c : Option (List Bool)) → sooner (sooner a b) c ≡ sooner a (sooner b c)
 sooner-assoc None b c = refl
 sooner-assoc (Some x) None c = refl
 sooner-assoc (Some x) (Some y) None = refl

@@ -78,18 +78,18 @@ text-is (x ∷ xs) (y ∷ ys) h =
     ∙ ap (λ zs. y ∷ zs) (text-is xs ys (and-right (same_number x y) (same_text xs ys) h))
 
 -- the test for one outcome
-test_for : List ℕ → List ℕ → Test
+pub test_for : List ℕ → List ℕ → Test
 test_for output end = λ o e. same_text output o && same_text end e
 
-test-self : (output end : List ℕ) → test_for output end output end ≡ true
+pub test-self : (output end : List ℕ) → test_for output end output end ≡ true
 unfolding test_for
 test-self output end = and-both (same_text output output) (same_text end end) (text-self output) (text-self end)
 
-test-output : (output end o e : List ℕ) → test_for output end o e ≡ true → output ≡ o
+pub test-output : (output end o e : List ℕ) → test_for output end o e ≡ true → output ≡ o
 unfolding test_for
 test-output output end o e h = text-is output o (and-left (same_text output o) (same_text end e) h)
 
-test-end : (output end o e : List ℕ) → test_for output end o e ≡ true → end ≡ e
+pub test-end : (output end o e : List ℕ) → test_for output end o e ≡ true → end ≡ e
 unfolding test_for
 test-end output end o e h = text-is end e (and-right (same_text output o) (same_text end e) h)
 

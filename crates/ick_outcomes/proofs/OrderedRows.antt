@@ -1,172 +1,198 @@
--- Proves that rows are put in the order of their first runs.
-use Prim.Native.Nat.{zero, suc}
-use Rattle.std.proofs.Common.{◌≡◌, ℕ, ◌<◌, ◌≤◌, ◌⊎◌, inl, inr, length, List, [], ◌∷◌, ◌++◌, take, drop, Bool}
-use Rattle.std.proofs.Common.{refl, ap, sym, ◌∙◌, subst, arith, slice_index_or}
-use Rattle.std.specs.List.{Contains}
-use Rattle.std.proofs.lemmas.List.{map-append}
+-- Proves that sorted rows are the same rows, in the order of their first runs.
+use Prim.Native.Nat.{suc}
+use Rattle.std.proofs.Common.{◌≡◌, ℕ, ◌+◌, ◌<◌, ◌≤◌, inl, inr, length, List, [], ◌∷◌, Bool, true, false}
+use Rattle.std.proofs.Common.{Option, Some, None, refl, ap, sym, ◌∙◌, subst, arith, slice_index_or}
+use Rattle.std.specs.Cmp.{bool_cmp_total, IsStrictWeakOrder}
+use Rattle.std.specs.Cmp.Lexicographic.{slice_cmp}
+use Rattle.std.specs.Ordering.{bool_cmp, is_lt}
+use Rattle.std.specs.List.{Contains, sum_by}
+use Rattle.std.specs.List.Sorted.{IsPermutation, IsSortedBy}
+use Rattle.std.proofs.lemmas.Cmp.{lists_total}
+use Rattle.std.proofs.lemmas.List.Sorted.{IsPermutation-map, IsPermutation-sym, Contains-permutation}
+use Rattle.std.proofs.lemmas.List.Sorted.{sum_by-IsPermutation, sorted_far, ranks_by}
+use Rattle.std.proofs.lemmas.List.Sums.{sum_by-cons}
 use Rattle.ick_code.specs.meaning.State.{State}
 use Rattle.ick_backtrack.specs.Machine.{Program}
-use Rattle.ick_outcomes.specs.Tallies.{lesser, Test, join}
+use Rattle.ick_outcomes.specs.Tallies.{lesser, sooner, Test}
 use Rattle.ick_outcomes.specs.Summaries.{Row, IsSummary}
-use Rattle.ick_outcomes.specs.Accounts.{counted, all_counted, AreApart, AreDistinct, AreOrdered, Inserts, Sorts}
-use Rattle.ick_outcomes.specs.Accounts.{AreCounted}
+use Rattle.ick_outcomes.specs.Accounts.{counted, all_counted, AreDistinct, AreOrdered, Sorts, AreCounted}
 use Rattle.ick_outcomes.specs.Seen.{row_of, rows_of}
 use Rattle.ick_outcomes.specs.declared.outcome.Outcome.{Outcome}
-use Rattle.ick_outcomes.proofs.Algebra.{join-assoc, join-swap, lesser-assoc, lesser-swap}
+use Rattle.ick_outcomes.proofs.Algebra.{same_tally, lesser-self, sooner-assoc, sooner-swap}
 use Rattle.ick_outcomes.proofs.Ends.{contains-nil, contains-head, contains-tail, contains-cases, summary-is}
-use Rattle.ick_outcomes.proofs.Sums.{all_counted-push}
+use Rattle.ick_outcomes.proofs.Ends.{test_for, test-self, test-output, test-end}
+use Rattle.ick_outcomes.proofs.Lists.{mapped-at}
 
--- rs with r inserted at an index
-abbrev pub placed : List Row → ℕ → Row → List Row
-placed rs zero r = r ∷ rs
-placed [] (suc i) r = r ∷ []
-placed (x ∷ rs) (suc i) r = x ∷ placed rs i r
+-- numbers and weights are sums
+number-is : (q : Test) (rs : List Row) → (all_counted q rs).count ≡ sum_by (λ r. (counted q r).count) rs
+number-is q [] = refl
+number-is q (r ∷ rs) =
+    ap (λ n. (counted q r).count + n) (number-is q rs) ∙ sym (sum_by-cons (λ r. (counted q r).count) r rs)
 
-placed-counted : (q : Test) (rs : List Row) (i : ℕ) (r : Row) →
-    all_counted q (placed rs i r) ≡ join (counted q r) (all_counted q rs)
-placed-counted q rs zero r = refl
-placed-counted q [] (suc i) r = refl
-placed-counted q (x ∷ rs) (suc i) r =
-    ap (join (counted q x)) (placed-counted q rs i r)
-    ∙ (sym (join-assoc (counted q x) (counted q r) (all_counted q rs))
-    ∙ (ap (λ t. join t (all_counted q rs)) (join-swap (counted q x) (counted q r))
-    ∙ join-assoc (counted q r) (counted q x) (all_counted q rs)))
+weight-is : (q : Test) (rs : List Row) → (all_counted q rs).weight ≡ sum_by (λ r. (counted q r).weight) rs
+weight-is q [] = refl
+weight-is q (r ∷ rs) =
+    ap (λ n. (counted q r).weight + n) (weight-is q rs) ∙ sym (sum_by-cons (λ r. (counted q r).weight) r rs)
 
-placed-members : (rs : List Row) (i : ℕ) (r x : Row) → Contains (placed rs i r) x → Contains rs x ⊎ (x ≡ r)
-placed-members rs zero r x m = elim (contains-cases r x rs m) [ inl e ↦ inr (sym e) | inr n ↦ inl n ]
-placed-members [] (suc i) r x m = elim (contains-cases r x [] m) [ inl e ↦ inr (sym e) | inr n ↦ inl n ]
-placed-members (y ∷ rs) (suc i) r x m = elim (contains-cases y x (placed rs i r) m) [
-  | inl e ↦ inl (subst (λ z. Contains (y ∷ rs) z) e (contains-head y rs))
-  | inr n ↦ elim (placed-members rs i r x n) [ inl k ↦ inl (contains-tail y x rs k) | inr e ↦ inr e ]
-]
+-- the first run depends on which rows there are alone
+sooner-self : (a : Option (List Bool)) → sooner a a ≡ a
+sooner-self None = refl
+sooner-self (Some c) = ap (λ d. Some d) (lesser-self c)
 
-placed-distinct : (rs : List Row) (i : ℕ) (r : Row) → AreDistinct rs → ((x : Row) → Contains rs x → AreApart x r) →
-    AreDistinct (placed rs i r)
-placed-distinct rs zero r d f = (λ x m. λ a b. f x m (sym a) (sym b), d)
-placed-distinct [] (suc i) r d f = (λ x m. absurd (contains-nil x m), tt)
-placed-distinct (y ∷ rs) (suc i) r d f = (
-  λ x m. elim (placed-members rs i r x m) [
-    | inl n ↦ d.0 x n
-    | inr e ↦ subst (λ z. AreApart y z) (sym e) (f y (contains-head y rs))
-  ],
-  placed-distinct rs i r d.1 (λ x m. f x (contains-tail y x rs m)),
+absorbs : (q : Test) (rs : List Row) (r : Row) → Contains rs r →
+    sooner (counted q r).first (all_counted q rs).first ≡ (all_counted q rs).first
+absorbs q [] r m = absurd (contains-nil r m)
+absorbs q (x ∷ rs) r m =
+    let a = (counted q x).first in
+    let b = (all_counted q rs).first in
+    let c = (counted q r).first in
+    elim (contains-cases x r rs m) [
+      | inl e ↦ subst (λ z. sooner (counted q z).first (sooner a b) ≡ sooner a b) e
+          (sym (sooner-assoc a a b) ∙ ap (λ z. sooner z b) (sooner-self a))
+      | inr n ↦ sym (sooner-assoc c a b) ∙ (ap (λ z. sooner z b) (sooner-swap c a)
+          ∙ (sooner-assoc a c b ∙ ap (λ z. sooner a z) (absorbs q rs r n)))
+    ]
+
+covers : (q : Test) (rs xs : List Row) → ((r : Row) → Contains rs r → Contains xs r) →
+    sooner (all_counted q rs).first (all_counted q xs).first ≡ (all_counted q xs).first
+covers q [] xs f = refl
+covers q (r ∷ rs) xs f =
+    let a = (counted q r).first in
+    let c = (all_counted q xs).first in
+    sooner-assoc a (all_counted q rs).first c
+    ∙ (ap (λ z. sooner a z) (covers q rs xs (λ x m. f x (contains-tail r x rs m)))
+    ∙ absorbs q xs r (f r (contains-head r rs)))
+
+same-first : (q : Test) (rs xs : List Row) → ((r : Row) → Contains rs r → Contains xs r) →
+    ((r : Row) → Contains xs r → Contains rs r) → (all_counted q rs).first ≡ (all_counted q xs).first
+same-first q rs xs f g =
+    sym (covers q xs rs g)
+    ∙ (sooner-swap (all_counted q xs).first (all_counted q rs).first ∙ covers q rs xs f)
+
+same-counted : (q : Test) (rs xs : List Row) → IsPermutation rs xs → all_counted q xs ≡ all_counted q rs
+same-counted q rs xs h =
+    let k = IsPermutation-sym rs xs h in
+    same_tally
+    (number-is q xs ∙ (sum_by-IsPermutation (λ r. (counted q r).count) rs xs h ∙ sym (number-is q rs)))
+    (weight-is q xs ∙ (sum_by-IsPermutation (λ r. (counted q r).weight) rs xs h ∙ sym (weight-is q rs)))
+    (same-first q xs rs (λ r m. Contains-permutation xs rs r k m) (λ r m. Contains-permutation rs xs r h m))
+
+-- rows are distinct if an outcome has one row at most
+one_if : Bool → ℕ
+one_if true = 1
+one_if false = 0
+
+hit : List ℕ → List ℕ → Row → ℕ
+hit output end r = one_if (test_for output end r.output r.end)
+
+hit-self : (r : Row) → hit r.output r.end r ≡ 1
+unfolding hit one_if
+hit-self r = ap one_if (test-self r.output r.end)
+
+hits-more : (o e : List ℕ) (r : Row) (rs : List Row) →
+    sum_by (hit o e) (r ∷ rs) ≡ hit o e r + sum_by (hit o e) rs
+hits-more o e r rs = sum_by-cons (hit o e) r rs
+
+none-hit : (o e : List ℕ) (rs : List Row) → ((x : Row) → Contains rs x → o ≡ x.output → e ≡ x.end → ⊥) →
+    sum_by (hit o e) rs ≡ 0
+unfolding hit one_if
+none-hit o e [] f = refl
+none-hit o e (r ∷ rs) f =
+    hits-more o e r rs
+    ∙ by_test (test_for o e r.output r.end) refl (none-hit o e rs (λ x m. f x (contains-tail r x rs m)))
+  where
+    by_test : (b : Bool) → test_for o e r.output r.end ≡ b → sum_by (hit o e) rs ≡ 0 →
+        one_if b + sum_by (hit o e) rs ≡ 0
+    by_test true h ih = absurd (f r (contains-head r rs) (test-output o e r.output r.end h)
+        (test-end o e r.output r.end h))
+    by_test false h ih =
+        let z : 0 + sum_by (hit o e) rs ≡ sum_by (hit o e) rs = omega arith in z ∙ ih
+
+one-hit : (o e : List ℕ) (rs : List Row) → AreDistinct rs → sum_by (hit o e) rs ≤ 1
+unfolding hit one_if
+one-hit o e [] d = omega arith
+one-hit o e (r ∷ rs) d =
+    subst (λ n. n ≤ 1) (sym (hits-more o e r rs))
+    (by_test (test_for o e r.output r.end) refl (one-hit o e rs d.1))
+  where
+    by_test : (b : Bool) → test_for o e r.output r.end ≡ b → sum_by (hit o e) rs ≤ 1 →
+        one_if b + sum_by (hit o e) rs ≤ 1
+    by_test true h ih =
+        let n = none-hit o e rs (λ x m u v. d.0 x m (sym (test-output o e r.output r.end h) ∙ u)
+        (sym (test-end o e r.output r.end h) ∙ v)) in
+        omega (arith, n)
+    by_test false h ih = omega (arith, ih)
+
+some-hit : (rs : List Row) (x : Row) → Contains rs x → 1 ≤ sum_by (hit x.output x.end) rs
+some-hit [] x m = absurd (contains-nil x m)
+some-hit (r ∷ rs) x m =
+    let more = hits-more x.output x.end r rs in
+    elim (contains-cases r x rs m) [
+      | inl e ↦
+          let self : hit x.output x.end r ≡ 1 = ap (λ z. hit x.output x.end z) e ∙ hit-self x in
+          omega (arith, more, self)
+      | inr n ↦ let ih = some-hit rs x n in omega (arith, more, ih)
+    ]
+
+distinct-by : (rs : List Row) → ((o e : List ℕ) → sum_by (hit o e) rs ≤ 1) → AreDistinct rs
+distinct-by [] f = tt
+distinct-by (r ∷ rs) f = (
+  λ x m a b.
+      let most = f r.output r.end in
+      let more = hits-more r.output r.end r rs in
+      let self = hit-self r in
+      let other : 1 ≤ sum_by (hit r.output r.end) rs =
+      subst (λ z. 1 ≤ sum_by (hit z r.end) rs) (sym a)
+      (subst (λ z. 1 ≤ sum_by (hit x.output z) rs) (sym b) (some-hit rs x m)) in
+      omega (arith, most, more, self, other),
+  distinct-by rs (λ o e. let most = f o e in let more = hits-more o e r rs in omega (arith, most, more)),
 )
 
-lesser-through : (a b c : List _) → lesser a b ≡ a → lesser b c ≡ b → lesser a c ≡ a
-lesser-through a b c u v =
-    ap (λ z. lesser z c) (sym u) ∙ (lesser-assoc a b c ∙ (ap (λ z. lesser a z) v ∙ u))
+same-distinct : (rs xs : List Row) → IsPermutation rs xs → AreDistinct rs → AreDistinct xs
+same-distinct rs xs h d =
+    distinct-by xs (λ o e. let n = sum_by-IsPermutation (hit o e) rs xs h in let m = one-hit o e rs d in
+    omega (arith, n, m))
 
--- the rows before the index are earlier, and the row at the index is not
-placed-ordered : (rs : List Row) (i : ℕ) (r : Row) → i ≤ length rs →
-    ((k : ℕ) (d : Row) → k < i → lesser (slice_index_or rs k d).first r.first ≡ (slice_index_or rs k d).first) →
-    ((d : Row) → i < length rs → lesser r.first (slice_index_or rs i d).first ≡ r.first) →
-    AreOrdered rs → AreOrdered (placed rs i r)
-placed-ordered [] zero r le f g o = (λ x m. absurd (contains-nil x m), tt)
-placed-ordered (y ∷ rs) zero r le f g o = (
-  λ x m. elim (contains-cases y x rs m) [
-    | inl e ↦ subst (λ z. lesser r.first z.first ≡ r.first) e (g r (omega arith))
-    | inr n ↦ lesser-through r.first y.first x.first (g r (omega arith)) (o.0 x n)
-  ],
-  o,
+-- the order by which rows are sorted
+abbrev pub earlier : Outcome → Outcome → Bool
+earlier x y = is_lt (slice_cmp bool_cmp x.first.items y.first.items)
+
+pub earlier-ranks : IsStrictWeakOrder earlier
+earlier-ranks = ranks_by (lists_total bool_cmp_total) (λ o. o.first.items)
+
+not-earlier : (c d : List Bool) → is_lt (slice_cmp bool_cmp d c) ≡ false → lesser c d ≡ c
+not-earlier [] d h = refl
+not-earlier (x ∷ c) [] h = let z : true ≡ false = h in cc
+not-earlier (false ∷ c) (false ∷ d) h = ap (λ z. false ∷ z) (not-earlier c d h)
+not-earlier (false ∷ c) (true ∷ d) h = refl
+not-earlier (true ∷ c) (false ∷ d) h = let z : true ≡ false = h in cc
+not-earlier (true ∷ c) (true ∷ d) h = ap (λ z. true ∷ z) (not-earlier c d h)
+
+ordered-by : (os : List Outcome) → ((i j : ℕ) (d : Outcome) → i ≤ j → j < length os →
+    earlier (slice_index_or os j d) (slice_index_or os i d) ≡ false) → AreOrdered (rows_of os)
+ordered-by [] f = tt
+ordered-by (o ∷ os) f = (
+  λ x m.
+      let i = mapped-at row_of os o x m in
+      let lt = i.1 in
+      subst (λ z. lesser o.first.items z.first ≡ o.first.items) i.2
+      (not-earlier o.first.items (slice_index_or os i.0 o).first.items
+      (f 0 (suc i.0) o (omega arith) (omega (arith, lt)))),
+  ordered-by os (λ i j d le lt. f (suc i) (suc j) d (omega (arith, le)) (omega (arith, lt))),
 )
-placed-ordered [] (suc i) r le f g o = absurd (omega arith)
-placed-ordered (y ∷ rs) (suc i) r le f g o = (
-  λ x m. elim (placed-members rs i r x m) [
-    | inl n ↦ o.0 x n
-    | inr e ↦ subst (λ z. lesser y.first z.first ≡ y.first) (sym e) (f 0 r (omega arith))
-  ],
-  placed-ordered rs i r (omega (arith, le)) (λ k d lt. f (suc k) d (omega (arith, lt)))
-      (λ d lt. g d (omega (arith, lt))) o.1,
-)
 
-pub inserts_placed : (rs : List Row) (i : ℕ) (r : Row) → i ≤ length rs →
-    ((k : ℕ) (d : Row) → k < i → lesser (slice_index_or rs k d).first r.first ≡ (slice_index_or rs k d).first) →
-    ((d : Row) → i < length rs → lesser r.first (slice_index_or rs i d).first ≡ r.first) →
-    Inserts rs r (placed rs i r)
-inserts_placed rs i r le f g = record {
-  added = λ q. placed-counted q rs i r;
-  apart = λ d h. placed-distinct rs i r d h;
-  members = placed-members rs i r;
-  ordered = placed-ordered rs i r le f g;
-}
-
-pub sorts_nothing : Sorts [] []
-sorts_nothing = record { same_counted = λ q. refl; distinct = λ d. d; members = λ x m. m; ordered = tt }
-
-contains-more : (rs : List Row) (r y : Row) → Contains rs y → Contains (rs ++ r ∷ []) y
-contains-more [] r y m = absurd (contains-nil y m)
-contains-more (z ∷ rs) r y m = elim (contains-cases z y rs m) [
-  | inl e ↦ subst (λ w. Contains ((z ∷ rs) ++ r ∷ []) w) e (contains-head z (rs ++ r ∷ []))
-  | inr n ↦ contains-tail z y (rs ++ r ∷ []) (contains-more rs r y n)
-]
-
-distinct-first : (rs : List Row) (r : Row) → AreDistinct (rs ++ r ∷ []) → AreDistinct rs
-distinct-first [] r d = tt
-distinct-first (x ∷ rs) r d = (λ y m. d.0 y (contains-more rs r y m), distinct-first rs r d.1)
-
-contains-last : (rs : List Row) (r : Row) → Contains (rs ++ r ∷ []) r
-contains-last [] r = contains-head r []
-contains-last (z ∷ rs) r = contains-tail z r (rs ++ r ∷ []) (contains-last rs r)
-
-distinct-last : (rs : List Row) (r x : Row) → AreDistinct (rs ++ r ∷ []) → Contains rs x → AreApart x r
-distinct-last [] r x d m = absurd (contains-nil x m)
-distinct-last (y ∷ rs) r x d m = elim (contains-cases y x rs m) [
-  | inl e ↦ subst (λ z. AreApart z r) e (d.0 r (contains-last rs r))
-  | inr n ↦ distinct-last rs r x d.1 n
-]
-
-pub sorts_more : (os os' : List Outcome) (o : Outcome) (rs rs' : List Row) → os' ≡ os ++ o ∷ [] →
-    Sorts (rows_of os) rs → Inserts rs (row_of o) rs' → Sorts (rows_of os') rs'
-sorts_more os os' o rs rs' e h k =
-    subst (λ z. Sorts z rs') (sym (map-append row_of os (o ∷ [])) ∙ ap rows_of (sym e))
-    (record {
-      same_counted = λ q. k.added q ∙ (ap (join (counted q (row_of o))) (h.same_counted q)
-          ∙ sym (all_counted-push q (rows_of os) (row_of o)));
-      distinct = λ d. k.apart (h.distinct (distinct-first (rows_of os) (row_of o) d))
-          (λ x m. distinct-last (rows_of os) (row_of o) x d (h.members x m));
-      members = λ x m. elim (k.members x m) [
-        | inl n ↦ contains-more (rows_of os) (row_of o) x (h.members x n)
-        | inr f ↦ subst (λ z. Contains (rows_of os ++ row_of o ∷ []) z) (sym f) (contains-last (rows_of os) (row_of o))
-      ];
-      ordered = k.ordered h.ordered;
-    })
+pub sorts_by_first : (os xs : List Outcome) → IsPermutation os xs → IsSortedBy earlier xs →
+    Sorts (rows_of os) (rows_of xs)
+sorts_by_first os xs h k =
+    let p = IsPermutation-map row_of os xs h in
+    record {
+      same_counted = λ q. same-counted q (rows_of os) (rows_of xs) p;
+      distinct = same-distinct (rows_of os) (rows_of xs) p;
+      ordered = ordered-by xs (sorted_far earlier earlier-ranks xs k);
+    }
 
 -- counted rows in order are a summary
 pub summary_of : (p : Program) (s : State) (limit : ℕ) (rs rs' : List Row) → limit ≤ 4294967295 →
     AreCounted p s limit rs → Sorts rs rs' → IsSummary p s limit rs'
 summary_of p s limit rs rs' le h k =
     summary-is p s limit rs' le (λ q. h.counted_all q ∙ sym (k.same_counted q)) (k.distinct h.distinct) k.ordered
-
-mapped-index : (os : List Outcome) (k : ℕ) (d : Row) (o : Outcome) → k < length os →
-    slice_index_or (rows_of os) k d ≡ row_of (slice_index_or os k o)
-mapped-index [] k d o h = absurd (omega arith)
-mapped-index (x ∷ os) zero d o h = refl
-mapped-index (x ∷ os) (suc k) d o h = mapped-index os k d o (omega (arith, h))
-
-length-rows : (os : List Outcome) → length (rows_of os) ≡ length os
-length-rows [] = refl
-length-rows (x ∷ os) = ap (λ n. suc n) (length-rows os)
-
-placed-rows : (os : List Outcome) (i : ℕ) (o : Outcome) → i ≤ length os →
-    rows_of (take i os ++ o ∷ drop i os) ≡ placed (rows_of os) i (row_of o)
-placed-rows [] zero o h = refl
-placed-rows [] (suc i) o h = absurd (omega arith)
-placed-rows (x ∷ os) zero o h = refl
-placed-rows (x ∷ os) (suc i) o h = ap (λ z. row_of x ∷ z) (placed-rows os i o (omega (arith, h)))
-
-pub inserts_at : (os os' : List Outcome) (i : ℕ) (o : Outcome) → i ≤ length os →
-    ((k : ℕ) (d : Outcome) → k < i →
-    lesser (slice_index_or os k d).first.items o.first.items ≡ (slice_index_or os k d).first.items) →
-    ((d : Outcome) → i < length os → lesser o.first.items (slice_index_or os i d).first.items ≡ o.first.items) →
-    os' ≡ take i os ++ o ∷ drop i os → Inserts (rows_of os) (row_of o) (rows_of os')
-inserts_at os os' i o le f g e =
-    let n = length-rows os in
-    subst (λ z. Inserts (rows_of os) (row_of o) z) (sym (ap rows_of e ∙ placed-rows os i o le))
-    (inserts_placed (rows_of os) i (row_of o) (omega (arith, n, le))
-    (λ k d lt. subst (λ z. lesser z.first o.first.items ≡ z.first)
-    (sym (mapped-index os k d o (omega (arith, lt, le)))) (f k o lt))
-    (λ d lt. subst (λ z. lesser o.first.items z.first ≡ o.first.items)
-    (sym (mapped-index os i d o (omega (arith, lt, n)))) (g o (omega (arith, lt, n)))))
-
-pub lesser_other : (c d : List Bool) → lesser c d ≡ d → lesser d c ≡ d
-lesser_other c d e = lesser-swap d c ∙ e

@@ -122,16 +122,8 @@ pub record AreCounted (p : Program) (s : State) (limit : ℕ) (rs : List Row) : 
   pub counted_all : (q : Test) → after 1 (amount 1 0 limit) [] (tally p s limit q) ≡ all_counted q rs
   pub distinct : AreDistinct rs
 
--- a row was inserted into rows in order
-pub record Inserts (old : List Row) (r : Row) (new : List Row) : Type 0 where
-  pub added : (q : Test) → all_counted q new ≡ join (counted q r) (all_counted q old)
-  pub apart : AreDistinct old → ((x : Row) → Contains old x → AreApart x r) → AreDistinct new
-  pub members : (x : Row) → Contains new x → Contains old x ⊎ (x ≡ r)
-  pub ordered : AreOrdered old → AreOrdered new
-
 -- the same rows, in order
 pub record Sorts (old new : List Row) : Type 0 where
   pub same_counted : (q : Test) → all_counted q new ≡ all_counted q old
   pub distinct : AreDistinct old → AreDistinct new
-  pub members : (x : Row) → Contains new x → Contains old x
   pub ordered : AreOrdered new

@@ -1,57 +1,23 @@
 //! Answers the summary of a program: its outcomes in the order of their first runs.
 
-ghost use Rattle.std.specs.Prelude.{◌≡◌, ℕ, ◌<◌, ◌≤◌, length, slice_index_or, OnOk, IfOk};
-ghost use Rattle.ick_outcomes.specs.Accounts.{Inserts, Sorts};
-ghost use Rattle.ick_outcomes.specs.Seen.{row_of, rows_of};
+ghost use Rattle.std.specs.Prelude.{◌≡◌, OnOk, IfOk};
+ghost use Rattle.ick_outcomes.specs.Accounts.{Sorts};
+ghost use Rattle.ick_outcomes.specs.Seen.{rows_of};
 ghost use Rattle.ick_outcomes.specs.Summaries.{CountsAll, IsSummary, count_of, weight_of};
-ghost use Rattle.ick_outcomes.specs.Tallies.{lesser};
 ghost use Rattle.ick_outcomes.specs.Weights.{whole};
 
-use crate::comparing::keeps;
 use crate::copies::Copies;
 use crate::outcome::Outcome;
 use crate::search::count_outcomes;
 use ick_bits::NoMemory;
 use std::alloc::Global;
 
-/// Returns the index at which an outcome belongs among others.
-#[tactic(auto, using(crate::proofs::OrderedRows::lesser_other))]
-fn place_for(rows: &[Outcome], row: &Outcome) -> usize
-    ensures within { result ≤ length rows.now }
-    ensures before { (k : ℕ) (d : Outcome) → k < result →
-        lesser (slice_index_or rows.now k d).first.items row.now.first.items
-        ≡ (slice_index_or rows.now k d).first.items }
-    ensures behind { (d : Outcome) → result < length rows.now →
-        lesser row.now.first.items (slice_index_or rows.now result d).first.items
-        ≡ row.now.first.items }
+/// Sorts rows by their first runs. After `NoMemory` nothing has moved.
+fn sort_rows(rows: &mut Vec<Outcome>) -> Result<(), NoMemory>
+    ensures { OnOk result (Sorts (rows_of rows.old.items) (rows_of rows.new.items)) }
 {
-    for at in 0..rows.len() {
-        if !keeps(&rows[at].first, &row.first) {
-            return at;
-        }
-    }
-    rows.len()
-}
-
-/// Inserts an outcome where it belongs.
-fn insert_row(rows: &mut Vec<Outcome>, row: Outcome) -> Result<(), NoMemory>
-    ensures { OnOk result (Inserts (rows_of rows.old.items) (row_of row) (rows_of rows.new.items)) }
-{
-    let at = place_for(rows, &row);
-    rows.insert(at, row)?;
+    rows.sort_by(|one, other| one.first.cmp(&other.first))?;
     Ok(())
-}
-
-/// Returns the outcomes in order.
-#[tactic(auto, using(crate::proofs::OrderedRows::sorts_more, crate::proofs::OrderedRows::sorts_nothing))]
-fn sorted(alloc: Global, rows: Vec<Outcome>) -> Result<Vec<Outcome>, NoMemory>
-    ensures { IfOk result (λ sorted. Sorts (rows_of rows.items) (rows_of sorted.items)) }
-{
-    let mut out = Vec::new(alloc);
-    'rows: for row in rows {
-        insert_row(&mut out, row)?;
-    }
-    Ok(out)
 }
 
 /// Returns the summary of all runs from a machine's state under a limit on steps. An outcome is
@@ -75,7 +41,7 @@ pub fn outcomes<'c, M: Copies<'c>>(
         (count_of (rows_of rows.items))) }
     ensures whole { IfOk result (λ rows. weight_of (rows_of rows.items) ≡ whole) }
 {
-    let rows = count_outcomes(alloc, machine, limit)?;
-    let out = sorted(alloc, rows)?;
-    Ok(out)
+    let mut rows = count_outcomes(alloc, machine, limit)?;
+    sort_rows(&mut rows)?;
+    Ok(rows)
 }
