@@ -3,7 +3,7 @@ import re
 import resource
 import shutil
 
-from common import TOP, closed_pipe, help_and_mistakes
+from common import TOP, closed_pipe, full_disk, help_and_mistakes
 
 # a listing, options, the labels of the parts that are drawn, and the edges as pairs of a choice and a label
 ROWS = (
@@ -78,7 +78,7 @@ def try_refusals(tally):
     status, out, err = tally.tool("ick-tree", "--only", "E24", given=ROWS[0][0])
     tally.check(status == 1 and not out and b"ends by E24" in err, f"ick-tree --only E24: {status} {err!r}")
     status, _, err = tally.tool("ick-tree", "-o", "/no/such/tree.dot", given=ROWS[0][0])
-    tally.check(status == 1 and b"/no/such/tree.dot" in err, f"ick-tree into no folder: {status} {err!r}")
+    tally.check(status == 4 and b"/no/such/tree.dot" in err, f"ick-tree into no folder: {status} {err!r}")
 
 
 def listing(depth, end):
@@ -123,6 +123,7 @@ def try_pictures(tally):
 def try_all(tally):
     help_and_mistakes(tally, "ick-tree")
     closed_pipe(tally, "ick-tree", ["--format", "dot"], ROWS[0][0])
+    full_disk(tally, "ick-tree", ["--format", "dot"], ROWS[0][0])
     try_rows(tally)
     try_refusals(tally)
     try_large(tally)
