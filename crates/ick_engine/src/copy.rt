@@ -1,0 +1,68 @@
+//! Copies of lists.
+
+ghost use Rattle.std.specs.Prelude.{◌≡◌, ◌++◌, ◌≤◌, drop, length, map, take, IfOk};
+ghost use Rattle.ick_engine.specs.View.{array_of, is_hidden};
+
+use crate::memory::Array;
+use ick_bits::NoMemory;
+use std::alloc::Global;
+
+/// Copies numbers.
+pub fn copy_numbers(alloc: Global, numbers: &[u32]) -> Result<Vec<u32>, NoMemory>
+    ensures { IfOk result (λ copy. copy.items ≡ numbers.now) }
+{
+    let mut copy = Vec::new(alloc);
+    copy.extend_from_slice(numbers)?;
+    Ok(copy)
+}
+
+/// Copies the first numbers of a list.
+pub fn copy_first(alloc: Global, numbers: &[u32], count: usize) -> Result<Vec<u32>, NoMemory>
+    requires { count ≤ length numbers.now }
+    ensures { IfOk result (λ copy. copy.items ≡ take count numbers.now) }
+{
+    copy_numbers(alloc, &numbers[..count])
+}
+
+/// Copies bytes.
+pub fn copy_bytes(alloc: Global, bytes: &[u8]) -> Result<Vec<u8>, NoMemory>
+    ensures { IfOk result (λ copy. copy.items ≡ bytes.now) }
+{
+    let mut copy = Vec::new(alloc);
+    copy.extend_from_slice(bytes)?;
+    Ok(copy)
+}
+
+/// Copies an array.
+fn copy_array(alloc: Global, array: &Array) -> Result<Array, NoMemory>
+    ensures array { IfOk result (λ copy. array_of copy ≡ array_of array.now) }
+    ensures hidden { IfOk result (λ copy. is_hidden copy ≡ is_hidden array.now) }
+{
+    Ok(Array {
+        dimensions: copy_numbers(alloc, &array.dimensions)?,
+        elements: copy_numbers(alloc, &array.elements)?,
+        hidden: array.hidden,
+    })
+}
+
+/// Copies arrays.
+pub fn copy_arrays(alloc: Global, arrays: &Vec<Array>) -> Result<Vec<Array>, NoMemory>
+    ensures arrays { IfOk result (λ copies. map array_of copies.items
+        ≡ map array_of arrays.now.items) }
+    ensures hidden { IfOk result (λ copies. map is_hidden copies.items
+        ≡ map is_hidden arrays.now.items) }
+{
+    let mut copies = Vec::new(alloc);
+    for at in 0..arrays.len() {
+        copies.push(copy_array(alloc, &arrays[at])?)?;
+    }
+    Ok(copies)
+}
+
+/// Puts numbers in place of the first ones of a list.
+pub fn put_first(numbers: &mut [u32], first: &[u32])
+    requires { length first.now ≤ length numbers.old }
+    ensures { numbers.new ≡ first.now ++ drop (length first.now) numbers.old }
+{
+    numbers[..first.len()].copy_from_slice(first);
+}

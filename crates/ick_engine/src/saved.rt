@@ -1,0 +1,185 @@
+//! States that are kept apart from a memory.
+
+ghost use Rattle.std.specs.Prelude.{◌≡◌, true, map};
+ghost use Rattle.ick_engine.specs.View.{array_of, is_hidden};
+
+use crate::copy::{copy_arrays, copy_bytes, copy_first, copy_numbers, put_first};
+use crate::memory::{Array, Memory};
+use ick_bits::NoMemory;
+use ick_lowering::Lowered;
+use std::alloc::Global;
+
+/// A state of a run. It has no temporaries, no constants, and only those return addresses that are
+/// used. It lacks what no operation of the loop changes yet: stashes, input, output and the tape.
+#[derive(Drop)]
+pub struct Saved {
+    pub(crate) place: u32,
+    pub(crate) numbers: Vec<u32>,
+    pub(crate) home: Vec<u32>,
+    pub(crate) statuses: Vec<u8>,
+    pub(crate) returns: Vec<u32>,
+    pub(crate) arrays: Vec<Array>,
+}
+
+/// Returns whether two arrays are the same.
+fn same_array(one: &Array, other: &Array) -> bool
+    ensures array { result ≡ true → array_of one.now ≡ array_of other.now }
+    ensures hidden { result ≡ true → is_hidden one.now ≡ is_hidden other.now }
+{
+    one.dimensions == other.dimensions
+        && one.elements == other.elements
+        && one.hidden == other.hidden
+}
+
+/// Returns whether two lists have the same arrays.
+fn same_arrays(one: &Vec<Array>, other: &Vec<Array>) -> bool
+    ensures arrays { result ≡ true → map array_of one.now.items ≡ map array_of other.now.items }
+    ensures hidden { result ≡ true → map is_hidden one.now.items ≡ map is_hidden other.now.items }
+{
+    if one.len() != other.len() {
+        return false;
+    }
+    for at in 0..one.len() {
+        if !same_array(&one[at], &other[at]) {
+            return false;
+        }
+    }
+    true
+}
+
+/// Returns whether two states have the same numbers in all lists but those of arrays.
+fn same_numbers(one: &Saved, other: &Saved) -> bool
+    ensures place { result ≡ true → one.now.place ≡ other.now.place }
+    ensures numbers { result ≡ true → one.now.numbers.items ≡ other.now.numbers.items }
+    ensures home { result ≡ true → one.now.home.items ≡ other.now.home.items }
+    ensures statuses { result ≡ true → one.now.statuses.items ≡ other.now.statuses.items }
+    ensures returns { result ≡ true → one.now.returns.items ≡ other.now.returns.items }
+{
+    one.place == other.place
+        && one.numbers == other.numbers
+        && one.home == other.home
+        && one.statuses == other.statuses
+        && one.returns == other.returns
+}
+
+/// Mixes a number into a hash.
+fn mixed(hash: u64, number: u64) -> u64 {
+    let product = (hash ^ number).wrapping_mul(0x9E37_79B9_7F4A_7C15);
+    product ^ (product >> 32)
+}
+
+/// Mixes numbers, and how many they are, into a hash.
+fn mix_numbers(hash: u64, numbers: &[u32]) -> u64 {
+    let mut hash = mixed(hash, numbers.len() as u64);
+    for number in numbers {
+        hash = mixed(hash, *number as u64);
+    }
+    hash
+}
+
+/// Mixes bytes into a hash.
+fn mix_bytes(hash: u64, bytes: &[u8]) -> u64 {
+    let mut hash = hash;
+    for byte in bytes {
+        hash = mixed(hash, *byte as u64);
+    }
+    hash
+}
+
+/// Mixes arrays into a hash.
+fn mix_arrays(hash: u64, arrays: &[Array]) -> u64 {
+    let mut hash = hash;
+    for array in arrays {
+        hash = mixed(hash, array.hidden as u64);
+        hash = mix_numbers(hash, &array.dimensions);
+        hash = mix_numbers(hash, &array.elements);
+    }
+    hash
+}
+
+impl Saved {
+    ghost use Rattle.std.specs.Prelude.{◌≡◌, true, IfOk, OnErr, OnOk};
+    ghost use Rattle.ick_engine.specs.Memory.{view_in};
+    ghost use Rattle.ick_engine.specs.Saved.{IsSaved, put_into, unsaved};
+    ghost use Rattle.ick_engine.specs.Steady.{IsReady};
+    ghost use Rattle.ick_engine.specs.Undo.{IsRestored};
+    ghost use Rattle.ick_engine.specs.View.{Input, View, state_of};
+
+    /// Returns the state that a memory represents. `NoMemory` is returned only if a growth was
+    /// refused.
+    pub fn save(
+        alloc: Global,
+        memory: &Memory,
+        program: &Lowered<'_, '_>,
+    ) -> Result<Saved, NoMemory>
+        requires ready { IsReady program.now.code.now program.now.parts (view_in memory.now) }
+        ensures { IfOk result (λ saved. IsSaved program.now.parts saved (view_in memory.now)) }
+    {
+        program.law();
+        Ok(Saved {
+            place: memory.cursor.place,
+            numbers: copy_first(alloc, &memory.registers, program.layout().base as usize)?,
+            home: copy_numbers(alloc, &memory.home)?,
+            statuses: copy_bytes(alloc, &memory.statuses)?,
+            returns: copy_first(alloc, &memory.returns, memory.cursor.depth)?,
+            arrays: copy_arrays(alloc, &memory.rest.arrays)?,
+        })
+    }
+
+    /// Puts the state into a memory of the same program. What a state of this type lacks stays, and
+    /// so do the number of steps left and the answer. If memory runs out, nothing changes.
+    pub fn load(
+        &self,
+        alloc: Global,
+        memory: &mut Memory,
+        program: &Lowered<'_, '_>,
+    ) -> Result<(), NoMemory>
+        ghost m: { View }
+        requires saved { IsSaved program.now.parts self.now m }
+        requires was { IsReady program.now.code.now program.now.parts m }
+        requires ready { IsReady program.now.code.now program.now.parts (view_in memory.old) }
+        ensures loaded { OnOk result (IsRestored program.now.code.now program.now.parts
+            (put_into (view_in memory.old) m) (view_in memory.new)) }
+        ensures err { OnErr result (memory.new ≡ memory.old) }
+    {
+        program.law();
+        let code = program.code;
+        code.law();
+        let arrays = copy_arrays(alloc, &self.arrays)?;
+        put_first(memory.registers.as_mut_slice(), &self.numbers);
+        put_first(memory.returns.as_mut_slice(), &self.returns);
+        memory.home.copy_from_slice(&self.home);
+        memory.statuses.copy_from_slice(&self.statuses);
+        memory.rest.arrays = arrays;
+        memory.cursor.place = self.place;
+        memory.cursor.depth = self.returns.len();
+        Ok(())
+    }
+
+    /// Returns true only if both states are the same, if what a state of this type lacks is.
+    pub fn same(&self, other: &Saved, program: &Lowered<'_, '_>) -> bool
+        ensures { result ≡ true → (v w : View) →
+            IsReady program.now.code.now program.now.parts v →
+            IsReady program.now.code.now program.now.parts w →
+            IsSaved program.now.parts self.now v → IsSaved program.now.parts other.now w →
+            unsaved v.parts ≡ unsaved w.parts → (input : Input) →
+            state_of program.now.code.now program.now.parts input v
+            ≡ state_of program.now.code.now program.now.parts input w }
+    {
+        program.law();
+        let code = program.code;
+        code.law();
+        same_numbers(self, other) && same_arrays(&self.arrays, &other.arrays)
+    }
+
+    /// Returns a number by which states can be looked up. States that are the same have the same
+    /// number, which no contract says: callers compare states by `same`.
+    pub fn hash(&self) -> u64 {
+        let hash = mixed(0, self.place as u64);
+        let hash = mix_numbers(hash, &self.numbers);
+        let hash = mix_numbers(hash, &self.home);
+        let hash = mix_bytes(hash, &self.statuses);
+        let hash = mix_numbers(hash, &self.returns);
+        mix_arrays(hash, &self.arrays)
+    }
+}
