@@ -1,7 +1,7 @@
 -- Proves laws of elements of lists by their indexes.
 use Prim.Native.Nat.{zero, suc}
 use Rattle.std.proofs.Common.{◌≡◌, ℕ, ◌<◌, length, map, List, [], ◌∷◌, Some, slice_get, slice_set}
-use Rattle.std.proofs.Common.{refl, ap, arith, slice_index_or}
+use Rattle.std.proofs.Common.{◌≤◌, ◌++◌, take, refl, ap, arith, slice_index_or}
 use Rattle.std.specs.List.{Contains}
 
 pub any_default : {A : Type 0} (xs : List A) (i : ℕ) (d e : A) → i < length xs →
@@ -28,3 +28,15 @@ mapped-at f [] d y (k, lt, e) = absurd (omega arith)
 mapped-at f (x ∷ xs) d y (zero, lt, e) = (0, omega arith, e)
 mapped-at f (x ∷ xs) d y (suc k, lt, e) =
     let i = mapped-at f xs d y (k, omega (arith, lt), e) in (suc i.0, omega (arith, i.1), i.2)
+
+pub take-more : {A : Type 0} (xs : List A) (i : ℕ) (d : A) → i < length xs →
+    take (suc i) xs ≡ take i xs ++ slice_index_or xs i d ∷ []
+take-more [] i d h = absurd (omega arith)
+take-more (x ∷ xs) zero d h = refl
+take-more (x ∷ xs) (suc i) d h = ap (λ z. x ∷ z) (take-more xs i d (omega (arith, h)))
+
+pub take-all : {A : Type 0} (xs : List A) (i : ℕ) → length xs ≤ i → take i xs ≡ xs
+take-all [] zero h = refl
+take-all [] (suc i) h = refl
+take-all (x ∷ xs) zero h = absurd (omega arith)
+take-all (x ∷ xs) (suc i) h = ap (λ z. x ∷ z) (take-all xs i (omega (arith, h)))

@@ -16,7 +16,7 @@ use Rattle.ick_outcomes.specs.Tallies.{Test, Tally, lesser, none, join, after, o
 use Rattle.ick_outcomes.specs.Summaries.{Row}
 use Rattle.ick_outcomes.specs.Accounts.{Pending, ahead, all_ahead, counted_if, counted, all_counted}
 use Rattle.ick_outcomes.specs.Accounts.{AreApart, AreDistinct, Admits, Counts, Settles, SettlesAll, CanMerge}
-use Rattle.ick_outcomes.specs.Accounts.{chosen, IsAccount}
+use Rattle.ick_outcomes.specs.Accounts.{chosen, IsAccount, AreBelow, IsMostLeft, Makes}
 use Rattle.ick_outcomes.proofs.Algebra.{join-none, none-join, join-swap, join-assoc, after-merge, after-choice}
 use Rattle.ick_outcomes.proofs.Algebra.{after-pass, after-none}
 use Rattle.ick_outcomes.proofs.Algebra.{same_tally, lesser-swap}
@@ -34,8 +34,16 @@ all_ahead-push q (x ∷ ns) n =
     ∙ (ap (λ t. join t (all_ahead q ns)) (join-swap (ahead q x) (ahead q n))
     ∙ join-assoc (ahead q n) (ahead q x) (all_ahead q ns)))
 
+pub below-push : (most : ℕ) (ns : List Pending) (n : Pending) → n.left < most → AreBelow most ns →
+    AreBelow most (ns ++ n ∷ [])
+below-push most [] n lt h = (lt, tt)
+below-push most (x ∷ ns) n lt h = (h.0, below-push most ns n lt h.1)
+
 pub admits-push : (ns : List Pending) (n : Pending) → Admits ns n (ns ++ n ∷ [])
-admits-push ns n = record { admitted = λ q. all_ahead-push q ns n }
+admits-push ns n = record {
+  admitted = λ q. all_ahead-push q ns n;
+  below = λ most lt h. below-push most ns n lt h;
+}
 
 -- a node is merged into another one
 all_ahead-set : (q : Test) (ns : List Pending) (i : ℕ) (x n y : Pending) → slice_get ns i ≡ Some x →
@@ -53,6 +61,14 @@ all_ahead-set q (m ∷ ns) (suc i) x n y h e =
     ∙ (ap (λ t. join t (all_ahead q ns)) (join-swap (ahead q m) (ahead q n))
     ∙ join-assoc (ahead q n) (ahead q m) (all_ahead q ns)))
 
+below-set : (most : ℕ) (ns : List Pending) (i : ℕ) (x y : Pending) → slice_get ns i ≡ Some x →
+    y.left ≡ x.left → AreBelow most ns → AreBelow most (slice_set ns i y)
+below-set most [] i x y h e k = tt
+below-set most (m ∷ ns) zero x y h e k =
+    let z : m ≡ x = cc in
+    (subst (λ l. l < most) (ap (λ n. n.left) z ∙ sym e) k.0, k.1)
+below-set most (m ∷ ns) (suc i) x y h e k = (k.0, below-set most ns i x y h e k.1)
+
 -- whose choices come before those of the new node
 pub admits-below : (ns : List Pending) (i : ℕ) (x n y : Pending) → slice_get ns i ≡ Some x →
     x.place ≡ n.place → x.left ≡ n.left → IsBelow x.choices n.choices →
@@ -68,6 +84,7 @@ admits-below ns i x n y h place left below e = record {
       ∙ (join-swap (after n.count n.weight n.choices t) (after x.count x.weight x.choices t)
       ∙ (after-merge x.count n.count x.weight n.weight x.choices n.choices t below
       ∙ ap (λ z. ahead q z) (sym e))));
+  below = λ most lt k. below-set most ns i x y h (ap (λ z. z.left) e) k;
 }
 
 -- or after them
@@ -85,6 +102,7 @@ admits-above ns i x n y h place left below e = record {
       (ap (λ z. join (after n.count n.weight n.choices z) (after x.count x.weight x.choices t)) u
       ∙ (after-merge n.count x.count n.weight x.weight n.choices x.choices t below
       ∙ ap (λ z. ahead q z) (sym e)));
+  below = λ most lt k. below-set most ns i x y h (ap (λ z. z.left) e) k;
 }
 
 pub all_counted-push : (q : Test) (rs : List Row) (r : Row) →
@@ -281,6 +299,7 @@ settles-admits n ns ns' rs h = record {
   settled = λ q. ap (λ t. join t (all_counted q rs)) (h.admitted q)
       ∙ join-assoc (ahead q n) (all_ahead q ns) (all_counted q rs);
   apart = λ d. d;
+  below = h.below;
 }
 
 -- b moves to the front
@@ -294,56 +313,79 @@ settles-counts n ns rs rs' r f h = record {
       ∙ (join-front (all_ahead q ns) (counted q r) (all_counted q rs)
       ∙ ap (λ t. join t (join (all_ahead q ns) (all_counted q rs))) (sym (f q)));
   apart = h.apart;
+  below = λ most lt b. b;
 }
 
 pub settles-like : (n m : Pending) (ns ns' : List Pending) (rs rs' : List Row) →
-    ((q : Test) → ahead q n ≡ ahead q m) → Settles m ns rs ns' rs' → Settles n ns rs ns' rs'
-settles-like n m ns ns' rs rs' f h = record {
+    ((q : Test) → ahead q n ≡ ahead q m) → m.left ≤ n.left → Settles m ns rs ns' rs' → Settles n ns rs ns' rs'
+settles-like n m ns ns' rs rs' f le h = record {
   settled = λ q. h.settled q ∙ ap (λ t. join t (join (all_ahead q ns) (all_counted q rs))) (sym (f q));
   apart = h.apart;
+  below = λ most lt b. h.below most (omega (arith, le, lt)) b;
 }
 
 pub settles-both : (n a b : Pending) (ns ns' ns'' : List Pending) (rs rs' rs'' : List Row) →
     ((q : Test) → ahead q n ≡ join (ahead q a) (ahead q b)) →
-    Settles a ns rs ns' rs' → Settles b ns' rs' ns'' rs'' → Settles n ns rs ns'' rs''
-settles-both n a b ns ns' ns'' rs rs' rs'' f h k = record {
+    a.left < n.left → b.left < n.left →
+    Settles a ns rs ns' rs' → Settles b ns' rs' ns'' rs'' → Makes n.left n ns rs ns'' rs''
+settles-both n a b ns ns' ns'' rs rs' rs'' f u v h k = record {
   settled = λ q. k.settled q
       ∙ (ap (join (ahead q b)) (h.settled q)
       ∙ (sym (join-assoc (ahead q b) (ahead q a) (join (all_ahead q ns) (all_counted q rs)))
       ∙ (ap (λ t. join t (join (all_ahead q ns) (all_counted q rs)))
       (join-swap (ahead q b) (ahead q a) ∙ sym (f q)))));
   apart = λ d. k.apart (h.apart d);
+  fewer = λ le d. k.below n.left v (h.below n.left u d);
 }
 
-pub settles-more : (ms : List Pending) (n : Pending) (ns ns' ns'' : List Pending) (rs rs' rs'' : List Row) →
-    SettlesAll ms ns rs ns' rs' → Settles n ns' rs' ns'' rs'' →
-    SettlesAll (ms ++ n ∷ []) ns rs ns'' rs''
-settles-more ms n ns ns' ns'' rs rs' rs'' h k = record {
+pub below-last : (most : ℕ) (ns : List Pending) (n : Pending) → AreBelow most (ns ++ n ∷ []) →
+    AreBelow most ns × (n.left < most)
+below-last most [] n h = (tt, h.0)
+below-last most (x ∷ ns) n h = let i = below-last most ns n h.1 in ((h.0, i.0), i.1)
+
+pub below-more : (a b : ℕ) (ns : List Pending) → a ≤ b → AreBelow a ns → AreBelow b ns
+below-more a b [] le h = tt
+below-more a b (n ∷ ns) le h = let lt = h.0 in (omega (arith, lt, le), below-more a b ns le h.1)
+
+pub settles-more : (most : ℕ) (ms : List Pending) (n : Pending) (ns ns' ns'' : List Pending) (rs rs' rs'' : List Row) →
+    SettlesAll most ms ns rs ns' rs' → Makes most n ns' rs' ns'' rs'' →
+    SettlesAll most (ms ++ n ∷ []) ns rs ns'' rs''
+settles-more most ms n ns ns' ns'' rs rs' rs'' h k = record {
   settled = λ q. k.settled q
       ∙ (ap (join (ahead q n)) (h.settled q)
       ∙ (sym (join-assoc (ahead q n) (all_ahead q ms) (join (all_ahead q ns) (all_counted q rs)))
       ∙ ap (λ t. join t (join (all_ahead q ns) (all_counted q rs))) (sym (all_ahead-push q ms n))));
   apart = λ d. k.apart (h.apart d);
+  fewer = λ a b.
+      let i = below-last (suc most) ms n a in
+      let lt = i.1 in
+      k.fewer (omega (arith, lt)) (h.fewer i.0 b);
 }
 
-pub settles-none : (ns : List Pending) (rs : List Row) → SettlesAll [] ns rs ns rs
-settles-none ns rs = record {
+pub settles-none : (most : ℕ) (ns : List Pending) (rs : List Row) → SettlesAll most [] ns rs ns rs
+settles-none most ns rs = record {
   settled = λ q. sym (none-join (join (all_ahead q ns) (all_counted q rs)));
   apart = λ d. d;
+  fewer = λ a b. b;
 }
 
-pub account-goes_on : (n : Pending) (ns ns' : List Pending) (rs rs' : List Row) → IsAccount n ns rs →
-    SettlesAll ns [] rs ns' rs' → IsAccount n ns' rs'
-account-goes_on n ns ns' rs rs' h k = record {
+pub account-goes_on : (n : Pending) (ns ns' : List Pending) (rs rs' : List Row) (m most m' : ℕ) →
+    IsAccount n ns rs m → IsMostLeft most ns → SettlesAll most ns [] rs ns' rs' → m ≤ m' + 1 →
+    IsAccount n ns' rs' m'
+account-goes_on n ns ns' rs rs' m most m' h i k le = record {
   whole = λ q. h.whole q ∙ sym (k.settled q ∙ ap (join (all_ahead q ns)) (none-join (all_counted q rs)));
   apart = k.apart h.apart;
+  below =
+      let below = below-more m (suc m') ns (omega (arith, le)) h.below in
+      below-more most m' ns' (i.reached m' below) (k.fewer i.highest tt);
 }
 
-pub account-starts : (n : Pending) (ns : List Pending) (rs : List Row) → Settles n [] [] ns rs →
-    IsAccount n ns rs
-account-starts n ns rs h = record {
+pub account-starts : (n : Pending) (ns : List Pending) (rs : List Row) (m : ℕ) → n.left < m →
+    Settles n [] [] ns rs → IsAccount n ns rs m
+account-starts n ns rs m lt h = record {
   whole = λ q. sym (h.settled q ∙ join-none (ahead q n));
   apart = h.apart tt;
+  below = h.below m lt tt;
 }
 
 -- a node is merged into another one

@@ -1,16 +1,15 @@
 -- Proves the lemmas in the form in which functions use them.
 use Prim.Native.Nat.{suc}
-use Rattle.std.proofs.Common.{◌≡◌, inl, inr, ℕ, ◌+◌, ◌*◌, ◌-◌, ◌^◌, ◌<◌, ◌≤◌, Bool, true, false, length, List, []}
+use Rattle.std.proofs.Common.{◌≡◌, ◌⊎◌, take, inl, inr, ℕ, ◌+◌, ◌*◌, ◌-◌, ◌^◌, ◌<◌, ◌≤◌, Bool, true, false, length, List, []}
 use Rattle.std.proofs.Common.{◌∷◌, ◌++◌, Option, Some, None}
 use Rattle.std.proofs.Common.{refl, ap, sym, ◌∙◌, subst, arith, slice_index_or, slice_set}
 use Rattle.std.specs.List.{Contains}
 use Rattle.std.proofs.lemmas.List.{map-append}
 use Rattle.ick_code.specs.meaning.State.{State}
-use Rattle.ick_code.specs.meaning.Move.{Asking, plain, choice, ended, ask}
+use Rattle.ick_code.specs.meaning.Move.{Asking, plain, choice, ended, ask, advance}
 use Rattle.ick_backtrack.specs.Machine.{Program}
 use Rattle.ick_backtrack.specs.Asked.{Finish, finished, at_limit, IsGoing, asked_at_end}
-use Rattle.ick_backtrack.specs.Steps.{IsPlain, RunsOn}
-use Rattle.ick_explorer.specs.Lines.{end_text}
+use Rattle.ick_backtrack.specs.Steps.{after_steps, IsPlain, RunsOn}
 use Rattle.ick_explorer.specs.Listings.{IsBelow}
 use Rattle.ick_outcomes.specs.Tallies.{lesser, join, after, tally}
 use Rattle.ick_outcomes.specs.Weights.{amount}
@@ -19,9 +18,10 @@ use Rattle.ick_outcomes.specs.declared.fraction.Fraction.{Fraction}
 use Rattle.ick_outcomes.proofs.Amounts.{amount-end, amount-run, amount-plus, amount-part}
 use Rattle.ick_code.proofs.AskLaws.{chance_between}
 use Rattle.ick_outcomes.specs.Summaries.{Row}
-use Rattle.ick_outcomes.specs.Accounts.{Place, Pending, ahead, counted, AreApart, Admits, CanMerge, Counts}
+use Rattle.ick_outcomes.specs.Accounts.{Place, Pending, ahead, AreApart, Admits, CanMerge, Counts}
 use Rattle.ick_outcomes.specs.Accounts.{SameRow, Settles}
 use Rattle.ick_outcomes.specs.Accounts.{GoesOn, IsChoosing, chosen, SettlesAll, IsAccount, AreCounted, all_counted}
+use Rattle.ick_outcomes.specs.Accounts.{AreBelow, AreOver, IsMostLeft, Makes, ended_row}
 use Rattle.ick_outcomes.proofs.Algebra.{none-join}
 use Rattle.ick_outcomes.proofs.Sums.{account-starts, account-goes_on, settles-more, settles-none}
 use Rattle.ick_outcomes.specs.Seen.{natural, pending_of, nodes_of, row_of, rows_of}
@@ -29,8 +29,8 @@ use Rattle.ick_outcomes.specs.declared.pending.Node.{Node}
 use Rattle.ick_outcomes.specs.declared.outcome.Outcome.{Outcome}
 use Rattle.ick_outcomes.proofs.PlaceByPlace.{lesser-before}
 use Rattle.ick_outcomes.proofs.Ends.{lesser-flip}
-use Rattle.ick_outcomes.proofs.Lists.{get-mapped, set-mapped, mapped-at}
-use Rattle.ick_outcomes.proofs.Sums.{admits-merge, admits-push, counts-set, counts-push, settles-admits, settles-counts}
+use Rattle.ick_outcomes.proofs.Lists.{get-mapped, set-mapped, mapped-at, take-more}
+use Rattle.ick_outcomes.proofs.Sums.{admits-merge, admits-push, counts-set, counts-push, settles-admits, settles-counts, below-push, below-more, below-last}
 use Rattle.ick_outcomes.proofs.Sums.{settles-like, settles-both, ahead-ended, ahead-limit, ahead-choice, ahead-runs}
 
 pub lesser_kept : (c d : List Bool) → IsBelow c d → lesser c d ≡ c
@@ -105,39 +105,67 @@ pub settles_waiting : (n : Pending) (ns ns' : List Pending) (rs : List Row) → 
     Settles n ns rs ns' rs
 settles_waiting = settles-admits
 
-pub settles_limit : (n : Pending) (ns : List Pending) (rs rs' : List Row) (r : Row) →
-    IsGoing (ask n.place.program n.place.state) → (0 < n.left → ⊥) →
-    r ≡ record {
-      output = n.place.state.output;
-      end = end_text at_limit;
-      count = n.count;
-      weight = n.weight * 100 ^ n.left;
-      first = n.choices;
-    } →
-    Counts rs r rs' → Settles n ns rs ns rs'
-settles_limit n ns rs rs' r g lt e h =
-    settles-counts n ns rs rs' r
-    (λ q. ahead-limit q n g (omega (arith, lt)) ∙ ap (λ z. counted q z) (sym e)) h
+pub settles_on : (n m : Pending) (ns ns' : List Pending) (rs rs' : List Row) → GoesOn n m →
+    Settles m ns rs ns' rs' → Settles n ns rs ns' rs'
+settles_on n m ns ns' rs rs' h k = settles-like n m ns ns' rs rs' h.same_runs h.no_more k
 
-pub settles_ended : (n : Pending) (ns : List Pending) (rs rs' : List Row) (r : Row) (f : Finish) →
-    asked_at_end f ≡ Some (ask n.place.program n.place.state) →
-    r ≡ record {
-      output = n.place.state.output;
-      end = end_text f;
-      count = n.count;
-      weight = n.weight * 100 ^ n.left;
-      first = n.choices;
-    } →
-    Counts rs r rs' → Settles n ns rs ns rs'
-settles_ended n ns rs rs' r (finished x) a e h =
+pub going_on : (p : Program) (s : State) → IsPlain p s → IsGoing (ask p s)
+going_on p s h = subst IsGoing (sym h) tt
+
+pub is_plain : (p : Program) (s : State) → (let x : Option Asking = Some plain in x) ≡ Some (ask p s) → IsPlain p s
+is_plain p s e = let z : ask p s ≡ plain = cc in z
+
+pub one_step : (p : Program) (s u : State) → IsPlain p s → u ≡ advance p s false → RunsOn IsPlain p s 1 u
+one_step p s u h e = record {
+  leads = e;
+  on = λ i lt. let z : i ≡ 0 = omega (arith, lt) in subst (λ k. IsPlain p (after_steps p s k)) (sym z) h;
+}
+
+pub over_limit : (n : Pending) → IsGoing (ask n.place.program n.place.state) → (0 < n.left → ⊥) →
+    AreOver n at_limit
+over_limit n g lt = record { same_runs = λ q. ahead-limit q n g (omega (arith, lt)) }
+
+pub over_ended : (n : Pending) (f : Finish) → asked_at_end f ≡ Some (ask n.place.program n.place.state) →
+    AreOver n f
+over_ended n (finished x) a =
     let z : ended x ≡ ask n.place.program n.place.state = cc in
-    settles-counts n ns rs rs' r
-    (λ q. ahead-ended q n x (sym z) ∙ ap (λ z. counted q z) (sym e)) h
-settles_ended n ns rs rs' r at_limit a e h =
-    let z : None ≡ Some (ask n.place.program n.place.state) = a in cc
+    record { same_runs = λ q. ahead-ended q n x (sym z) }
+over_ended n at_limit a = let z : None ≡ Some (ask n.place.program n.place.state) = a in cc
+
+pub settles_over : (n : Pending) (f : Finish) (ns : List Pending) (rs rs' : List Row) → AreOver n f →
+    Counts rs (ended_row n f) rs' → Settles n ns rs ns rs'
+settles_over n f ns rs rs' o h = settles-counts n ns rs rs' (ended_row n f) o.same_runs h
+
+pub makes_over : (most : ℕ) (n : Pending) (f : Finish) (ns : List Pending) (rs rs' : List Row) → AreOver n f →
+    Counts rs (ended_row n f) rs' → Makes most n ns rs ns rs'
+makes_over most n f ns rs rs' o h =
+    let s = settles_over n f ns rs rs' o h in
+    record { settled = s.settled; apart = s.apart; fewer = λ le b. b }
+
+pub makes_waiting : (most : ℕ) (n : Pending) (ns ns' : List Pending) (rs : List Row) → n.left < most →
+    Admits ns n ns' → Makes most n ns rs ns' rs
+makes_waiting most n ns ns' rs lt h =
+    let s = settles-admits n ns ns' rs h in
+    record { settled = s.settled; apart = s.apart; fewer = λ le b. h.below most lt b }
+
+pub makes_now : (most : ℕ) (n : Pending) (ns ns' : List Pending) (rs rs' : List Row) → (n.left < most → ⊥) →
+    Makes n.left n ns rs ns' rs' → Makes most n ns rs ns' rs'
+makes_now most n ns ns' rs rs' g h = record {
+  settled = h.settled;
+  apart = h.apart;
+  fewer = λ le b.
+      let e : n.left ≡ most = omega (arith, g, le) in
+      subst (λ z. AreBelow z ns') e (h.fewer (omega arith) (subst (λ z. AreBelow z ns) (sym e) b));
+}
+
+pub makes_pass : (n m : Pending) (ns ns' : List Pending) (rs rs' : List Row) → GoesOn n m → m.left < n.left →
+    Settles m ns rs ns' rs' → Makes n.left n ns rs ns' rs'
+makes_pass n m ns ns' rs rs' g lt h =
+    let s = settles_on n m ns ns' rs rs' g h in
+    record { settled = s.settled; apart = s.apart; fewer = λ le b. h.below n.left lt b }
 
 pub goes_on_here : (n : Pending) → GoesOn n n
-goes_on_here n = record { same_runs = λ q. refl }
+goes_on_here n = record { same_runs = λ q. refl; no_more = omega arith }
 
 pub goes_on_runs : (n m : Pending) (k : ℕ) →
     RunsOn IsPlain n.place.program n.place.state k m.place.state → m.place.program ≡ n.place.program →
@@ -153,11 +181,8 @@ goes_on_runs n m k h p le s c v w = record {
       ∙ (ap (λ z. after z (n.weight * 100 ^ k) n.choices t) (sym c)
       ∙ (ap (λ z. after m.count z n.choices t) (sym v)
       ∙ ap (λ z. after m.count m.weight z t) (sym w)))));
+  no_more = omega (arith, s);
 }
-
-pub settles_on : (n m : Pending) (ns ns' : List Pending) (rs rs' : List Row) → GoesOn n m →
-    Settles m ns rs ns' rs' → Settles n ns rs ns' rs'
-settles_on n m ns ns' rs rs' h k = settles-like n m ns ns' rs rs' h.same_runs k
 
 pub choosing : (n : Pending) (k : ℕ) →
     (let x : Option Asking = Some (choice k) in x) ≡ Some (ask n.place.program n.place.state) → IsChoosing n k
@@ -171,14 +196,16 @@ chance_within p s k e =
 pub going_chosen : (n : Pending) (k : ℕ) → IsChoosing n k → IsGoing (ask n.place.program n.place.state)
 going_chosen n k h = subst IsGoing (sym h.asked) tt
 
-pub settles_choice : (n a b : Pending) (k : ℕ) (ns ns' ns'' : List Pending) (rs rs' rs'' : List Row) →
+pub makes_choice : (n a b : Pending) (k : ℕ) (ns ns' ns'' : List Pending) (rs rs' rs'' : List Row) →
     IsChoosing n k → 0 < n.left → a ≡ chosen k n false → b ≡ chosen k n true →
-    Settles a ns rs ns' rs' → Settles b ns' rs' ns'' rs'' → Settles n ns rs ns'' rs''
-settles_choice n a b k ns ns' ns'' rs rs' rs'' c lt e f h i =
+    Settles a ns rs ns' rs' → Settles b ns' rs' ns'' rs'' → Makes n.left n ns rs ns'' rs''
+makes_choice n a b k ns ns' ns'' rs rs' rs'' c lt e f h i =
+    let u = ap (λ z. z.left) e in
+    let v = ap (λ z. z.left) f in
     settles-both n a b ns ns' ns'' rs rs' rs''
     (λ q. ahead-choice q n k c.asked lt
     ∙ (ap (λ z. join (ahead q z) (ahead q (chosen k n true))) (sym e)
-    ∙ ap (λ z. join (ahead q a) (ahead q z)) (sym f))) h i
+    ∙ ap (λ z. join (ahead q a) (ahead q z)) (sym f))) (omega (arith, u, lt)) (omega (arith, v, lt)) h i
 
 -- amounts of fractions
 pub merge_sum : (f g r : Fraction) (l : ℕ) → IsSum f g r → l + r.places ≤ 4294967295 →
@@ -220,31 +247,62 @@ moved_on f k l le lt =
     sym (ap (λ z. amount (top_of f) f.places z * 100 ^ k) e
     ∙ amount-run k (top_of f) f.places (l - k) (omega (arith, le, lt)))
 
-pub counts_start : (n m : Pending) (ns : List Pending) (rs : List Row) → Settles n [] [] ns rs →
-    m ≡ n → IsAccount m ns rs
-counts_start n m ns rs h e = subst (λ z. IsAccount z ns rs) (sym e) (account-starts n ns rs h)
+pub counts_start : (n m : Pending) (ns : List Pending) (rs : List Row) (most : ℕ) → Settles n [] [] ns rs →
+    m ≡ n → n.left < most → IsAccount m ns rs most
+counts_start n m ns rs most h e lt =
+    subst (λ z. IsAccount z ns rs most) (sym e) (account-starts n ns rs most lt h)
 
-pub counts_on : (n : Pending) (ns ns' : List Pending) (rs rs' : List Row) → IsAccount n ns rs →
-    SettlesAll ns [] rs ns' rs' → IsAccount n ns' rs'
+pub counts_on : (n : Pending) (ns ns' : List Pending) (rs rs' : List Row) (m most m' : ℕ) →
+    IsAccount n ns rs m → IsMostLeft most ns → SettlesAll most ns [] rs ns' rs' → m ≤ m' + 1 →
+    IsAccount n ns' rs' m'
 counts_on = account-goes_on
 
-pub counts_end : {M : Type 0} (seen : M → Place) (limit : ℕ) (p : Place) (ns : List (Node M)) (rs : List Row) →
+-- the most steps that one of the nodes so far has left
+pub most_none : IsMostLeft 0 []
+most_none = record { highest = tt; reached = λ m h. omega arith }
+
+pub most_more : {M : Type 0} (seen : M → Place) (ns : List (Node M)) (i most r : ℕ) (n : Node M) → i < length ns →
+    n ≡ slice_index_or ns i n → IsMostLeft most (nodes_of seen (take i ns)) → most ≤ r → n.left ≤ r →
+    (r ≡ most) ⊎ (r ≡ n.left) → IsMostLeft r (nodes_of seen (take (i + 1) ns))
+most_more seen ns i most r n lt e h u v w =
+    let next : i + 1 ≡ suc i = omega arith in
+    let same = ap (λ z. take z ns) next ∙ (take-more ns i n lt ∙ ap (λ z. take i ns ++ z ∷ []) (sym e)) in
+    let nodes = nodes_of seen (take i ns) in
+    subst (λ z. IsMostLeft r z)
+    (sym (ap (nodes_of seen) same ∙ map-append (pending_of seen) (take i ns) (n ∷ [])))
+    (record {
+      highest = below-push (suc r) nodes (pending_of seen n) (omega (arith, v))
+          (below-more (suc most) (suc r) nodes (omega (arith, u)) h.highest);
+      reached = λ m k.
+          let b = below-last (suc m) nodes (pending_of seen n) k in
+          let c = h.reached m b.0 in
+          let d = b.1 in
+          elim w [ inl x ↦ omega (arith, x, c) | inr x ↦ omega (arith, x, d) ];
+    })
+
+pub counts_end : {M : Type 0} (seen : M → Place) (limit : ℕ) (p : Place) (ns : List (Node M)) (rs : List Row) (m : ℕ) →
     IsAccount (record { place = p; left = limit; count = 1; weight = amount 1 0 limit; choices = [] })
-    (nodes_of seen ns) rs → length ns ≡ 0 → AreCounted p.program p.state limit rs
-counts_end seen limit p [] rs h e = record {
+    (nodes_of seen ns) rs m → length ns ≡ 0 → AreCounted p.program p.state limit rs
+counts_end seen limit p [] rs m h e = record {
   counted_all = λ q. h.whole q ∙ none-join (all_counted q rs);
   distinct = h.apart;
 }
-counts_end seen limit p (n ∷ ns) rs h e = absurd (omega arith)
+counts_end seen limit p (n ∷ ns) rs m h e = absurd (omega arith)
 
-pub settles_more : {M : Type 0} (seen : M → Place) (ms ms' : List (Node M)) (n : Node M)
+pub counts_done : {M : Type 0} (seen : M → Place) (limit : ℕ) (p : Place) (ns : List (Node M)) (rs : List Row) (m : ℕ) →
+    IsAccount (record { place = p; left = limit; count = 1; weight = amount 1 0 limit; choices = [] })
+    (nodes_of seen ns) rs m → m ≡ 0 → AreCounted p.program p.state limit rs
+counts_done seen limit p [] rs m h e = counts_end seen limit p [] rs m h refl
+counts_done seen limit p (n ∷ ns) rs m h e = let lt = h.below.0 in absurd (omega (arith, lt, e))
+
+pub settles_more : {M : Type 0} (seen : M → Place) (most : ℕ) (ms ms' : List (Node M)) (n : Node M)
     (ns' ns'' : List Pending) (rs rs' rs'' : List Row) → ms' ≡ ms ++ n ∷ [] →
-    SettlesAll (nodes_of seen ms) [] rs ns' rs' → Settles (pending_of seen n) ns' rs' ns'' rs'' →
-    SettlesAll (nodes_of seen ms') [] rs ns'' rs''
-settles_more seen ms ms' n ns' ns'' rs rs' rs'' e h k =
-    subst (λ z. SettlesAll z [] rs ns'' rs'')
+    SettlesAll most (nodes_of seen ms) [] rs ns' rs' → Makes most (pending_of seen n) ns' rs' ns'' rs'' →
+    SettlesAll most (nodes_of seen ms') [] rs ns'' rs''
+settles_more seen most ms ms' n ns' ns'' rs rs' rs'' e h k =
+    subst (λ z. SettlesAll most z [] rs ns'' rs'')
     (sym (map-append (pending_of seen) ms (n ∷ [])) ∙ ap (nodes_of seen) (sym e))
-    (settles-more (nodes_of seen ms) (pending_of seen n) [] ns' ns'' rs rs' rs'' h k)
+    (settles-more most (nodes_of seen ms) (pending_of seen n) [] ns' ns'' rs rs' rs'' h k)
 
-pub settles_nothing : (rs : List Row) → SettlesAll [] [] rs [] rs
-settles_nothing rs = settles-none [] rs
+pub settles_nothing : (most : ℕ) (rs : List Row) → SettlesAll most [] [] rs [] rs
+settles_nothing most rs = settles-none most [] rs

@@ -1,10 +1,12 @@
 -- Defines what the search for outcomes keeps the same: the runs of its rows and those of its nodes are all runs.
-use Rattle.std.specs.Prelude.{◌≡◌, ◌⊎◌, ℕ, ◌*◌, ◌-◌, Bool, true, false, List, [], ◌∷◌, ◌++◌, Some}
+use Rattle.std.specs.Prelude.{◌≡◌, ◌⊎◌, ℕ, suc, ◌*◌, ◌^◌, ◌-◌, ◌<◌, ◌≤◌, Bool, true, false, List, [], ◌∷◌, ◌++◌, Some}
 use Rattle.std.specs.List.{Contains}
 use Rattle.ick_code.specs.meaning.State.{State}
 use Rattle.ick_code.specs.meaning.Move.{ask, advance, choice}
+use Rattle.ick_explorer.specs.Lines.{end_text}
 use Rattle.ick_explorer.specs.Listings.{IsBelow}
 use Rattle.ick_backtrack.specs.Machine.{Program}
+use Rattle.ick_backtrack.specs.Asked.{Finish}
 use Rattle.ick_outcomes.specs.Tallies.{Test, Tally, lesser, none, join, after, tally}
 use Rattle.ick_outcomes.specs.Weights.{amount, part}
 use Rattle.ick_outcomes.specs.Summaries.{Row}
@@ -60,9 +62,20 @@ abbrev pub AreOrdered : List Row → Type 0
 AreOrdered [] = Unit {0}
 AreOrdered (r ∷ rs) = ((x : Row) → Contains rs x → lesser r.first x.first ≡ r.first) × AreOrdered rs
 
+-- each node has less than so many steps left
+abbrev pub AreBelow : ℕ → List Pending → Type 0
+AreBelow most [] = Unit {0}
+AreBelow most (n ∷ ns) = (n.left < most) × AreBelow most ns
+
+-- the greatest number of steps that a node has left, or 0 if there is no node
+pub record IsMostLeft (most : ℕ) (ns : List Pending) : Type 0 where
+  pub highest : AreBelow (suc most) ns
+  pub reached : (m : ℕ) → AreBelow (suc m) ns → most ≤ m
+
 -- a node was added to nodes, or merged into one of them
 pub record Admits (old : List Pending) (n : Pending) (new : List Pending) : Type 0 where
   pub admitted : (q : Test) → all_ahead q new ≡ join (ahead q n) (all_ahead q old)
+  pub below : (most : ℕ) → n.left < most → AreBelow most old → AreBelow most new
 
 -- the runs of a row were added to rows
 pub record Counts (old : List Row) (r : Row) (new : List Row) : Type 0 where
@@ -75,13 +88,24 @@ pub record Settles (n : Pending) (ns : List Pending) (rs : List Row) (ns' : List
   pub settled : (q : Test) → join (all_ahead q ns') (all_counted q rs')
       ≡ join (ahead q n) (join (all_ahead q ns) (all_counted q rs))
   pub apart : AreDistinct rs → AreDistinct rs'
+  pub below : (most : ℕ) → n.left < most → AreBelow most ns → AreBelow most ns'
 
--- all runs from these nodes were added to nodes and rows
-pub record SettlesAll (ms : List Pending) (ns : List Pending) (rs : List Row) (ns' : List Pending)
+-- the same, and if n has at most so many steps left, the nodes that were added have less
+pub record Makes (most : ℕ) (n : Pending) (ns : List Pending) (rs : List Row) (ns' : List Pending)
+    (rs' : List Row) : Type 0 where
+  pub settled : (q : Test) → join (all_ahead q ns') (all_counted q rs')
+      ≡ join (ahead q n) (join (all_ahead q ns) (all_counted q rs))
+  pub apart : AreDistinct rs → AreDistinct rs'
+  pub fewer : n.left ≤ most → AreBelow most ns → AreBelow most ns'
+
+-- all runs from these nodes were added to nodes and rows; if the nodes have at most so many steps left, those that
+-- were added have less
+pub record SettlesAll (most : ℕ) (ms : List Pending) (ns : List Pending) (rs : List Row) (ns' : List Pending)
     (rs' : List Row) : Type 0 where
   pub settled : (q : Test) → join (all_ahead q ns') (all_counted q rs')
       ≡ join (all_ahead q ms) (join (all_ahead q ns) (all_counted q rs))
   pub apart : AreDistinct rs → AreDistinct rs'
+  pub fewer : AreBelow (suc most) ms → AreBelow most ns → AreBelow most ns'
 
 -- two nodes have the same place and the same number of steps left, and their choices differ
 pub record CanMerge (x n : Pending) : Type 0 where
@@ -104,14 +128,30 @@ pub record SameRow (x r : Row) : Type 0 where
   pub same_output : x.output ≡ r.output
   pub same_end : x.end ≡ r.end
 
--- the runs from n are those of these nodes and rows
-pub record IsAccount (n : Pending) (ns : List Pending) (rs : List Row) : Type 0 where
+-- the runs from n are those of these nodes and rows, and each node has less than so many steps left
+pub record IsAccount (n : Pending) (ns : List Pending) (rs : List Row) (most : ℕ) : Type 0 where
   pub whole : (q : Test) → ahead q n ≡ join (all_ahead q ns) (all_counted q rs)
   pub apart : AreDistinct rs
+  pub below : AreBelow most ns
 
--- the same runs go on from two nodes
+-- the same runs go on from two nodes, and the second has no more steps left
 pub record GoesOn (n m : Pending) : Type 0 where
   pub same_runs : (q : Test) → ahead q n ≡ ahead q m
+  pub no_more : m.left ≤ n.left
+
+-- the row of the runs that lead to a node, if they end there
+abbrev pub ended_row : Pending → Finish → Row
+ended_row n finish = record {
+  output = n.place.state.output;
+  end = end_text finish;
+  count = n.count;
+  weight = n.weight * 100 ^ n.left;
+  first = n.choices;
+}
+
+-- the runs that lead to a node end there
+pub record AreOver (n : Pending) (finish : Finish) : Type 0 where
+  pub same_runs : (q : Test) → ahead q n ≡ counted q (ended_row n finish)
 
 -- a node asks for a choice of a statement with this chance
 pub record IsChoosing (n : Pending) (chance : ℕ) : Type 0 where

@@ -1,12 +1,12 @@
 //! Makes the steps of nodes, and merges nodes.
 
 ghost use Rattle.std.specs.Prelude.{◌≡◌, ◌+◌, ◌*◌, ◌-◌, ◌^◌, ◌<◌, ◌≤◌, true, false, [], length};
-ghost use Rattle.std.specs.Prelude.{slice_index_or, OnOk, IfOk, IfSome};
+ghost use Rattle.std.specs.Prelude.{slice_index_or, OnOk, IfOk, IfSome, IfNone};
 ghost use Rattle.ick_code.specs.meaning.Move.{ask};
 ghost use Rattle.ick_backtrack.specs.Asked.{IsGoing, finish_of};
-ghost use Rattle.ick_explorer.specs.Lines.{end_text};
-ghost use Rattle.ick_outcomes.specs.Accounts.{Admits, CanMerge, Settles, SettlesAll, chosen};
-ghost use Rattle.ick_outcomes.specs.Accounts.{GoesOn, IsChoosing};
+ghost use Rattle.ick_backtrack.specs.Steps.{IsPlain};
+ghost use Rattle.ick_outcomes.specs.Accounts.{Admits, CanMerge, Counts, Settles, Makes, chosen};
+ghost use Rattle.ick_outcomes.specs.Accounts.{GoesOn, IsChoosing, AreOver, ended_row};
 ghost use Rattle.ick_outcomes.specs.Seen.{natural, pending_of, row_of, rows_of, nodes_of};
 ghost use Rattle.ick_outcomes.specs.Tallies.{lesser};
 ghost use Rattle.ick_outcomes.specs.Weights.{part};
@@ -95,16 +95,37 @@ fn admit<'c, M: Copies<'c>>(
     }
 }
 
-/// Returns the outcome of a node that has ended, or that has no step left.
+/// Returns how the runs that lead to a node end there, or `None` if they go on.
+#[tactic(auto, using(crate::proofs::Uses::over_ended, crate::proofs::Uses::over_limit, crate::proofs::Uses::going_plain, crate::proofs::Uses::going_choice))]
+fn end_of<'c, M: Copies<'c>>(node: &Node<M>) -> Option<End<'c>>
+    ensures over { IfSome result (λ end. AreOver (pending_of M.seen node.now) (finish_of end)) }
+    ensures left { IfNone result (0 < node.now.left) }
+{
+    match node.machine.asks() {
+        Ask::Ended(end) => Some(end),
+        Ask::Plain => limit_of(node),
+        Ask::Choice(_) => limit_of(node),
+    }
+}
+
+/// Returns `Limit` if a node that goes on has no step left.
+#[tactic(auto, using(crate::proofs::Uses::over_limit))]
+fn limit_of<'c, M: Copies<'c>>(node: &Node<M>) -> Option<End<'c>>
+    requires { IsGoing (ask (M.seen node.now.machine).program (M.seen node.now.machine).state) }
+    ensures over { IfSome result (λ end. AreOver (pending_of M.seen node.now) (finish_of end)) }
+    ensures left { IfNone result (0 < node.now.left) }
+{
+    if node.left > 0 {
+        return None;
+    }
+    Some(End::Limit)
+}
+
+/// Returns the outcome of a node at which its runs end.
 #[tactic(auto, using(crate::proofs::Uses::row_end))]
 fn close<'c, M: Copies<'c>>(alloc: Global, node: Node<M>, end: End<'c>) -> Result<Outcome, NoMemory>
-    ensures { IfOk result (λ o. row_of o ≡ record {
-      output = (M.seen node.machine).state.output;
-      end = end_text (finish_of end.entry);
-      count = natural node.count;
-      weight = (pending_of M.seen node).weight * 100 ^ node.left;
-      first = node.choices.items;
-    }) }
+    ensures { IfOk result (λ o. row_of o
+        ≡ ended_row (pending_of M.seen node) (finish_of end.entry)) }
 {
     Ok(Outcome {
         output: Vec::from_slice(alloc, node.machine.output())?,
@@ -115,31 +136,23 @@ fn close<'c, M: Copies<'c>>(alloc: Global, node: Node<M>, end: End<'c>) -> Resul
     })
 }
 
-/// Lets a node that has not ended wait, or adds it to the rows with the end `LIMIT` if it has no
-/// step left.
-#[tactic(auto, using(crate::proofs::Uses::settles_waiting, crate::proofs::Uses::settles_limit))]
-fn wait<'c, M: Copies<'c>>(
+/// Adds a node at which its runs end to the rows.
+fn file<'c, M: Copies<'c>>(
     alloc: Global,
     node: Node<M>,
-    pending: &mut Waiting<M>,
+    end: End<'c>,
     rows: &mut Table,
 ) -> Result<(), NoMemory>
-    requires { IsGoing (ask (M.seen node.machine).program (M.seen node.machine).state) }
-    ensures { OnOk result (Settles (pending_of M.seen node)
-        (nodes_of M.seen pending.old.nodes.items) (rows_of rows.old.rows.items)
-        (nodes_of M.seen pending.new.nodes.items) (rows_of rows.new.rows.items)) }
+    ensures { OnOk result (Counts (rows_of rows.old.rows.items)
+        (ended_row (pending_of M.seen node) (finish_of end.entry)) (rows_of rows.new.rows.items)) }
 {
-    if node.left > 0 {
-        admit(alloc, pending, node)?;
-        return Ok(());
-    }
-    let row = close(alloc, node, End::Limit)?;
+    let row = close(alloc, node, end)?;
     add_outcome(alloc, rows, row)?;
     Ok(())
 }
 
-/// Adds a node to the rows if its run is over, and else lets it wait.
-#[tactic(auto, using(crate::proofs::Uses::settles_ended, crate::proofs::Uses::going_plain, crate::proofs::Uses::going_choice))]
+/// Adds a node to the rows if its runs end there, and else lets it wait.
+#[tactic(auto, using(crate::proofs::Uses::settles_over, crate::proofs::Uses::settles_waiting))]
 fn put<'c, M: Copies<'c>>(
     alloc: Global,
     node: Node<M>,
@@ -150,14 +163,9 @@ fn put<'c, M: Copies<'c>>(
         (nodes_of M.seen pending.old.nodes.items) (rows_of rows.old.rows.items)
         (nodes_of M.seen pending.new.nodes.items) (rows_of rows.new.rows.items)) }
 {
-    match node.machine.asks() {
-        Ask::Ended(end) => {
-            let row = close(alloc, node, end)?;
-            add_outcome(alloc, rows, row)?;
-            Ok(())
-        }
-        Ask::Plain => wait(alloc, node, pending, rows),
-        Ask::Choice(_) => wait(alloc, node, pending, rows),
+    match end_of(&node) {
+        Some(end) => file(alloc, node, end, rows),
+        None => admit(alloc, pending, node),
     }
 }
 
@@ -244,7 +252,7 @@ fn copy_node<'c, M: Copies<'c>>(node: &Node<M>) -> Result<Node<M>, NoMemory>
 }
 
 /// Replaces a node that asks for a choice by the two nodes after the choice.
-#[tactic(auto, using(crate::proofs::Uses::settles_choice, crate::proofs::Uses::going_chosen))]
+#[tactic(auto, using(crate::proofs::Uses::makes_choice, crate::proofs::Uses::going_chosen))]
 fn branch<'c, M: Copies<'c>>(
     alloc: Global,
     node: Node<M>,
@@ -255,7 +263,7 @@ fn branch<'c, M: Copies<'c>>(
     requires left { 0 < node.left }
     requires asks { IsChoosing (pending_of M.seen node) chance }
     requires chance { chance ≤ 100 }
-    ensures { OnOk result (Settles (pending_of M.seen node)
+    ensures { OnOk result (Makes node.left (pending_of M.seen node)
         (nodes_of M.seen pending.old.nodes.items) (rows_of rows.old.rows.items)
         (nodes_of M.seen pending.new.nodes.items) (rows_of rows.new.rows.items)) }
 {
@@ -267,29 +275,84 @@ fn branch<'c, M: Copies<'c>>(
     Ok(())
 }
 
-/// Makes the next step of a node, and the steps after it while nothing is asked.
-#[tactic(auto, using(crate::proofs::Uses::choosing, crate::proofs::Uses::chance_within))]
+/// Makes one step of a node that asks nothing.
+#[tactic(auto, using(crate::proofs::Uses::going_on))]
+fn pass<'c, M: Copies<'c>>(node: Node<M>) -> Result<Node<M>, NoMemory>
+    requires left { 0 < node.left }
+    requires plain { IsPlain (M.seen node.machine).program (M.seen node.machine).state }
+    ensures goes_on { IfOk result (λ m. GoesOn (pending_of M.seen node) (pending_of M.seen m)) }
+    ensures fewer { IfOk result (λ m. m.left < node.left) }
+{
+    let mut node = node;
+    node.machine.step(false)?;
+    node.left = node.left - 1;
+    Ok(node)
+}
+
+/// Makes one step of a node that asks nothing, and the steps after it while nothing is asked.
+#[tactic(auto, using(crate::proofs::Uses::makes_pass))]
+fn pass_on<'c, M: Copies<'c>>(
+    alloc: Global,
+    node: Node<M>,
+    pending: &mut Waiting<M>,
+    rows: &mut Table,
+) -> Result<(), NoMemory>
+    requires left { 0 < node.left }
+    requires plain { IsPlain (M.seen node.machine).program (M.seen node.machine).state }
+    ensures { OnOk result (Makes node.left (pending_of M.seen node)
+        (nodes_of M.seen pending.old.nodes.items) (rows_of rows.old.rows.items)
+        (nodes_of M.seen pending.new.nodes.items) (rows_of rows.new.rows.items)) }
+{
+    let next = pass(node)?;
+    settle(alloc, next, pending, rows)?;
+    Ok(())
+}
+
+/// Makes the next step of a node that has steps left, and the steps after it while nothing is
+/// asked.
+#[tactic(auto, using(crate::proofs::Uses::choosing, crate::proofs::Uses::chance_within, crate::proofs::Uses::is_plain, crate::proofs::Uses::over_ended, crate::proofs::Uses::makes_over))]
 fn expand<'c, M: Copies<'c>>(
     alloc: Global,
     node: Node<M>,
     pending: &mut Waiting<M>,
     rows: &mut Table,
 ) -> Result<(), NoMemory>
-    ensures { OnOk result (Settles (pending_of M.seen node)
+    requires { 0 < node.left }
+    ensures { OnOk result (Makes node.left (pending_of M.seen node)
         (nodes_of M.seen pending.old.nodes.items) (rows_of rows.old.rows.items)
         (nodes_of M.seen pending.new.nodes.items) (rows_of rows.new.rows.items)) }
 {
-    if node.left > 0 {
-        if let Ask::Choice(chance) = node.machine.asks() {
-            return branch(alloc, node, chance, pending, rows);
+    match node.machine.asks() {
+        Ask::Ended(end) => {
+            file(alloc, node, end, rows)?;
+            Ok(())
         }
+        Ask::Plain => pass_on(alloc, node, pending, rows),
+        Ask::Choice(chance) => branch(alloc, node, chance, pending, rows),
     }
-    put(alloc, node, pending, rows)
+}
+
+/// Makes steps of a node, or adds it to the rows if its runs end there.
+#[tactic(auto, using(crate::proofs::Uses::makes_over))]
+fn move_on<'c, M: Copies<'c>>(
+    alloc: Global,
+    node: Node<M>,
+    pending: &mut Waiting<M>,
+    rows: &mut Table,
+) -> Result<(), NoMemory>
+    ensures { OnOk result (Makes node.left (pending_of M.seen node)
+        (nodes_of M.seen pending.old.nodes.items) (rows_of rows.old.rows.items)
+        (nodes_of M.seen pending.new.nodes.items) (rows_of rows.new.rows.items)) }
+{
+    match end_of(&node) {
+        Some(end) => file(alloc, node, end, rows),
+        None => expand(alloc, node, pending, rows),
+    }
 }
 
 /// Makes steps of a node that has `most` steps left. A node with fewer steps left waits: a node
 /// that is behind may still be merged into it.
-#[tactic(auto, using(crate::proofs::Uses::settles_waiting))]
+#[tactic(auto, using(crate::proofs::Uses::makes_waiting, crate::proofs::Uses::makes_now))]
 pub(crate) fn make<'c, M: Copies<'c>>(
     alloc: Global,
     node: Node<M>,
@@ -297,7 +360,7 @@ pub(crate) fn make<'c, M: Copies<'c>>(
     pending: &mut Waiting<M>,
     rows: &mut Table,
 ) -> Result<(), NoMemory>
-    ensures { OnOk result (Settles (pending_of M.seen node)
+    ensures { OnOk result (Makes most (pending_of M.seen node)
         (nodes_of M.seen pending.old.nodes.items) (rows_of rows.old.rows.items)
         (nodes_of M.seen pending.new.nodes.items) (rows_of rows.new.rows.items)) }
 {
@@ -305,5 +368,5 @@ pub(crate) fn make<'c, M: Copies<'c>>(
         admit(alloc, pending, node)?;
         return Ok(());
     }
-    expand(alloc, node, pending, rows)
+    move_on(alloc, node, pending, rows)
 }

@@ -1,7 +1,7 @@
 //! Searches all outcomes of a program.
 
-ghost use Rattle.std.specs.Prelude.{◌≡◌, [], true, length, IfOk};
-ghost use Rattle.ick_outcomes.specs.Accounts.{SettlesAll, AreCounted};
+ghost use Rattle.std.specs.Prelude.{◌≡◌, ◌+◌, ◌≤◌, ◌⊎◌, [], true, length, IfOk};
+ghost use Rattle.ick_outcomes.specs.Accounts.{SettlesAll, AreCounted, IsMostLeft};
 ghost use Rattle.ick_outcomes.specs.Seen.{pending_of, rows_of, nodes_of};
 
 use crate::copies::Copies;
@@ -33,30 +33,43 @@ fn is_done<M: Drop>(waiting: &Waiting<M>) -> bool
     waiting.nodes.is_empty()
 }
 
+/// Returns the greater of two numbers.
+fn higher(one: u32, other: u32) -> u32
+    ensures one { one ≤ result }
+    ensures other { other ≤ result }
+    ensures either { (result ≡ one) ⊎ (result ≡ other) }
+{
+    if one < other {
+        return other;
+    }
+    one
+}
+
 /// Returns the greatest number of steps that a node has left.
-fn most_left<M: Drop>(nodes: &[Node<M>]) -> u32 {
+#[tactic(auto, using(crate::proofs::Uses::most_none, crate::proofs::Uses::most_more))]
+fn most_left<'c, M: Copies<'c>>(nodes: &[Node<M>]) -> u32
+    ensures { IsMostLeft result (nodes_of M.seen nodes.now) }
+{
     let mut most = 0;
-    for at in 0..nodes.len() {
-        if nodes[at].left > most {
-            most = nodes[at].left;
-        }
+    'nodes: for node in nodes {
+        most = higher(most, node.left);
     }
     most
 }
 
-/// Makes steps of the nodes that have the most steps left. So nodes are merged before they make
-/// further steps.
+/// Makes steps of the nodes that have `most` steps left, the most of all. So nodes are merged before
+/// they make further steps.
 #[tactic(auto, using(crate::proofs::Uses::settles_more, crate::proofs::Uses::settles_nothing))]
 fn round<'c, M: Copies<'c>>(
     alloc: Global,
     waiting: Waiting<M>,
+    most: u32,
     rows: &mut Table,
 ) -> Result<Waiting<M>, NoMemory>
-    ensures { IfOk result (λ later. SettlesAll (nodes_of M.seen waiting.nodes.items)
+    ensures { IfOk result (λ later. SettlesAll most (nodes_of M.seen waiting.nodes.items)
         [] (rows_of rows.old.rows.items)
         (nodes_of M.seen later.nodes.items) (rows_of rows.new.rows.items)) }
 {
-    let most = most_left(&waiting.nodes);
     let mut later = no_nodes(alloc);
     'nodes: for node in waiting.nodes {
         make(alloc, node, most, &mut later, rows)?;
@@ -66,7 +79,7 @@ fn round<'c, M: Copies<'c>>(
 
 /// Returns each outcome of the runs from a machine's state once, with the number of its runs, their
 /// weight and the first of them, in no order.
-#[tactic(auto, using(crate::proofs::Uses::counts_start, crate::proofs::Uses::counts_on, crate::proofs::Uses::counts_end))]
+#[tactic(auto, using(crate::proofs::Uses::counts_start, crate::proofs::Uses::counts_on, crate::proofs::Uses::counts_end, crate::proofs::Uses::counts_done))]
 pub(crate) fn count_outcomes<'c, M: Copies<'c>>(
     alloc: Global,
     machine: M,
@@ -85,11 +98,12 @@ pub(crate) fn count_outcomes<'c, M: Copies<'c>>(
         choices: Vec::new(alloc),
     };
     settle(alloc, node, &mut pending, &mut rows)?;
-    'rounds: for _ in 0..u64::MAX {
+    'rounds: for gone in 0..u64::from(limit) + 1 {
         if is_done(&pending) {
             return Ok(rows.rows);
         }
-        pending = round(alloc, pending, &mut rows)?;
+        let most = most_left(&pending.nodes);
+        pending = round(alloc, pending, most, &mut rows)?;
     }
-    Err(NoMemory)
+    Ok(rows.rows)
 }

@@ -1,13 +1,13 @@
 use Rattle.std.proofs.Common.{ap, ◌∙◌, true}
 use Rattle.ick_outcomes.specs.Accounts.{chosen}
 use Rattle.ick_outcomes.specs.Seen.{pending_of, rows_of, nodes_of}
-use Rattle.ick_outcomes.proofs.Uses.{settles_choice}
+use Rattle.ick_outcomes.proofs.Uses.{makes_choice}
 use Rattle.ick_outcomes.proofs.node.branch.Goals as goal
 
 pub returns : goal.returns
 returns g c =
     let seen = g.M.Copies.seen in
-    settles_choice (pending_of seen c.args.node) (pending_of seen c.in_ok-zero.zero) (pending_of seen c.in_ok-one.one)
+    makes_choice (pending_of seen c.args.node) (pending_of seen c.in_ok-zero.zero) (pending_of seen c.in_ok-one.one)
     c.args.chance (nodes_of seen c.args.pending.now.nodes.items) (nodes_of seen c.settle.new.pending.nodes.items)
     (nodes_of seen c.settle-2.new.pending.nodes.items) (rows_of c.args.rows.now.rows.items)
     (rows_of c.settle.new.rows.rows.items)

@@ -1,4 +1,4 @@
-use Rattle.std.proofs.Common.{[]}
+use Rattle.std.proofs.Common.{[], ◌+◌, ◌-◌}
 use Rattle.ick_outcomes.specs.Accounts.{IsAccount}
 use Rattle.ick_outcomes.specs.Weights.{amount}
 use Rattle.ick_outcomes.specs.Seen.{rows_of, nodes_of}
@@ -11,4 +11,4 @@ invariant-rounds g l = IsAccount (record {
   count = 1;
   weight = amount 1 0 l.limit;
   choices = [];
-}) (nodes_of g.M.Copies.seen l.pending.nodes.items) (rows_of l.rows.rows.items)
+}) (nodes_of g.M.Copies.seen l.pending.nodes.items) (rows_of l.rows.rows.items) (l.limit + 1 - l.gone)
