@@ -1,6 +1,7 @@
 -- Proves the lemmas in the form in which functions use them.
 use Prim.Native.Nat.{suc}
-use Rattle.std.proofs.Common.{◌≡◌, ◌⊎◌, take, inl, inr, ℕ, ◌+◌, ◌*◌, ◌-◌, ◌^◌, ◌<◌, ◌≤◌, Bool, true, false, length, List, []}
+use Rattle.std.proofs.Common.{◌⊎◌, take}
+use Rattle.std.proofs.Common.{◌≡◌, inl, inr, ℕ, ◌+◌, ◌*◌, ◌-◌, ◌^◌, ◌<◌, ◌≤◌, Bool, true, false, length, List, []}
 use Rattle.std.proofs.Common.{◌∷◌, ◌++◌, Option, Some, None}
 use Rattle.std.proofs.Common.{refl, ap, sym, ◌∙◌, subst, arith, slice_index_or, slice_set}
 use Rattle.std.specs.List.{Contains}
@@ -30,7 +31,8 @@ use Rattle.ick_outcomes.specs.declared.outcome.Outcome.{Outcome}
 use Rattle.ick_outcomes.proofs.PlaceByPlace.{lesser-before}
 use Rattle.ick_outcomes.proofs.Ends.{lesser-flip}
 use Rattle.ick_outcomes.proofs.Lists.{get-mapped, set-mapped, mapped-at, take-more}
-use Rattle.ick_outcomes.proofs.Sums.{admits-merge, admits-push, counts-set, counts-push, settles-admits, settles-counts, below-push, below-more, below-last}
+use Rattle.ick_outcomes.proofs.Sums.{admits-merge, admits-push, counts-set, counts-push, settles-admits, settles-counts}
+use Rattle.ick_outcomes.proofs.Sums.{below-push, below-more, below-last}
 use Rattle.ick_outcomes.proofs.Sums.{settles-like, settles-both, ahead-ended, ahead-limit, ahead-choice, ahead-runs}
 
 pub lesser_kept : (c d : List Bool) → IsBelow c d → lesser c d ≡ c

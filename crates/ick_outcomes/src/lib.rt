@@ -10,7 +10,7 @@
 //! | `pending`, `node`, `hints` | nodes, their steps, and how equal ones are found and merged |
 //! | `outcome`, `table`, `filing`, `index` | outcomes, and how runs are added to them |
 //! | `comparing` | the order of lists of choices |
-//! | `natural`, `fraction`, `text` | counts and weights of any length, and the text of a weight |
+//! | `natural`, `fraction`, `text` | counts and weights of any length, and their texts |
 //! | `laws` | laws of all summaries |
 #![tactic(auto)]
 
@@ -36,4 +36,4 @@ pub use laws::{one_summary, weights_are_products};
 pub use natural::Natural;
 pub use outcome::Outcome;
 pub use sorting::outcomes;
-pub use text::fraction_text;
+pub use text::{fraction_text, number_text};

@@ -57,8 +57,8 @@ fn most_left<'c, M: Copies<'c>>(nodes: &[Node<M>]) -> u32
     most
 }
 
-/// Makes steps of the nodes that have `most` steps left, the most of all. So nodes are merged before
-/// they make further steps.
+/// Makes steps of the nodes that have `most` steps left, the most of all. So nodes are merged
+/// before they make further steps.
 #[tactic(auto, using(crate::proofs::Uses::settles_more, crate::proofs::Uses::settles_nothing))]
 fn round<'c, M: Copies<'c>>(
     alloc: Global,
