@@ -5,7 +5,7 @@
 
 It needs the built program (a call of ./ick builds it), Python 3.8 and Linux.
 
-The sources are the deepest of tests/cli/hostile.py, with the highest expressions that are recognised, and a shallow one
+The sources are the deepest of tests/hostile, with the highest expressions that are recognised, and a shallow one
 beside them. For each source and each command the script prints the smallest limit of the stack in KiB under which ten
 runs end with status 0. The system chooses the stack's first address, so one run can need up to 8 KiB less than another.
 Nothing is judged.
@@ -17,8 +17,8 @@ import sys
 import tempfile
 
 HERE = os.path.dirname(os.path.realpath(__file__))
-sys.path.insert(0, os.path.join(HERE, "..", "tests", "cli"))
-from hostile import DEEPEST, limited  # noqa: E402
+sys.path.insert(0, os.path.join(HERE, "..", "tests", "hostile"))
+from deepest import DEEPEST, limited  # noqa: E402
 
 COMMANDS = ["check", "list", "run", "runs"]
 RUNS = 10

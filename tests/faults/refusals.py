@@ -1,7 +1,4 @@
-#!/usr/bin/env python3
 """Refuses every request for memory in turn, over a built test_refusals.
-
-  refusals.py PROGRAM
 
 The program attempts each row of its standard input K + 1 times, if the row makes K requests. In attempt N the Nth
 request is refused, and in the last attempt none. A request is refused in two ways:
@@ -12,17 +9,16 @@ request is refused, and in the last attempt none. A request is refused in two wa
 
 The program writes `refused: CALL` for the call that was refused: exactly once in each attempt by `write`, at most once
 in each by `one`, and never in the last. An attempt ends with the row's name if the row holds, and with `NAME: refused`
-if the refused call can't be made again. Each call of CALLS must be refused in both ways. The last line is 'N passed, M
-failed', counting attempts.
+if the refused call can't be made again. Each call of CALLS must be refused in both ways. Each attempt counts as one.
 """
 import collections
 import os
 import subprocess
-import sys
-import tempfile
 
-HERE = os.path.dirname(os.path.realpath(__file__))
-ROWS = os.path.join(HERE, "../../crates/test_refusals/stdin")
+from library import build_library
+from tally import TOP, text_of
+
+ROWS = os.path.join(TOP, "crates", "test_refusals", "stdin")
 CALLS = """read_source compile append_numeral append_decimal append_quoted append_message append_listing append_fault
 append_text from_text Copied::new Trailed::new Live::new run_with run_seeded run_stream after next write_runs
 serve""".split() + [f"{call} of {machine}" for machine in ("Copied", "Trailed") for call in ("step", "mark", "run")] + [
@@ -41,17 +37,13 @@ def rows_of(text):
     return found
 
 
-class Sweep:
-    def __init__(self, program, folder):
-        self.program = os.path.abspath(program)
-        self.library, self.log = (os.path.join(folder, name) for name in ("faults.so", "log"))
-        self.passed = self.failed = 0
-        subprocess.run([os.environ.get("CC", "cc"), "-O1", "-Wall", "-shared", "-fPIC", "-o", self.library,
-                        os.path.join(HERE, "faults.c")], check=True)
+class Refusals:
+    def __init__(self, tally, program, folder):
+        self.tally, self.program = tally, program
+        self.library, self.log = build_library(folder), os.path.join(folder, "log")
 
     def fail(self, what):
-        self.failed += 1
-        print(f"    {what}")
+        self.tally.check(False, f"    {what}")
 
     def run(self, rows, way):
         """Runs the program. Returns its lines, and for each attempt how many requests were made and refused."""
@@ -70,38 +62,32 @@ class Sweep:
         """Refuses each request of each row, and returns how often each call was refused."""
         due = [(name, at, at > count) for name, count in counts.items() for at in range(1, count + 2)]
         lines, parts = self.run([rows[name] for name, _, _ in due], way)
-        tally, told, done = collections.Counter(), [], 0
+        refused, told, done = collections.Counter(), [], 0
         for line in lines:
             if line.startswith(TOLD):
                 told.append(line[len(TOLD):])
             elif done < min(len(due), len(parts)):
                 name, at, is_last = due[done]
-                self.judge(f"{way}: {name}, at {at}", mistake(name, line, told, parts[done][1], way, is_last))
-                tally.update(told)
+                wrong = mistake(name, line, told, parts[done][1], way, is_last)
+                self.tally.check(not wrong, f"    {way}: {name}, at {at}: {wrong}")
+                refused.update(told)
                 told, done = [], done + 1
         if not done == len(due) == len(parts):
             self.fail(f"{way}: {done} attempts, and not {len(due)}")
-        return tally
-
-    def judge(self, attempt, wrong):
-        if wrong:
-            self.fail(f"{attempt}: {wrong}")
-        else:
-            self.passed += 1
+        return refused
 
     def all(self):
-        with open(ROWS, encoding="ascii") as file:
-            rows = rows_of(file.read())
+        rows = rows_of(text_of(ROWS))
         lines, parts = self.run(rows.values(), "none")
         if lines != list(rows):
             self.fail(f"with nothing refused: {[line for line in lines if line not in rows]}")
         counts = {name: requests for name, (requests, _) in zip(rows, parts)}
         for way in ("one", "write"):
-            tally = self.sweep(rows, counts, way)
+            refused = self.sweep(rows, counts, way)
             for call in CALLS:
-                if not tally[call]:
+                if not refused[call]:
                     self.fail(f"{way}: {call} is never refused")
-            print(f"{way}: {sum(counts.values())} requests of {len(rows)} rows; {dict(sorted(tally.items()))}")
+            print(f"{way}: {sum(counts.values())} requests of {len(rows)} rows; {dict(sorted(refused.items()))}")
 
 
 def mistake(name, line, told, refused, way, is_last):
@@ -111,13 +97,3 @@ def mistake(name, line, told, refused, way, is_last):
     if len(told) > (0 if is_last else 1) or (way == "write" and not told and not is_last):
         return f"the refused calls are {told}"
     return None if line == name or (told and line == f"{name}: refused") else line[:1000]
-
-
-if __name__ == "__main__":
-    if len(sys.argv) != 2:
-        sys.exit(__doc__)
-    with tempfile.TemporaryDirectory() as made:
-        sweep = Sweep(sys.argv[1], made)
-        sweep.all()
-    print(f"{sweep.passed} passed, {sweep.failed} failed")
-    sys.exit(sweep.failed > 0)

@@ -3,15 +3,13 @@ import os
 import re
 import subprocess
 
-SECONDS = 600
-SHOWN = 600
+from tally import SECONDS, Tally
 
 
 class Checking:
     def __init__(self, command, folder, number, random):
         self.command, self.folder, self.number, self.random = command, folder, number, random
-        self.passed, self.failed, self.said = 0, 0, []
-        self.last = []
+        self.tally, self.last = Tally(quiet=True), []
 
     def write(self, name, text):
         with open(os.path.join(self.folder, name), "wb") as file:
@@ -69,11 +67,7 @@ class Checking:
         else:
             same = found == wanted
         if same:
-            self.passed += 1
-            return True
-        self.failed += 1
-        if self.failed == 1:
-            self.said.append(f"program {self.number}:\n{self.source.decode()}input {self.input}")
-        self.said.append(f"program {self.number}, {name}, last {' '.join(self.last)}: {str(found)[:SHOWN]}, "
-                         f"and not {str(wanted)[:SHOWN]}")
-        return False
+            return self.tally.check(True, name)
+        if not self.tally.failed:
+            self.tally.say(f"program {self.number}:\n{self.source.decode()}input {self.input}")
+        return self.tally.equal(f"program {self.number}, {name}, last {' '.join(self.last)}", found, wanted)

@@ -9,10 +9,11 @@ import subprocess
 import sys
 import tempfile
 
-TOP = os.path.dirname(os.path.dirname(os.path.dirname(os.path.realpath(__file__))))
+from tally import TOP
+
 sys.path += [f"{TOP}/tests/cli", f"{TOP}/tests/fuzz"]
 from checks import entered
-from fuzz import Fuzzed
+from fuzzed import Fuzzed
 from language import AGAIN, CHECK, LIST, RUN, RUNS
 from large import LIMITS, large
 from table import PLAIN, SWEPT, Answer, Given
@@ -59,7 +60,7 @@ def compare_rows(tally, module):
     for given, wanted in rows:
         if not LACKING & {word for word in given.words if isinstance(word, str)}:
             found = module.answer(given.words, given.source, entered(given))
-            tally.equal(Answer(*found), wanted, f"the row {given.name}")
+            tally.equal(f"the row {given.name}", Answer(*found), wanted)
 
 
 def example_words(name):
@@ -91,15 +92,15 @@ def compare_examples(tally, module, program):
             for command in ("run", "runs", "list", "check"):
                 words = [command, *options.get(command, [])]
                 done = subprocess.run([program, *words, file.name], input=given, capture_output=True, check=False)
-                tally.equal(module.answer([*words, "FILE"], source, given), (done.returncode, done.stdout, done.stderr),
-                            f"ick {' '.join(words)} {name}.i")
+                tally.equal(f"ick {' '.join(words)} {name}.i", module.answer([*words, "FILE"], source, given),
+                            (done.returncode, done.stdout, done.stderr))
 
 
 class Held(Fuzzed):
     """A random program whose every call is also made by the module."""
 
-    def __init__(self, module, tally, *given):
-        self.module, self.tally, self.files = module, tally, {}
+    def __init__(self, module, answers, *given):
+        self.module, self.answers, self.files = module, answers, {}
         super().__init__(*given)
 
     def write(self, name, text):
@@ -109,8 +110,8 @@ class Held(Fuzzed):
     def called(self, words, **streams):
         found = super().called(words, **streams)
         given = streams.get("input", self.files["input"])
-        self.tally.equal(self.module.answer(words[1:], self.files["source"], given), found,
-                         f"program {self.number}: {' '.join(words[1:])}")
+        self.answers.equal(f"program {self.number}: {' '.join(words[1:])}",
+                           self.module.answer(words[1:], self.files["source"], given), found)
         return found
 
 
@@ -120,4 +121,4 @@ def compare_programs(tally, module, program, seed, numbers):
         for number in numbers:
             held = Held(module, tally, program, folder, seed, number)
             held.all()
-            tally.equal(held.failed, 0, f"what tests/fuzz finds in program {number}: {held.said}")
+            tally.equal(f"what tests/fuzz finds in program {number}: {held.tally.kept}", held.tally.failed, 0)

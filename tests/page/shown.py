@@ -67,7 +67,7 @@ def shown_examples(tally, page):
     """Each example, as it is chosen: what it prints, and its listings."""
     names = page.browser.evaluate("[...document.querySelectorAll('#example option')].map((it) => it.value).join()")
     there = {name[:-2] for name in os.listdir(f"{TOP}/examples") if name.endswith(".i")}
-    tally.equal(set(names.split(",")) - {""}, there, "the examples of the page")
+    tally.equal("the examples of the page", set(names.split(",")) - {""}, there)
     for name in sorted(there):
         page.choose(name)
         for job, part, ending in (("run", "output", "out"), ("runs", "listing", "runs"), ("list", "output", "list"),
@@ -75,12 +75,13 @@ def shown_examples(tally, page):
             wanted = read(f"{TOP}/examples/{name}.{ending}", None)
             if wanted is not None:
                 page.job(job)
-                tally.equal(page.text(part) or "", wanted.decode(), f"{job} of the example {name}")
+                tally.equal(f"{job} of the example {name}", page.text(part) or "", wanted.decode())
         if os.path.isfile(f"{TOP}/examples/{name}.err"):
             page.job("run")
-            tally.equal(page.text("errors"), read(f"{TOP}/examples/{name}.err").decode(), f"the message of {name}")
-        tally.equal(page.browser.evaluate("[...document.querySelectorAll('#library :checked')].map((it) => it.value)"
-                                          ".join()"), ",".join(example_words(name)[0]), f"the library of {name}")
+            tally.equal(f"the message of {name}", page.text("errors"), read(f"{TOP}/examples/{name}.err").decode())
+        tally.equal(f"the library of {name}",
+                    page.browser.evaluate("[...document.querySelectorAll('#library :checked')].map((it) => it.value)"
+                    ".join()"), ",".join(example_words(name)[0]))
 
 
 def question(tally, page):
@@ -88,22 +89,22 @@ def question(tally, page):
     page.choose("quiet")
     page.job("run")
     tally.check("asks for a choice" in page.status(), "a run that asks doesn't say so")
-    tally.equal(page.text("errors"), None, "a message beside the question")
+    tally.equal("a message beside the question", page.text("errors"), None)
     page.press("[data-choice='1']")
-    tally.equal((page.value("choices"), page.text("output")), ("1", "\nV\n"), "the run after one choice")
+    tally.equal("the run after one choice", (page.value("choices"), page.text("output")), ("1", "\nV\n"))
     page.press("[data-choice='0']")
-    tally.equal((page.value("choices"), page.text("output")), ("10", "\nV\n\nI\n"), "the run after both choices")
-    tally.equal(page.text("question-name"), None, "a question behind the end")
+    tally.equal("the run after both choices", (page.value("choices"), page.text("output")), ("10", "\nV\n\nI\n"))
+    tally.equal("a question behind the end", page.text("question-name"), None)
     page.set(choices="1")
     page.job("run")
     page.press("#back")
-    tally.equal((page.value("choices"), page.text("output")), ("", None), "the run without its last choice")
+    tally.equal("the run without its last choice", (page.value("choices"), page.text("output")), ("", None))
     page.choose("again")
     page.set(choices="1*70", limit="100")
     page.job("run")
     page.press("[data-choice='1']")
     page.press("[data-choice='0']")
-    tally.equal((page.value("choices"), page.status()[:19]), ("1*71,0*1", "The program gave up"), "choices in groups")
+    tally.equal("choices in groups", (page.value("choices"), page.status()[:19]), ("1*71,0*1", "The program gave up"))
 
 
 def stopping(tally, page):
@@ -116,7 +117,7 @@ def stopping(tally, page):
     tally.check(page.status().startswith("Stopped"), "the run wasn't stopped")
     page.choose("hello")
     page.job("run")
-    tally.equal(page.text("output"), "Hello, world!\n", "a run after a stop")
+    tally.equal("a run after a stop", page.text("output"), "Hello, world!\n")
 
 
 def going_on(tally, page):
@@ -128,9 +129,9 @@ def going_on(tally, page):
             page.job("runs")
         else:
             page.press("#more")
-        tally.equal(page.text("listing").count("\n"), wanted + 1, f"the lines of a listing with {wanted} runs")
-    tally.equal(page.text("listing"), read(f"{TOP}/examples/fair.runs").decode(), "a listing in parts")
-    tally.equal(page.text("more"), None, "a button behind the last run")
+        tally.equal(f"the lines of a listing with {wanted} runs", page.text("listing").count("\n"), wanted + 1)
+    tally.equal("a listing in parts", page.text("listing"), read(f"{TOP}/examples/fair.runs").decode())
+    tally.equal("a button behind the last run", page.text("more"), None)
     tally.check("22 runs, and no other" in page.status(), f"the status {page.status()!r} of a whole listing")
 
 
@@ -140,14 +141,14 @@ def tree(tally, page):
     page.choose("box")
     page.job("runs")
     names = page.browser.evaluate(f"{leaves}.join('|')").split("|")
-    tally.equal(names[0].startswith("Run 000000: E241@21"), True, f"the first of the ends {names}")
-    tally.equal(len(names), 3, "the ends of the box")
-    tally.equal(sum("62 runs" in name for name in names), 1, "an end of 62 runs")
-    tally.equal(names[1].startswith("Run 000001: GIVE-UP, output “Safe”"), True, f"the second of the ends {names}")
+    tally.equal(f"the first of the ends {names}", names[0].startswith("Run 000000: E241@21"), True)
+    tally.equal("the ends of the box", len(names), 3)
+    tally.equal("an end of 62 runs", sum("62 runs" in name for name in names), 1)
+    tally.equal(f"the second of the ends {names}", names[1].startswith("Run 000001: GIVE-UP, output “Safe”"), True)
     page.press_leaf(2)
-    tally.equal((page.value("choices"), page.text("output")), ("000010", "Safe\n"), "an end that is run again")
+    tally.equal("an end that is run again", (page.value("choices"), page.text("output")), ("000010", "Safe\n"))
     tally.check("run 000010" in page.status(), f"the status {page.status()!r} of an end")
-    tally.equal(page.text("listing").count("\n"), 65, "the listing behind an end that was run again")
+    tally.equal("the listing behind an end that was run again", page.text("listing").count("\n"), 65)
     page.choose("die")
     page.job("runs")
     page.press_leaf(0)
@@ -155,7 +156,7 @@ def tree(tally, page):
     page.choose("again")
     page.set(count="1", limit="10")
     page.job("runs")
-    tally.equal(page.browser.evaluate("document.querySelectorAll('.rest').length"), 1, "the rest of a listing")
+    tally.equal("the rest of a listing", page.browser.evaluate("document.querySelectorAll('.rest').length"), 1)
 
 
 CUT = "".join(f"{'DO' if at % 4 else 'PLEASE'} %50 READ OUT #3888\n" for at in range(16)) + "DO GIVE UP\n"
@@ -174,12 +175,12 @@ def large_trees(tally, page):
     page.job("runs")
     tally.check("16,384 runs, and no other" in page.status() and "1 outcome" in page.status(), "14 coins aren't listed")
     parts = "document.querySelectorAll('#tree :is(.dot, .branch, .leaf)').length"
-    tally.equal(page.browser.evaluate(parts), 15, "the parts of 14 quiet coins")
+    tally.equal("the parts of 14 quiet coins", page.browser.evaluate(parts), 15)
     page.set(source=CUT, count="70000")
     page.job("runs")
     tally.check("cut at 4 MiB" in page.status(), f"the status {page.status()!r} of a listing of more than 4 MiB")
     tally.check(page.browser.evaluate(parts) <= 200, "a drawing has more than 200 parts")
-    tally.equal(page.browser.evaluate(ROOT_IS_SEEN), True, "whether the root of a large tree is seen first")
+    tally.equal("whether the root of a large tree is seen first", page.browser.evaluate(ROOT_IS_SEEN), True)
     page.press("#fit")
     tree = "document.getElementById('tree')"
     tally.check(page.browser.evaluate(f"{tree}.scrollWidth <= {tree}.clientWidth"), "a tree isn't fitted")
@@ -202,13 +203,13 @@ def equal_parts(tally, page):
         if wanted > 200:
             tally.check(found <= 200, f"the tree of {path} has {found} parts")
             continue
-        tally.equal(found if wanted else 0, wanted, f"the parts of the tree of {path}")
+        tally.equal(f"the parts of the tree of {path}", found if wanted else 0, wanted)
     page.set(source="DO READ OUT #3999 + #4000\nDO %50 READ OUT #0\nPLEASE GIVE UP\n", limit="", seed="", choices="")
     page.job("runs")
     for kind, wanted in (("branch", "MMMCMXCIX, MV"), ("bar", "V,\u2007\u2007"),
                          ("leaf title", "Run 0: GIVE-UP, output 3999, 4000,Run 1: GIVE-UP, output 3999, 4000, 0")):
         texts = f"[...document.querySelectorAll('#tree .{kind}')].map((it) => it.textContent).join()"
-        tally.equal(page.browser.evaluate(texts), wanted, f"the texts of .{kind} in the tree")
+        tally.equal(f"the texts of .{kind} in the tree", page.browser.evaluate(texts), wanted)
 
 
 def type_source(page, text):
@@ -228,7 +229,7 @@ def keeping(tally, page):
     page.browser.evaluate("(window.isOld = true, location.reload())")
     page.browser.wait("!window.isOld && document.getElementById('made').textContent !== ''")
     page.idle()
-    tally.equal((page.value("source"), page.value("seed")), (text, "5"), "the form after a reload")
+    tally.equal("the form after a reload", (page.value("source"), page.value("seed")), (text, "5"))
     for how in ("the button", "Ctrl-Z"):
         page.choose("hello")
         page.choose("liars")
@@ -238,14 +239,14 @@ def keeping(tally, page):
         else:
             page.browser.evaluate("document.getElementById('source').focus()")
             page.browser.press("z", control=True)
-        tally.equal((page.value("source"), page.value("seed"), page.text("kept")), (text, "5", None),
-                    f"the form after {how}")
+        tally.equal(f"the form after {how}", (page.value("source"), page.value("seed"), page.text("kept")),
+                    (text, "5", None))
     page.choose("hello")
     page.press("#undo")
     page.choose("hello")
     page.open()
     page.choose("hello")
-    tally.equal(page.text("kept"), None, "what is kept if nothing was typed")
+    tally.equal("what is kept if nothing was typed", page.text("kept"), None)
 
 
 def marked(page):
@@ -257,22 +258,22 @@ def marked(page):
 def lines(tally, page):
     """Each line has its number. The lines of a fault, of a refusal and of advice are marked, and advice leads there."""
     type_source(page, "DO READ OUT #1\nDO .1 <- 5\nPLEASE GIVE UP\n")
-    tally.equal(page.text("numbers"), "1\n2\n3\n4\n", "the numbers of the lines")
+    tally.equal("the numbers of the lines", page.text("numbers"), "1\n2\n3\n4\n")
     page.browser.wait("document.querySelector('#numbers b') !== null")
-    tally.equal(marked(page), "2 wait", "the line of an advice")
+    tally.equal("the line of an advice", marked(page), "2 wait")
     page.press("#advice button")
     source = "document.getElementById('source')"
     chosen = page.browser.evaluate(f"{source}.value.slice({source}.selectionStart, {source}.selectionEnd)")
-    tally.equal(chosen, "DO .1 <- 5", "where an advice leads")
+    tally.equal("where an advice leads", chosen, "DO .1 <- 5")
     page.job("run")
-    tally.equal(marked(page), "2 bad", "the line of a fault")
+    tally.equal("the line of a fault", marked(page), "2 bad")
     tally.check("Line 2 E000 at statement 2" in page.text("advice"), f"the list of advice {page.text('advice')!r}")
     page.set(source="DO READ OUT #1\nPLEASE\nREAD OUT #70000\nDO GIVE UP\n")
     page.job("check")
-    tally.equal(marked(page), "2 bad,3 bad", "the line of a refusal, and of its advice")
+    tally.equal("the line of a refusal, and of its advice", marked(page), "2 bad,3 bad")
     page.choose("sort")
     page.job("run")
-    tally.equal(marked(page), "", "marks in a program without a mistake")
+    tally.equal("marks in a program without a mistake", marked(page), "")
 
 
 def same_advice(tally, page):
@@ -291,7 +292,7 @@ def same_advice(tally, page):
                                       ".map(({ line, text }) => `${line}: ${text}\n`).join('')")
         told = subprocess.run([f"{TOP}/tools/ick-advice"], input=text.encode(), capture_output=True, check=False).stdout
         wanted = re.sub(r"^-:(\d+):\d+:", r"\1:", told.decode(), flags=re.MULTILINE)
-        tally.equal(found, wanted, f"the advice on {text!r}")
+        tally.equal(f"the advice on {text!r}", found, wanted)
 
 
 def same_colours(tally, page):
@@ -308,7 +309,7 @@ def same_colours(tally, page):
             wanted = ["ick" + group for group, text in (it.split(" ", 1) for it in page_groups.split("\0") if it)
                       for letter in text if not letter.isspace()]
             found = [group for byte, group in zip(source, vim_groups) if not bytes([byte]).isspace()]
-            tally.equal(found, wanted, f"vim's groups in {name}")
+            tally.equal(f"vim's groups in {name}", found, wanted)
 
 
 def files(tally, page):
@@ -320,8 +321,9 @@ def files(tally, page):
         HTMLAnchorElement.prototype.click = function () { window.saved = this.download; };
         URL.createObjectURL = (blob) => { window.blob = blob; return 'blob:x'; }; 0""")
     page.press("#save")
-    tally.equal(page.browser.evaluate("window.blob.text().then((text) => `${window.saved} ${text}`)"),
-                "program.i DO GIVE UP\n", "the file that is saved")
+    tally.equal("the file that is saved",
+                page.browser.evaluate("window.blob.text().then((text) => `${window.saved} ${text}`)"),
+                "program.i DO GIVE UP\n")
 
 
 def links(tally, page):
@@ -334,14 +336,14 @@ def links(tally, page):
     page.browser.wait("document.getElementById('status').textContent.startsWith('The link is')")
     fragment = page.browser.evaluate("location.hash")
     page.open(fragment)
-    tally.equal({name: page.value(name) for name in fields}, fields, "the form of a link")
+    tally.equal("the form of a link", {name: page.value(name) for name in fields}, fields)
     ticked = page.browser.evaluate("document.querySelector('#library input').checked")
-    tally.equal(ticked, True, "the library of a link")
-    tally.equal(page.value("example"), "", "the example of a link")
+    tally.equal("the library of a link", ticked, True)
+    tally.equal("the example of a link", page.value("example"), "")
     page.open(fragment[:-9])
     tally.check("can’t be read" in page.status(), f"the status {page.status()!r} of a spoiled link")
     page.open("#status")
-    tally.equal(page.value("example"), "quiet", "the first example")
+    tally.equal("the first example", page.value("example"), "quiet")
 
 
 def failures(tally, page):
@@ -355,10 +357,10 @@ def failures(tally, page):
     page.choose("hello")
     page.set(source=GREEDY)
     page.job("run")
-    tally.equal(("status 4" in page.status(), page.text("errors")), (True, "OUT OF MEMORY\n"), "memory that runs out")
+    tally.equal("memory that runs out", ("status 4" in page.status(), page.text("errors")), (True, "OUT OF MEMORY\n"))
     page.choose("hello")
     page.job("run")
-    tally.equal(page.text("output"), "Hello, world!\n", "a run after memory ran out")
+    tally.equal("a run after memory ran out", page.text("output"), "Hello, world!\n")
     page.set(source=LONG, limit="3000000", seed="", choices="")
     page.job("run")
     tally.check("200,000 characters of 3,000,000." in page.text("output"), "a long output isn't cut")
@@ -370,7 +372,7 @@ def alone(tally, page):
         document.addEventListener('securitypolicyviolation', (event) => done(event.effectiveDirective));
         fetch('http://127.0.0.1:9/').catch(() => 0);
     })""")
-    tally.equal(refused, "connect-src", "what keeps the page from sending")
+    tally.equal("what keeps the page from sending", refused, "connect-src")
     for width in (320, 375, 1280):
         page.browser.resize(width, 800)
         page.choose("guess")
@@ -382,7 +384,7 @@ def alone(tally, page):
     controls = [it for it in nodes if not it["ignored"] and it["role"]["value"] in
                 {"button", "textbox", "combobox", "checkbox", "link", "group", "form", "region"}]
     nameless = [it["role"]["value"] for it in controls if not it.get("name", {}).get("value")]
-    tally.equal((len(controls) > 20, nameless), (True, []), "controls without a name")
+    tally.equal("controls without a name", (len(controls) > 20, nameless), (True, []))
 
 
 # The lowest contrast of a text with what is behind it, and the text.
@@ -423,7 +425,7 @@ def unable(tally, page):
     page.open()
     tally.check("Chrome" in page.text("notice") and "Firefox" in page.text("notice"), "the page doesn't name browsers")
     page.job("run")
-    tally.equal(page.text("output"), None, "an answer without a module")
+    tally.equal("an answer without a module", page.text("output"), None)
 
 
 def full_stack(tally, page):
@@ -431,4 +433,4 @@ def full_stack(tally, page):
     page.open()
     for _ in range(2):
         page.job("run")
-        tally.equal(("status 4" in page.status(), page.text("errors")), (True, "OUT OF STACK\n"), "a full stack")
+        tally.equal("a full stack", ("status 4" in page.status(), page.text("errors")), (True, "OUT OF STACK\n"))

@@ -137,7 +137,7 @@ def try_cut(tally):
     recognised = 0
     for name, source in sources:
         status, out, err = tally.ick("list", given=source)
-        tally.same(f"the cut of {name}: {source[:400]!r}", listed(source), out if status == 0 else refused(err))
+        tally.equal(f"the cut of {name}: {source[:400]!r}", listed(source), out if status == 0 else refused(err))
         recognised += status == 0
     tally.check(recognised > TEXTS // 3, f"only {recognised} texts were read")
 
@@ -147,7 +147,7 @@ def try_messages(tally):
     for source, wanted in ROWS:
         wanted = "".join(f"-:{line}\n" for line in wanted.format(**marks).splitlines()).encode()
         found = tally.tool("ick-advice", given=source.encode())
-        tally.same(f"advice on {source!r}", found, (1 if wanted else 0, wanted, b""))
+        tally.equal(f"advice on {source!r}", found, (1 if wanted else 0, wanted, b""))
 
 
 def try_examples(tally):
@@ -186,10 +186,10 @@ def try_explained(tally):
         status, out, _ = tally.tool("ick-advice", "--explain", str(number))
         tally.check(status == 0 and out.startswith(f"ICL{number:03}I: ".encode()), f"--explain {number}: {out!r}")
     for name in ("E017", "ICL017I"):
-        tally.same(name, tally.tool("ick-advice", "--explain", name), tally.tool("ick-advice", "--explain", "17"))
+        tally.equal(name, tally.tool("ick-advice", "--explain", name), tally.tool("ick-advice", "--explain", "17"))
     manual = content(f"{TOP}/docs/MANUAL.md").decode().split("\n## 16 ")[1].split("\n## ")[0]
     told = set(re.findall(r"^\| \d+ \| `([A-Z ]+)(?: AFTER n STEPS)?` \|", manual, re.MULTILINE)) | {"SOURCE TOO LONG"}
-    tally.same("the messages of the manual", told, set(ick_faults.MESSAGES))
+    tally.equal("the messages of the manual", told, set(ick_faults.MESSAGES))
     for name in ick_faults.MESSAGES:
         for words in ([name.lower()], [*name.split(), "AFTER", "3", "STEPS"]):
             status, out, err = tally.tool("ick-advice", "--explain", *words)
@@ -204,7 +204,7 @@ def try_line(tally):
     source = b"HELLO\nDO READ OUT #70000 (7) PLEASE\nGIVE UP"
     for line, wanted in (("2", b'-:1:1: statement 1: "HELLO"\n'), ("3", b'-:2:1: statement 2: "DO READ OUT #70000"\n'),
                          ("4", b'-:2:20: statement 3: "(7) PLEASE\\nGIVE UP"\n')):
-        tally.same(f"--line {line}", tally.tool("ick-advice", "--line", line, given=source), (0, wanted, b""))
+        tally.equal(f"--line {line}", tally.tool("ick-advice", "--line", line, given=source), (0, wanted, b""))
     for line in ("1", "5"):
         status, out, err = tally.tool("ick-advice", "--line", line, given=source)
         tally.check(status == 2 and not out and b"3 statements" in err, f"--line {line}: {status} {out!r} {err!r}")

@@ -1,35 +1,25 @@
-"""What the tests of the tools share: the program, the tools, and a tally."""
+"""What the tests of the tools share: the program and the tools, and the tests of every tool."""
 import glob
 import os
 import subprocess
 import sys
 
-TOP = os.path.dirname(os.path.dirname(os.path.dirname(os.path.realpath(__file__))))
+sys.path.insert(0, os.path.join(os.path.dirname(os.path.realpath(__file__)), ".."))
+from tally import SECONDS, TOP, Tally, called, content, text_of  # noqa: E402
+
 TOOLS = os.path.join(TOP, "tools")
 EXAMPLES = sorted(glob.glob(os.path.join(TOP, "examples", "*.i")))
 LIBRARY = [os.path.join(TOP, "library", name) for name in ("text.i", "arithmetic.i")]
-SECONDS = 600
 
 sys.path.insert(0, TOOLS)
 
 
-class Tally:
-    """How many tests passed and failed, and what could not be tried."""
+class ToolTally(Tally):
+    """A tally of the tests of tools, with a program `ick`."""
 
     def __init__(self, program):
+        super().__init__()
         self.program = os.path.realpath(program)
-        self.passed = self.failed = 0
-        self.untried = []
-
-    def check(self, good, text):
-        if good:
-            self.passed += 1
-        else:
-            self.failed += 1
-            print(text)
-
-    def same(self, name, found, wanted):
-        self.check(found == wanted, f"{name}\n  wanted {wanted!r}\n  found  {found!r}")
 
     def ick(self, *arguments, given=b""):
         return called([self.program, *arguments], given)
@@ -37,17 +27,6 @@ class Tally:
     def tool(self, name, *arguments, given=b"", path=None):
         environment = dict(os.environ, **({"PATH": path} if path is not None else {}))
         return called([sys.executable, os.path.join(TOOLS, name), *arguments], given, environment)
-
-
-def called(command, given=b"", environment=None):
-    """The exit status, the output and the standard error of a command."""
-    done = subprocess.run(command, input=given, capture_output=True, timeout=SECONDS, env=environment, check=False)
-    return done.returncode, done.stdout, done.stderr
-
-
-def content(path):
-    with open(path, "rb") as file:
-        return file.read()
 
 
 def pasted(path):
@@ -76,7 +55,7 @@ def closed_pipe(tally, name, arguments, given):
     done = subprocess.run([sys.executable, os.path.join(TOOLS, name), *arguments], input=given, stdout=writing,
                           stderr=subprocess.PIPE, timeout=SECONDS, check=False)
     os.close(writing)
-    tally.same(f"{name} into a closed pipe", done.stderr, b"")
+    tally.equal(f"{name} into a closed pipe", done.stderr, b"")
 
 
 def full_disk(tally, name, arguments, given):
@@ -94,5 +73,4 @@ def full_disk(tally, name, arguments, given):
 
 
 def number_of_version(tally, name):
-    with open(os.path.join(TOP, "VERSION"), encoding="ascii") as file:
-        tally.same(f"{name} --version", tally.tool(name, "--version"), (0, f"{name} {file.read()}".encode(), b""))
+    tally.equal(f"{name} --version", tally.tool(name, "--version"), (0, f"{name} {text_of(TOP, 'VERSION')}".encode(), b""))

@@ -87,18 +87,18 @@ def try_rows(tally):
     for options, source, wanted, places in ROWS:
         status, out, err = tally.tool("ick-convert", *options, given=source)
         found = [line.split(": ")[1][2:] for line in err.decode("utf-8", "replace").splitlines()]
-        tally.same(f"ick-convert {options} of {source!r}", (status, out, found), (0, wanted, places))
+        tally.equal(f"ick-convert {options} of {source!r}", (status, out, found), (0, wanted, places))
 
 
 def try_programs(tally):
     """Programs in EBCDIC come back as they were, and in small letters they run as before."""
     for name in ("bodies", "fibonacci"):
         source = content(f"{TOP}/examples/{name}.i")
-        tally.same(f"{name}.i from EBCDIC", tally.tool("ick-convert", "--from", "cp500", given=source.decode().encode("cp500")),
-                   (0, source, b""))
+        tally.equal(f"{name}.i from EBCDIC", tally.tool("ick-convert", "--from", "cp500", given=source.decode().encode("cp500")),
+                    (0, source, b""))
         _, out, _ = tally.tool("ick-convert", given=source.lower())
         fields = [[line.split(b" ")[:6] for line in tally.ick("list", given=text)[1].splitlines()] for text in (out, source)]
-        tally.same(f"{name}.i from small letters", fields[0], fields[1])
+        tally.equal(f"{name}.i from small letters", fields[0], fields[1])
 
 
 def try_refusals(tally):
@@ -116,26 +116,26 @@ def try_widths(tally):
     for written, wanted, number in WIDTHS:
         texts = [widths_program(expression).encode() for expression in (written, wanted)]
         status, out, err = tally.tool("ick-convert", "--widths", given=texts[0])
-        tally.same(f"--widths of {written}", (status, out, err.count(b"\n")), (0, texts[1], int(written != wanted)))
-        tally.same(f"the number of {wanted}", [pieces(tally.ick("run", given=out)[1])], [[number]])
+        tally.equal(f"--widths of {written}", (status, out, err.count(b"\n")), (0, texts[1], int(written != wanted)))
+        tally.equal(f"the number of {wanted}", [pieces(tally.ick("run", given=out)[1])], [[number]])
         status, out, err = tally.tool("ick-advice", given=texts[0])
-        tally.same(f"advice on {written}", (out.count(b"ick-convert --widths"), err), (int(written != wanted), b""))
+        tally.equal(f"advice on {written}", (out.count(b"ick-convert --widths"), err), (int(written != wanted), b""))
     for wow in (b"DO :1 <- \"V!1~.1'~:1\" PLEASE ,1SUB'V.1~:2!3 <- #1",):
         masked = b"DO :1 <- \"V'!1~.1'~:1'~'#65535$#65535'\" PLEASE ,1SUB'V\".1~:2\"~\"#65535$#65535\"!3 <- #1"
-        tally.same("--widths beside a wow", tally.tool("ick-convert", "--widths", given=wow)[1], masked)
+        tally.equal("--widths beside a wow", tally.tool("ick-convert", "--widths", given=wow)[1], masked)
 
 
 def try_come_from(tally):
     for source, wanted, fault in COME_FROM:
         status, text, err = tally.tool("ick-convert", "--come-from", given=source.encode())
         _, out, told = tally.ick("run", given=text)
-        tally.same(f"COME FROM in {source!r}", (status, pieces(out), told[:7]), (0, wanted, fault))
-        tally.same(f"what is told of {source!r}", err.count(b"COME FROM"), len(re.findall("COME FROM", source)))
+        tally.equal(f"COME FROM in {source!r}", (status, pieces(out), told[:7]), (0, wanted, fault))
+        tally.equal(f"what is told of {source!r}", err.count(b"COME FROM"), len(re.findall("COME FROM", source)))
     source = b"(1) DO READ OUT #1\nPLEASE GIVE UP\n(2) DO %30 COME FROM (1)\nDO READ OUT #2\nDO GIVE UP"
-    tally.same("a COME FROM with a chance", tally.ick("runs", given=tally.tool("ick-convert", "--come-from", given=source)[1]),
-               (0, b'0 GIVE-UP "\\nI\\n"\n1 GIVE-UP "\\nI\\n\\nII\\n"\nDONE\n', b""))
+    tally.equal("a COME FROM with a chance", tally.ick("runs", given=tally.tool("ick-convert", "--come-from", given=source)[1]),
+                (0, b'0 GIVE-UP "\\nI\\n"\n1 GIVE-UP "\\nI\\n\\nII\\n"\nDONE\n', b""))
     for source in (b"DO NOT COME FROM HERE\nPLEASE GIVE UP", b"PLEASE NOTE: COME FROM (5) DO\n"):
-        tally.same(f"--come-from of {source!r}", tally.tool("ick-convert", "--come-from", given=source), (0, source, b""))
+        tally.equal(f"--come-from of {source!r}", tally.tool("ick-convert", "--come-from", given=source), (0, source, b""))
     for source, place, reason in NO_COME_FROM:
         status, out, err = tally.tool("ick-convert", "--come-from", given=source.encode())
         tally.check(status == 1 and not out and err.startswith(f"ick-convert: -:{place}: ".encode())
@@ -160,7 +160,7 @@ def try_large(tally):
         before = os.times().children_user
         status, out, err = tally.tool("ick-convert", given="#1¢\n".encode() * count)
         seconds.append(os.times().children_user - before)
-        tally.same(f"{count} changes", (status, out.count(b"$"), err.count(b"\n")), (0, count, count))
+        tally.equal(f"{count} changes", (status, out.count(b"$"), err.count(b"\n")), (0, count, count))
     tally.check(seconds[1] < 7 * seconds[0], f"50,000 and 200,000 changes took {seconds} seconds")
 
 

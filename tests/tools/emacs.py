@@ -56,15 +56,14 @@ def try_eglot(tally):
         name = os.path.basename(one)
         wanted = [f"{name}: {line} ick: {text.strip()}" for _, line, _, text in told]
         found = [line for line in lines if line.startswith(f"{name}: ")]
-        tally.same(f"the advice on {name} by eglot", sorted(found), sorted(wanted))
+        tally.equal(f"the advice on {name} by eglot", sorted(found), sorted(wanted))
     answers = [line.partition(": ")[::2] for line in lines if not line.partition(":")[0].endswith(".i")]
     for (name, text), (wanted_name, wanted) in zip(answers + [("", "")] * len(ANSWERS), ANSWERS):
         tally.check(name == wanted_name and wanted in text, f"eglot, {wanted_name}: {text!r} has no {wanted!r}")
 
 
 def try_all(tally):
-    if not shutil.which("emacs"):
-        tally.untried.append("the mode for Emacs, and ick-lsp by eglot (emacs-nox, elpa-eglot)")
+    if tally.lacks("emacs", "the mode for Emacs, and ick-lsp by eglot"):
         return
     try_faces(tally)
     if called(["emacs", "--batch", "-Q", "--eval", HAS_EGLOT])[0]:

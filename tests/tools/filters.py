@@ -22,13 +22,13 @@ NO_OBJECTS = (b"[]\n", b"{}\n", b"1\n", b"x\n", b'{"listing": "END"}\n', b'{"cho
 
 def try_json(tally):
     status, out, err = tally.tool("ick-json", "--numerals", given=RUNS)
-    tally.same("ick-json of runs", (status, err, [json.loads(line) for line in out.splitlines()]), (0, b"", list(OBJECTS)))
+    tally.equal("ick-json of runs", (status, err, [json.loads(line) for line in out.splitlines()]), (0, b"", list(OBJECTS)))
     listing = RUNS + b"".join(map(content, sorted(glob.glob(f"{TOP}/examples/*.runs") + glob.glob(f"{TOP}/examples/*.list"))))
     status, out, err = tally.tool("ick-json", given=listing)
     bare = b"".join(json.dumps({key: value for key, value in json.loads(line).items() if key not in ("output", "text")})
                     .encode() + b"\n" for line in out.splitlines())
-    tally.same("ick-json of the examples' listings, and back", (status, err, tally.tool("ick-json", "--back", given=bare)),
-               (0, b"", (0, listing, b"")))
+    tally.equal("ick-json of the examples' listings, and back", (status, err, tally.tool("ick-json", "--back", given=bare)),
+                (0, b"", (0, listing, b"")))
     for options, lines in (([], WRONG), (["--back"], NO_OBJECTS)):
         for line in lines:
             status, out, err = tally.tool("ick-json", *options, given=line)
@@ -48,12 +48,12 @@ def try_say(tally):
         status, out, err = tally.tool("ick-say", "--array", "7", given=text)
         polite = out.count(b"PLEASE ,7") + out.count(b"PLEASE READ")
         source = out + b"DO GIVE UP\n"
-        tally.same(f"ick-say of {text[:20]!r}", (status, err, tally.ick("run", given=source)), (0, b"", (0, text, b"")))
+        tally.equal(f"ick-say of {text[:20]!r}", (status, err, tally.ick("run", given=source)), (0, b"", (0, text, b"")))
         tally.check(polite == len(out.splitlines()) // 4, f"ick-say of {text[:20]!r}: {polite} polite")
     _, first, _ = tally.tool("ick-say", "Hello,", "you")
     _, second, _ = tally.tool("ick-say", "--after", "10", "again")
-    tally.same("two texts", tally.ick("run", given=first + second + b"DO GIVE UP"), (0, b"Hello, you\nagain\n", b""))
-    tally.same("no text", tally.tool("ick-say", given=b""), (0, b"", b""))
+    tally.equal("two texts", tally.ick("run", given=first + second + b"DO GIVE UP"), (0, b"Hello, you\nagain\n", b""))
+    tally.equal("no text", tally.tool("ick-say", given=b""), (0, b"", b""))
     for size, wanted in ((44000, 0), (60000, 2)):
         status, out, err = tally.tool("ick-say", given=bytes(range(250)) * (size // 250))
         tally.check(status == wanted and (tally.ick("check", given=out + b"DO GIVE UP")[0] == 0 if wanted == 0 else not out),
@@ -75,15 +75,15 @@ def try_wimp(tally):
     _, names, _ = tally.tool("ick-wimp", "in", given=decimal)
     status, numerals, err = tally.ick("run", path, given=names)
     tally.check(status == 0, f"numbers in: {status} {err!r}")
-    tally.same("numbers out", tally.tool("ick-wimp", "out", given=numerals), (0, decimal, b""))
+    tally.equal("numbers out", tally.tool("ick-wimp", "out", given=numerals), (0, decimal, b""))
     for given, wanted in ((b"12 x OH 0\n\n7", b"ONE TWO x OH ZERO\n\nSEVEN"), (b"1a 2\n", b"1a TWO\n")):
-        tally.same(f"ick-wimp in of {given!r}", tally.tool("ick-wimp", "in", given=given), (0, wanted, b""))
+        tally.equal(f"ick-wimp in of {given!r}", tally.tool("ick-wimp", "in", given=given), (0, wanted, b""))
     for given, wanted in (
             (b"\nI\n", b"1\n"), (b"_\n\n", b"0\n"), (b"\n\nI\n", b"\n1\n"), (b"\nMILD\n", b"\nMILD\n"), (b"\nIIII\n", b"\nIIII\n"),
             (b" _\nMV", b" _\nMV"), (b"", b""), (b"_", b"_"), (b"\xff\x00\n", b"\xff\x00\n"), (b"_ \nV\n", b"_ \nV\n"),
             (b'01 GIVE-UP "\\nV\\n_\\n\\n"\nDONE\n', b'01 GIVE-UP "5\\n0\\n"\nDONE\n'),
             (b'0 E275@1 "x\\x80"\n', b'0 E275@1 "x\\x80"\n')):
-        tally.same(f"ick-wimp out of {given!r}", tally.tool("ick-wimp", "out", given=given), (0, wanted, b""))
+        tally.equal(f"ick-wimp out of {given!r}", tally.tool("ick-wimp", "out", given=given), (0, wanted, b""))
 
 
 def try_all(tally):

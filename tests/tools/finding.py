@@ -31,9 +31,9 @@ def try_all(tally):
         status, out, err = called(words, environment={**environment, "PATH": f"{top}/path:{os.environ['PATH']}", **more})
         return os.path.normpath(out.decode().strip()) if status == 0 else err.decode().splitlines()[-1]
 
-    tally.same("ick that ICK names", found(ICK=on_path), on_path)
+    tally.equal("ick that ICK names", found(ICK=on_path), on_path)
     for path in (inside, beside, built, on_path):
-        tally.same(f"the first ick of {path}", found(), path)
+        tally.equal(f"the first ick of {path}", found(), path)
         os.remove(path)
     tally.check("is another program" in found(PATH=f"{top}/other:{os.environ['PATH']}"), "C-INTERCAL's ick on the PATH")
     tally.check("is another program" in found(ICK=other), "another program by ICK")

@@ -29,12 +29,12 @@ def try_all(tally):
     for source, behind, told in ROWS:
         status, out, err = tally.tool("ick-join", "--with", floats, given=source)
         found = [line.split(": ", 1)[1].replace(floats, "floats") for line in err.decode().splitlines()]
-        tally.same(f"ick-join of {source!r}", (status, found), (0, told))
+        tally.equal(f"ick-join of {source!r}", (status, found), (0, told))
         tally.check(out == source + b"\n" * (not source.endswith(b"\n") and bool(source)) + behind, f"{source!r}: {out[:99]!r}")
-    tally.same("a sum", tally.ick("run", given=tally.tool("ick-join", given=SUM)[1]), (0, b"\nV\n", b""))
+    tally.equal("a sum", tally.ick("run", given=tally.tool("ick-join", given=SUM)[1]), (0, b"\nV\n", b""))
     for source, reason in REFUSED:
         status, out, err = tally.tool("ick-join", "--with", floats, given=source)
         last = err.decode().replace(floats, "floats").splitlines()[-1]
         tally.check(status == 1 and not out and last.endswith(reason), f"ick-join of {source!r}: {status} {err!r}")
     status, out, err = tally.tool("ick-join", "--with", "/no/such/file", given=SUM)
-    tally.same("no library", (status, out, err), (2, b"", b"ick-join: /no/such/file: No such file or directory\n"))
+    tally.equal("no library", (status, out, err), (2, b"", b"ick-join: /no/such/file: No such file or directory\n"))

@@ -32,7 +32,7 @@ def talk(tally, *asked, ends=True):
         given += framed({"method": method, "params": parameters, **request})
     end = framed({"id": 99, "method": "shutdown"}) + framed({"method": "exit"}) if ends else b""
     status, out, err = tally.tool("ick-lsp", given=given + end)
-    tally.same("ick-lsp's standard error", err, b"")
+    tally.equal("ick-lsp's standard error", err, b"")
     return status, messages(out)
 
 
@@ -63,18 +63,18 @@ def try_diagnostics(tally):
     """The advice comes once when a program has changed. Places count UTF-16 units."""
     text = "PLEASE NOTE \U0001f648 \u00e9 DO .1 <- 5\nDO GIVE UP\n"
     _, found = talk(tally, ("initialize", {}), opened(text))
-    tally.same("the advice on a program with wide letters",
-               [[(one["range"]["start"], one["severity"]) for one in told] for told in diagnostics(found)],
-               [[({"line": 0, "character": text.index("DO") + 1}, 2)]])
+    tally.equal("the advice on a program with wide letters",
+                [[(one["range"]["start"], one["severity"]) for one in told] for told in diagnostics(found)],
+                [[({"line": 0, "character": text.index("DO") + 1}, 2)]])
     change = "textDocument/didChange", {"textDocument": {"uri": URI}, "contentChanges": [{"text": "DO GIVE UP\n"}]}
     status, found = talk(tally, ("initialize", {}), opened(text), change)
-    tally.same("the advice after a change", (status, diagnostics(found)), (0, [[]]))
+    tally.equal("the advice after a change", (status, diagnostics(found)), (0, [[]]))
     for path in EXAMPLES:
         source = pasted(path)
         _, found = talk(tally, opened(source.decode("latin-1")))
         told = [line.split(b": ", 1) for line in tally.tool("ick-advice", given=source)[1].splitlines()]
         wanted = [(int(place.split(b":")[1]) - 1, int(place.split(b":")[2]) - 1, text.decode()) for place, text in told]
-        tally.same(f"the advice on {path}", [(one["range"]["start"]["line"], one["range"]["start"]["character"],
+        tally.equal(f"the advice on {path}", [(one["range"]["start"]["line"], one["range"]["start"]["character"],
                                               one["message"]) for one in diagnostics(found)[0]], wanted)
 
 
@@ -90,13 +90,13 @@ def try_answers(tally):
     for number, wanted in ((1, "**E436**: RETRIEVE has nothing"), (2, "Its chance is 50%"), (3, "**E436**"),
                            (4, "(1610): writes the byte `.1`")):
         tally.check(wanted in found[number]["contents"]["value"], f"hover: {found[number]!r} has no {wanted!r}")
-    tally.same("the definition of (1)", found[5], {"uri": URI, "range": place})
+    tally.equal("the definition of (1)", found[5], {"uri": URI, "range": place})
     library = found[6] or {"uri": "", "range": {"start": {"line": 0}}}
     line = content(library["uri"].replace("file://", "")).splitlines()[library["range"]["start"]["line"]]
     tally.check(library["uri"].endswith("/text.i") and line.startswith(b"(1610)"), f"(1610) in the library: {library!r}")
-    tally.same("no definition", (found[7], found[10]), (None, None))
-    tally.same("the uses of (1)", sorted(one["range"]["start"]["line"] for one in found[8]), [0, 1, 4])
-    tally.same("the symbols", [one["name"] for one in found[9]], ["(1)"])
+    tally.equal("no definition", (found[7], found[10]), (None, None))
+    tally.equal("the uses of (1)", sorted(one["range"]["start"]["line"] for one in found[8]), [0, 1, 4])
+    tally.equal("the symbols", [one["name"] for one in found[9]], ["(1)"])
 
 
 def applied(text, edits):
@@ -117,19 +117,19 @@ def try_politeness(tally):
         many, one = results(found)[1]
         changed = applied(text, many["edit"]["changes"][URI])
         tally.check("Say PLEASE in" in many["title"] and many["isPreferred"], f"the action for {name}: {many['title']}")
-        tally.same(f"the refusals of {name}", ick_source.refusals(ick_source.cut(changed.encode())), [])
-        tally.same(f"ick check of {name}", tally.ick("check", given=changed.encode())[0], 0)
+        tally.equal(f"the refusals of {name}", ick_source.refusals(ick_source.cut(changed.encode())), [])
+        tally.equal(f"ick check of {name}", tally.ick("check", given=changed.encode())[0], 0)
         word = "PLEASE" if name == "no PLEASE" else "DO"
         tally.check(f"{word} GIVE UP" in applied(text, one["edit"]["changes"][URI]), f"one statement of {name}")
     _, found = talk(tally, opened("HELLO\nDO GIVE UP\n"), acted(0))
-    tally.same("actions on what is no statement", results(found)[1], [])
+    tally.equal("actions on what is no statement", results(found)[1], [])
 
 
 def try_mistakes(tally):
     status, found = talk(tally, ("initialize", {}), ("no/such", {}), at("hover", 0, 0))
-    tally.same("answers to mistakes", (status, [one.get("error", {}).get("code") for one in found]),
-               (0, [None, -32601, -32603, None]))
-    tally.same("the status without shutdown", talk(tally, ("initialize", {}), ends=False)[0], 1)
+    tally.equal("answers to mistakes", (status, [one.get("error", {}).get("code") for one in found]),
+                (0, [None, -32601, -32603, None]))
+    tally.equal("the status without shutdown", talk(tally, ("initialize", {}), ends=False)[0], 1)
     for options, wanted, text in ((["--help"], 0, b"Exit status"), (["--version"], 0, b"ick-lsp "), (["--x"], 2, b"")):
         status, out, _ = tally.tool("ick-lsp", *options)
         tally.check(status == wanted and text in out, f"ick-lsp {options}: {status} {out!r}")

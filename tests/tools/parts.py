@@ -15,6 +15,7 @@ import time
 from concurrent.futures import ThreadPoolExecutor
 
 from common import SECONDS, TOOLS, TOP, called, content
+from tally import write
 
 from ick_parts import Refused
 from ick_parts.cursors import FIRST, LAST, argument_of, first_run, follows, read_place, show_place
@@ -76,7 +77,7 @@ class Case:
             file.write(source)
         _, self.whole, _ = tally.ick("runs", "--count", "1000000", "--limit", str(limit), path, given=given)
         tally.check(self.whole.endswith(b"DONE\n"), f"{name} isn't listed whole: {self.whole[-40:]!r}")
-        tally.same(f"begin {name}", self.call("begin", path, "--limit", str(limit), given=given), (0, b"", b""))
+        tally.equal(f"begin {name}", self.call("begin", path, "--limit", str(limit), given=given), (0, b"", b""))
 
     def call(self, command, *arguments, given=b"", **more):
         words = [sys.executable, PARTS, command, self.folder, *map(str, arguments)]
@@ -143,7 +144,7 @@ def try_cursors(tally):
     for place in (FIRST, LAST, "0", "01" * 32, "01" * 33, "0" * 99 + "1"):
         tally.check(place == read_place(show_place(place)) == read_place(argument_of(place)), f"place {place}")
     _, out, _ = tally.ick("runs", "--limit", "300", "--from", "1*78,0*1", given=PROGRAMS["again"][0].encode())
-    tally.same("a cursor as ick prints it", show_place(first_run(out)), out.split(b" ")[0].decode())
+    tally.equal("a cursor as ick prints it", show_place(first_run(out)), out.split(b" ")[0].decode())
     for cursor in ("2", "0*0", "0*1,", "01*2", "*1", "0*01", " 0", "^", "MORE"):
         try:
             tally.check(read_place(cursor) is None, f"{cursor!r} is read as a cursor")
@@ -164,7 +165,7 @@ def try_check(tally):
 
     kept = sys.stdin
     for text, wanted in ((b'- LIMIT ""\nDONE\n', 1), (b"0 A\n1 A\nDONE\n", 2), (b"0 A\n100 A\n101 A\n11 A\nDONE\n", 4)):
-        tally.same(f"check of {text!r}", checked(text), wanted)
+        tally.equal(f"check of {text!r}", checked(text), wanted)
     for text in (b"", b"DONE\n", b"0 A\nDONE\n", b"1 A\nDONE\n", b"0 A\n1 A\n", b"0 A\n1 A", b"0 A\n0 A\n1 A\nDONE\n",
                  b"00 A\n01 A\n11 A\nDONE\n", b"0 A\nMORE\n1 A\nDONE\n", b"0 A\n1 A\nDONE\nDONE\n", b"- A\n- A\nDONE\n",
                  b"- A\n0 A\n1 A\nDONE\n", b"0 A\n10 A\n110 A\n1111 A\nDONE\n", b"x\n", b"0\n1\nDONE\n",
@@ -186,11 +187,11 @@ def try_splits(tally):
             results = case.parts(made)
             least = 1 if name in ("again", "one") else min(count, 2)
             tally.check(least <= made <= count, f"{name} in {count}: {made} pieces")
-            tally.same(f"parts of {name} in {made}", results, [(0, b"", b"")] * made)
-            tally.same(f"join of {name} in {made}", case.call("join"), (0, case.whole, b""))
-            tally.same(f"plan of {name} behind its end", case.plan(3), 0)
-    tally.same("check of even", called([sys.executable, PARTS, "check"], Case(tally, "even").whole),
-               (0, b"8192 RUNS\n", b""))
+            tally.equal(f"parts of {name} in {made}", results, [(0, b"", b"")] * made)
+            tally.equal(f"join of {name} in {made}", case.call("join"), (0, case.whole, b""))
+            tally.equal(f"plan of {name} behind its end", case.plan(3), 0)
+    tally.equal("check of even", called([sys.executable, PARTS, "check"], Case(tally, "even").whole),
+                (0, b"8192 RUNS\n", b""))
     case = Case(tally, "even")
     status, out, err = case.call("plan", 5, "--short", SECONDS)
     tally.check((status, out) == (0, b"1\n") and b"one piece" in err, f"plan of a short listing: {status} {err!r}")
@@ -240,18 +241,13 @@ def try_damage(tally):
     case.finishes("after a damaged segment was removed")
 
 
-def write(path, text):
-    with open(path, "wb") as file:
-        file.write(text)
-
-
 def try_foreign(tally):
     """Two processes on a piece make one listing. What is of another job, program, input or ick is refused."""
     case = Case(tally, "even")
     case.plan(2)
     with ThreadPoolExecutor(4) as pool:
         results = list(pool.map(lambda which: case.call("part", which), (1, 1, 2, 2)))
-    tally.same("each piece twice", (results, case.call("join")), ([(0, b"", b"")] * 4, (0, case.whole, b"")))
+    tally.equal("each piece twice", (results, case.call("join")), ([(0, b"", b"")] * 4, (0, case.whole, b"")))
     other = Case(tally, "letters", "other")
     other.parts(other.plan(2))
     shutil.copytree(f"{other.folder}/parts/1-1", f"{case.folder}/parts/9-9")
@@ -334,7 +330,7 @@ def try_disks(tally):
     tally.check(status == 4 and b"No space left" in err, f"join to a full disk: {status} {err!r}")
     reading, writing = os.pipe()
     os.close(reading)
-    tally.same("join into a closed pipe", ended(case.start("join", stdout=writing)), (-signal.SIGPIPE, b""))
+    tally.equal("join into a closed pipe", ended(case.start("join", stdout=writing)), (-signal.SIGPIPE, b""))
     os.close(writing)
 
 
@@ -344,8 +340,8 @@ def try_arguments(tally):
         status, out, err = called([path, "--help"])
         tally.check(status == 0 and b"Example" in out and b"Exit status" in out and not err, f"{name} --help: {err!r}")
         status, out, err = called([path, "--version"])
-        tally.same(f"{name} --version", (status, out, err),
-                   (0, f"{name} ".encode() + content(os.path.join(TOP, "VERSION")), b""))
+        tally.equal(f"{name} --version", (status, out, err),
+                    (0, f"{name} ".encode() + content(os.path.join(TOP, "VERSION")), b""))
         for words in (["--no-such-option"], [], ["job"]):
             status, out, err = called([path, *words])
             tally.check(status == 2 and not out and err.count(b"\n") < 6, f"{name} {words}: {status} {err!r}")
@@ -371,10 +367,10 @@ def try_arguments(tally):
 def try_verify(tally):
     """Each file that is damaged or missing is named; if it is removed, the next plan cuts its runs again."""
     case = Case(tally, "even")
-    tally.same("verify of nothing", case.call("verify"), (0, b"nothing is damaged, and runs are missing behind -: "
+    tally.equal("verify of nothing", case.call("verify"), (0, b"nothing is damaged, and runs are missing behind -: "
                                                              b"plan again\n", b""))
     case.parts(case.plan(5))
-    tally.same("verify of all", case.call("verify"), (0, b"nothing is damaged, and all runs are listed\n", b""))
+    tally.equal("verify of all", case.call("verify"), (0, b"nothing is damaged, and all runs are listed\n", b""))
     first, second, third, *_ = case.lines()
     text = content(first)
     write(first, text[:99] + b"?" + text[100:])
@@ -383,7 +379,7 @@ def try_verify(tally):
     write(f"{third}.seals", seals.replace(b"\n", b" x\n", 1))
     status, out, err = case.call("verify")
     named = re.findall(rb"^(\S+?)(?:\.seals)? is (?:damaged|missing).*: remove .*, and plan again$", out, re.MULTILINE)
-    tally.same("what verify names", (status, sorted(named), err), (1, [os.fsencode(it) for it in (first, second, third)],
+    tally.equal("what verify names", (status, sorted(named), err), (1, [os.fsencode(it) for it in (first, second, third)],
                                                                    b"ick-parts: 3 segments are damaged\n"))
     for path in (first, third, f"{first}.seals", f"{second}.seals", f"{third}.seals"):
         os.unlink(path)
@@ -402,8 +398,8 @@ STATUS = re.compile(rb"(\d+)% listed: ([\d,]+) of about ([\d,]+) runs, (.*)\n")
 
 def try_status(tally):
     case = Case(tally, "even")
-    tally.same("status before a plan", case.call("status"),
-               (0, b"about 0 runs are listed, and it isn't known of how many\n", b""))
+    tally.equal("status before a plan", case.call("status"),
+                (0, b"about 0 runs are listed, and it isn't known of how many\n", b""))
     case.plan(4)
     for which in range(1, 4):
         case.call("part", which)
@@ -414,12 +410,12 @@ def try_status(tally):
                     and .7 < whole / 8192 < 1.4 and found[4].endswith(b"left"),
                     f"status after {lines} of 8192 runs: {found and found[0]}")
     case.finishes("status")
-    tally.same("status of all", case.call("status"), (0, b"100% listed: about 8,192 runs\n", b""))
+    tally.equal("status of all", case.call("status"), (0, b"100% listed: about 8,192 runs\n", b""))
     tally.check(abs(lines_of(segments_of(Job(case.folder))[0]) - content(case.lines()[0]).count(b"\n")) < 9, "lines of")
     write(f"{case.folder}/plan", b"1\n- DONE " + f"{1 << 99999:x}\n".encode())
     shutil.rmtree(f"{case.folder}/parts")
-    tally.same("status of 2^99999 runs", case.call("status"),
-               (0, b"0% listed: 0 of about 10^30102 runs, and no time is known yet\n", b""))
+    tally.equal("status of 2^99999 runs", case.call("status"),
+                (0, b"0% listed: 0 of about 10^30102 runs, and no time is known yet\n", b""))
 
 
 class Listed(Prober):
@@ -502,11 +498,11 @@ def parallel_kills(tally):
     with subprocess.Popen(command, stdin=subprocess.DEVNULL, stderr=subprocess.PIPE, env=case.environment) as running:
         wait_for(lambda: sum(content(f"{path}.seals").count(b"\n") > 1 for path in case.lines()) == 2)
         killed = processes_of(case)
-        tally.same("the parts of a round", len(killed), 2)
+        tally.equal("the parts of a round", len(killed), 2)
         for process in killed:
             os.kill(process, signal.SIGKILL)
         wait_for(lambda: len(case.lines()) > 2)
-        tally.same("ick-parts-parallel with two killed parts", running.wait(SECONDS), 0)
+        tally.equal("ick-parts-parallel with two killed parts", running.wait(SECONDS), 0)
         err = running.stderr.read()
     tally.check(b"100% listed: about 8,192 runs\n" in err, f"no status in the log of ick-parts-parallel: {err!r}")
     case.finishes("by ick-parts-parallel with two killed parts")
@@ -519,9 +515,9 @@ def parallel_kills(tally):
                               ) as running:
             wait_for(lambda: sum(content(f"{path}.seals").count(b"\n") > 1 for path in case.lines()) == 2)
             os.killpg(running.pid, number) if number == signal.SIGINT else running.send_signal(number)
-            tally.same(f"ick-parts-parallel at {number.name}", running.wait(SECONDS), wanted)
+            tally.equal(f"ick-parts-parallel at {number.name}", running.wait(SECONDS), wanted)
             wait_for(lambda: not processes_of(case))
-        tally.same(f"parts that are left after {number.name}", processes_of(case), [])
+        tally.equal(f"parts that are left after {number.name}", processes_of(case), [])
         del case.environment["FAIL"]
         case.finishes(f"after {number.name}")
 

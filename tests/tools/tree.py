@@ -1,7 +1,6 @@
 """Tries ick-tree: the parts and edges that it draws in dot's language, and Graphviz's pictures of them."""
 import re
 import resource
-import shutil
 
 from common import TOP, closed_pipe, full_disk, help_and_mistakes
 
@@ -58,8 +57,8 @@ def drawn(dot):
 def try_rows(tally):
     for listing, options, parts, edges in ROWS:
         status, out, err = tally.tool("ick-tree", "--format", "dot", *options, given=listing)
-        tally.same(f"ick-tree {options} of {listing!r}", (status, err, *drawn(out.decode())),
-                   (0, b"", sorted(parts), sorted(edges)))
+        tally.equal(f"ick-tree {options} of {listing!r}", (status, err, *drawn(out.decode())),
+                    (0, b"", sorted(parts), sorted(edges)))
 
 
 def try_refusals(tally):
@@ -90,9 +89,9 @@ def try_large(tally):
     """Equal parts are one before anything is cut. Of unequal ones as many are remembered as a drawing can have."""
     _, out, _ = tally.tool("ick-tree", "--format", "dot", given=listing(14, lambda run: b'GIVE-UP ""'))
     parts, edges = drawn(out.decode())
-    tally.same("the tree of 14 quiet coins", (parts, edges),
-               (["16,384 runs"] * 14 + ["GIVE-UP 16,384 runs"], [("0 1", "16,384 runs")] * 13
-                + [("0 1", "GIVE-UP 16,384 runs")]))
+    tally.equal("the tree of 14 quiet coins", (parts, edges),
+                (["16,384 runs"] * 14 + ["GIVE-UP 16,384 runs"], [("0 1", "16,384 runs")] * 13
+                 + [("0 1", "GIVE-UP 16,384 runs")]))
     given = listing(16, lambda run: b'%s "%d"' % (b"E241@5" if run % 1024 < 3 else b"GIVE-UP", run))
     before = resource.getrusage(resource.RUSAGE_CHILDREN).ru_maxrss
     for depth in (None, 10):
@@ -102,15 +101,14 @@ def try_large(tally):
         cut = [part for part in parts if ":" in part]
         wanted = (["2,048 runs: 2,042 GIVE-UP, 6 E241"] * 32 if depth is None
                   else ["64 runs: 61 GIVE-UP, 3 E241"] * 64 + ["64 runs: 64 GIVE-UP"] * 960)
-        tally.same(f"what is cut {options}", (status, cut, len(parts)), (0, wanted, 2 * len(wanted) - 1))
+        tally.equal(f"what is cut {options}", (status, cut, len(parts)), (0, wanted, 2 * len(wanted) - 1))
     used = resource.getrusage(resource.RUSAGE_CHILDREN).ru_maxrss
     tally.check(used <= max(before, 200_000), f"ick-tree takes {used} KB for 65,536 unequal runs")
 
 
 def try_pictures(tally):
     _, listing, _ = tally.ick("runs", f"{TOP}/examples/quiet.i")
-    if not shutil.which("dot"):
-        tally.untried.append("the pictures of ick-tree (Graphviz)")
+    if tally.lacks("dot", "the pictures of ick-tree"):
         return
     status, out, err = tally.tool("ick-tree", given=listing)
     tally.check(status == 0 and b"<svg" in out and b"GIVE&#45;UP" in out and not err, f"ick-tree as SVG: {status} {err!r}")

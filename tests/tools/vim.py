@@ -1,7 +1,6 @@
 """Tries the syntax file for vim: identifiers and comments have their groups, and no recognised statement has an error."""
 import os
 import random
-import shutil
 import sys
 
 from common import EXAMPLES, LIBRARY, TOP, called, content
@@ -41,7 +40,7 @@ def try_groups(tally, name, source, names):
     ends = {place for place, byte in enumerate(source) if byte in b" \n"}
     for group, wanted in (("ickIdentifier", identifiers), ("ickComment", comments)):
         found = {place for place, one in enumerate(names) if one == group}
-        tally.same(f"{group} in {name}", sorted(found - ends), sorted(wanted - ends))
+        tally.equal(f"{group} in {name}", sorted(found - ends), sorted(wanted - ends))
     wrong = sorted(place for place in recognised if names[place] == "ickUnread")
     tally.check(not wrong, f"{name}: vim shows {[source[place:place + 20] for place in wrong[:3]]} as an error")
 
@@ -54,8 +53,7 @@ def groups_of(paths):
 
 
 def try_all(tally):
-    if not shutil.which("vim"):
-        tally.untried.append("the syntax file for vim (vim)")
+    if tally.lacks("vim", "the syntax file for vim"):
         return
     tried = [(name, source, f"{tally.folder}/{at}.i") for at, (name, source) in enumerate(sources())]
     for _, source, path in tried:

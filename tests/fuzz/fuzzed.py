@@ -1,17 +1,5 @@
-#!/usr/bin/env python3
-"""Random programs over a built ick, which is held against itself and against what is known of each program.
-
-  fuzz.py PROGRAM [--seed N] [--programs N] [--first N]
-
-Each program, with its input, limits, cursors and arguments, comes from the seed and its number alone. The last line is
-'N passed, M failed', counting checks. README.md says what is checked, and how to look at one program again.
-"""
-import argparse
-import concurrent.futures
-import os
+"""One random program over a built ick, which is held against itself and against what is known of the program."""
 import random
-import sys
-import tempfile
 
 import seeds
 from checking import Checking
@@ -20,7 +8,6 @@ from programs import Maker, asks, decided, input_for, listing_of, source_of, tex
 
 MANY = 40
 MILLION = 1_000_000
-PART = 8
 
 
 def steps_in(errors):
@@ -199,40 +186,3 @@ class Fuzzed(Checking):
         self.seeded(lines, done)
         self.streams()
         self.chances_decided()
-
-
-def fuzz(command, seed, numbers):
-    """Checks programs, and returns how many checks passed, how many failed, and what is to be said of these."""
-    passed, failed, said = 0, 0, []
-    with tempfile.TemporaryDirectory() as folder:
-        for number in numbers:
-            fuzzed = Fuzzed(command, folder, seed, number)
-            fuzzed.all()
-            passed, failed = passed + fuzzed.passed, failed + fuzzed.failed
-            said += fuzzed.said
-    return passed, failed, said
-
-
-def main():
-    parser = argparse.ArgumentParser()
-    parser.add_argument("program")
-    parser.add_argument("--seed", type=int, default=1)
-    parser.add_argument("--programs", type=int, default=1000)
-    parser.add_argument("--first", type=int, default=1)
-    given = parser.parse_args()
-    passed, failed = 0, 0
-    numbers = range(given.first, given.first + given.programs)
-    parts = [numbers[at:at + PART] for at in range(0, len(numbers), PART)]
-    with concurrent.futures.ProcessPoolExecutor(len(os.sched_getaffinity(0))) as pool:
-        command = os.path.abspath(given.program)
-        for done in pool.map(fuzz, [command] * len(parts), [given.seed] * len(parts), parts):
-            passed, failed = passed + done[0], failed + done[1]
-            for line in done[2]:
-                print(line, flush=True)
-    print(f"{given.programs} programs")
-    print(f"{passed} passed, {failed} failed")
-    sys.exit(failed > 0)
-
-
-if __name__ == "__main__":
-    main()
