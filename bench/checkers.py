@@ -18,12 +18,11 @@ as long as `ick` each takes. SPIN's times are without making and compiling its p
 import os
 import shutil
 import subprocess
-import sys
 import tempfile
 
+from measuring import measured_well, print_heading, print_row, program_to_measure, run, stop, written
 from workloads import polite
 
-HERE = os.path.dirname(os.path.realpath(__file__))
 CHOICES = 19
 ROUNDS = 15
 
@@ -73,23 +72,10 @@ end:
 """
 
 
-def measured(words, out):
+def times(words, out):
     """The processor time of a command that prints into a file, and the system's share of it."""
-    with open(os.devnull) as nothing, open(out, "wb") as file:
-        child = subprocess.Popen(words, stdin=nothing, stdout=file, stderr=file)
-        _, status, usage = os.wait4(child.pid, 0)
-        child.returncode = os.waitstatus_to_exitcode(status) if hasattr(os, "waitstatus_to_exitcode") else status
-    if child.returncode:
-        sys.exit(f"checkers.py: {words[0]} ended with status {child.returncode}")
-    return usage.ru_utime + usage.ru_stime, usage.ru_stime
-
-
-def written(folder, name, text):
-    """A file of a text."""
-    path = os.path.join(folder, name)
-    with open(path, "w", encoding="ascii") as file:
-        file.write(text)
-    return path
+    with open(out, "wb") as file:
+        return measured_well(words, stdout=file, stderr=file)[:2]
 
 
 def searcher(folder, name, model, *flags):
@@ -109,12 +95,10 @@ def lines_in(path):
 
 
 def main():
-    ick = os.path.abspath(sys.argv[1] if len(sys.argv) == 2 else os.path.join(HERE, "../crates/ick/out/ick"))
-    if len(sys.argv) > 2 or sys.argv[1:] in (["-h"], ["--help"]):
-        sys.exit(__doc__)
-    for need in (ick, "spin", "maude"):
+    ick = program_to_measure(__doc__)
+    for need in ("spin", "maude"):
         if not shutil.which(need):
-            sys.exit(f"checkers.py: there is no command {need}")
+            stop(f"there is no command {need}")
     with tempfile.TemporaryDirectory() as folder:
         source, maude = written(folder, "runs.i", PROGRAM), written(folder, "runs.maude", MAUDE)
         silent, telling = spin_model("", ""), spin_model('c_decl { \\#include "tell.h" }', TELLING)
@@ -131,20 +115,14 @@ def main():
         for number in range(ROUNDS):
             for name, words in commands.items():
                 if name != "Maude" or number % 3 == 0:
-                    least[name] = min(least[name], measured(words, outs[name]))
+                    least[name] = min(least[name], times(words, outs[name]))
         of_ick, of_spin = lines_in(outs["`ick runs`"]), lines_in(outs["SPIN, a write for each line"])
     if of_spin != of_ick or len(of_ick) != 2**CHOICES:
-        sys.exit("checkers.py: the lines of SPIN are not those of ick")
-    print("| Checker | s | system, s | times |")
-    print("|---|---|---|---|")
+        stop("the lines of SPIN are not those of ick")
+    print_heading("Checker", "s", "system, s", "times")
     for name, (time, system) in least.items():
-        print(f"| {name} | {time:.3f} | {system:.3f} | {time / least['`ick runs`'][0]:.1f} |")
+        print_row(name, f"{time:.3f}", f"{system:.3f}", f"{time / least['`ick runs`'][0]:.1f}")
 
 
 if __name__ == "__main__":
-    try:
-        main()
-    except (OSError, subprocess.CalledProcessError) as error:
-        sys.exit(f"checkers.py: {error}")
-    except KeyboardInterrupt:
-        sys.exit(130)
+    run(main)

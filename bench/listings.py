@@ -18,16 +18,14 @@ listing of one run.
 And in turns, the least of twenty rounds each: a step of the fourth program's runs, while marks stand, and a step of the
 same loops by `ick run`, where nothing is marked. Nothing is judged.
 """
-import os
 import re
 import shutil
 import subprocess
-import sys
 import tempfile
 
+from measuring import measured, print_heading, print_row, program_to_measure, run, written
 from workloads import WORKLOADS, loop, polite
 
-HERE = os.path.dirname(os.path.realpath(__file__))
 ROUNDS = 5
 TURNS = 20
 LISTED = 60
@@ -63,23 +61,6 @@ def steps(before, chances, after, runs):
     return made
 
 
-def measured(words):
-    """The processor time and the resident memory in KiB of a command that prints to nowhere."""
-    with open(os.devnull, "r+b") as nowhere:
-        child = subprocess.Popen(words, stdin=nowhere, stdout=nowhere, stderr=nowhere)
-        _, status, usage = os.wait4(child.pid, 0)
-        child.returncode = status
-    return usage.ru_utime + usage.ru_stime, usage.ru_maxrss
-
-
-def written(folder, name, source):
-    """A file of a source."""
-    path = os.path.join(folder, name)
-    with open(path, "w", encoding="ascii") as file:
-        file.write(source)
-    return path
-
-
 def listing(ick, limit, runs, path):
     """The command that lists the first runs of a program."""
     return [ick, "runs", "--limit", str(limit), "--count", str(runs), path]
@@ -94,12 +75,12 @@ def instructions(words, folder):
 
 def count_instructions(ick, folder):
     """Prints the instructions that a run takes in a listing."""
-    print("\n| Program | instructions a run |")
-    print("|---|---|")
+    print()
+    print_heading("Program", "instructions a run")
     for name, (source, _, _, _, limit, counts) in PROGRAMS.items():
         path, runs = written(folder, "program.i", source), min(counts[-1], 16_384)
         first, all_runs = (instructions(listing(ick, limit, count, path), folder) for count in (1, runs))
-        print(f"| {name} | {(all_runs - first) / (runs - 1):,.0f} |", flush=True)
+        print_row(name, f"{(all_runs - first) / (runs - 1):,.0f}")
 
 
 def compare(ick, folder):
@@ -115,7 +96,7 @@ def compare(ick, folder):
     least = {name: float("inf") for name in commands}
     for _ in range(TURNS):
         for name, words in commands.items():
-            least[name] = min(least[name], measured(words)[0])
+            least[name] = min(least[name], measured(words).seconds)
     marked = (least["listing"] - least["first run"]) \
         / (steps(before, chances, after, LISTED) - steps(before, chances, after, 1))
     plain = (least["run"] - least["no run"]) / LIMIT
@@ -124,31 +105,21 @@ def compare(ick, folder):
 
 
 def main():
-    ick = os.path.abspath(sys.argv[1] if len(sys.argv) == 2 else os.path.join(HERE, "../crates/ick/out/ick"))
-    if len(sys.argv) > 2 or sys.argv[1:] in (["-h"], ["--help"]):
-        sys.exit(__doc__)
-    if not os.access(ick, os.X_OK) or os.path.isdir(ick):
-        sys.exit(f"listings.py: {ick} is no program that can be run: a call of ./ick builds ick")
-    print("| Program | runs | s | runs a second | steps a second | ns a step | MiB |")
-    print("|---|---|---|---|---|---|---|")
+    ick = program_to_measure(__doc__)
+    print_heading("Program", "runs", "s", "runs a second", "steps a second", "ns a step", "MiB")
     with tempfile.TemporaryDirectory() as folder:
         for name, (source, before, chances, after, limit, counts) in PROGRAMS.items():
             path = written(folder, "program.i", source)
             for runs in counts:
                 found = [measured(listing(ick, limit, runs, path)) for _ in range(ROUNDS)]
-                time, memory = min(it[0] for it in found), max(it[1] for it in found)
+                time, memory = min(it.seconds for it in found), max(it.memory for it in found)
                 made = steps(before, chances, after, runs)
-                print(f"| {name} | {runs:,} | {time:.3f} | {runs / time:,.0f} | {made / time:,.0f} "
-                      f"| {time / made * 1e9:.1f} | {memory / 1024:.0f} |", flush=True)
+                print_row(name, f"{runs:,}", f"{time:.3f}", f"{runs / time:,.0f}", f"{made / time:,.0f}",
+                          f"{time / made * 1e9:.1f}", f"{memory / 1024:.0f}")
         if shutil.which("valgrind"):
             count_instructions(ick, folder)
         compare(ick, folder)
 
 
 if __name__ == "__main__":
-    try:
-        main()
-    except OSError as error:
-        sys.exit(f"listings.py: {error}")
-    except KeyboardInterrupt:
-        sys.exit(130)
+    run(main)

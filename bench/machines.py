@@ -12,12 +12,12 @@ machine is measured. All runs must make equally many steps. Nothing else is judg
 """
 import os
 import subprocess
-import sys
 import tempfile
 
+import measuring
+from measuring import print_heading, print_row, program_to_measure, stop
 from workloads import NOTHING, WORKLOADS
 
-HERE = os.path.dirname(os.path.realpath(__file__))
 MACHINES = {"copied": "Copied", "trailed": "Trailed", "live": "Live"}
 STEPS = 20_000_000
 ROUNDS = 10
@@ -34,7 +34,7 @@ def run(program, machine, source, runs):
         child.returncode = status
         child.stdout.close()
     if status or len(words) != 2 * runs or len(set(words[1::2])) != 1:
-        sys.exit(f"machines.py: {program} {machine} ended with status {status} and printed {words[:6]}")
+        stop(f"{program} {machine} ended with status {status} and printed {words[:6]}")
     return usage.ru_utime + usage.ru_stime, int(words[1])
 
 
@@ -42,7 +42,7 @@ def least(program, source):
     """The least time that a step takes on each machine, and how many steps each makes."""
     made = {run(program, machine, source, 1)[1] for machine in MACHINES}
     if len(made) != 1:
-        sys.exit(f"machines.py: the machines don't make equally many steps: {sorted(made)}")
+        stop(f"the machines don't make equally many steps: {sorted(made)}")
     steps = made.pop()
     runs = max(1, STEPS // steps)
     best = {}
@@ -61,23 +61,12 @@ def least(program, source):
 
 
 def main():
-    program = os.path.abspath(sys.argv[1] if len(sys.argv) == 2 else os.path.join(HERE, "../crates/bench_steps/out/bench_steps"))
-    if len(sys.argv) > 2 or sys.argv[1:] in (["-h"], ["--help"]):
-        sys.exit(__doc__)
-    if not os.access(program, os.X_OK) or os.path.isdir(program):
-        sys.exit(f"machines.py: {program} is no program that can be run: `rt run` in crates/bench_steps builds it")
-    print("| Program | steps | " + " | ".join(f"`{name}`, ns" for name in MACHINES.values()) + " |")
-    print("|---|---|" + "---|" * len(MACHINES))
+    program = program_to_measure(__doc__, "bench_steps")
+    print_heading("Program", "steps", *[f"`{name}`, ns" for name in MACHINES.values()])
     for name in sorted(WORKLOADS):
         best, steps = least(program, WORKLOADS[name])
-        row = [f"{best[machine] * 1e9:.1f}" for machine in MACHINES]
-        print(f"| `{name}` | {steps:,} | " + " | ".join(row) + " |", flush=True)
+        print_row(f"`{name}`", f"{steps:,}", *[f"{best[machine] * 1e9:.1f}" for machine in MACHINES])
 
 
 if __name__ == "__main__":
-    try:
-        main()
-    except OSError as error:
-        sys.exit(f"machines.py: {error}")
-    except KeyboardInterrupt:
-        sys.exit(130)
+    measuring.run(main)

@@ -9,6 +9,8 @@ import os
 import random
 import sys
 
+from measuring import run
+
 SIZE = 1_048_576
 
 
@@ -69,7 +71,8 @@ def names():
 def deep_groups():
     while True:
         for depth in (255, 256, 1):
-            yield "DO .1 <- " + "'\"" * (depth // 2) + "'" * (depth % 2) + "#1" + "'" * (depth % 2) + "\"'" * (depth // 2) + "\nPLEASE DO FORGET #1\nDO FORGET #1\n"
+            opened, closed = "'\"" * (depth // 2) + "'" * (depth % 2), "'" * (depth % 2) + "\"'" * (depth // 2)
+            yield f"DO .1 <- {opened}#1{closed}\nPLEASE DO FORGET #1\nDO FORGET #1\n"
 
 
 def long_chains():
@@ -116,9 +119,4 @@ def main():
 
 
 if __name__ == "__main__":
-    try:
-        main()
-    except OSError as error:
-        sys.exit(f"sources.py: {error}")
-    except KeyboardInterrupt:
-        sys.exit(130)
+    run(main)

@@ -19,9 +19,9 @@ import sys
 import tempfile
 import time
 
+from measuring import TOP, measured_well, print_heading, print_row, program_to_measure, run, stop
 from workloads import NOTHING
 
-HERE = os.path.dirname(os.path.realpath(__file__))
 COMPILER = "/usr/bin/ick"
 ROUNDS = 41
 JOBS = 9
@@ -31,13 +31,8 @@ OPTIONS = ("-b", "-bO")
 
 def seconds(words, source, folder=None):
     """The processor time of a command and its children, with a file as its input, that prints to nowhere."""
-    with open(source, "rb") as lines, open(os.devnull, "wb") as nowhere:
-        child = subprocess.Popen(words, cwd=folder, stdin=lines, stdout=nowhere, stderr=nowhere)
-        _, status, usage = os.wait4(child.pid, 0)
-        child.returncode = status
-    if status:
-        raise OSError(f"{' '.join(words)} ends with {status}")
-    return usage.ru_utime + usage.ru_stime
+    with open(source, "rb") as lines:
+        return measured_well(words, cwd=folder, stdin=lines).seconds
 
 
 def printed(words, source):
@@ -111,52 +106,44 @@ def least(table, rounds, measure):
     return best
 
 
-def row(name, best, digits):
-    """A line of a table: milliseconds, and how many times as long the others take."""
+def print_times(name, best, digits):
+    """Prints a line of a table: milliseconds, and how many times as long the others take."""
     mine = best["ick run"]
     cells = [f"{mine * 1000:.{digits}f}"]
     for option in OPTIONS:
         cells += [f"{best[option] * 1000:.{digits}f}", f"{best[option] / mine:.2f}"] if option in best else ["", ""]
-    return f"| {name} | " + " | ".join(cells) + " |"
+    print_row(name, *cells)
 
 
-def head(title):
-    names = " | ".join(f"C-INTERCAL `{option}`, ms | ratio" for option in OPTIONS)
-    return f"| {title} | `ick run`, ms | {names} |\n|---|---|---|---|---|---|"
+def print_head(title):
+    print_heading(title, "`ick run`, ms", *[name for it in OPTIONS for name in (f"C-INTERCAL `{it}`, ms", "ratio")])
 
 
 def main():
-    program = os.path.abspath(sys.argv[1] if len(sys.argv) == 2 else os.path.join(HERE, "../crates/ick/out/ick"))
-    if len(sys.argv) > 2 or sys.argv[1:] in (["-h"], ["--help"]):
-        sys.exit(__doc__)
-    if not os.access(program, os.X_OK) or os.path.isdir(program):
-        sys.exit(f"speed.py: {program} is no program that can be run: a call of ./ick builds ick")
+    program = program_to_measure(__doc__)
     with tempfile.TemporaryDirectory() as folder:
-        if subprocess.run([sys.executable, os.path.join(HERE, "workloads.py"), folder]).returncode:
-            sys.exit("speed.py: there are no programs to measure")
+        if subprocess.run([sys.executable, f"{TOP}/bench/workloads.py", folder]).returncode:
+            stop("there are no programs to measure")
         lines = os.path.join(folder, "lines")
         sources = sorted(it for it in os.listdir(folder) if it.endswith(".i"))
         table = {it: commands(program, os.path.join(folder, it), folder) for it in sources}
         for name in sources:
             found = {printed(words, lines) for words in table[name].values()}
             if len(found) > 1:
-                sys.exit(f"speed.py: what {name} prints isn't the same")
+                stop(f"what {name} prints isn't the same")
         start = least(table["tiny.i"], ROUNDS, lambda words: seconds(words, lines))
-        print(head("Run alone"))
+        print_head("Run alone")
         for name in sources:
             if name != "tiny.i":
-                print(row(name[:-2], alone(table[name], os.path.join(folder, name), folder, start, lines), 2), flush=True)
-        print("\n" + head("Whole job"))
+                best = alone(table[name], os.path.join(folder, name), folder, start, lines)
+                print_times(name[:-2], best, 2)
+        print()
+        print_head("Whole job")
         for name in sources:
             source = os.path.join(folder, name)
             best = least(jobs(program, source, folder), JOBS, lambda job: seconds(job[0], lines, job[1]))
-            print(row(name[:-2], best, 1), flush=True)
+            print_times(name[:-2], best, 1)
 
 
 if __name__ == "__main__":
-    try:
-        main()
-    except (OSError, subprocess.CalledProcessError) as error:
-        sys.exit(f"speed.py: {error}")
-    except KeyboardInterrupt:
-        sys.exit(130)
+    run(main)

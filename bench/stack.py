@@ -10,14 +10,14 @@ beside them. For each source and each command the script prints the smallest lim
 runs end with status 0. The system chooses the stack's first address, so one run can need up to 8 KiB less than another.
 Nothing is judged.
 """
-import os
 import resource
 import subprocess
 import sys
 import tempfile
 
-HERE = os.path.dirname(os.path.realpath(__file__))
-sys.path.insert(0, os.path.join(HERE, "..", "tests", "hostile"))
+from measuring import TOP, print_heading, print_row, program_to_measure, run, written
+
+sys.path.insert(0, f"{TOP}/tests/hostile")
 from deepest import DEEPEST, limited  # noqa: E402
 
 COMMANDS = ["check", "list", "run", "runs"]
@@ -53,26 +53,13 @@ def needed(words):
 
 
 def main():
-    program = os.path.abspath(sys.argv[1] if len(sys.argv) == 2 else os.path.join(HERE, "../crates/ick/out/ick"))
-    if len(sys.argv) > 2 or sys.argv[1:] in (["-h"], ["--help"]):
-        sys.exit(__doc__)
-    if not os.access(program, os.X_OK) or os.path.isdir(program):
-        sys.exit(f"stack.py: {program} is no program that can be run: a call of ./ick builds ick")
+    program = program_to_measure(__doc__)
     with tempfile.TemporaryDirectory() as folder:
-        print("| Source | " + " | ".join(f"`{it}`, KiB" for it in COMMANDS) + " |")
-        print("|---|" + "---|" * len(COMMANDS))
+        print_heading("Source", *[f"`{it}`, KiB" for it in COMMANDS])
         for name, text, _ in [SHALLOW] + DEEPEST:
-            source = os.path.join(folder, "source.i")
-            with open(source, "w", encoding="ascii") as file:
-                file.write(text)
-            row = [str(needed([program, command, source])) for command in COMMANDS]
-            print(f"| {name} | " + " | ".join(row) + " |", flush=True)
+            source = written(folder, "source.i", text)
+            print_row(name, *[str(needed([program, command, source])) for command in COMMANDS])
 
 
 if __name__ == "__main__":
-    try:
-        main()
-    except OSError as error:
-        sys.exit(f"stack.py: {error}")
-    except KeyboardInterrupt:
-        sys.exit(130)
+    run(main)

@@ -13,13 +13,12 @@ what of it the system took. Nothing is judged.
 """
 import os
 import subprocess
-import sys
 import tempfile
 
+from measuring import measured_well, print_heading, print_row, program_to_measure, run, written
 from speed import commands
 from workloads import program
 
-HERE = os.path.dirname(os.path.realpath(__file__))
 ROUNDS = 5
 DEPTH = 5
 TURNS = 16 ** DEPTH
@@ -34,12 +33,7 @@ PROGRAMS = {
 
 def seconds(words, source, target):
     """The processor time of a command from a stream to a stream, and what of it the system took."""
-    child = subprocess.Popen(words, stdin=source, stdout=target)
-    _, status, usage = os.wait4(child.pid, 0)
-    child.returncode = status
-    if status:
-        sys.exit(f"streams.py: {words} ends with {status}")
-    return usage.ru_utime + usage.ru_stime, usage.ru_stime
+    return measured_well(words, stdin=source, stdout=target)[:2]
 
 
 def over_files(words, lines):
@@ -64,35 +58,23 @@ def least(table, over, lines):
 
 
 def main():
-    built = os.path.abspath(sys.argv[1] if len(sys.argv) == 2 else os.path.join(HERE, "../crates/ick/out/ick"))
-    if len(sys.argv) > 2 or sys.argv[1:] in (["-h"], ["--help"]):
-        sys.exit(__doc__)
-    if not os.access(built, os.X_OK) or os.path.isdir(built):
-        sys.exit(f"streams.py: {built} is no program that can be run: a call of ./ick builds ick")
+    built = program_to_measure(__doc__)
     with tempfile.TemporaryDirectory() as folder:
         lines = os.path.join(folder, "lines")
         with open(lines, "wb") as file:
             file.write(LINE * TURNS)
         heading = None
         for name, text in PROGRAMS.items():
-            source = os.path.join(folder, name.replace(" ", "-").replace(",", "") + ".i")
-            with open(source, "w", encoding="ascii") as file:
-                file.write(text)
+            source = written(folder, name.replace(" ", "-").replace(",", "") + ".i", text)
             table = commands(built, source, folder)
             if heading is None:
                 heading = list(table)
-                print("| Program | over | " + " | ".join(f"{TITLES.get(it, it)}, ms | system" for it in heading) + " |")
-                print("|---|---|" + "---|" * 2 * len(heading))
+                titles = [name for it in heading for name in (f"{TITLES.get(it, it)}, ms", "system")]
+                print_heading("Program", "over", *titles)
             for over, kind in ((over_files, "files"), (over_pipes, "pipes")):
                 best = least(table, over, lines)
-                row = [f"{part * 1000:.0f}" for it in heading for part in best.get(it, ())]
-                print(f"| {name} | {kind} | " + " | ".join(row) + " |", flush=True)
+                print_row(name, kind, *[f"{part * 1000:.0f}" for it in heading for part in best.get(it, ())])
 
 
 if __name__ == "__main__":
-    try:
-        main()
-    except OSError as error:
-        sys.exit(f"streams.py: {error}")
-    except KeyboardInterrupt:
-        sys.exit(130)
+    run(main)

@@ -9,6 +9,8 @@ are programs of C-INTERCAL too; `gerunds` is as large as its compiler takes.
 import os
 import sys
 
+from measuring import run, written
+
 
 def polite(statements):
     """The statements, every fourth with PLEASE; each is a label or none, and a body."""
@@ -106,9 +108,8 @@ def main():
     os.makedirs(sys.argv[1], exist_ok=True)
     files = {name + ".i": source for name, source in {**WORKLOADS, **JOBS}.items()}
     for name, text in {**files, "lines": LINES}.items():
-        with open(os.path.join(sys.argv[1], name), "w", encoding="ascii") as file:
-            file.write(text)
+        written(sys.argv[1], name, text)
 
 
 if __name__ == "__main__":
-    main()
+    run(main)
