@@ -1,8 +1,8 @@
 #!/usr/bin/env python3
 """Proves a program of this repository and the crates below it, and links the program.
 
-  build-proved TOP CRATE                 the checker's lines go to standard output, the progress to standard error
-  build-proved TOP CRATE --beside JOBS   builds this one library, beside another `rt lib`
+  build_proved.py TOP CRATE                 the checker's lines go to standard output, the progress to standard error
+  build_proved.py TOP CRATE --beside JOBS   builds this one library, beside another `rt lib`
 
 `rt lib` builds each crate, the lowest first, and `rt run` the program at last. Crates of the same height are built side
 by side. `rt lib` locks its own crate and all below it, so a second `rt lib` would wait. The kit's own module therefore
