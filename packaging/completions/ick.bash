@@ -45,7 +45,7 @@ _ick_tool() {
     esac
     [ "${1##*/}" != ick-parts ] || [ "$COMP_CWORD" = 1 ] || command=${COMP_WORDS[1]}
     case $COMP_CWORD:$word in
-        *:-*) _ick_words "$("$1" $command --help 2>/dev/null </dev/null | grep -oE -e '--[a-z][a-z-]*' | sort -u)" "$word" ;;
+        *:-*) _ick_words "$("$1" ${command:+"$command"} --help 2>/dev/null </dev/null | grep -oE -e '--[a-z][a-z-]*' | sort -u)" "$word" ;;
         1:*) if [ "$commands" ]; then _ick_words "$commands" "$word"; else _ick_files "$word"; fi ;;
         *) _ick_files "$word" ;;
     esac

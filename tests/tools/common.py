@@ -26,7 +26,7 @@ class ToolTally(Tally):
 
     def tool(self, name, *arguments, given=b"", path=None):
         environment = dict(os.environ, **({"PATH": path} if path is not None else {}))
-        return called([sys.executable, os.path.join(TOOLS, name), *arguments], given, environment)
+        return called([sys.executable, "-W", "error", os.path.join(TOOLS, name), *arguments], given, environment)
 
 
 def pasted(path):
