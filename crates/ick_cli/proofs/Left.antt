@@ -14,8 +14,8 @@ use Rattle.ick_backtrack.specs.Machine.{Program}
 use Rattle.ick_runs.specs.Draws.{IsDrawn, word_of}
 use Rattle.ick_explorer.specs.Runs.{run}
 use Rattle.ick_explorer.specs.declared.errors.RunsError.{RunsError}
-use Rattle.ick_explorer.specs.declared.errors.RunsError.TheVariants.{NoMemory, NoSuchRun, WorkFull, Failed, BadCursor, Read}
-use Rattle.ick_explorer.specs.declared.errors.RunsError.TheVariants.{Write}
+use Rattle.ick_explorer.specs.declared.errors.RunsError.TheVariants.{NoMemory, NoSuchRun, WorkFull, Failed, BadCursor}
+use Rattle.ick_explorer.specs.declared.errors.RunsError.TheVariants.{Read, Write}
 use Rattle.ick_cli.specs.Ending.{WhereAnswered, ending_status, ending_text, refused_ending}
 use Rattle.ick_cli.specs.Input.{EndsCut, EndsUnopened, EndsUnread}
 use Rattle.ick_cli.specs.Left.{IsLeftByProgram, IsLeftByRuns, IsLeftBySource, left_alone, left_by_drawn, left_by_given}
@@ -215,3 +215,6 @@ without_file a named before left plan none is same =
 
 pub no_file : (file : Option (List ℕ)) (name : List ℕ) → file ≡ Some name → is_some file ≡ false → ⊥
 no_file file name is none = let some : is_some file ≡ true = ap is_some is in cc
+
+pub some_file : (file : Option (List ℕ)) → file ≡ None → is_some file ≡ true → ⊥
+some_file file is some = let none : is_some file ≡ false = ap is_some is in cc

@@ -1,6 +1,6 @@
 -- What work over a reader and a writer leaves, from what a part of it leaves.
 use Rattle.std.proofs.Common.{◌≡◌, ◌+◌, inl, ℕ, Bool, true, false, List, [], Option, Result, IfErr, arith, refl, subst}
-use Rattle.std.proofs.Common.{sym}
+use Rattle.std.proofs.Common.{ap, sym}
 use Rattle.std.proofs.lemmas.List.{append-nil}
 use Rattle.std.specs.Prelude.{unwrap_or}
 use Rattle.ick_bits.specs.declared.faults.FaultKind.{FaultKind}
@@ -115,6 +115,9 @@ works_shown trees input plan other shows ending rt r wt w w' out out' is none on
 }
 
 -- a program that is compiled and run
+pub runs_read : (plan : Plan) (runs : Runs) → plan ≡ Execute runs → reads_input plan ≡ false → ⊥
+runs_read plan runs is none = let reads : reads_input plan ≡ true = ap reads_input is in cc
+
 pub works_executed : (trees program : List StatementTree) (input : List ℕ) (plan : Plan) (runs : Runs) {ending : Ending}
     {rt : Bool} {r r' : ℕ} {rest : List ℕ} {wt : Bool} {w w' : ℕ} {out out' : List ℕ} → plan ≡ Execute runs
     → program ≡ trees

@@ -1,4 +1,5 @@
 pub mod Built
+pub mod Dispatch
 pub mod Ending
 pub mod Input
 pub mod Job

@@ -1,15 +1,12 @@
 //! From a job to its command: the source is read, then compiled, then the command answers.
-ghost use Rattle.std.specs.Prelude.{◌≡◌, ◌+◌, ◌<◌, ◌^◌, [], false, true};
+ghost use Rattle.std.specs.Prelude.{◌+◌, ◌<◌, ◌^◌, []};
 ghost use Rattle.ick_bits.specs.Faults.{message_of};
 ghost use Rattle.ick_code.specs.Compiled.{code_program};
-ghost use Rattle.ick_cli.specs.Ending.{Answers, EndsBy, Leaves, WhereAnswered, input_of, source_of};
-ghost use Rattle.ick_cli.specs.Job.{asked, has_file, takes_input};
-ghost use Rattle.ick_cli.specs.Left.{IsLeft, IsLeftByRuns, IsLeftBySource};
-ghost use Rattle.ick_cli.specs.Plan.{IsUnplanned, reads_input};
+ghost use Rattle.ick_cli.specs.Dispatch.{AnswersCode, AnswersSource, Performs};
+ghost use Rattle.ick_cli.specs.Ending.{EndsBy};
+ghost use Rattle.ick_cli.specs.Job.{asked};
+ghost use Rattle.ick_cli.specs.Serve.{counts};
 ghost use Rattle.ick_cli.specs.Stopped.{EndsRefused};
-ghost use Rattle.ick_cli.specs.Tool.{Answer, IsExecuted, IsSourceAnswer, IsToolAnswer};
-ghost use Rattle.ick_cli.specs.Work.{Works};
-ghost use Rattle.ick_cli.specs.declared.notice.Notice.{Notice};
 
 use crate::commands::{answer_check, answer_list, answer_runs, choices_in, ended};
 use crate::ending::Ending;
@@ -38,24 +35,12 @@ pub fn perform<F: Files, R: ByteSource, W: ByteSink>(
     requires files_sound { F.failed files.old + 1 < 2 ^ 64 }
     requires reader_sound { R.failed reader.old + 1 < 2 ^ 64 }
     requires writer_sound { W.failed writer.old + 1 < 2 ^ 64 }
-    ensures leaves { Leaves result (F.failed files.old) (F.failed files.new)
-        (R.failed reader.old) (R.failed reader.new) (W.failed writer.old) (W.failed writer.new) }
-    ensures reader_kept { has_file (asked job.now) ≡ true
-        → takes_input (asked job.now).task ≡ false → reader.new ≡ reader.old }
-    ensures files_kept { has_file (asked job.now) ≡ false → files.new ≡ files.old }
-    ensures unplanned { (line : Notice) → IsUnplanned (asked job.now).task line
-        → (files.new ≡ files.old) × (reader.new ≡ reader.old) × (writer.new ≡ writer.old)
-        × (result ≡ Ending.Answered 64 (Message.Notice line)) }
-    ensures source_first { has_file (asked job.now) ≡ false
-        → R.failed reader.old < R.failed reader.new → writer.new ≡ writer.old }
-    ensures left { F.told ≡ true → R.told ≡ true → WhereAnswered result
-        (IsLeft (asked job.now) (F.named files.old) (R.left reader.old) (R.left reader.new)) }
-    ensures answer { F.told ≡ true → R.told ≡ true → W.told ≡ true → (answer : Answer)
-        → IsToolAnswer (asked job.now).task
-        (source_of (asked job.now).file (F.named files.old)
-        (F.failed files.old) (F.failed files.new) (R.left reader.old))
-        (input_of (asked job.now).file (R.left reader.old)) answer
-        → Answers answer result (W.written writer.old) (W.written writer.new) }
+    ensures { Performs (asked job.now)
+        (counts (F.failed files.old) (R.failed reader.old) (W.failed writer.old))
+        (counts (F.failed files.new) (R.failed reader.new) (W.failed writer.new))
+        F.told (F.named files.old) files.old files.new
+        R.told (R.left reader.old) (R.left reader.new) reader.old reader.new
+        W.told (W.written writer.old) (W.written writer.new) writer.old writer.new result }
 {
     let plan = match plan_of(alloc, &job.subcommand) {
         Ok(plan) => plan,
@@ -86,12 +71,10 @@ fn answer_source<R: ByteSource, W: ByteSink>(
 ) -> Ending
     requires reader_sound { R.failed reader.old + 1 < 2 ^ 64 }
     requires writer_sound { W.failed writer.old + 1 < 2 ^ 64 }
-    ensures works { Works (IsSourceAnswer plan.now source.now (R.left reader.old))
-        (IsLeftBySource plan.now source.now (R.left reader.old)) result
+    ensures { AnswersSource plan.now source.now (R.left reader.old) result
         R.told (R.failed reader.old) (R.failed reader.new) (R.left reader.new)
-        W.told (W.failed writer.old) (W.failed writer.new)
+        reader.old reader.new W.told (W.failed writer.old) (W.failed writer.new)
         (W.written writer.old) (W.written writer.new) }
-    ensures reader_kept { reads_input plan.now ≡ false → reader.new ≡ reader.old }
 {
     let program = match read_source(alloc, source) {
         Ok(program) => program,
@@ -117,8 +100,7 @@ fn answer_code<R: ByteSource, W: ByteSink>(
 ) -> Ending
     requires reader_sound { R.failed reader.old + 1 < 2 ^ 64 }
     requires writer_sound { W.failed writer.old + 1 < 2 ^ 64 }
-    ensures { Works (IsExecuted (code_program code.now) (R.left reader.old) runs.now)
-        (IsLeftByRuns (code_program code.now) (R.left reader.old) runs.now) result
+    ensures { AnswersCode (code_program code.now) runs.now (R.left reader.old) result
         R.told (R.failed reader.old) (R.failed reader.new) (R.left reader.new)
         W.told (W.failed writer.old) (W.failed writer.new)
         (W.written writer.old) (W.written writer.new) }

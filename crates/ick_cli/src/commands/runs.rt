@@ -6,11 +6,10 @@ ghost use Rattle.ick_code.specs.meaning.Move.{first_state};
 ghost use Rattle.ick_code.specs.meaning.State.{State};
 ghost use Rattle.ick_explorer.specs.Explorers.{explored};
 ghost use Rattle.ick_explorer.specs.Standing.{Stands};
+ghost use Rattle.ick_cli.specs.Dispatch.{AnswersCode};
 ghost use Rattle.ick_cli.specs.Ending.{Answers, LeavesWriter};
-ghost use Rattle.ick_cli.specs.Left.{IsLeftByRuns};
 ghost use Rattle.ick_cli.specs.Placed.{IsPlaced, IsRunsAnswerAt, IsUnplaced};
-ghost use Rattle.ick_cli.specs.Tool.{Answer, IsExecuted, IsRunsAnswer};
-ghost use Rattle.ick_cli.specs.Work.{Works};
+ghost use Rattle.ick_cli.specs.Tool.{Answer, IsRunsAnswer};
 
 use crate::ending::Ending;
 use crate::input::read_input;
@@ -34,9 +33,8 @@ pub fn answer_runs<R: ByteSource, W: ByteSink>(
 ) -> Ending
     requires reader_sound { R.failed reader.old + 1 < 2 ^ 64 }
     requires writer_sound { W.failed writer.old + 1 < 2 ^ 64 }
-    ensures { let runs = Runs.Listed from.now count limit in
-        Works (IsExecuted (code_program code.now) (R.left reader.old) runs)
-        (IsLeftByRuns (code_program code.now) (R.left reader.old) runs) result
+    ensures { AnswersCode (code_program code.now) (Runs.Listed from.now count limit)
+        (R.left reader.old) result
         R.told (R.failed reader.old) (R.failed reader.new) (R.left reader.new)
         W.told (W.failed writer.old) (W.failed writer.new)
         (W.written writer.old) (W.written writer.new) }
