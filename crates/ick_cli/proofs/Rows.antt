@@ -1,10 +1,16 @@
 -- Jobs and refusals of words that are written out.
-use Rattle.std.proofs.Common.{◌≡◌, [], ◌∷◌, Some, None, codes, refl}
+use Rattle.std.proofs.Common.{◌≡◌, List, [], ◌∷◌, Some, None, arith, codes, inl, inr, length, refl, subst, true}
+use Rattle.std.proofs.lemmas.Slice.Eq.{bytes_eq-Decides}
+use Rattle.std.specs.Borrow.{Bor}
+use Rattle.std.specs.Prelude.{IsSomeAnd, slice_get}
+use Rattle.std.specs.Str.{bytes_eq}
 use Rattle.clap.proofs.OnLiterals.{clap_on_literals}
-use Rattle.clap.specs.Words.{fault_of}
+use Rattle.clap.specs.Walk.{texts}
+use Rattle.clap.specs.Words.{Text, fault_of}
 use Rattle.clap.specs.declared.error.ErrorKind.TheVariants as kind
 use Rattle.ick_cli.specs.Words.{ick_app}
 use Rattle.ick_cli.specs.Job.{Asked, HasJob, job_of, to_check, to_list, to_list_runs, to_run}
+use Rattle.ick_cli.specs.Usage.{AreRequests}
 
 -- a run without options
 abbrev plain : Asked
@@ -66,6 +72,32 @@ check_limit = refl
 help_asked : fault_of ick_app (codes "run" ∷ codes "--help" ∷ []) ≡ kind.DisplayHelp ∷ []
 unfolding clap_on_literals
 help_asked = refl
+
+help_alone : fault_of ick_app (codes "help" ∷ []) ≡ kind.DisplayHelp ∷ kind.InvalidSubcommand ∷ []
+unfolding clap_on_literals
+help_alone = refl
+
+help_of_a_command : fault_of ick_app (codes "help" ∷ codes "run" ∷ [])
+    ≡ kind.DisplayHelp ∷ kind.InvalidSubcommand ∷ []
+unfolding clap_on_literals
+help_of_a_command = refl
+
+help_of_no_command : fault_of ick_app (codes "help" ∷ codes "nope" ∷ [])
+    ≡ kind.DisplayHelp ∷ kind.InvalidSubcommand ∷ []
+unfolding clap_on_literals
+help_of_no_command = refl
+
+-- one argument that is `help` is not a request alone
+pub help_is_mixed : (words : List (Bor Text)) → length words ≡ 1
+    → IsSomeAnd (slice_get words 0) (λ word. bytes_eq word.now (codes "help") ≡ true)
+    → AreRequests (fault_of ick_app (texts words)) → ⊥
+help_is_mixed [] one is requests = absurd (omega arith)
+help_is_mixed (word ∷ other ∷ words) one is requests = absurd (omega arith)
+help_is_mixed (word ∷ []) one is requests =
+    let same : word.now ≡ codes "help" = (bytes_eq-Decides word.now (codes "help")).0 is in
+    let each : AreRequests (kind.DisplayHelp ∷ kind.InvalidSubcommand ∷ []) =
+    subst AreRequests help_alone (subst (λ (w : Text). AreRequests (fault_of ick_app (w ∷ []))) same requests) in
+    elim each.1.1.0 [ inl e ↦ cc | inr e ↦ cc ]
 
 no_choices : job_of (codes "run" ∷ codes "-b" ∷ codes "--choices=-" ∷ codes "f" ∷ [])
     ≡ record { task = to_run (Some (codes "-")) None 1000000; file = Some (codes "f") }
