@@ -22,3 +22,21 @@ def load_kit():
 def crate_of(kit, top, name):
     """Returns the crate of that name in the repository at top, or None."""
     return {crate.name: crate for crate in kit.crates_below(top)}.get(name)
+
+
+def last_change(top, crate):
+    """Returns when a file or folder changed last that a proof of the crate reads."""
+    found = [f"{top}/crates.txt", f"{top}/HANDLES"]
+    for part in ("src", "specs", "proofs"):
+        for where, _, names in os.walk(f"{crate.folder}/{part}"):
+            found += [where, *[f"{where}/{name}" for name in names]]
+    return max(os.path.getmtime(path) for path in found)
+
+
+def are_left_by_ci(top, crate):
+    """Returns whether `rt ci` left the library of each crate below, and nothing changed since. `rt lib` marks its own
+    libraries by a stamp, and would prove these again.
+    """
+    below = crate.below()
+    return all(os.path.isdir(it.rlib) and not os.path.exists(f"{it.folder}/out/rlib/stamp") for it in below) and max(
+        last_change(top, it) for it in below) < min(os.path.getmtime(it.rlib) for it in below)
