@@ -8,7 +8,8 @@ It needs that program (`rt run` in crates/bench_steps builds it), Python 3.8 and
 For each program and machine the nanoseconds a step. The program makes a run once, and so often more that the further
 runs have some twenty million steps; what these take is measured, without what as many runs take of the same source with
 GIVE UP in front, which only make the machine. Each is the least processor time of ten rounds in each of which every
-machine is measured. All runs must make equally many steps. Nothing else is judged.
+machine is measured. All runs must make equally many steps. Nothing else is judged. If the engine's loop lacks an
+operation of a program, the table has `-`.
 """
 import os
 import subprocess
@@ -18,36 +19,45 @@ import measuring
 from measuring import print_heading, print_row, program_to_measure, stop
 from workloads import NOTHING, WORKLOADS
 
-MACHINES = {"copied": "Copied", "trailed": "Trailed", "live": "Live"}
+MACHINES = {"copied": "Copied", "trailed": "Trailed", "live": "Live", "engine": "ick_engine"}
+# The greatest limit on the steps of a run, which no program of workloads.py comes to.
+LIMIT = str(2**32 - 1)
 STEPS = 20_000_000
 ROUNDS = 10
 
 
 def run(program, machine, source, runs):
-    """The processor time of some runs on a machine, and the steps of each."""
+    """Returns the processor time of some runs on a machine and the steps of each, or None if it can't run them."""
     with tempfile.TemporaryFile() as text:
         text.write(source.encode())
         text.seek(0)
-        child = subprocess.Popen([program] + [machine] * runs, stdin=text, stdout=subprocess.PIPE)
-        words = child.stdout.read().decode().split()
+        child = subprocess.Popen([program, LIMIT] + [machine] * runs, stdin=text, stdout=subprocess.PIPE,
+                                 stderr=subprocess.PIPE)
+        words, refusal = (stream.read().decode() for stream in (child.stdout, child.stderr))
+        words = words.split()
         _, status, usage = os.wait4(child.pid, 0)
         child.returncode = status
         child.stdout.close()
+        child.stderr.close()
+    if "Unsupported" in refusal:
+        return None
     if status or len(words) != 2 * runs or len(set(words[1::2])) != 1:
-        stop(f"{program} {machine} ended with status {status} and printed {words[:6]}")
+        stop(f"{program} {machine} ended with status {status} and printed {words[:6]} {refusal}")
     return usage.ru_utime + usage.ru_stime, int(words[1])
 
 
 def least(program, source):
-    """The least time that a step takes on each machine, and how many steps each makes."""
-    made = {run(program, machine, source, 1)[1] for machine in MACHINES}
+    """Returns the least time of a step on each machine that can run the source, and how many steps each makes."""
+    first = {machine: run(program, machine, source, 1) for machine in MACHINES}
+    machines = [machine for machine in MACHINES if first[machine]]
+    made = {first[machine][1] for machine in machines}
     if len(made) != 1:
         stop(f"the machines don't make equally many steps: {sorted(made)}")
     steps = made.pop()
     runs = max(1, STEPS // steps)
     best = {}
     for _ in range(ROUNDS):
-        for machine in MACHINES:
+        for machine in machines:
             for text in source, NOTHING + source:
                 for count in 1 + runs, 1:
                     taken, _ = run(program, machine, text, count)
@@ -57,7 +67,7 @@ def least(program, source):
         return best[machine, text, 1 + runs] - best[machine, text, 1]
 
     return {machine: (further(machine, source) - further(machine, NOTHING + source)) / (runs * steps)
-            for machine in MACHINES}, steps
+            for machine in machines}, steps
 
 
 def main():
@@ -65,7 +75,8 @@ def main():
     print_heading("Program", "steps", *[f"`{name}`, ns" for name in MACHINES.values()])
     for name in sorted(WORKLOADS):
         best, steps = least(program, WORKLOADS[name])
-        print_row(f"`{name}`", f"{steps:,}", *[f"{best[machine] * 1e9:.1f}" for machine in MACHINES])
+        row = [f"{best[machine] * 1e9:.1f}" if machine in best else "-" for machine in MACHINES]
+        print_row(f"`{name}`", f"{steps:,}", *row)
 
 
 if __name__ == "__main__":
