@@ -24,6 +24,20 @@ def crate_of(kit, top, name):
     return {crate.name: crate for crate in kit.crates_below(top)}.get(name)
 
 
+def toolchain_with(kit, room, clang):
+    """Makes a folder as the kit's toolchain, with a script in the place of clang. Returns the folder."""
+    made, real = f"{room}/toolchain", f"{kit}/toolchain"
+    os.makedirs(f"{made}/bin")
+    os.symlink(f"{real}/lib", f"{made}/lib")
+    for tool in os.listdir(f"{real}/bin"):
+        if tool != "clang":
+            os.symlink(f"{real}/bin/{tool}", f"{made}/bin/{tool}")
+    with open(f"{made}/bin/clang", "w", encoding="utf-8") as file:
+        file.write(clang)
+    os.chmod(f"{made}/bin/clang", 0o755)
+    return made
+
+
 def last_change(top, crate):
     """Returns when a file or folder changed last that a proof of the crate reads."""
     found = [f"{top}/crates.txt", f"{top}/HANDLES"]

@@ -1,14 +1,14 @@
 """Proves the library ick_c, and builds its archive and its LLVM module once, for bindings/build and web/build.
 
 `rattle build` makes one LLVM module of the proved library for x86-64, and calls the clang of the toolchain folder that
-its flag --toolchain names. `toolchain` makes a folder whose clang keeps the module.
+its flag --toolchain names. This script names a folder whose clang keeps the module.
 """
 import os
 import shutil
 import subprocess
 import tempfile
 
-from kit import are_left_by_ci, crate_of
+from kit import are_left_by_ci, crate_of, toolchain_with
 
 LIBRARY = "ick_c"
 # Copies the library's module, which the toolchain's clang compiles.
@@ -22,20 +22,6 @@ exec '{clang}' "$@"
 
 class NotBuilt(Exception):
     """Why the library could not be proved or built."""
-
-
-def toolchain(kit, room, kept):
-    """Makes a folder as the kit's toolchain, whose clang also copies the module to `kept`."""
-    made, real = f"{room}/toolchain", f"{kit.KIT}/toolchain"
-    os.makedirs(f"{made}/bin")
-    os.symlink(f"{real}/lib", f"{made}/lib")
-    for tool in os.listdir(f"{real}/bin"):
-        if tool != "clang":
-            os.symlink(f"{real}/bin/{tool}", f"{made}/bin/{tool}")
-    with open(f"{made}/bin/clang", "w", encoding="utf-8") as file:
-        file.write(KEEPER.format(kept=kept, clang=f"{real}/bin/clang"))
-    os.chmod(f"{made}/bin/clang", 0o755)
-    return made
 
 
 def words_of_proof(kit, top, crate):
@@ -63,7 +49,9 @@ def proved_library(kit, top):
     shutil.rmtree(out, ignore_errors=True)
     os.makedirs(out)
     with tempfile.TemporaryDirectory(prefix="library-") as room:
-        words = words_of_proof(kit, top, crate) + ["--toolchain", toolchain(kit, room, module), "--backend", "llvm"]
+        keeper = KEEPER.format(kept=module, clang=f"{kit.KIT}/toolchain/bin/clang")
+        words = words_of_proof(kit, top, crate)
+        words += ["--toolchain", toolchain_with(kit.KIT, room, keeper), "--backend", "llvm"]
         if crate.call(kit.RATTLE, "build", *words, "-o", archive) or not os.path.isfile(module):
             raise NotBuilt("the proved library wasn't built")
     with open(made_of, "w", encoding="ascii") as file:
