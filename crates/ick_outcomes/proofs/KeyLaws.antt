@@ -10,7 +10,7 @@ use Rattle.ick_outcomes.specs.declared.outcome.Outcome.{Outcome}
 use Rattle.ick_outcomes.specs.Accounts.{AreApart}
 use Rattle.ick_outcomes.specs.Seen.{row_of, rows_of}
 use Rattle.ick_outcomes.specs.Summaries.{Row}
-use Rattle.ick_outcomes.proofs.Lists.{mapped-at, any_default}
+use Rattle.ick_outcomes.proofs.Lists.{mapped-at, any_default, at-pushed, at-set}
 
 pub mix_start : (h : ℕ) (bs : List ℕ) → mix h (drop 0 bs) ≡ mix h bs
 mix_start h bs = refl
@@ -51,39 +51,20 @@ apart_by_key places rs more h n x m =
 pub indexed_none : (places : BTreeMap ℕ ℕ) → IsIndexed places []
 indexed_none places i d lt = absurd (omega (arith, lt))
 
-index-push : (rs : List Outcome) (more : Outcome) (i : ℕ) (d : Outcome) (P : Outcome → Type 0) →
-    i < length (rs ++ more ∷ []) → (i < length rs → P (slice_index_or rs i d)) → P more →
-    P (slice_index_or (rs ++ more ∷ []) i d)
-index-push [] more zero d P lt f h = h
-index-push [] more (suc i) d P lt f h = absurd (omega (arith, lt))
-index-push (r ∷ rs) more zero d P lt f h = f (omega arith)
-index-push (r ∷ rs) more (suc i) d P lt f h =
-    index-push rs more i d P (omega (arith, lt)) (λ u. f (omega (arith, u))) h
-
 pub indexed_push : (places places' : BTreeMap ℕ ℕ) (rs rs' : List Outcome) (more : Outcome) → IsIndexed places rs →
     ((k : ℕ) → Lacks places' k → Lacks places k) → (Lacks places' (key_of more.output.items more.end.items) → ⊥) →
     rs' ≡ rs ++ more ∷ [] → IsIndexed places' rs'
 indexed_push places places' rs rs' more h f n e =
     subst (λ z. IsIndexed places' z) (sym e)
-    (λ i d lt. index-push rs more i d (λ o. Lacks places' (key_of o.output.items o.end.items) → ⊥) lt
+    (λ i d lt. at-pushed (λ o. Lacks places' (key_of o.output.items o.end.items) → ⊥) rs more i d lt
     (λ u v. h i d u (f _ v)) n)
-
-index-set : (rs : List Outcome) (j : ℕ) (new : Outcome) (i : ℕ) (d : Outcome) (P : Outcome → Type 0) →
-    i < length (slice_set rs j new) → (i < length rs → P (slice_index_or rs i d)) →
-    (j < length rs → P (slice_index_or rs j d) → P new) → P (slice_index_or (slice_set rs j new) i d)
-index-set [] j new i d P lt f g = absurd (omega (arith, lt))
-index-set (r ∷ rs) zero new zero d P lt f g = g (omega arith) (f (omega arith))
-index-set (r ∷ rs) zero new (suc i) d P lt f g = f (omega (arith, lt))
-index-set (r ∷ rs) (suc j) new zero d P lt f g = f (omega arith)
-index-set (r ∷ rs) (suc j) new (suc i) d P lt f g =
-    index-set rs j new i d P (omega (arith, lt)) (λ u. f (omega (arith, u))) (λ u p. g (omega (arith, u)) p)
 
 pub indexed_set : (places : BTreeMap ℕ ℕ) (rs : List Outcome) (j : ℕ) (old new : Outcome) → IsIndexed places rs →
     j < length rs → old ≡ slice_index_or rs j old →
     new.output.items ≡ old.output.items → new.end.items ≡ old.end.items →
     IsIndexed places (slice_set rs j new)
 indexed_set places rs j old new h lt e a b = λ i d lt'.
-    index-set rs j new i d (λ o. Lacks places (key_of o.output.items o.end.items) → ⊥) lt' (λ u. h i d u)
+    at-set (λ o. Lacks places (key_of o.output.items o.end.items) → ⊥) rs j new i d lt' (λ u. h i d u)
     (λ u p n. p (subst (λ z. Lacks places (key_of z.output.items z.end.items)) (e ∙ any_default rs j old d lt)
     (subst (λ z. Lacks places (key_of z old.end.items)) a
     (subst (λ z. Lacks places (key_of new.output.items z)) b n))))

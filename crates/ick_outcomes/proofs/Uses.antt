@@ -25,12 +25,12 @@ use Rattle.ick_outcomes.specs.Accounts.{GoesOn, IsChoosing, chosen, SettlesAll, 
 use Rattle.ick_outcomes.specs.Accounts.{AreBelow, AreOver, IsMostLeft, Makes, ended_row}
 use Rattle.ick_outcomes.proofs.Algebra.{none-join}
 use Rattle.ick_outcomes.proofs.Sums.{account-starts, account-goes_on, settles-more, settles-none}
-use Rattle.ick_outcomes.specs.Seen.{natural, pending_of, nodes_of, row_of, rows_of}
+use Rattle.ick_outcomes.specs.Seen.{natural, pending_of, nodes_of, row_of, rows_of, AreSound}
 use Rattle.ick_outcomes.specs.declared.pending.Node.{Node}
 use Rattle.ick_outcomes.specs.declared.outcome.Outcome.{Outcome}
 use Rattle.ick_outcomes.proofs.PlaceByPlace.{lesser-before}
 use Rattle.ick_outcomes.proofs.Ends.{lesser-flip}
-use Rattle.ick_outcomes.proofs.Lists.{get-mapped, set-mapped, mapped-at, take-more}
+use Rattle.ick_outcomes.proofs.Lists.{get-mapped, set-mapped, mapped-at, take-more, any_default, at-pushed, at-set}
 use Rattle.ick_outcomes.proofs.Sums.{admits-merge, admits-push, counts-set, counts-push, settles-admits, settles-counts}
 use Rattle.ick_outcomes.proofs.Sums.{below-push, below-more, below-last}
 use Rattle.ick_outcomes.proofs.Sums.{settles-like, settles-both, ahead-ended, ahead-limit, ahead-choice, ahead-runs}
@@ -41,9 +41,9 @@ lesser_kept c d h = lesser-before c d h
 pub lesser_given : (c d : List Bool) → IsBelow d c → lesser c d ≡ d
 lesser_given c d h = lesser-flip c d h
 
-pub admits_at : {M : Type 0} (seen : M → Place) (ns : List (Node M)) (i : ℕ) (more old new : Node M) →
+pub admits_at : {S : Type 0} (seen : S → Place) (ns : List (Node S)) (i : ℕ) (more old new : Node S) →
     i < length ns →
-    ((d : Node M) → CanMerge (pending_of seen (slice_index_or ns i d)) (pending_of seen more)) →
+    ((d : Node S) → CanMerge (pending_of seen (slice_index_or ns i d)) (pending_of seen more)) →
     old ≡ slice_index_or ns i old →
     pending_of seen new ≡ record (pending_of seen old) {
       count = natural old.count + natural more.count;
@@ -56,7 +56,7 @@ admits_at seen ns i more old new lt m e f =
     (get-mapped (pending_of seen) ns i old lt ∙ ap (λ x. Some (pending_of seen x)) (sym e))
     (subst (λ x. CanMerge (pending_of seen x) (pending_of seen more)) (sym e) (m old)) f)
 
-pub admits_new : {M : Type 0} (seen : M → Place) (ns ns' : List (Node M)) (more : Node M) → ns' ≡ ns ++ more ∷ [] →
+pub admits_new : {S : Type 0} (seen : S → Place) (ns ns' : List (Node S)) (more : Node S) → ns' ≡ ns ++ more ∷ [] →
     Admits (nodes_of seen ns) (pending_of seen more) (nodes_of seen ns')
 admits_new seen ns ns' more e =
     subst (λ xs. Admits (nodes_of seen ns) (pending_of seen more) xs)
@@ -263,7 +263,7 @@ counts_on = account-goes_on
 pub most_none : IsMostLeft 0 []
 most_none = record { highest = tt; reached = λ m h. omega arith }
 
-pub most_more : {M : Type 0} (seen : M → Place) (ns : List (Node M)) (i most r : ℕ) (n : Node M) → i < length ns →
+pub most_more : {S : Type 0} (seen : S → Place) (ns : List (Node S)) (i most r : ℕ) (n : Node S) → i < length ns →
     n ≡ slice_index_or ns i n → IsMostLeft most (nodes_of seen (take i ns)) → most ≤ r → n.left ≤ r →
     (r ≡ most) ⊎ (r ≡ n.left) → IsMostLeft r (nodes_of seen (take (i + 1) ns))
 most_more seen ns i most r n lt e h u v w =
@@ -282,7 +282,7 @@ most_more seen ns i most r n lt e h u v w =
           elim w [ inl x ↦ omega (arith, x, c) | inr x ↦ omega (arith, x, d) ];
     })
 
-pub counts_end : {M : Type 0} (seen : M → Place) (limit : ℕ) (p : Place) (ns : List (Node M)) (rs : List Row) (m : ℕ) →
+pub counts_end : {S : Type 0} (seen : S → Place) (limit : ℕ) (p : Place) (ns : List (Node S)) (rs : List Row) (m : ℕ) →
     IsAccount (record { place = p; left = limit; count = 1; weight = amount 1 0 limit; choices = [] })
     (nodes_of seen ns) rs m → length ns ≡ 0 → AreCounted p.program p.state limit rs
 counts_end seen limit p [] rs m h e = record {
@@ -291,13 +291,13 @@ counts_end seen limit p [] rs m h e = record {
 }
 counts_end seen limit p (n ∷ ns) rs m h e = absurd (omega arith)
 
-pub counts_done : {M : Type 0} (seen : M → Place) (limit : ℕ) (p : Place) (ns : List (Node M)) (rs : List Row) (m : ℕ) →
+pub counts_done : {S : Type 0} (seen : S → Place) (limit : ℕ) (p : Place) (ns : List (Node S)) (rs : List Row) (m : ℕ) →
     IsAccount (record { place = p; left = limit; count = 1; weight = amount 1 0 limit; choices = [] })
     (nodes_of seen ns) rs m → m ≡ 0 → AreCounted p.program p.state limit rs
 counts_done seen limit p [] rs m h e = counts_end seen limit p [] rs m h refl
 counts_done seen limit p (n ∷ ns) rs m h e = let lt = h.below.0 in absurd (omega (arith, lt, e))
 
-pub settles_more : {M : Type 0} (seen : M → Place) (most : ℕ) (ms ms' : List (Node M)) (n : Node M)
+pub settles_more : {S : Type 0} (seen : S → Place) (most : ℕ) (ms ms' : List (Node S)) (n : Node S)
     (ns' ns'' : List Pending) (rs rs' rs'' : List Row) → ms' ≡ ms ++ n ∷ [] →
     SettlesAll most (nodes_of seen ms) [] rs ns' rs' → Makes most (pending_of seen n) ns' rs' ns'' rs'' →
     SettlesAll most (nodes_of seen ms') [] rs ns'' rs''
@@ -308,3 +308,16 @@ settles_more seen most ms ms' n ns' ns'' rs rs' rs'' e h k =
 
 pub settles_nothing : (most : ℕ) (rs : List Row) → SettlesAll most [] [] rs [] rs
 settles_nothing most rs = settles-none most [] rs
+
+-- nodes stay sound if one is merged into, or one is added
+pub sound_at : {S : Type 0} (suits : S → Type 0) (ns : List (Node S)) (i : ℕ) (old new : Node S) → i < length ns →
+    old ≡ slice_index_or ns i old → new.state ≡ old.state → AreSound suits ns →
+    AreSound suits (slice_set ns i new)
+sound_at suits ns i old new lt e same all = λ k d l.
+    at-set (λ n. suits n.state) ns i new k d l (λ u. all k d u)
+    (λ u p. subst suits (sym (same ∙ ap (λ n. n.state) (e ∙ any_default ns i old d lt))) p)
+
+pub sound_new : {S : Type 0} (suits : S → Type 0) (ns ns' : List (Node S)) (more : Node S) → ns' ≡ ns ++ more ∷ [] →
+    suits more.state → AreSound suits ns → AreSound suits ns'
+sound_new suits ns ns' more e one all =
+    subst (AreSound suits) (sym e) (λ k d l. at-pushed (λ n. suits n.state) ns more k d l (λ u. all k d u) one)

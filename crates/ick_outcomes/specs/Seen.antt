@@ -1,5 +1,6 @@
 -- Defines what contracts see of numbers, outcomes and nodes.
 use Rattle.std.specs.Prelude.{ℕ, List, map}
+use Rattle.std.specs.List.{All}
 use Rattle.ick_outcomes.specs.Naturals.{value_of}
 use Rattle.ick_outcomes.specs.Accounts.{Place, Pending}
 use Rattle.ick_outcomes.specs.Summaries.{Row}
@@ -13,10 +14,10 @@ use Rattle.ick_outcomes.specs.declared.outcome.Outcome.{Outcome}
 abbrev pub natural : Natural → ℕ
 natural n = value_of n.digits.items
 
--- what a node represents, if `seen` is what contracts see of its machine
-abbrev pub pending_of : {M : Type 0} → (M → Place) → Node M → Pending
+-- what a node represents, if `seen` is what contracts see of its state
+abbrev pub pending_of : {S : Type 0} → (S → Place) → Node S → Pending
 pending_of seen n = record {
-  place = seen n.machine;
+  place = seen n.state;
   left = n.left;
   count = natural n.count;
   weight = amount (top_of n.weight) n.weight.places n.left;
@@ -36,5 +37,9 @@ row_of o = record {
 abbrev pub rows_of : List Outcome → List Row
 rows_of os = map row_of os
 
-abbrev pub nodes_of : {M : Type 0} → (M → Place) → List (Node M) → List Pending
+abbrev pub nodes_of : {S : Type 0} → (S → Place) → List (Node S) → List Pending
 nodes_of seen ns = map (pending_of seen) ns
+
+-- each node has a state that suits
+abbrev pub AreSound : {S : Type 0} → (S → Type 0) → List (Node S) → Type 0
+AreSound suits ns = All (λ n. suits n.state) ns

@@ -4,7 +4,7 @@
 //!
 //! | Module | Contents |
 //! |---|---|
-//! | `copies` | the trait of machines that can be copied and compared |
+//! | `states` | the trait of programs whose states can be copied and compared |
 //! | `sorting` | the summary: all outcomes in order |
 //! | `search` | the search for all outcomes |
 //! | `pending`, `node`, `hints` | nodes, their steps, and how equal ones are found and merged |
@@ -15,7 +15,6 @@
 #![tactic(auto)]
 
 mod comparing;
-mod copies;
 mod filing;
 mod fraction;
 mod hints;
@@ -27,13 +26,14 @@ mod outcome;
 mod pending;
 mod search;
 mod sorting;
+mod states;
 mod table;
 mod text;
 
-pub use copies::Copies;
 pub use fraction::Fraction;
 pub use laws::{one_summary, weights_are_products};
 pub use natural::Natural;
 pub use outcome::Outcome;
 pub use sorting::outcomes;
+pub use states::States;
 pub use text::{fraction_text, number_text};

@@ -5,41 +5,46 @@ ghost use Rattle.std.specs.Prelude.{slice_index_or, OnOk, IfOk, IfSome, IfNone};
 ghost use Rattle.ick_code.specs.meaning.Move.{ask};
 ghost use Rattle.ick_backtrack.specs.Asked.{IsGoing, finish_of};
 ghost use Rattle.ick_backtrack.specs.Steps.{IsPlain};
-ghost use Rattle.ick_outcomes.specs.Accounts.{Admits, CanMerge, Counts, Settles, Makes, chosen};
-ghost use Rattle.ick_outcomes.specs.Accounts.{GoesOn, IsChoosing, AreOver, ended_row};
-ghost use Rattle.ick_outcomes.specs.Seen.{natural, pending_of, row_of, rows_of, nodes_of};
+ghost use Rattle.ick_outcomes.specs.Accounts.{Admits, CanMerge, Counts, Place, Settles, Makes};
+ghost use Rattle.ick_outcomes.specs.Accounts.{GoesOn, IsChoosing, AreOver, chosen, ended_row};
+ghost use Rattle.ick_outcomes.specs.Seen.{AreSound, natural, pending_of, row_of, rows_of, nodes_of};
 ghost use Rattle.ick_outcomes.specs.Tallies.{lesser};
 ghost use Rattle.ick_outcomes.specs.Weights.{part};
 
 use crate::comparing::{differ, keeps};
-use crate::copies::Copies;
 use crate::filing::add_outcome;
 use crate::outcome::{Outcome, end_word};
 use crate::pending::{Node, Waiting};
+use crate::states::States;
 use crate::table::Table;
 use ick_backtrack::{Ask, End};
 use ick_bits::NoMemory;
 use std::alloc::Global;
 
 /// Returns whether two nodes can be merged.
-fn can_merge<'c, M: Copies<'c>>(one: &Node<M>, more: &Node<M>) -> bool
-    ensures { result ≡ true → CanMerge (pending_of M.seen one.now) (pending_of M.seen more.now) }
+fn can_merge<'c, P: States<'c>>(program: &P, one: &Node<P::State>, more: &Node<P::State>) -> bool
+    ensures { result ≡ true → CanMerge (pending_of (P.place program.now) one.now)
+        (pending_of (P.place program.now) more.now) }
 {
-    one.left == more.left && one.machine.same(&more.machine) && differ(&one.choices, &more.choices)
+    one.left == more.left
+        && program.same(&one.state, &more.state)
+        && differ(&one.choices, &more.choices)
 }
 
 /// Returns the index that was hinted at, if the node there can be merged with another.
-fn find_node<'c, M: Copies<'c>>(
-    nodes: &[Node<M>],
+fn find_node<'c, P: States<'c>>(
+    program: &P,
+    nodes: &[Node<P::State>],
     hint: Option<usize>,
-    more: &Node<M>,
+    more: &Node<P::State>,
 ) -> Option<usize>
-    ensures same { IfSome result (λ i. (d : Node M) →
-        CanMerge (pending_of M.seen (slice_index_or nodes.now i d)) (pending_of M.seen more.now)) }
+    ensures same { IfSome result (λ i. (d : Node P.State) →
+        CanMerge (pending_of (P.place program.now) (slice_index_or nodes.now i d))
+        (pending_of (P.place program.now) more.now)) }
     ensures within { IfSome result (λ i. i < length nodes.now) }
 {
     if let Some(at) = hint {
-        if at < nodes.len() && can_merge(&nodes[at], more) {
+        if at < nodes.len() && can_merge(program, &nodes[at], more) {
             return Some(at);
         }
     }
@@ -47,19 +52,21 @@ fn find_node<'c, M: Copies<'c>>(
 }
 
 /// Returns the hash by which a node is looked for.
-fn hash_of<'c, M: Copies<'c>>(node: &Node<M>) -> u64 {
-    node.machine.hash() ^ u64::from(node.left).wrapping_mul(0x9e37_79b9_7f4a_7c15)
+fn hash_of<'c, P: States<'c>>(program: &P, node: &Node<P::State>) -> u64 {
+    program.hash(&node.state) ^ u64::from(node.left).wrapping_mul(0x9e37_79b9_7f4a_7c15)
 }
 
-/// Merges a node into another.
+/// Merges a node into another with the same state.
 #[tactic(auto, using(crate::proofs::Uses::sum_fits, crate::proofs::Uses::merge_sum))]
-fn merge<'c, M: Copies<'c>>(alloc: Global, one: &mut Node<M>, more: Node<M>) -> Result<(), NoMemory>
+fn merge<S: Drop>(alloc: Global, one: &mut Node<S>, more: Node<S>) -> Result<(), NoMemory>
     requires { one.old.left ≡ more.left }
-    ensures { OnOk result (pending_of M.seen one.new ≡ record (pending_of M.seen one.old) {
-      count = natural one.old.count + natural more.count;
-      weight = (pending_of M.seen one.old).weight + (pending_of M.seen more).weight;
-      choices = lesser one.old.choices.items more.choices.items;
-    }) }
+    ensures merged { OnOk result ((seen : S → Place) →
+        pending_of seen one.new ≡ record (pending_of seen one.old) {
+          count = natural one.old.count + natural more.count;
+          weight = (pending_of seen one.old).weight + (pending_of seen more).weight;
+          choices = lesser one.old.choices.items more.choices.items;
+        }) }
+    ensures state { OnOk result (one.new.state ≡ one.old.state) }
 {
     one.count = one.count.plus(&more.count, alloc)?;
     one.weight = one.weight.plus(&more.weight, alloc)?;
@@ -70,18 +77,23 @@ fn merge<'c, M: Copies<'c>>(alloc: Global, one: &mut Node<M>, more: Node<M>) -> 
 }
 
 /// Adds a node to those that wait, or merges it into one of them.
-#[tactic(auto, using(crate::proofs::Uses::admits_at, crate::proofs::Uses::admits_new))]
-fn admit<'c, M: Copies<'c>>(
+#[tactic(auto, using(crate::proofs::Uses::admits_at, crate::proofs::Uses::admits_new, crate::proofs::Uses::sound_at, crate::proofs::Uses::sound_new))]
+fn admit<'c, P: States<'c>>(
     alloc: Global,
-    pending: &mut Waiting<M>,
-    node: Node<M>,
+    program: &P,
+    pending: &mut Waiting<P::State>,
+    node: Node<P::State>,
 ) -> Result<(), NoMemory>
-    ensures { OnOk result (Admits (nodes_of M.seen pending.old.nodes.items) (pending_of M.seen node)
-        (nodes_of M.seen pending.new.nodes.items)) }
+    requires node { P.suits program.now node.state }
+    requires pending { AreSound (P.suits program.now) pending.old.nodes.items }
+    ensures admits { OnOk result (Admits (nodes_of (P.place program.now) pending.old.nodes.items)
+        (pending_of (P.place program.now) node)
+        (nodes_of (P.place program.now) pending.new.nodes.items)) }
+    ensures pending { OnOk result (AreSound (P.suits program.now) pending.new.nodes.items) }
 {
-    let hash = hash_of(&node);
+    let hash = hash_of(program, &node);
     let hint = pending.hints.place(hash);
-    match find_node(&pending.nodes, hint, &node) {
+    match find_node(program, &pending.nodes, hint, &node) {
         Some(at) => {
             merge(alloc, &mut pending.nodes[at], node)?;
             Ok(())
@@ -97,22 +109,26 @@ fn admit<'c, M: Copies<'c>>(
 
 /// Returns how the runs that lead to a node end there, or `None` if they go on.
 #[tactic(auto, using(crate::proofs::Uses::over_ended, crate::proofs::Uses::over_limit, crate::proofs::Uses::going_plain, crate::proofs::Uses::going_choice))]
-fn end_of<'c, M: Copies<'c>>(node: &Node<M>) -> Option<End<'c>>
-    ensures over { IfSome result (λ end. AreOver (pending_of M.seen node.now) (finish_of end)) }
+fn end_of<'c, P: States<'c>>(program: &P, node: &Node<P::State>) -> Option<End<'c>>
+    requires { P.suits program.now node.now.state }
+    ensures over { IfSome result (λ end.
+        AreOver (pending_of (P.place program.now) node.now) (finish_of end)) }
     ensures left { IfNone result (0 < node.now.left) }
 {
-    match node.machine.asks() {
+    match program.asks(&node.state) {
         Ask::Ended(end) => Some(end),
-        Ask::Plain => limit_of(node),
-        Ask::Choice(_) => limit_of(node),
+        Ask::Plain => limit_of(program, node),
+        Ask::Choice(_) => limit_of(program, node),
     }
 }
 
 /// Returns `Limit` if a node that goes on has no step left.
 #[tactic(auto, using(crate::proofs::Uses::over_limit))]
-fn limit_of<'c, M: Copies<'c>>(node: &Node<M>) -> Option<End<'c>>
-    requires { IsGoing (ask (M.seen node.now.machine).program (M.seen node.now.machine).state) }
-    ensures over { IfSome result (λ end. AreOver (pending_of M.seen node.now) (finish_of end)) }
+fn limit_of<'c, P: States<'c>>(program: &P, node: &Node<P::State>) -> Option<End<'c>>
+    requires { IsGoing (ask (P.place program.now node.now.state).program
+        (P.place program.now node.now.state).state) }
+    ensures over { IfSome result (λ end.
+        AreOver (pending_of (P.place program.now) node.now) (finish_of end)) }
     ensures left { IfNone result (0 < node.now.left) }
 {
     if node.left > 0 {
@@ -123,12 +139,17 @@ fn limit_of<'c, M: Copies<'c>>(node: &Node<M>) -> Option<End<'c>>
 
 /// Returns the outcome of a node at which its runs end.
 #[tactic(auto, using(crate::proofs::Uses::row_end))]
-fn close<'c, M: Copies<'c>>(alloc: Global, node: Node<M>, end: End<'c>) -> Result<Outcome, NoMemory>
+fn close<'c, P: States<'c>>(
+    alloc: Global,
+    program: &P,
+    node: Node<P::State>,
+    end: End<'c>,
+) -> Result<Outcome, NoMemory>
     ensures { IfOk result (λ o. row_of o
-        ≡ ended_row (pending_of M.seen node) (finish_of end.entry)) }
+        ≡ ended_row (pending_of (P.place program.now) node) (finish_of end.entry)) }
 {
     Ok(Outcome {
-        output: Vec::from_slice(alloc, node.machine.output())?,
+        output: Vec::from_slice(alloc, program.output(&node.state))?,
         end: end_word(alloc, end)?,
         count: node.count,
         weight: node.weight,
@@ -137,47 +158,62 @@ fn close<'c, M: Copies<'c>>(alloc: Global, node: Node<M>, end: End<'c>) -> Resul
 }
 
 /// Adds a node at which its runs end to the rows.
-fn file<'c, M: Copies<'c>>(
+fn file<'c, P: States<'c>>(
     alloc: Global,
-    node: Node<M>,
+    program: &P,
+    node: Node<P::State>,
     end: End<'c>,
     rows: &mut Table,
 ) -> Result<(), NoMemory>
     ensures { OnOk result (Counts (rows_of rows.old.rows.items)
-        (ended_row (pending_of M.seen node) (finish_of end.entry)) (rows_of rows.new.rows.items)) }
+        (ended_row (pending_of (P.place program.now) node) (finish_of end.entry))
+        (rows_of rows.new.rows.items)) }
 {
-    let row = close(alloc, node, end)?;
+    let row = close(alloc, program, node, end)?;
     add_outcome(alloc, rows, row)?;
     Ok(())
 }
 
 /// Adds a node to the rows if its runs end there, and else lets it wait.
 #[tactic(auto, using(crate::proofs::Uses::settles_over, crate::proofs::Uses::settles_waiting))]
-fn put<'c, M: Copies<'c>>(
+fn put<'c, P: States<'c>>(
     alloc: Global,
-    node: Node<M>,
-    pending: &mut Waiting<M>,
+    program: &P,
+    node: Node<P::State>,
+    pending: &mut Waiting<P::State>,
     rows: &mut Table,
 ) -> Result<(), NoMemory>
-    ensures { OnOk result (Settles (pending_of M.seen node)
-        (nodes_of M.seen pending.old.nodes.items) (rows_of rows.old.rows.items)
-        (nodes_of M.seen pending.new.nodes.items) (rows_of rows.new.rows.items)) }
+    requires node { P.suits program.now node.state }
+    requires pending { AreSound (P.suits program.now) pending.old.nodes.items }
+    ensures settles { OnOk result (Settles (pending_of (P.place program.now) node)
+        (nodes_of (P.place program.now) pending.old.nodes.items) (rows_of rows.old.rows.items)
+        (nodes_of (P.place program.now) pending.new.nodes.items) (rows_of rows.new.rows.items)) }
+    ensures pending { OnOk result (AreSound (P.suits program.now) pending.new.nodes.items) }
 {
-    match end_of(&node) {
-        Some(end) => file(alloc, node, end, rows),
-        None => admit(alloc, pending, node),
+    match end_of(program, &node) {
+        Some(end) => file(alloc, program, node, end, rows),
+        None => admit(alloc, program, pending, node),
     }
 }
 
 /// Makes the steps of a node while nothing is asked.
 #[tactic(auto, using(crate::proofs::Uses::goes_on_runs, crate::proofs::Uses::goes_on_here))]
-fn go_on<'c, M: Copies<'c>>(node: Node<M>) -> Result<Node<M>, NoMemory>
-    ensures { IfOk result (λ m. GoesOn (pending_of M.seen node) (pending_of M.seen m)) }
+fn go_on<'c, P: States<'c>>(
+    program: &P,
+    tools: &mut P::Tools,
+    node: Node<P::State>,
+) -> Result<Node<P::State>, NoMemory>
+    requires tools { P.serves program.now tools.old }
+    requires node { P.suits program.now node.state }
+    ensures goes_on { IfOk result (λ m. GoesOn (pending_of (P.place program.now) node)
+        (pending_of (P.place program.now) m)) }
+    ensures node { IfOk result (λ m. P.suits program.now m.state) }
+    ensures tools { P.serves program.now tools.new }
 {
     let mut node = node;
     if node.left > 0 {
         let left = node.left;
-        let made = node.machine.run(left)?;
+        let made = program.run(tools, &mut node.state, left)?;
         node.left = left - made;
         return Ok(node);
     }
@@ -187,18 +223,25 @@ fn go_on<'c, M: Copies<'c>>(node: Node<M>) -> Result<Node<M>, NoMemory>
 /// Makes the steps of a node while nothing is asked. Then adds it to the rows if its run is over,
 /// and else lets it wait.
 #[tactic(auto, using(crate::proofs::Uses::settles_on))]
-pub(crate) fn settle<'c, M: Copies<'c>>(
+pub(crate) fn settle<'c, P: States<'c>>(
     alloc: Global,
-    node: Node<M>,
-    pending: &mut Waiting<M>,
+    program: &P,
+    tools: &mut P::Tools,
+    node: Node<P::State>,
+    pending: &mut Waiting<P::State>,
     rows: &mut Table,
 ) -> Result<(), NoMemory>
-    ensures { OnOk result (Settles (pending_of M.seen node)
-        (nodes_of M.seen pending.old.nodes.items) (rows_of rows.old.rows.items)
-        (nodes_of M.seen pending.new.nodes.items) (rows_of rows.new.rows.items)) }
+    requires tools { P.serves program.now tools.old }
+    requires node { P.suits program.now node.state }
+    requires pending { AreSound (P.suits program.now) pending.old.nodes.items }
+    ensures settles { OnOk result (Settles (pending_of (P.place program.now) node)
+        (nodes_of (P.place program.now) pending.old.nodes.items) (rows_of rows.old.rows.items)
+        (nodes_of (P.place program.now) pending.new.nodes.items) (rows_of rows.new.rows.items)) }
+    ensures pending { OnOk result (AreSound (P.suits program.now) pending.new.nodes.items) }
+    ensures tools { P.serves program.now tools.new }
 {
-    let moved = go_on(node)?;
-    put(alloc, moved, pending, rows)?;
+    let moved = go_on(program, tools, node)?;
+    put(alloc, program, moved, pending, rows)?;
     Ok(())
 }
 
@@ -214,23 +257,31 @@ fn hundredths(chance: u8, done: bool) -> u8
 
 /// Returns the node after a choice. `chance` is that of the statement that is met.
 #[tactic(auto, using(crate::proofs::Uses::part_fits, crate::proofs::Uses::chosen_part))]
-fn choose<'c, M: Copies<'c>>(
+fn choose<'c, P: States<'c>>(
     alloc: Global,
-    node: Node<M>,
+    program: &P,
+    tools: &mut P::Tools,
+    node: Node<P::State>,
     chance: u8,
     done: bool,
-) -> Result<Node<M>, NoMemory>
-    requires going { IsGoing (ask (M.seen node.machine).program (M.seen node.machine).state) }
+) -> Result<Node<P::State>, NoMemory>
+    requires tools { P.serves program.now tools.old }
+    requires node { P.suits program.now node.state }
+    requires going { IsGoing (ask (P.place program.now node.state).program
+        (P.place program.now node.state).state) }
     requires chance { chance ≤ 100 }
     requires left { 0 < node.left }
-    ensures { IfOk result (λ n. pending_of M.seen n ≡ chosen chance (pending_of M.seen node) done) }
+    ensures chosen { IfOk result (λ n. pending_of (P.place program.now) n
+        ≡ chosen chance (pending_of (P.place program.now) node) done) }
+    ensures node { IfOk result (λ n. P.suits program.now n.state) }
+    ensures tools { P.serves program.now tools.new }
 {
     let mut node = node;
-    node.machine.step(done)?;
+    program.step(tools, &mut node.state, done)?;
     node.choices.push(done)?;
     let weight = node.weight.part(hundredths(chance, done), alloc)?;
     Ok(Node {
-        machine: node.machine,
+        state: node.state,
         left: node.left - 1,
         count: node.count,
         weight,
@@ -239,11 +290,17 @@ fn choose<'c, M: Copies<'c>>(
 }
 
 /// Returns a copy of a node.
-fn copy_node<'c, M: Copies<'c>>(node: &Node<M>) -> Result<Node<M>, NoMemory>
-    ensures { IfOk result (λ n. pending_of M.seen n ≡ pending_of M.seen node.now) }
+fn copy_node<'c, P: States<'c>>(
+    program: &P,
+    node: &Node<P::State>,
+) -> Result<Node<P::State>, NoMemory>
+    requires { P.suits program.now node.now.state }
+    ensures same { IfOk result (λ n. pending_of (P.place program.now) n
+        ≡ pending_of (P.place program.now) node.now) }
+    ensures node { IfOk result (λ n. P.suits program.now n.state) }
 {
     Ok(Node {
-        machine: node.machine.copy()?,
+        state: program.copy(&node.state)?,
         left: node.left,
         count: node.count.copy()?,
         weight: node.weight.copy()?,
@@ -253,120 +310,166 @@ fn copy_node<'c, M: Copies<'c>>(node: &Node<M>) -> Result<Node<M>, NoMemory>
 
 /// Replaces a node that asks for a choice by the two nodes after the choice.
 #[tactic(auto, using(crate::proofs::Uses::makes_choice, crate::proofs::Uses::going_chosen))]
-fn branch<'c, M: Copies<'c>>(
+fn branch<'c, P: States<'c>>(
     alloc: Global,
-    node: Node<M>,
+    program: &P,
+    tools: &mut P::Tools,
+    node: Node<P::State>,
     chance: u8,
-    pending: &mut Waiting<M>,
+    pending: &mut Waiting<P::State>,
     rows: &mut Table,
 ) -> Result<(), NoMemory>
+    requires tools { P.serves program.now tools.old }
+    requires node { P.suits program.now node.state }
+    requires pending { AreSound (P.suits program.now) pending.old.nodes.items }
     requires left { 0 < node.left }
-    requires asks { IsChoosing (pending_of M.seen node) chance }
+    requires asks { IsChoosing (pending_of (P.place program.now) node) chance }
     requires chance { chance ≤ 100 }
-    ensures { OnOk result (Makes node.left (pending_of M.seen node)
-        (nodes_of M.seen pending.old.nodes.items) (rows_of rows.old.rows.items)
-        (nodes_of M.seen pending.new.nodes.items) (rows_of rows.new.rows.items)) }
+    ensures makes { OnOk result (Makes node.left (pending_of (P.place program.now) node)
+        (nodes_of (P.place program.now) pending.old.nodes.items) (rows_of rows.old.rows.items)
+        (nodes_of (P.place program.now) pending.new.nodes.items) (rows_of rows.new.rows.items)) }
+    ensures pending { OnOk result (AreSound (P.suits program.now) pending.new.nodes.items) }
+    ensures tools { P.serves program.now tools.new }
 {
-    let other = copy_node(&node)?;
-    let zero = choose(alloc, node, chance, false)?;
-    let one = choose(alloc, other, chance, true)?;
-    settle(alloc, zero, pending, rows)?;
-    settle(alloc, one, pending, rows)?;
+    let other = copy_node(program, &node)?;
+    let zero = choose(alloc, program, tools, node, chance, false)?;
+    let one = choose(alloc, program, tools, other, chance, true)?;
+    settle(alloc, program, tools, zero, pending, rows)?;
+    settle(alloc, program, tools, one, pending, rows)?;
     Ok(())
 }
 
 /// Makes one step of a node that asks nothing.
 #[tactic(auto, using(crate::proofs::Uses::going_on))]
-fn pass<'c, M: Copies<'c>>(node: Node<M>) -> Result<Node<M>, NoMemory>
+fn pass<'c, P: States<'c>>(
+    program: &P,
+    tools: &mut P::Tools,
+    node: Node<P::State>,
+) -> Result<Node<P::State>, NoMemory>
+    requires tools { P.serves program.now tools.old }
+    requires node { P.suits program.now node.state }
     requires left { 0 < node.left }
-    requires plain { IsPlain (M.seen node.machine).program (M.seen node.machine).state }
-    ensures goes_on { IfOk result (λ m. GoesOn (pending_of M.seen node) (pending_of M.seen m)) }
+    requires plain { IsPlain (P.place program.now node.state).program
+        (P.place program.now node.state).state }
+    ensures goes_on { IfOk result (λ m. GoesOn (pending_of (P.place program.now) node)
+        (pending_of (P.place program.now) m)) }
     ensures fewer { IfOk result (λ m. m.left < node.left) }
+    ensures node { IfOk result (λ m. P.suits program.now m.state) }
+    ensures tools { P.serves program.now tools.new }
 {
     let mut node = node;
-    node.machine.step(false)?;
+    program.step(tools, &mut node.state, false)?;
     node.left = node.left - 1;
     Ok(node)
 }
 
 /// Makes one step of a node that asks nothing, and the steps after it while nothing is asked.
 #[tactic(auto, using(crate::proofs::Uses::makes_pass))]
-fn pass_on<'c, M: Copies<'c>>(
+fn pass_on<'c, P: States<'c>>(
     alloc: Global,
-    node: Node<M>,
-    pending: &mut Waiting<M>,
+    program: &P,
+    tools: &mut P::Tools,
+    node: Node<P::State>,
+    pending: &mut Waiting<P::State>,
     rows: &mut Table,
 ) -> Result<(), NoMemory>
+    requires tools { P.serves program.now tools.old }
+    requires node { P.suits program.now node.state }
+    requires pending { AreSound (P.suits program.now) pending.old.nodes.items }
     requires left { 0 < node.left }
-    requires plain { IsPlain (M.seen node.machine).program (M.seen node.machine).state }
-    ensures { OnOk result (Makes node.left (pending_of M.seen node)
-        (nodes_of M.seen pending.old.nodes.items) (rows_of rows.old.rows.items)
-        (nodes_of M.seen pending.new.nodes.items) (rows_of rows.new.rows.items)) }
+    requires plain { IsPlain (P.place program.now node.state).program
+        (P.place program.now node.state).state }
+    ensures makes { OnOk result (Makes node.left (pending_of (P.place program.now) node)
+        (nodes_of (P.place program.now) pending.old.nodes.items) (rows_of rows.old.rows.items)
+        (nodes_of (P.place program.now) pending.new.nodes.items) (rows_of rows.new.rows.items)) }
+    ensures pending { OnOk result (AreSound (P.suits program.now) pending.new.nodes.items) }
+    ensures tools { P.serves program.now tools.new }
 {
-    let next = pass(node)?;
-    settle(alloc, next, pending, rows)?;
+    let next = pass(program, tools, node)?;
+    settle(alloc, program, tools, next, pending, rows)?;
     Ok(())
 }
 
 /// Makes the next step of a node that has steps left, and the steps after it while nothing is
 /// asked.
 #[tactic(auto, using(crate::proofs::Uses::choosing, crate::proofs::Uses::chance_within, crate::proofs::Uses::is_plain, crate::proofs::Uses::over_ended, crate::proofs::Uses::makes_over))]
-fn expand<'c, M: Copies<'c>>(
+fn expand<'c, P: States<'c>>(
     alloc: Global,
-    node: Node<M>,
-    pending: &mut Waiting<M>,
+    program: &P,
+    tools: &mut P::Tools,
+    node: Node<P::State>,
+    pending: &mut Waiting<P::State>,
     rows: &mut Table,
 ) -> Result<(), NoMemory>
-    requires { 0 < node.left }
-    ensures { OnOk result (Makes node.left (pending_of M.seen node)
-        (nodes_of M.seen pending.old.nodes.items) (rows_of rows.old.rows.items)
-        (nodes_of M.seen pending.new.nodes.items) (rows_of rows.new.rows.items)) }
+    requires tools { P.serves program.now tools.old }
+    requires node { P.suits program.now node.state }
+    requires pending { AreSound (P.suits program.now) pending.old.nodes.items }
+    requires left { 0 < node.left }
+    ensures makes { OnOk result (Makes node.left (pending_of (P.place program.now) node)
+        (nodes_of (P.place program.now) pending.old.nodes.items) (rows_of rows.old.rows.items)
+        (nodes_of (P.place program.now) pending.new.nodes.items) (rows_of rows.new.rows.items)) }
+    ensures pending { OnOk result (AreSound (P.suits program.now) pending.new.nodes.items) }
+    ensures tools { P.serves program.now tools.new }
 {
-    match node.machine.asks() {
+    match program.asks(&node.state) {
         Ask::Ended(end) => {
-            file(alloc, node, end, rows)?;
+            file(alloc, program, node, end, rows)?;
             Ok(())
         }
-        Ask::Plain => pass_on(alloc, node, pending, rows),
-        Ask::Choice(chance) => branch(alloc, node, chance, pending, rows),
+        Ask::Plain => pass_on(alloc, program, tools, node, pending, rows),
+        Ask::Choice(chance) => branch(alloc, program, tools, node, chance, pending, rows),
     }
 }
 
 /// Makes steps of a node, or adds it to the rows if its runs end there.
 #[tactic(auto, using(crate::proofs::Uses::makes_over))]
-fn move_on<'c, M: Copies<'c>>(
+fn move_on<'c, P: States<'c>>(
     alloc: Global,
-    node: Node<M>,
-    pending: &mut Waiting<M>,
+    program: &P,
+    tools: &mut P::Tools,
+    node: Node<P::State>,
+    pending: &mut Waiting<P::State>,
     rows: &mut Table,
 ) -> Result<(), NoMemory>
-    ensures { OnOk result (Makes node.left (pending_of M.seen node)
-        (nodes_of M.seen pending.old.nodes.items) (rows_of rows.old.rows.items)
-        (nodes_of M.seen pending.new.nodes.items) (rows_of rows.new.rows.items)) }
+    requires tools { P.serves program.now tools.old }
+    requires node { P.suits program.now node.state }
+    requires pending { AreSound (P.suits program.now) pending.old.nodes.items }
+    ensures makes { OnOk result (Makes node.left (pending_of (P.place program.now) node)
+        (nodes_of (P.place program.now) pending.old.nodes.items) (rows_of rows.old.rows.items)
+        (nodes_of (P.place program.now) pending.new.nodes.items) (rows_of rows.new.rows.items)) }
+    ensures pending { OnOk result (AreSound (P.suits program.now) pending.new.nodes.items) }
+    ensures tools { P.serves program.now tools.new }
 {
-    match end_of(&node) {
-        Some(end) => file(alloc, node, end, rows),
-        None => expand(alloc, node, pending, rows),
+    match end_of(program, &node) {
+        Some(end) => file(alloc, program, node, end, rows),
+        None => expand(alloc, program, tools, node, pending, rows),
     }
 }
 
 /// Makes steps of a node that has `most` steps left. A node with fewer steps left waits: a node
 /// that is behind may still be merged into it.
 #[tactic(auto, using(crate::proofs::Uses::makes_waiting, crate::proofs::Uses::makes_now))]
-pub(crate) fn make<'c, M: Copies<'c>>(
+pub(crate) fn make<'c, P: States<'c>>(
     alloc: Global,
-    node: Node<M>,
+    program: &P,
+    tools: &mut P::Tools,
+    node: Node<P::State>,
     most: u32,
-    pending: &mut Waiting<M>,
+    pending: &mut Waiting<P::State>,
     rows: &mut Table,
 ) -> Result<(), NoMemory>
-    ensures { OnOk result (Makes most (pending_of M.seen node)
-        (nodes_of M.seen pending.old.nodes.items) (rows_of rows.old.rows.items)
-        (nodes_of M.seen pending.new.nodes.items) (rows_of rows.new.rows.items)) }
+    requires tools { P.serves program.now tools.old }
+    requires node { P.suits program.now node.state }
+    requires pending { AreSound (P.suits program.now) pending.old.nodes.items }
+    ensures makes { OnOk result (Makes most (pending_of (P.place program.now) node)
+        (nodes_of (P.place program.now) pending.old.nodes.items) (rows_of rows.old.rows.items)
+        (nodes_of (P.place program.now) pending.new.nodes.items) (rows_of rows.new.rows.items)) }
+    ensures pending { OnOk result (AreSound (P.suits program.now) pending.new.nodes.items) }
+    ensures tools { P.serves program.now tools.new }
 {
     if node.left < most {
-        admit(alloc, pending, node)?;
+        admit(alloc, program, pending, node)?;
         return Ok(());
     }
-    move_on(alloc, node, pending, rows)
+    move_on(alloc, program, tools, node, pending, rows)
 }

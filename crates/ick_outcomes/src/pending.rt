@@ -1,4 +1,4 @@
-//! Nodes of the search: machines that still have steps to make.
+//! Nodes of the search: states that still have steps to make.
 
 ghost use Rattle.std.specs.Prelude.{◌+◌, ◌≤◌};
 
@@ -6,11 +6,11 @@ use crate::fraction::Fraction;
 use crate::hints::Hints;
 use crate::natural::Natural;
 
-/// A machine, how many steps it has left, how many runs lead to its state, their weight together,
-/// and the choices of the first of them.
+/// A state, how many steps it has left, how many runs lead to it, their weight together, and the
+/// choices of the first of them.
 #[derive(Drop)]
-pub(crate) struct Node<M: Drop> {
-    pub(crate) machine: M,
+pub(crate) struct Node<S: Drop> {
+    pub(crate) state: S,
     pub(crate) left: u32,
     pub(crate) count: Natural,
     pub(crate) weight: Fraction,
@@ -20,7 +20,7 @@ pub(crate) struct Node<M: Drop> {
 
 /// The nodes that wait, and hints where an equal one may be among them.
 #[derive(Drop)]
-pub(crate) struct Waiting<M: Drop> {
-    pub(crate) nodes: Vec<Node<M>>,
+pub(crate) struct Waiting<S: Drop> {
+    pub(crate) nodes: Vec<Node<S>>,
     pub(crate) hints: Hints,
 }

@@ -1,10 +1,9 @@
 //! Searches all outcomes of a program.
 
 ghost use Rattle.std.specs.Prelude.{◌≡◌, ◌+◌, ◌≤◌, ◌⊎◌, [], true, length, IfOk};
-ghost use Rattle.ick_outcomes.specs.Accounts.{SettlesAll, AreCounted, IsMostLeft};
-ghost use Rattle.ick_outcomes.specs.Seen.{pending_of, rows_of, nodes_of};
+ghost use Rattle.ick_outcomes.specs.Accounts.{Place, SettlesAll, AreCounted, IsMostLeft};
+ghost use Rattle.ick_outcomes.specs.Seen.{AreSound, pending_of, rows_of, nodes_of};
 
-use crate::copies::Copies;
 use crate::filing::no_rows;
 use crate::fraction::Fraction;
 use crate::hints::Hints;
@@ -12,12 +11,13 @@ use crate::natural::Natural;
 use crate::node::{make, settle};
 use crate::outcome::Outcome;
 use crate::pending::{Node, Waiting};
+use crate::states::States;
 use crate::table::Table;
 use ick_bits::NoMemory;
 use std::alloc::Global;
 
 /// Returns an empty list of nodes.
-fn no_nodes<M: Drop>(alloc: Global) -> Waiting<M>
+fn no_nodes<S: Drop>(alloc: Global) -> Waiting<S>
     ensures { result.nodes.items ≡ [] }
 {
     Waiting {
@@ -27,7 +27,7 @@ fn no_nodes<M: Drop>(alloc: Global) -> Waiting<M>
 }
 
 /// Returns whether no node waits.
-fn is_done<M: Drop>(waiting: &Waiting<M>) -> bool
+fn is_done<S: Drop>(waiting: &Waiting<S>) -> bool
     ensures { result ≡ true → length waiting.now.nodes.items ≡ 0 }
 {
     waiting.nodes.is_empty()
@@ -47,8 +47,8 @@ fn higher(one: u32, other: u32) -> u32
 
 /// Returns the greatest number of steps that a node has left.
 #[tactic(auto, using(crate::proofs::Uses::most_none, crate::proofs::Uses::most_more))]
-fn most_left<'c, M: Copies<'c>>(nodes: &[Node<M>]) -> u32
-    ensures { IsMostLeft result (nodes_of M.seen nodes.now) }
+fn most_left<S: Drop>(nodes: &[Node<S>]) -> u32
+    ensures { (seen : S → Place) → IsMostLeft result (nodes_of seen nodes.now) }
 {
     let mut most = 0;
     'nodes: for node in nodes {
@@ -60,50 +60,61 @@ fn most_left<'c, M: Copies<'c>>(nodes: &[Node<M>]) -> u32
 /// Makes steps of the nodes that have `most` steps left, the most of all. So nodes are merged
 /// before they make further steps.
 #[tactic(auto, using(crate::proofs::Uses::settles_more, crate::proofs::Uses::settles_nothing))]
-fn round<'c, M: Copies<'c>>(
+fn round<'c, P: States<'c>>(
     alloc: Global,
-    waiting: Waiting<M>,
+    program: &P,
+    tools: &mut P::Tools,
+    waiting: Waiting<P::State>,
     most: u32,
     rows: &mut Table,
-) -> Result<Waiting<M>, NoMemory>
-    ensures { IfOk result (λ later. SettlesAll most (nodes_of M.seen waiting.nodes.items)
+) -> Result<Waiting<P::State>, NoMemory>
+    requires tools { P.serves program.now tools.old }
+    requires waiting { AreSound (P.suits program.now) waiting.nodes.items }
+    ensures settles { IfOk result (λ later. SettlesAll most
+        (nodes_of (P.place program.now) waiting.nodes.items)
         [] (rows_of rows.old.rows.items)
-        (nodes_of M.seen later.nodes.items) (rows_of rows.new.rows.items)) }
+        (nodes_of (P.place program.now) later.nodes.items) (rows_of rows.new.rows.items)) }
+    ensures later { IfOk result (λ later. AreSound (P.suits program.now) later.nodes.items) }
+    ensures tools { P.serves program.now tools.new }
 {
     let mut later = no_nodes(alloc);
     'nodes: for node in waiting.nodes {
-        make(alloc, node, most, &mut later, rows)?;
+        make(alloc, program, tools, node, most, &mut later, rows)?;
     }
     Ok(later)
 }
 
-/// Returns each outcome of the runs from a machine's state once, with the number of its runs, their
-/// weight and the first of them, in no order.
+/// Returns each outcome of the runs from a state once, with the number of its runs, their weight
+/// and the first of them, in no order.
 #[tactic(auto, using(crate::proofs::Uses::counts_start, crate::proofs::Uses::counts_on, crate::proofs::Uses::counts_end, crate::proofs::Uses::counts_done))]
-pub(crate) fn count_outcomes<'c, M: Copies<'c>>(
+pub(crate) fn count_outcomes<'c, P: States<'c>>(
     alloc: Global,
-    machine: M,
+    program: &P,
+    tools: &mut P::Tools,
+    state: P::State,
     limit: u32,
 ) -> Result<Vec<Outcome>, NoMemory>
-    ensures { IfOk result (λ rows. AreCounted (M.seen machine).program (M.seen machine).state limit
-        (rows_of rows.items)) }
+    requires tools { P.serves program.now tools.old }
+    requires state { P.suits program.now state }
+    ensures { IfOk result (λ rows. AreCounted (P.place program.now state).program
+        (P.place program.now state).state limit (rows_of rows.items)) }
 {
     let mut rows = no_rows(alloc);
     let mut pending = no_nodes(alloc);
     let node = Node {
-        machine,
+        state,
         left: limit,
         count: Natural::one(alloc)?,
         weight: Fraction::one(alloc)?,
         choices: Vec::new(alloc),
     };
-    settle(alloc, node, &mut pending, &mut rows)?;
+    settle(alloc, program, tools, node, &mut pending, &mut rows)?;
     'rounds: for gone in 0..u64::from(limit) + 1 {
         if is_done(&pending) {
             return Ok(rows.rows);
         }
         let most = most_left(&pending.nodes);
-        pending = round(alloc, pending, most, &mut rows)?;
+        pending = round(alloc, program, tools, pending, most, &mut rows)?;
     }
     Ok(rows.rows)
 }

@@ -6,9 +6,9 @@ ghost use Rattle.ick_outcomes.specs.Seen.{rows_of};
 ghost use Rattle.ick_outcomes.specs.Summaries.{CountsAll, IsSummary, count_of, weight_of};
 ghost use Rattle.ick_outcomes.specs.Weights.{whole};
 
-use crate::copies::Copies;
 use crate::outcome::Outcome;
 use crate::search::count_outcomes;
+use crate::states::States;
 use ick_bits::NoMemory;
 use std::alloc::Global;
 
@@ -20,28 +20,33 @@ fn sort_rows(rows: &mut Vec<Outcome>) -> Result<(), NoMemory>
     Ok(())
 }
 
-/// Returns the summary of all runs from a machine's state under a limit on steps. An outcome is
-/// what a run writes and how it ends. Each outcome comes once, with the number of runs that have
+/// Returns the summary of all runs of a program from a state, under a limit on steps. An outcome
+/// is what a run writes and how it ends. Each outcome comes once, with the number of runs that have
 /// it, their weight together, and the first of them in the listing. The outcomes are in the order
 /// of their first runs. The counts add up to the length of the listing, and the weights add up to
-/// exactly 1.
+/// exactly 1. The state must be of the program, and the tools must be for it.
 ///
 /// The weight of a run is the product, over its choices, of n/100 if the statement at chance n was
 /// done, and of (100-n)/100 if it was passed over. `NoMemory` is the only refusal.
 #[tactic(auto, using(crate::proofs::OrderedRows::summary_of, crate::proofs::Wholes::whole_of))]
-pub fn outcomes<'c, M: Copies<'c>>(
+pub fn outcomes<'c, P: States<'c>>(
     alloc: Global,
-    machine: M,
+    program: &P,
+    tools: &mut P::Tools,
+    state: P::State,
     limit: u32,
 ) -> Result<Vec<Outcome>, NoMemory>
+    requires tools { P.serves program.now tools.old }
+    requires state { P.suits program.now state }
     ensures summary { IfOk result (λ rows.
-        IsSummary (M.seen machine).program (M.seen machine).state limit (rows_of rows.items)) }
+        IsSummary (P.place program.now state).program (P.place program.now state).state limit
+        (rows_of rows.items)) }
     ensures counts { IfOk result (λ rows.
-        CountsAll (M.seen machine).program (M.seen machine).state limit
+        CountsAll (P.place program.now state).program (P.place program.now state).state limit
         (count_of (rows_of rows.items))) }
     ensures whole { IfOk result (λ rows. weight_of (rows_of rows.items) ≡ whole) }
 {
-    let mut rows = count_outcomes(alloc, machine, limit)?;
+    let mut rows = count_outcomes(alloc, program, tools, state, limit)?;
     sort_rows(&mut rows)?;
     Ok(rows)
 }

@@ -6,13 +6,13 @@ use Rattle.ick_outcomes.proofs.Uses.{most_more}
 use Rattle.ick_outcomes.proofs.search.most_left.Goals as goal
 
 pub nodes-preserved : goal.nodes-preserved
-nodes-preserved g c =
-    most_more g.M.Copies.seen c.args.nodes.now c.nodes.node-index c.nodes.most c.higher-most.result
-    c.node-item.result c.nodes-test.true c.node-item.is c.nodes.invariant c.higher-most.ensures.one
+nodes-preserved g c = λ seen.
+    most_more seen c.args.nodes.now c.nodes.node-index c.nodes.most c.higher-most.result
+    c.node-item.result c.nodes-test.true c.node-item.is (c.nodes.invariant seen) c.higher-most.ensures.one
     c.higher-most.ensures.other c.higher-most.ensures.either
 
 pub returns : goal.returns
-returns g c =
+returns g c = λ seen.
     let stop = c.nodes-test.false in
-    subst (λ z. IsMostLeft c.nodes.most (nodes_of g.M.Copies.seen z))
-    (take-all c.args.nodes.now c.nodes.node-index (omega (arith, stop))) c.nodes.invariant
+    subst (λ z. IsMostLeft c.nodes.most (nodes_of seen z))
+    (take-all c.args.nodes.now c.nodes.node-index (omega (arith, stop))) (c.nodes.invariant seen)

@@ -1,0 +1,89 @@
+//! Programs whose states can be copied and compared.
+
+ghost use Rattle.std.specs.Prelude.{◌≡◌, ◌≤◌, true, Some, IfOk, OnOk};
+ghost use Rattle.ick_code.specs.meaning.Move.{ask, advance};
+ghost use Rattle.ick_backtrack.specs.Asked.{asked_of, IsGoing};
+ghost use Rattle.ick_backtrack.specs.Steps.{IsPlain, RunsOn};
+ghost use Rattle.ick_outcomes.specs.Accounts.{Place};
+
+use ick_backtrack::Ask;
+use ick_bits::NoMemory;
+
+/// A program over its input, for a search that keeps many states of it. A state holds only what
+/// states differ by. The program, and the tools that steps are made with, are lent for each call.
+///
+/// Contracts see a state as a program and a state of the meaning (`place`). Each call takes only
+/// states that are of this program (`suits`), and tools that are for it (`serves`). `'c` is the
+/// lifetime of the code: the message of a fault shows a text of it.
+pub trait States<'c>: Drop {
+    type State: Drop;
+
+    type Tools: Drop;
+
+    ghost place: { Self → Self.State → Place };
+
+    ghost suits: { Self → Self.State → Type 0 };
+
+    ghost serves: { Self → Self.Tools → Type 0 };
+
+    /// Returns what the run has written so far.
+    fn output<'s>(&self, state: &'s Self::State) -> &'s [u8]
+        ensures { result.now ≡ (place self.now state.now).state.output };
+
+    /// Returns what is asked before the next step (Revised Manual, 4.3): a choice, or nothing, or
+    /// how the run ended.
+    fn asks(&self, state: &Self::State) -> Ask<'c>
+        requires { suits self.now state.now }
+        ensures { asked_of result
+            ≡ Some (ask (place self.now state.now).program (place self.now state.now).state) };
+
+    /// Makes one step. `done` says whether a statement with a chance is done, if the state asks
+    /// that, and else it changes nothing. The run must not have ended. After `NoMemory` nothing is
+    /// known of the state.
+    fn step(
+        &self,
+        tools: &mut Self::Tools,
+        state: &mut Self::State,
+        done: bool,
+    ) -> Result<(), NoMemory>
+        requires tools { serves self.now tools.old }
+        requires state { suits self.now state.old }
+        requires going { IsGoing (ask (place self.now state.old).program (place self.now state.old).state) }
+        ensures step { OnOk result (place self.now state.new ≡ record (place self.now state.old) {
+          state = advance (place self.now state.old).program (place self.now state.old).state done;
+        }) }
+        ensures tools { serves self.now tools.new }
+        ensures state { suits self.now state.new };
+
+    /// Makes steps while nothing is asked and the run hasn't ended, at most as many as the limit.
+    /// Returns their number. After `NoMemory` nothing is known of the state.
+    fn run(
+        &self,
+        tools: &mut Self::Tools,
+        state: &mut Self::State,
+        limit: u32,
+    ) -> Result<u32, NoMemory>
+        requires tools { serves self.now tools.old }
+        requires state { suits self.now state.old }
+        ensures runs { IfOk result (λ k. RunsOn IsPlain (place self.now state.old).program
+            (place self.now state.old).state k (place self.now state.new).state) }
+        ensures program { (place self.now state.new).program ≡ (place self.now state.old).program }
+        ensures within { IfOk result (λ k. k ≤ limit) }
+        ensures tools { serves self.now tools.new }
+        ensures state { suits self.now state.new };
+
+    /// Returns a copy of a state.
+    fn copy(&self, state: &Self::State) -> Result<Self::State, NoMemory>
+        requires { suits self.now state.now }
+        ensures place { IfOk result (λ copy. place self.now copy ≡ place self.now state.now) }
+        ensures state { IfOk result (λ copy. suits self.now copy) };
+
+    /// Returns whether two states are equal. The answer may be `false` although they are: then they
+    /// are not merged, and the summary is the same.
+    fn same(&self, one: &Self::State, other: &Self::State) -> bool
+        ensures { result ≡ true → place self.now one.now ≡ place self.now other.now };
+
+    /// Returns a number that should be equal if the states are. No contract rests on it: it tells
+    /// the search which states to compare.
+    fn hash(&self, state: &Self::State) -> u64;
+}
