@@ -303,7 +303,7 @@ settles-admits n ns ns' rs h = record {
 }
 
 -- b moves to the front
-join-front : (a b c : Tally) → join a (join b c) ≡ join b (join a c)
+pub join-front : (a b c : Tally) → join a (join b c) ≡ join b (join a c)
 join-front a b c = sym (join-assoc a b c) ∙ (ap (λ t. join t c) (join-swap a b) ∙ join-assoc b a c)
 
 pub settles-counts : (n : Pending) (ns : List Pending) (rs rs' : List Row) (r : Row) →

@@ -3,11 +3,11 @@
 ghost use Rattle.std.specs.Prelude.{ℕ};
 ghost use Rattle.ick_code.specs.meaning.State.{State};
 ghost use Rattle.ick_backtrack.specs.Machine.{Program};
-ghost use Rattle.ick_outcomes.specs.Laws.{HasOneSummaryAtMost, AreProducts};
+ghost use Rattle.ick_outcomes.specs.Laws.{HasOneSummary, AreProducts};
 
-/// States that a program, a state and a limit have at most one summary.
+/// States that a program and a state have exactly one summary under each limit below 2^32.
 pub fn one_summary()
-    ensures { (p : Program) (s : State) (limit : ℕ) → HasOneSummaryAtMost p s limit }
+    ensures { (p : Program) (s : State) (limit : ℕ) → HasOneSummary p s limit }
 {}
 
 /// States that both definitions of a run's weight agree: its share of 100 ^ limit, and the product
