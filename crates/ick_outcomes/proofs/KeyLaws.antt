@@ -15,7 +15,7 @@ use Rattle.ick_outcomes.proofs.Lists.{mapped-at, any_default, at-pushed, at-set}
 pub mix_start : (h : ℕ) (bs : List ℕ) → mix h (drop 0 bs) ≡ mix h bs
 mix_start h bs = refl
 
-drop-more : (bs : List ℕ) (i d : ℕ) → i < length bs → drop i bs ≡ slice_index_or bs i d ∷ drop (suc i) bs
+pub drop-more : (bs : List ℕ) (i d : ℕ) → i < length bs → drop i bs ≡ slice_index_or bs i d ∷ drop (suc i) bs
 drop-more [] i d lt = absurd (omega (arith, lt))
 drop-more (b ∷ bs) zero d lt = refl
 drop-more (b ∷ bs) (suc i) d lt = drop-more bs i d (omega (arith, lt))
@@ -27,7 +27,7 @@ mix_more start h i d bs lt e =
     ap (λ z. mix ((h * 1000003 + slice_index_or bs i d) % 1000000000039) (drop z bs)) n
     ∙ (ap (mix h) (sym (drop-more bs i d lt)) ∙ e)
 
-drop-all : (bs : List ℕ) (i : ℕ) → length bs ≤ i → drop i bs ≡ []
+pub drop-all : (bs : List ℕ) (i : ℕ) → length bs ≤ i → drop i bs ≡ []
 drop-all [] zero h = refl
 drop-all [] (suc i) h = refl
 drop-all (b ∷ bs) zero h = absurd (omega (arith, h))

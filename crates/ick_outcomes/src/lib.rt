@@ -10,11 +10,12 @@
 //! | `pending`, `node`, `hints` | nodes, their steps, and how equal ones are found and merged |
 //! | `outcome`, `table`, `filing`, `index` | outcomes, and how runs are added to them |
 //! | `comparing` | the order of lists of choices |
-//! | `natural`, `fraction`, `text` | counts and weights of any length, and their texts |
+//! | `natural`, `fraction`, `text`, `cut` | counts and weights of any length, and their texts |
 //! | `laws` | laws of all summaries |
 #![tactic(auto)]
 
 mod comparing;
+mod cut;
 mod filing;
 mod fraction;
 mod hints;
@@ -30,6 +31,7 @@ mod states;
 mod table;
 mod text;
 
+pub use cut::{cut_text, weight_text};
 pub use fraction::Fraction;
 pub use laws::{one_summary, weights_are_products};
 pub use natural::Natural;
