@@ -127,7 +127,7 @@ fn push_choices(out: &mut Vec<u8>, choices: &[bool]) -> Result<(), NoMemory>
 /// Appends the text of a list of choices. The answer is `NoMemory` if `out` can't grow, and `out`
 /// is then unchanged.
 #[tactic(auto, unfolding(crate::specs::ChoiceTexts::choices_text))]
-pub(crate) fn append_choices(out: &mut Vec<u8>, choices: &[bool]) -> Result<(), NoMemory>
+pub fn append_choices(out: &mut Vec<u8>, choices: &[bool]) -> Result<(), NoMemory>
     ensures ok { OnOk result (out.new.items ≡ out.old.items ++ choices_text choices.now) }
     ensures err { OnErr result (out.new.items ≡ out.old.items) }
     ensures full { OnErr result

@@ -34,6 +34,7 @@ mod tail;
 mod walk;
 mod writing;
 
+pub use choice_texts::append_choices;
 pub use cursor::Cursor;
 pub use devices::{
     ByteSink, ByteSource, DeviceFault, ReadFault, SliceSource, VecSink, read_first, write_whole,

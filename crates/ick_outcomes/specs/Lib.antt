@@ -8,3 +8,4 @@ pub mod Fractions
 pub mod Texts
 pub mod Keys
 pub mod Laws
+pub mod Lines

@@ -11,6 +11,7 @@
 //! | `outcome`, `table`, `filing`, `index` | outcomes, and how runs are added to them |
 //! | `comparing` | the order of lists of choices |
 //! | `natural`, `fraction`, `text`, `cut` | counts and weights of any length, and their texts |
+//! | `lines` | the text of a summary |
 //! | `laws` | laws of all summaries |
 #![tactic(auto)]
 
@@ -21,6 +22,7 @@ mod fraction;
 mod hints;
 mod index;
 mod laws;
+mod lines;
 mod natural;
 mod node;
 mod outcome;
@@ -34,6 +36,7 @@ mod text;
 pub use cut::{cut_text, weight_text};
 pub use fraction::Fraction;
 pub use laws::{one_summary, weights_are_products};
+pub use lines::{summary_text, total_text};
 pub use natural::Natural;
 pub use outcome::Outcome;
 pub use sorting::outcomes;

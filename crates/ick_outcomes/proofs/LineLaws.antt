@@ -1,0 +1,53 @@
+-- Proves that texts are those of a summary.
+use Prim.Native.Nat.{suc}
+use Rattle.std.proofs.Common.{◌≡◌, ℕ, ◌+◌, ◌<◌, ◌≤◌, length, take, Bool, List, [], ◌∷◌, ◌++◌}
+use Rattle.std.proofs.Common.{refl, ap, sym, ◌∙◌, subst, arith, slice_index_or}
+use Rattle.std.specs.Prelude.{codes}
+use Rattle.ick_bits.specs.Quoted.{quoted}
+use Rattle.ick_explorer.specs.ChoiceTexts.{choices_text}
+use Rattle.ick_outcomes.specs.Lines.{IsLine, AreLines, no_line, one_more, IsSummaryText}
+use Rattle.ick_outcomes.specs.Seen.{natural, row_of, rows_of}
+use Rattle.ick_outcomes.specs.Summaries.{count_of}
+use Rattle.ick_outcomes.specs.Texts.{IsNumberText, IsWeightText}
+use Rattle.ick_outcomes.specs.declared.outcome.Outcome.{Outcome}
+use Rattle.ick_outcomes.proofs.Lists.{take-more, take-all}
+
+-- the lines of outcomes up to an index
+pub lines_start : (exact : Bool) (os : List Outcome) → AreLines exact (take 0 os) []
+lines_start exact os = no_line
+
+pub lines_more : (exact : Bool) (os : List Outcome) (i : ℕ) (o : Outcome) (text line new : List ℕ) → i < length os →
+    o ≡ slice_index_or os i o → AreLines exact (take i os) text → IsLine exact o line → new ≡ text ++ line →
+    AreLines exact (take (i + 1) os) new
+lines_more exact os i o text line new lt e h k n =
+    let next : i + 1 ≡ suc i = omega arith in
+    let same = ap (λ z. take z os) next ∙ (take-more os i o lt ∙ ap (λ z. take i os ++ z ∷ []) (sym e)) in
+    subst (λ z. AreLines exact z new) (sym same)
+    (subst (AreLines exact (take i os ++ o ∷ [])) (sym n) (one_more (take i os) o text line h k))
+
+pub lines_end : (exact : Bool) (os : List Outcome) (i : ℕ) (lines text : List ℕ) → length os ≤ i →
+    AreLines exact (take i os) lines → text ≡ lines ++ codes "DONE\n" → IsSummaryText exact os text
+lines_end exact os i lines text le h e = record {
+  lines = lines;
+  are_lines = subst (λ z. AreLines exact z lines) (take-all os i le) h;
+  same = e;
+}
+
+-- the sum of the counts of the outcomes up to an index
+count-push : (os : List Outcome) (o : Outcome) →
+    count_of (rows_of (os ++ o ∷ [])) ≡ count_of (rows_of os) + natural o.count
+count-push [] o = omega arith
+count-push (x ∷ os) o = let h = count-push os o in omega (arith, h)
+
+pub total_more : (os : List Outcome) (i : ℕ) (o : Outcome) (sum new : ℕ) → i < length os →
+    o ≡ slice_index_or os i o → sum ≡ count_of (rows_of (take i os)) → new ≡ sum + natural o.count →
+    new ≡ count_of (rows_of (take (i + 1) os))
+total_more os i o sum new lt e h k =
+    let next : i + 1 ≡ suc i = omega arith in
+    let same = ap (λ z. take z os) next ∙ (take-more os i o lt ∙ ap (λ z. take i os ++ z ∷ []) (sym e)) in
+    let push = count-push (take i os) o in
+    k ∙ (ap (λ z. z + natural o.count) h ∙ (sym push ∙ ap (λ z. count_of (rows_of z)) (sym same)))
+
+pub total_end : (os : List Outcome) (i sum : ℕ) → length os ≤ i → sum ≡ count_of (rows_of (take i os)) →
+    sum ≡ count_of (rows_of os)
+total_end os i sum le h = h ∙ ap (λ z. count_of (rows_of z)) (take-all os i le)

@@ -1,0 +1,7 @@
+use Rattle.std.proofs.Common.{◌≡◌, take}
+use Rattle.ick_outcomes.specs.Seen.{natural, rows_of}
+use Rattle.ick_outcomes.specs.Summaries.{count_of}
+use Rattle.ick_outcomes.proofs.lines.total.Given as goal
+
+abbrev pub invariant-outcomes : goal.invariant-outcomes
+invariant-outcomes l = natural l.sum ≡ count_of (rows_of (take l.outcome-index l.outcomes))
