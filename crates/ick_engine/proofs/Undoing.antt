@@ -8,10 +8,9 @@ use Rattle.std.proofs.lemmas.List.{get_or-set_same, get_or-set_other, length-tak
 use Rattle.std.proofs.Math.Seq.{drop-length}
 use Rattle.std.proofs.Math.ListN.{drop_of_length-le}
 use Rattle.ick_code.specs.meaning.State.{Array, no_array}
-use Rattle.ick_engine.specs.declared.change.Entry.{Entry}
-use Rattle.ick_engine.specs.declared.change.Entry.TheVariants.{Register, Home, Status, Return, Element}
 use Rattle.ick_engine.specs.Elements.{with_element}
 use Rattle.ick_engine.specs.View.{View, Parts}
+use Rattle.ick_engine.specs.Undo.{Change, register_was, home_was, status_was, return_was, element_was}
 use Rattle.ick_engine.specs.Undo.{undone, rewound, with_arrays, with_number, Like, HighSame, Rewinds}
 
 pub like_refl : (base deep : ℕ) (v : View) → Like base deep v v
@@ -48,8 +47,8 @@ like_lower fewer a = record {
 }
 
 -- what can be undone from a view can be undone from each one like it
-pub alike_rewinds : {base low k : ℕ} {entries : List Entry} {v w m : View} → Like base low v w →
-    Rewinds base entries low k v m → Rewinds base entries low k w m
+pub alike_rewinds : {base low k : ℕ} {changes : List Change} {v w m : View} → Like base low v w →
+    Rewinds base changes low k v m → Rewinds base changes low k w m
 alike_rewinds a h = record {
   within = h.within;
   leads = λ u b. h.leads u (like_trans a b);
@@ -57,10 +56,10 @@ alike_rewinds a h = record {
 }
 
 -- the newest change is undone first
-pub newest_first : (entries : List Entry) (entry : Entry) (k : ℕ) → k ≤ length entries →
-    reverse (drop k (entries ++ entry ∷ [])) ≡ entry ∷ reverse (drop k entries)
-newest_first entries entry k within =
-    ap reverse (drop-append-le k entries (entry ∷ []) within) ∙ reverse-append (drop k entries) (entry ∷ [])
+pub newest_first : (changes : List Change) (change : Change) (k : ℕ) → k ≤ length changes →
+    reverse (drop k (changes ++ change ∷ [])) ≡ change ∷ reverse (drop k changes)
+newest_first changes change k within =
+    ap reverse (drop-append-le k changes (change ∷ []) within) ∙ reverse-append (drop k changes) (change ∷ [])
 
 -- a return address that is pushed changes nothing below its depth
 pub pushed_like : (base low depth place : ℕ) (v : View) → low ≤ depth →
@@ -75,20 +74,20 @@ pushed_like base low depth place v above = record {
   returns_same = λ k few. get_or-set_other v.returns depth k place 0 (λ e. absurd (omega (arith, e, few, above)));
 }
 
--- an entry whose change is undone first
-noted : (base : ℕ) (entries : List Entry) (low low' k : ℕ) (entry : Entry) (u v m : View) →
-    Rewinds base entries low k v m →
-    ((w : View) → Like base low' u w → Like base low v (undone entry w) × HighSame base w (undone entry w)) →
-    Rewinds base (entries ++ entry ∷ []) low' k u m
-noted base entries low low' k entry u v m h back = record {
-  within = omega (arith, h.within, length-append entries (entry ∷ []));
+-- a change that is undone first
+noted : (base : ℕ) (changes : List Change) (low low' k : ℕ) (change : Change) (u v m : View) →
+    Rewinds base changes low k v m →
+    ((w : View) → Like base low' u w → Like base low v (undone change w) × HighSame base w (undone change w)) →
+    Rewinds base (changes ++ change ∷ []) low' k u m
+noted base changes low low' k change u v m h back = record {
+  within = omega (arith, h.within, length-append changes (change ∷ []));
   leads = λ w like.
-      subst (λ es. Like base m.depth m (rewound es w)) (sym (newest_first entries entry k h.within))
-      (h.leads (undone entry w) (back w like).0);
+      subst (λ es. Like base m.depth m (rewound es w)) (sym (newest_first changes change k h.within))
+      (h.leads (undone change w) (back w like).0);
   stays = λ w like r high.
       subst (λ es. get_or (rewound es w).registers r 0 ≡ get_or w.registers r 0)
-      (sym (newest_first entries entry k h.within))
-      (h.stays (undone entry w) (back w like).0 r high ∙ (back w like).1 r high);
+      (sym (newest_first changes change k h.within))
+      (h.stays (undone change w) (back w like).0 r high ∙ (back w like).1 r high);
 }
 
 put_back : (xs : List ℕ) (at n : ℕ) → slice_set (slice_set xs at n) at (get_or xs at 0) ≡ xs
@@ -96,8 +95,8 @@ put_back xs at n = set-set xs at n (get_or xs at 0) ∙ set-get_or xs at 0
 
 register_back : (base low at number : ℕ) (v w : View) → at < base → at < length v.registers →
     Like base low (record v { registers = slice_set v.registers at number }) w →
-    Like base low v (undone (Register at (get_or v.registers at 0)) w)
-    × HighSame base w (undone (Register at (get_or v.registers at 0)) w)
+    Like base low v (undone (register_was at (get_or v.registers at 0)) w)
+    × HighSame base w (undone (register_was at (get_or v.registers at 0)) w)
 register_back base low at number v w below there like = (
   record {
     registers_count =
@@ -128,20 +127,20 @@ register_back base low at number v w below there like = (
           ∙ get_or-set_other v.registers at r number 0 other
     ]
 
-pub notes_register : (base : ℕ) (entries : List Entry) (low k at number : ℕ) (v m : View) → at < base →
-    at < length v.registers → Rewinds base entries low k v m →
-    Rewinds base (entries ++ Register at (get_or v.registers at 0) ∷ []) low k
+pub notes_register : (base : ℕ) (changes : List Change) (low k at number : ℕ) (v m : View) → at < base →
+    at < length v.registers → Rewinds base changes low k v m →
+    Rewinds base (changes ++ register_was at (get_or v.registers at 0) ∷ []) low k
     (record v { registers = slice_set v.registers at number }) m
-notes_register base entries low k at number v m below there h =
-    noted base entries low low k (Register at (get_or v.registers at 0))
+notes_register base changes low k at number v m below there h =
+    noted base changes low low k (register_was at (get_or v.registers at 0))
     (record v { registers = slice_set v.registers at number }) v m h
     (λ w like. register_back base low at number v w below there like)
 
 -- a register that is never restored
-pub skips_register : (base : ℕ) (entries : List Entry) (low k at number : ℕ) (v m : View) → base ≤ at →
-    Rewinds base entries low k v m →
-    Rewinds base entries low k (record v { registers = slice_set v.registers at number }) m
-skips_register base entries low k at number v m above h =
+pub skips_register : (base : ℕ) (changes : List Change) (low k at number : ℕ) (v m : View) → base ≤ at →
+    Rewinds base changes low k v m →
+    Rewinds base changes low k (record v { registers = slice_set v.registers at number }) m
+skips_register base changes low k at number v m above h =
     alike_rewinds
     (record {
       registers_count = length-set v.registers at number;
@@ -153,11 +152,11 @@ skips_register base entries low k at number v m above h =
       returns_same = λ k low. refl;
     }) h
 
-pub notes_home : (base : ℕ) (entries : List Entry) (low k at number : ℕ) (v m : View) → Rewinds base entries low k v m →
-    Rewinds base (entries ++ Home at (get_or v.home at 0) ∷ []) low k
+pub notes_home : (base : ℕ) (changes : List Change) (low k at number : ℕ) (v m : View) → Rewinds base changes low k v m →
+    Rewinds base (changes ++ home_was at (get_or v.home at 0) ∷ []) low k
     (record v { home = slice_set v.home at number }) m
-notes_home base entries low k at number v m h =
-    noted base entries low low k (Home at (get_or v.home at 0)) (record v { home = slice_set v.home at number }) v m h
+notes_home base changes low k at number v m h =
+    noted base changes low low k (home_was at (get_or v.home at 0)) (record v { home = slice_set v.home at number }) v m h
     (λ w like. (
       record {
         registers_count = like.registers_count;
@@ -171,12 +170,12 @@ notes_home base entries low k at number v m h =
       λ r high. refl,
     ))
 
-pub notes_status : (base : ℕ) (entries : List Entry) (low k at number : ℕ) (v m : View) →
-    Rewinds base entries low k v m →
-    Rewinds base (entries ++ Status at (get_or v.statuses at 0) ∷ []) low k
+pub notes_status : (base : ℕ) (changes : List Change) (low k at number : ℕ) (v m : View) →
+    Rewinds base changes low k v m →
+    Rewinds base (changes ++ status_was at (get_or v.statuses at 0) ∷ []) low k
     (record v { statuses = slice_set v.statuses at number }) m
-notes_status base entries low k at number v m h =
-    noted base entries low low k (Status at (get_or v.statuses at 0))
+notes_status base changes low k at number v m h =
+    noted base changes low low k (status_was at (get_or v.statuses at 0))
     (record v { statuses = slice_set v.statuses at number }) v m h
     (λ w like. (
       record {
@@ -204,14 +203,14 @@ element_same arrays slot at number there =
     ∙ ap (λ l. slice_set arrays slot (record a { elements = l })) (put_back a.elements at number)
     ∙ set-get_or arrays slot no_array
 
-pub notes_element : (base : ℕ) (entries : List Entry) (low k slot at number : ℕ) (v m : View) →
-    slot < length v.parts.arrays → Rewinds base entries low k v m →
+pub notes_element : (base : ℕ) (changes : List Change) (low k slot at number : ℕ) (v m : View) →
+    slot < length v.parts.arrays → Rewinds base changes low k v m →
     Rewinds base
-    (entries ++ Element slot at (get_or (get_or v.parts.arrays slot no_array).elements at 0) ∷ []) low k
+    (changes ++ element_was slot at (get_or (get_or v.parts.arrays slot no_array).elements at 0) ∷ []) low k
     (with_arrays (with_number v.parts.arrays slot at number) v) m
-notes_element base entries low k slot at number v m there h =
+notes_element base changes low k slot at number v m there h =
     let old = get_or (get_or v.parts.arrays slot no_array).elements at 0 in
-    noted base entries low low k (Element slot at old) (with_arrays (with_number v.parts.arrays slot at number) v) v m h
+    noted base changes low low k (element_was slot at old) (with_arrays (with_number v.parts.arrays slot at number) v) v m h
     (λ w like. (
       record {
         registers_count = like.registers_count;
@@ -236,11 +235,11 @@ element_past arrays slot at number past =
     ∙ set-get_or arrays slot no_array
 
 -- the return address below the depth is noted
-pub notes_return : (base : ℕ) (entries : List Entry) (low at k : ℕ) (v m : View) → low ≡ at + 1 →
-    at < length v.returns → Rewinds base entries low k v m →
-    Rewinds base (entries ++ Return at (get_or v.returns at 0) ∷ []) at k v m
-notes_return base entries low at k v m next there h =
-    noted base entries low at k (Return at old) v v m h
+pub notes_return : (base : ℕ) (changes : List Change) (low at k : ℕ) (v m : View) → low ≡ at + 1 →
+    at < length v.returns → Rewinds base changes low k v m →
+    Rewinds base (changes ++ return_was at (get_or v.returns at 0) ∷ []) at k v m
+notes_return base changes low at k v m next there h =
+    noted base changes low at k (return_was at old) v v m h
     (λ w like. (
       record {
         registers_count = like.registers_count;
@@ -269,59 +268,59 @@ notes_return base entries low at k v m next there h =
     ]
 
 -- a mark
-pub marks_here : (base : ℕ) (entries : List Entry) (v : View) → Rewinds base entries v.depth (length entries) v v
-marks_here base entries v = record {
+pub marks_here : (base : ℕ) (changes : List Change) (v : View) → Rewinds base changes v.depth (length changes) v v
+marks_here base changes v = record {
   within = omega arith;
   leads = λ w like.
-      subst (λ es. Like base v.depth v (rewound (reverse es) w)) (sym (drop-length entries)) like;
+      subst (λ es. Like base v.depth v (rewound (reverse es) w)) (sym (drop-length changes)) like;
   stays = λ w like r high.
-      subst (λ es. get_or (rewound (reverse es) w).registers r 0 ≡ get_or w.registers r 0) (sym (drop-length entries)) refl;
+      subst (λ es. get_or (rewound (reverse es) w).registers r 0 ≡ get_or w.registers r 0) (sym (drop-length changes)) refl;
 }
 
-pub marks_older : (base : ℕ) (entries : List Entry) (low deep k : ℕ) (v m : View) → low ≤ deep →
-    Rewinds base entries low k v m → Rewinds base entries deep k v m
-marks_older base entries low deep k v m fewer h = record {
+pub marks_older : (base : ℕ) (changes : List Change) (low deep k : ℕ) (v m : View) → low ≤ deep →
+    Rewinds base changes low k v m → Rewinds base changes deep k v m
+marks_older base changes low deep k v m fewer h = record {
   within = h.within;
   leads = λ w like. h.leads w (like_lower fewer like);
   stays = λ w like. h.stays w (like_lower fewer like);
 }
 
 -- the newest change undone, and all of them
-pub undone_one : (P : View → Type 0) (entries rest : List Entry) (entry : Entry) (k : ℕ) (v w : View) →
-    entries ≡ rest ++ entry ∷ [] → k ≤ length rest → w ≡ undone entry v →
-    P (rewound (reverse (drop k entries)) v) → P (rewound (reverse (drop k rest)) w)
-undone_one P entries rest entry k v w are within is h =
+pub undone_one : (P : View → Type 0) (changes rest : List Change) (change : Change) (k : ℕ) (v w : View) →
+    changes ≡ rest ++ change ∷ [] → k ≤ length rest → w ≡ undone change v →
+    P (rewound (reverse (drop k changes)) v) → P (rewound (reverse (drop k rest)) w)
+undone_one P changes rest change k v w are within is h =
     subst (λ u. P (rewound (reverse (drop k rest)) u)) (sym is)
-    (subst (λ es. P (rewound es v)) (ap (λ es. reverse (drop k es)) are ∙ newest_first rest entry k within) h)
+    (subst (λ es. P (rewound es v)) (ap (λ es. reverse (drop k es)) are ∙ newest_first rest change k within) h)
 
-pub all_undone : (P : View → Type 0) (entries : List Entry) (k : ℕ) (v : View) → length entries ≤ k →
-    P (rewound (reverse (drop k entries)) v) → P v
-all_undone P entries k v few h = subst (λ es. P (rewound (reverse es) v)) (drop_of_length-le entries few) h
+pub all_undone : (P : View → Type 0) (changes : List Change) (k : ℕ) (v : View) → length changes ≤ k →
+    P (rewound (reverse (drop k changes)) v) → P v
+all_undone P changes k v few h = subst (λ es. P (rewound (reverse es) v)) (drop_of_length-le changes few) h
 
-rewound-append : (xs ys : List Entry) (v : View) → rewound (xs ++ ys) v ≡ rewound ys (rewound xs v)
+rewound-append : (xs ys : List Change) (v : View) → rewound (xs ++ ys) v ≡ rewound ys (rewound xs v)
 rewound-append [] ys v = refl
 rewound-append (x ∷ xs) ys v = rewound-append xs ys (undone x v)
 
 -- the newest mark is dropped: what was noted since it leads on to the older one
-pub composed : (base : ℕ) (entries : List Entry) (low k j : ℕ) (v m n : View) → Rewinds base entries low k v m →
-    Rewinds base (take k entries) m.depth j m n → Rewinds base entries low j v n
-composed base entries low k j v m n h below = record {
-  within = omega (arith, below.within, length-take-le k entries h.within, h.within);
+pub composed : (base : ℕ) (changes : List Change) (low k j : ℕ) (v m n : View) → Rewinds base changes low k v m →
+    Rewinds base (take k changes) m.depth j m n → Rewinds base changes low j v n
+composed base changes low k j v m n h below = record {
+  within = omega (arith, below.within, length-take-le k changes h.within, h.within);
   leads = λ w like.
-      subst (Like base n.depth n) (sym (order w)) (below.leads (rewound (reverse (drop k entries)) w) (h.leads w like));
+      subst (Like base n.depth n) (sym (order w)) (below.leads (rewound (reverse (drop k changes)) w) (h.leads w like));
   stays = λ w like r high.
       subst (λ u. get_or u.registers r 0 ≡ get_or w.registers r 0) (sym (order w))
-      (below.stays (rewound (reverse (drop k entries)) w) (h.leads w like) r high ∙ h.stays w like r high);
+      (below.stays (rewound (reverse (drop k changes)) w) (h.leads w like) r high ∙ h.stays w like r high);
 }
   where
     order : (w : View) →
-        rewound (reverse (drop j entries)) w
-        ≡ rewound (reverse (drop j (take k entries))) (rewound (reverse (drop k entries)) w)
+        rewound (reverse (drop j changes)) w
+        ≡ rewound (reverse (drop j (take k changes))) (rewound (reverse (drop k changes)) w)
     order w =
         ap (λ es. rewound (reverse es) w)
-        (ap (drop j) (sym (take-append-drop k entries)) ∙ drop-append-le j (take k entries) (drop k entries) below.within)
-        ∙ ap (λ es. rewound es w) (reverse-append (drop j (take k entries)) (drop k entries))
-        ∙ rewound-append (reverse (drop k entries)) (reverse (drop j (take k entries))) w
+        (ap (drop j) (sym (take-append-drop k changes)) ∙ drop-append-le j (take k changes) (drop k changes) below.within)
+        ∙ ap (λ es. rewound es w) (reverse-append (drop j (take k changes)) (drop k changes))
+        ∙ rewound-append (reverse (drop k changes)) (reverse (drop j (take k changes))) w
 
 pub like_moved : {base deep : ℕ} {v w : View} (place depth : ℕ) → Like base deep v w →
     Like base deep v (record w { place = place; depth = depth })

@@ -1,5 +1,5 @@
 -- Changes that can be undone.
-use Rattle.std.specs.Prelude.{ℕ, ◌≡◌, ◌<◌, ◌≤◌, List, [], ◌∷◌, length, drop, reverse, slice_set}
+use Rattle.std.specs.Prelude.{ℕ, ◌≡◌, ◌<◌, ◌≤◌, Bool, true, List, [], ◌∷◌, length, drop, map, reverse, slice_set}
 use Rattle.std.proofs.Common.{get_or}
 use Rattle.ick_code.specs.meaning.State.{Array, no_array}
 use Rattle.ick_code.specs.declared.code.Code.{Code}
@@ -18,18 +18,38 @@ with_number arrays slot at number =
 abbrev pub with_arrays : List Array → View → View
 with_arrays arrays v = record v { parts = record v.parts { arrays = arrays } }
 
--- the view before the change that an entry notes
-abbrev pub undone : Entry → View → View
-undone (Register at old) v = record v { registers = slice_set v.registers at old }
-undone (Home at old) v = record v { home = slice_set v.home at old }
-undone (Status at old) v = record v { statuses = slice_set v.statuses at old }
-undone (Return at old) v = record v { returns = slice_set v.returns at old }
-undone (Element slot at old) v = with_arrays (with_number v.parts.arrays slot at old) v
+-- a change that was noted: a place, and its value before the change
+pub data Change : Type 0 where
+  register_was : (at old : ℕ) → Change
+  home_was : (at old : ℕ) → Change
+  status_was : (at old : ℕ) → Change
+  return_was : (at old : ℕ) → Change
+  element_was : (slot at old : ℕ) → Change
+
+-- the change that an entry notes
+abbrev pub change_of : Entry → Change
+change_of (Register at old) = register_was at old
+change_of (Home at old) = home_was at old
+change_of (Status at old) = status_was at old
+change_of (Return at old) = return_was at old
+change_of (Element slot at old) = element_was slot at old
+
+-- the changes that entries note
+abbrev pub changes_of : List Entry → List Change
+changes_of entries = map change_of entries
+
+-- the view before a change
+abbrev pub undone : Change → View → View
+undone (register_was at old) v = record v { registers = slice_set v.registers at old }
+undone (home_was at old) v = record v { home = slice_set v.home at old }
+undone (status_was at old) v = record v { statuses = slice_set v.statuses at old }
+undone (return_was at old) v = record v { returns = slice_set v.returns at old }
+undone (element_was slot at old) v = with_arrays (with_number v.parts.arrays slot at old) v
 
 -- changes undone one after another
-abbrev pub rewound : List Entry → View → View
+abbrev pub rewound : List Change → View → View
 rewound [] v = v
-rewound (entry ∷ entries) v = rewound entries (undone entry v)
+rewound (change ∷ changes) v = rewound changes (undone change v)
 
 -- views that differ in their place, their depth, the registers from a number on and the return addresses from a depth
 -- on alone
@@ -47,10 +67,16 @@ abbrev pub HighSame : ℕ → View → View → Type 0
 HighSame base v w = (r : ℕ) → base ≤ r → get_or w.registers r 0 ≡ get_or v.registers r 0
 
 -- undoing all changes but the first k, the newest first, leads from a view, and from each one like it, to a view like m
-pub record Rewinds (base : ℕ) (entries : List Entry) (low k : ℕ) (v m : View) : Type 0 where
-  pub within : k ≤ length entries
-  pub leads : (w : View) → Like base low v w → Like base m.depth m (rewound (reverse (drop k entries)) w)
-  pub stays : (w : View) → Like base low v w → HighSame base w (rewound (reverse (drop k entries)) w)
+pub record Rewinds (base : ℕ) (changes : List Change) (low k : ℕ) (v m : View) : Type 0 where
+  pub within : k ≤ length changes
+  pub leads : (w : View) → Like base low v w → Like base m.depth m (rewound (reverse (drop k changes)) w)
+  pub stays : (w : View) → Like base low v w → HighSame base w (rewound (reverse (drop k changes)) w)
+
+-- what undoing is, for notes of these changes: if somebody is told of changes, they can be rewound
+pub record Means {N : Type 0} (Undoes : N → ℕ → View → View → Type 0) (tells : Bool) (notes : N)
+    (changes : List Change) (base low : ℕ) : Type 0 where
+  pub rewinds : tells ≡ true → (k : ℕ) (v m : View) → Undoes notes k v m → Rewinds base changes low k v m
+  pub undoes : (k : ℕ) (v m : View) → (tells ≡ true → Rewinds base changes low k v m) → Undoes notes k v m
 
 -- what can be undone from a view can be undone from each one like it
 abbrev pub AlikeUndo : {N : Type 0} → (N → ℕ → View → View → Type 0) → N → (base low : ℕ) → Type 0

@@ -1,9 +1,10 @@
 //! Marks: states that a run can go back to.
 
 ghost use Rattle.std.specs.Prelude.{◌≡◌, ◌≤◌, ℕ, map, slice_set, take};
+ghost use Rattle.ick_engine.specs.History.{history};
 ghost use Rattle.ick_engine.specs.Memory.{view_in};
 ghost use Rattle.ick_engine.specs.Steady.{IsReady};
-ghost use Rattle.ick_engine.specs.Undo.{undone, with_number, IsRestored, Rewinds};
+ghost use Rattle.ick_engine.specs.Undo.{change_of, undone, with_number, IsRestored, Rewinds};
 ghost use Rattle.ick_engine.specs.View.{View, array_of, is_hidden};
 
 use crate::change::Entry;
@@ -27,11 +28,11 @@ pub fn make_mark(trail: &mut Trail, memory: &Memory) -> Mark
     ensures depth { result.depth ≡ memory.now.cursor.depth }
     ensures low { trail.new.low ≡ memory.now.cursor.depth }
     ensures base { trail.new.base ≡ trail.old.base }
-    ensures marked { Rewinds trail.new.base trail.new.entries.items trail.new.low result.changes
+    ensures marked { Rewinds trail.new.base (history trail.new) trail.new.low result.changes
         (view_in memory.now) (view_in memory.now) }
     ensures older { (k : ℕ) (m : View) →
-        Rewinds trail.old.base trail.old.entries.items trail.old.low k (view_in memory.now) m →
-        Rewinds trail.new.base trail.new.entries.items trail.new.low k (view_in memory.now) m }
+        Rewinds trail.old.base (history trail.old) trail.old.low k (view_in memory.now) m →
+        Rewinds trail.new.base (history trail.new) trail.new.low k (view_in memory.now) m }
 {
     trail.low = memory.cursor.depth;
     Mark {
@@ -76,7 +77,7 @@ fn put_element(arrays: &mut Vec<Array>, slot: u32, at: u32, old: u32)
 
 /// Undoes a change.
 fn undo(memory: &mut Memory, entry: Entry)
-    ensures { view_in memory.new ≡ undone entry (view_in memory.old) }
+    ensures { view_in memory.new ≡ undone (change_of entry) (view_in memory.old) }
 {
     match entry {
         Entry::Register(at, old) => put_back(&mut memory.registers, at, old),
@@ -94,10 +95,10 @@ pub fn back(trail: &mut Trail, mark: Mark, memory: &mut Memory, program: &Lowere
     requires ready { IsReady program.now.code.now program.now.parts (view_in memory.old) }
     ensures back { (m : View) → m.place ≡ mark.place → m.depth ≡ mark.depth →
         IsReady program.now.code.now program.now.parts m →
-        Rewinds trail.old.base trail.old.entries.items trail.old.low mark.changes
+        Rewinds trail.old.base (history trail.old) trail.old.low mark.changes
         (view_in memory.old) m →
         IsRestored program.now.code.now program.now.parts m (view_in memory.new) }
-    ensures entries { trail.new.entries.items ≡ take mark.changes trail.old.entries.items }
+    ensures changes { history trail.new ≡ take mark.changes (history trail.old) }
     ensures low { trail.new.low ≡ mark.depth }
     ensures base { trail.new.base ≡ trail.old.base }
 {
@@ -117,10 +118,10 @@ pub fn back(trail: &mut Trail, mark: Mark, memory: &mut Memory, program: &Lowere
 /// States that the newest mark can be dropped: if an older mark could be gone back to from the
 /// state of the newer one, it can be gone back to from the present state.
 pub fn drop_mark(trail: &Trail, newer: Mark, older: Mark)
-    ensures { (v m n : View) → Rewinds trail.now.base trail.now.entries.items trail.now.low
+    ensures { (v m n : View) → Rewinds trail.now.base (history trail.now) trail.now.low
         newer.changes v m →
-        Rewinds trail.now.base (take newer.changes trail.now.entries.items) m.depth older.changes
-        m n → Rewinds trail.now.base trail.now.entries.items trail.now.low older.changes v n }
+        Rewinds trail.now.base (take newer.changes (history trail.now)) m.depth older.changes
+        m n → Rewinds trail.now.base (history trail.now) trail.now.low older.changes v n }
 {
     let _ = trail;
     let _ = newer;

@@ -1,11 +1,13 @@
 //! Who notes changes.
 
 ghost use Rattle.std.specs.Bool.{MatchBool};
-ghost use Rattle.std.specs.Prelude.{◌≡◌, ◌+◌, ◌<◌, ◌≤◌, ◌^◌, ℕ, length, map};
+ghost use Rattle.std.specs.Prelude.{◌≡◌, ◌+◌, ◌<◌, ◌≤◌, ◌^◌, ℕ, Bool, true, false, List, []};
+ghost use Rattle.std.specs.Prelude.{length, map};
 ghost use Rattle.std.proofs.Common.{get_or};
 ghost use Rattle.ick_code.specs.meaning.State.{no_array};
-ghost use Rattle.ick_engine.specs.Undo.{AlikeUndo, NotesElement, NotesHome, NotesRegister};
-ghost use Rattle.ick_engine.specs.Undo.{NotesReturns, NotesStatus};
+ghost use Rattle.ick_lowering.specs.Extends.{Extends};
+ghost use Rattle.ick_engine.specs.Undo.{AlikeUndo, Change, Means, NotesElement, NotesHome};
+ghost use Rattle.ick_engine.specs.Undo.{NotesRegister, NotesReturns, NotesStatus};
 ghost use Rattle.ick_engine.specs.View.{View, array_of};
 
 use crate::memory::Array;
@@ -21,16 +23,28 @@ pub trait Notes: Drop {
     /// Registers from this one on are never restored.
     ghost base: { Self → ℕ };
 
+    /// Whether changes are noted at all.
+    ghost tells: { Bool };
+
+    /// The changes that were noted, the newest last.
+    ghost changes: { Self → List Change };
+
     /// Undoing all changes but the first ones leads from a view to one like another.
     ghost Undoes: { Self → ℕ → View → View → Type 0 };
 
-    /// Returns whether so many changes can still be noted, and all return addresses.
-    fn has_room(&self, changes: usize) -> bool
-        ensures { MatchBool result (changes + 79 ≤ room self.now) (room self.now < changes + 79) };
+    /// Returns how many changes were noted.
+    fn count(&self) -> usize
+        ensures { result ≡ length (changes self.now) };
 
-    /// States that nothing else than the places that can be noted matters.
+    /// Returns whether so many changes can still be noted, and all return addresses.
+    fn has_room(&self, more: usize) -> bool
+        ensures { MatchBool result (more + 79 ≤ room self.now) (room self.now < more + 79) };
+
+    /// States what undoing is, and that nothing else than the places that can be noted matters.
     fn law(&self)
-        ensures { AlikeUndo Undoes self.now (base self.now) (low self.now) };
+        ensures alike { AlikeUndo Undoes self.now (base self.now) (low self.now) }
+        ensures means { Means Undoes tells self.now (changes self.now) (base self.now)
+            (low self.now) };
 
     /// Notes that a register will change.
     fn note_register(&mut self, registers: &[u32], at: u32)
@@ -39,6 +53,7 @@ pub trait Notes: Drop {
         ensures room { room self.old ≤ room self.new + 1 }
         ensures low { low self.new ≡ low self.old }
         ensures base { base self.new ≡ base self.old }
+        ensures changes { Extends (changes self.old) (changes self.new) }
         ensures notes { NotesRegister Undoes self.old self.new at registers.now };
 
     /// Notes that a register will lead to another one.
@@ -48,6 +63,7 @@ pub trait Notes: Drop {
         ensures room { room self.old ≤ room self.new + 1 }
         ensures low { low self.new ≡ low self.old }
         ensures base { base self.new ≡ base self.old }
+        ensures changes { Extends (changes self.old) (changes self.new) }
         ensures notes { NotesHome Undoes self.old self.new at home.now };
 
     /// Notes that a statement will have another status.
@@ -57,6 +73,7 @@ pub trait Notes: Drop {
         ensures room { room self.old ≤ room self.new + 1 }
         ensures low { low self.new ≡ low self.old }
         ensures base { base self.new ≡ base self.old }
+        ensures changes { Extends (changes self.old) (changes self.new) }
         ensures notes { NotesStatus Undoes self.old self.new at statuses.now };
 
     /// Notes that an element will have another number.
@@ -67,6 +84,7 @@ pub trait Notes: Drop {
         ensures room { room self.old ≤ room self.new + 1 }
         ensures low { low self.new ≡ low self.old }
         ensures base { base self.new ≡ base self.old }
+        ensures changes { Extends (changes self.old) (changes self.new) }
         ensures notes { NotesElement Undoes self.old self.new slot at (map array_of arrays.now) };
 
     /// Notes that the return addresses from a depth on will be dropped.
@@ -77,6 +95,7 @@ pub trait Notes: Drop {
         ensures low { low self.new ≤ depth }
         ensures lower { low self.new ≤ low self.old }
         ensures base { base self.new ≡ base self.old }
+        ensures changes { Extends (changes self.old) (changes self.new) }
         ensures notes { NotesReturns Undoes self.old self.new returns.now };
 }
 
@@ -91,11 +110,20 @@ impl Notes for Nobody {
 
     ghost base = { λ _. 0 };
 
+    ghost tells = { false };
+
+    ghost changes = { λ _. [] };
+
     ghost Undoes = { λ _ _ _ _. Unit {0} };
 
     #[inline(always)]
-    fn has_room(&self, changes: usize) -> bool {
-        let _ = changes;
+    fn count(&self) -> usize {
+        0
+    }
+
+    #[inline(always)]
+    fn has_room(&self, more: usize) -> bool {
+        let _ = more;
         true
     }
 

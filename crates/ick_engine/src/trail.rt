@@ -1,9 +1,11 @@
 //! A trail of changes, which can be undone.
 
-ghost use Rattle.std.specs.Prelude.{◌≡◌, ◌-◌, ◌<◌, ◌≤◌, ℕ, [], length, map, OnOk};
+ghost use Rattle.std.specs.Prelude.{◌≡◌, ◌-◌, ◌<◌, ◌≤◌, ℕ, true, [], length, map, OnOk};
 ghost use Rattle.std.specs.Prelude.{vec_len, vec_capacity};
 ghost use Rattle.std.proofs.Common.{get_or};
 ghost use Rattle.ick_code.specs.meaning.State.{no_array};
+ghost use Rattle.ick_lowering.specs.Extends.{Extends};
+ghost use Rattle.ick_engine.specs.History.{history};
 ghost use Rattle.ick_engine.specs.Undo.{Rewinds};
 ghost use Rattle.ick_engine.specs.View.{View, array_of};
 
@@ -25,7 +27,7 @@ pub struct Trail {
 impl Trail {
     /// Returns a trail without changes, of a program whose first temporary register is `base`.
     pub fn new(alloc: Global, base: u32) -> Trail
-        ensures empty { result.entries.items ≡ [] }
+        ensures empty { history result ≡ [] }
         ensures low { result.low ≡ 0 }
         ensures base { result.base ≡ base }
     {
@@ -38,7 +40,7 @@ impl Trail {
 
     /// Makes room for so many changes. Nothing else changes, also if memory runs out.
     pub fn reserve(&mut self, changes: usize) -> Result<(), NoMemory>
-        ensures entries { self.new.entries.items ≡ self.old.entries.items }
+        ensures changes { history self.new ≡ history self.old }
         ensures low { self.new.low ≡ self.old.low }
         ensures base { self.new.base ≡ self.old.base }
         ensures room { OnOk result (changes ≤
@@ -58,9 +60,10 @@ impl Trail {
         ensures low { self.new.low ≤ depth }
         ensures lower { self.new.low ≤ self.old.low }
         ensures base { self.new.base ≡ self.old.base }
+        ensures changes { Extends (history self.old) (history self.new) }
         ensures notes { (k : ℕ) (v m : View) → v.returns ≡ returns.now →
-            Rewinds self.old.base self.old.entries.items self.old.low k v m →
-            Rewinds self.new.base self.new.entries.items self.new.low k v m }
+            Rewinds self.old.base (history self.old) self.old.low k v m →
+            Rewinds self.new.base (history self.new) self.new.low k v m }
     {
         'returns: while self.low > depth {
             self.low -= 1;
@@ -78,12 +81,21 @@ impl Notes for Trail {
 
     ghost base = { λ t. t.base };
 
-    ghost Undoes = { λ t k v m. Rewinds t.base t.entries.items t.low k v m };
+    ghost tells = { true };
+
+    ghost changes = { history };
+
+    ghost Undoes = { λ t k v m. Rewinds t.base (history t) t.low k v m };
 
     #[inline(always)]
-    fn has_room(&self, changes: usize) -> bool {
+    fn count(&self) -> usize {
+        self.entries.len()
+    }
+
+    #[inline(always)]
+    fn has_room(&self, more: usize) -> bool {
         let room = self.entries.capacity() - self.entries.len();
-        room >= 79 && room - 79 >= changes
+        room >= 79 && room - 79 >= more
     }
 
     #[inline(always)]

@@ -1,5 +1,6 @@
 use Rattle.std.proofs.Common.{◌≡◌, drop, take}
 use Rattle.std.specs.Prelude.{reverse, vec_len}
+use Rattle.ick_engine.specs.History.{history}
 use Rattle.ick_engine.specs.Memory.{view_in}
 use Rattle.ick_engine.specs.Undo.{HighSame, Like, Rewinds, rewound}
 use Rattle.ick_engine.specs.View.{View}
@@ -8,17 +9,17 @@ use Rattle.ick_engine.proofs.marks.back.Given as goal
 abbrev pub invariant-changes : goal.invariant-changes
 invariant-changes l = record {
   base : l.trail.base ≡ l.initial.trail.base;
-  kept : take l.mark.changes l.trail.entries.items ≡ take l.mark.changes l.initial.trail.entries.items;
+  kept : take l.mark.changes (history l.trail) ≡ take l.mark.changes (history l.initial.trail);
   leads : (m : View) →
-      Rewinds l.initial.trail.base l.initial.trail.entries.items l.initial.trail.low l.mark.changes
+      Rewinds l.initial.trail.base (history l.initial.trail) l.initial.trail.low l.mark.changes
       (view_in l.initial.memory) m →
       Like l.initial.trail.base m.depth m
-      (rewound (reverse (drop l.mark.changes l.trail.entries.items)) (view_in l.memory));
+      (rewound (reverse (drop l.mark.changes (history l.trail))) (view_in l.memory));
   stays : (m : View) →
-      Rewinds l.initial.trail.base l.initial.trail.entries.items l.initial.trail.low l.mark.changes
+      Rewinds l.initial.trail.base (history l.initial.trail) l.initial.trail.low l.mark.changes
       (view_in l.initial.memory) m →
       HighSame l.initial.trail.base (view_in l.initial.memory)
-      (rewound (reverse (drop l.mark.changes l.trail.entries.items)) (view_in l.memory));
+      (rewound (reverse (drop l.mark.changes (history l.trail))) (view_in l.memory));
 }
 
 abbrev pub decreases-changes : goal.decreases-changes

@@ -1,4 +1,6 @@
 use Rattle.std.proofs.Common.{◌≡◌, ◌-◌, ◌≤◌, ℕ, vec_len, vec_capacity}
+use Rattle.ick_lowering.specs.Extends.{Extends}
+use Rattle.ick_engine.specs.History.{history}
 use Rattle.ick_engine.specs.Undo.{Rewinds}
 use Rattle.ick_engine.specs.View.{View}
 use Rattle.ick_engine.proofs.trail.Trail.keep_returns.Given as goal
@@ -8,10 +10,11 @@ invariant-returns l = record {
   room : l.self.low ≤ vec_capacity l.self.entries - vec_len l.self.entries;
   lower : l.self.low ≤ l.initial.self.low;
   base : l.self.base ≡ l.initial.self.base;
+  changes : Extends (history l.initial.self) (history l.self);
   notes : (k : ℕ) (v m : View) →
       v.returns ≡ l.returns →
-      Rewinds l.initial.self.base l.initial.self.entries.items l.initial.self.low k v m →
-      Rewinds l.initial.self.base l.self.entries.items l.self.low k v m;
+      Rewinds l.initial.self.base (history l.initial.self) l.initial.self.low k v m →
+      Rewinds l.initial.self.base (history l.self) l.self.low k v m;
 }
 
 abbrev pub decreases-returns : goal.decreases-returns
