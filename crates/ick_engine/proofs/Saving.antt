@@ -135,7 +135,7 @@ module _ (code : Code) (lowered : LoweredParts) (is : IsProgram code lowered) wh
       (input : Input) → state_of code lowered input v ≡ state_of code lowered input m
   same_states v m ready marked place registers home statuses returns arrays hidden rest =
       let depth = depth_by m v marked.steady ready.steady returns in
-      (restored code lowered is v m v ready marked
+      (restored code lowered is v m v ready.steady.constants marked
       (like_by m v marked.steady ready.steady registers home statuses depth
       (subst (λ d. take d v.returns ≡ take m.depth m.returns) depth returns)
       (parts_by v.parts m.parts arrays hidden rest)) (λ r high. refl) place depth).states
@@ -151,6 +151,7 @@ module _ (code : Code) (lowered : LoweredParts) (is : IsProgram code lowered) wh
       statuses = marked.steady.statuses;
       returns = marked.steady.returns;
       depth = marked.steady.depth;
+      constants = marked.steady.constants;
       arrays = marked.steady.arrays;
       hidden = marked.steady.hidden;
     };
@@ -198,7 +199,7 @@ module _ (code : Code) (lowered : LoweredParts) (is : IsProgram code lowered) wh
         new.place ≡ m.place → new.depth ≡ length used → new.parts.arrays ≡ m.parts.arrays →
         new.parts.hidden ≡ m.parts.hidden → unsaved new.parts ≡ unsaved m.parts → IsRestored code lowered m new
     loaded new registers returns home statuses place depth arrays hidden rest =
-        restored code lowered is old m new was marked like high place (depth ∙ used_count)
+        restored code lowered is old m new was.steady.constants marked like high place (depth ∙ used_count)
       where
         count : length new.registers ≡ length m.registers
         count =

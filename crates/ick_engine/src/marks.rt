@@ -3,7 +3,7 @@
 ghost use Rattle.std.specs.Prelude.{◌≡◌, ◌≤◌, ℕ, map, slice_set, take};
 ghost use Rattle.ick_engine.specs.History.{history};
 ghost use Rattle.ick_engine.specs.Memory.{view_in};
-ghost use Rattle.ick_engine.specs.Steady.{IsReady};
+ghost use Rattle.ick_engine.specs.Steady.{IsReady, IsSteady};
 ghost use Rattle.ick_engine.specs.Undo.{change_of, undone, with_number, IsRestored, Rewinds};
 ghost use Rattle.ick_engine.specs.View.{View, array_of, is_hidden};
 
@@ -92,7 +92,7 @@ fn undo(memory: &mut Memory, entry: Entry)
 /// steps left stays.
 pub fn back(trail: &mut Trail, mark: Mark, memory: &mut Memory, program: &Lowered<'_, '_>)
     requires base { trail.old.base ≡ program.now.parts.layout.base }
-    requires ready { IsReady program.now.code.now program.now.parts (view_in memory.old) }
+    requires steady { IsSteady program.now.code.now program.now.parts (view_in memory.old) }
     ensures back { (m : View) → m.place ≡ mark.place → m.depth ≡ mark.depth →
         IsReady program.now.code.now program.now.parts m →
         Rewinds trail.old.base (history trail.old) trail.old.low mark.changes

@@ -22,7 +22,7 @@ returns-clause-back c = λ m place depth marked h.
     let v : View = record (view_in c.changes.memory) { place = c.args.mark.place; depth = c.args.mark.depth } in
     restored c.args.program.now.code.now c.args.program.now.parts
     (record { compiled = c.law-2.ensures; lowered_is = c.law.ensures }) (view_in c.args.memory.now) m v
-    c.requires.ready marked
+    c.requires.steady.constants marked
     (subst (λ b. Like b m.depth m v) c.requires.base (like_moved c.args.mark.place c.args.mark.depth like))
     (subst (λ b. HighSame b (view_in c.args.memory.now) v) c.requires.base high) (sym place) (sym depth)
 

@@ -1,0 +1,58 @@
+-- What readers of input have read.
+use Rattle.std.specs.Prelude.{ℕ, ◌≡◌, Bool, List, [], ◌∷◌, ◌++◌, drop, Option, Some, None, if◌then◌else◌}
+use Rattle.ick_bits.specs.declared.faults.FaultKind.TheVariants.{NoDigit, NoInput, SixtyFour}
+use Rattle.ick_bits.specs.Tape.{tape_difference}
+use Rattle.ick_code.specs.meaning.State.{State}
+use Rattle.ick_code.specs.meaning.Outcome.{Outcome, faults}
+use Rattle.ick_code.specs.meaning.InputOutput.{with_input}
+use Rattle.ick_code.specs.meaning.Tape.{tape_numbers, last_read}
+use Rattle.ick_engine.specs.View.{Input}
+use Rattle.ick_engine.specs.declared.reader.Line.{Line}
+use Rattle.ick_engine.specs.declared.reader.Line.TheVariants.{Nothing, Number, TooLarge, BadWord}
+
+-- each input that there may be now comes of one that there may have been before
+abbrev pub Leads : {R : Type 0} → (R → Input → Type 0) → R → R → (Input → Input → Type 0) → Type 0
+Leads Has old new P = (after : Input) → Has new after → (before : Input) × Has old before × P before after
+
+-- what comes of a line that was taken at a place
+abbrev pub line_outcome : Line → Input → ℕ → State → (ℕ → State → Outcome) → Outcome
+line_outcome Nothing input from s go = faults NoInput [] (record s { input = input.left from })
+line_outcome (Number n to) input from s go = go n (record s { input = input.left to })
+line_outcome (BadWord begin end to) input from s go =
+    faults NoDigit (input.word begin end) (record s { input = input.left to })
+line_outcome (TooLarge to) input from s go = faults SixtyFour [] (record s { input = input.left to })
+
+-- what comes of the next line that a state has
+abbrev pub line_read : State → (ℕ → State → Outcome) → Outcome
+line_read s go = with_input s.input s go
+
+-- the next line from a place on
+abbrev pub IsNext : Line → ℕ → Input → Input → Type 0
+IsNext line from before after =
+    (s : State) (go : ℕ → State → Outcome) → s.input ≡ before.left from →
+    with_input s.input s go ≡ line_outcome line after from s go
+
+-- the next byte from a place on, and where the input goes on
+abbrev pub IsByte : Option (ℕ × ℕ) → ℕ → Input → Input → Type 0
+IsByte (Some (b, to)) from before after = before.left from ≡ b ∷ after.left to
+IsByte None from before after = (before.left from ≡ []) × (after.left from ≡ [])
+
+-- the number of a byte that was read, or of the end of the input, and what the next one is read after and from
+abbrev pub number_read : ℕ → Option (ℕ × ℕ) → ℕ
+number_read lastin None = 256
+number_read lastin (Some (b, to)) = tape_difference lastin b
+
+abbrev pub last_after : ℕ → Option (ℕ × ℕ) → ℕ
+last_after lastin None = lastin
+last_after lastin (Some (b, to)) = b
+
+abbrev pub place_after : ℕ → Option (ℕ × ℕ) → ℕ
+place_after from None = from
+place_after from (Some (b, to)) = to
+
+-- bytes that were read from a place on into as many elements as were counted, unless these stay as they are
+pub record HasRead (stays : Bool) (count lastin from : ℕ) (old new : List ℕ) (last to : ℕ) (before after : Input) : Type 0
+  where
+    pub elements_are : new ≡ (if stays then old else tape_numbers count lastin (before.left from) ++ drop count old)
+    pub last_is : last ≡ last_read count lastin (before.left from)
+    pub rest_is : after.left to ≡ drop count (before.left from)

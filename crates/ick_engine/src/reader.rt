@@ -1,0 +1,47 @@
+//! Readers of a run's input, line by line or byte by byte.
+
+ghost use Rattle.std.specs.Prelude.{◌≡◌, IfOk};
+ghost use Rattle.ick_engine.specs.Reads.{Leads, IsNext, IsByte};
+ghost use Rattle.ick_engine.specs.View.{Input};
+
+use ick_bits::NoMemory;
+
+/// A line of input that was read.
+#[derive(Clone, Copy, Debug)]
+pub enum Line {
+    /// No input was left.
+    Nothing,
+    /// The number of the line, and the place of the next line.
+    Number(u32, usize),
+    /// The ends of the first word that is no digit name, and the place of the next line.
+    BadWord(usize, usize, usize),
+    /// The number of the line is too large. And the place of the next line.
+    TooLarge(usize),
+}
+
+/// Reads the input of a run. If the source is a text, only one input may be left. Otherwise any
+/// input may be left that agrees with what was read. A read that fails returns `NoMemory` too, and
+/// the reader keeps the reason.
+pub trait Reader: Drop {
+    /// Whether this may be the input that is left.
+    ghost Has: { Self → Input → Type 0 };
+
+    /// The type of what every call keeps.
+    ghost Held: { Type 0 };
+
+    /// What every call keeps: the text that is read, or the name of a reference to the source.
+    ghost held: { Self → Self.Held };
+
+    /// Some input may be left.
+    ghost some: { (reader : Self) → (input : Input) × Has reader input };
+
+    /// Reads the line that begins at a place.
+    fn line(&mut self, from: usize) -> Result<Line, NoMemory>
+        ensures next { IfOk result (λ line. Leads Has self.old self.new (IsNext line from)) }
+        ensures held { held self.new ≡ held self.old };
+
+    /// Reads the byte at a place, if there is one. Returns the byte and the next place.
+    fn byte(&mut self, from: usize) -> Result<Option<(u8, usize)>, NoMemory>
+        ensures next { IfOk result (λ byte. Leads Has self.old self.new (IsByte byte from)) }
+        ensures held { held self.new ≡ held self.old };
+}

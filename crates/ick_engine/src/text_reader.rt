@@ -1,0 +1,72 @@
+//! A text as the input of a run.
+
+ghost use Rattle.std.specs.Prelude.{◌≡◌, ◌==◌, ◌≤◌, ℕ, List, length, refl};
+ghost use Rattle.std.specs.List.{position_or_len};
+ghost use Rattle.ick_engine.specs.View.{input_of};
+
+use crate::reader::{Line, Reader};
+use ick_bits::{DigitFault, NoMemory, digits_value};
+
+/// Reads the input of a run from a text.
+#[derive(Clone, Copy, Debug)]
+pub struct TextReader<'c> {
+    text: &'c [u8],
+}
+
+impl<'c> TextReader<'c> {
+    /// Returns a reader of a text.
+    pub fn new(text: &'c [u8]) -> TextReader<'c>
+        ensures { result.text.now ≡ text.now }
+    {
+        TextReader { text }
+    }
+}
+
+impl<'c> Reader for TextReader<'c> {
+    ghost Has = { λ reader input. input ≡ input_of reader.text.now };
+
+    ghost Held = { List ℕ };
+
+    ghost held = { λ reader. reader.text.now };
+
+    ghost some = { λ reader. (input_of reader.text.now, refl) };
+
+    fn line(&mut self, from: usize) -> Result<Line, NoMemory> {
+        if from >= self.text.len() {
+            return Ok(Line::Nothing);
+        }
+        let rest = &self.text[from..];
+        let length = line_length(rest);
+        let to = from + length + 1;
+        match digits_value(&rest[..length]) {
+            Ok(number) => Ok(Line::Number(number, to)),
+            Err(
+                DigitFault::Word {
+                    from: begin,
+                    to: end,
+                },
+            ) => { Ok(Line::BadWord(from + begin, from + end, to)) }
+            Err(DigitFault::TooLarge) => Ok(Line::TooLarge(to)),
+        }
+    }
+
+    fn byte(&mut self, from: usize) -> Result<Option<(u8, usize)>, NoMemory> {
+        if from >= self.text.len() {
+            return Ok(None);
+        }
+        Ok(Some((self.text[from], from + 1)))
+    }
+}
+
+/// Returns how many bytes there are before the end of the first line.
+fn line_length(rest: &[u8]) -> usize
+    ensures place { result ≡ position_or_len (λ b. b == 10) rest.now }
+    ensures within { result ≤ length rest.now }
+{
+    for (index, byte) in rest.iter().enumerate() {
+        if *byte == b'\n' {
+            return index;
+        }
+    }
+    rest.len()
+}
