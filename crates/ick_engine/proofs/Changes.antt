@@ -1,15 +1,175 @@
--- The changes that entries note.
-use Rattle.std.proofs.Common.{◌≡◌, List, [], ◌∷◌, ◌++◌, ap, ◌∙◌}
-use Rattle.std.proofs.lemmas.List.{map-append}
+-- The changes that a trail has.
+use Rattle.std.proofs.Common.{arith, ◌≤◌, ◌≡◌, ℕ, suc, true, false, List, [], ◌∷◌, ◌++◌, length, map, reverse, refl, ap, sym, ◌∙◌}
+use Rattle.std.specs.Global.{Vec}
+use Rattle.std.proofs.lemmas.List.{reverse-append, length-reverse, map-append}
+use Rattle.ick_code.specs.meaning.State.{Array as ArrayValue}
 use Rattle.ick_lowering.specs.Extends.{Extends}
+use Rattle.ick_engine.specs.declared.change.ArrayChange.{ArrayChange}
 use Rattle.ick_engine.specs.declared.change.Entry.{Entry}
-use Rattle.ick_engine.specs.Undo.{change_of, changes_of}
+use Rattle.ick_engine.specs.declared.change.Entry.TheVariants as entry
+use Rattle.ick_engine.specs.declared.memory.Array.{Array}
+use Rattle.ick_engine.specs.declared.trail.Trail.{Trail}
+use Rattle.ick_engine.specs.History.{changes_by, history, IsUndone}
+use Rattle.ick_engine.specs.Undo.{Change, array_was, statuses_were, no_change, change_of, changes_of, stands_apart}
+use Rattle.ick_engine.specs.View.{View, array_of, bytes_of}
 
--- one more entry notes one more change
-pub newest_change : (all rest : List Entry) (entry : Entry) → all ≡ rest ++ entry ∷ [] →
-    changes_of all ≡ changes_of rest ++ change_of entry ∷ []
-newest_change all rest entry is = ap changes_of is ∙ map-append change_of rest (entry ∷ [])
+-- an entry with its old value is a change of its own
+pub alone : (e : Entry) (entries : List Entry) (arrays : List ArrayValue) (statuses : List (List ℕ)) →
+    stands_apart e ≡ false →
+    changes_of (e ∷ entries) arrays statuses ≡ change_of e ∷ changes_of entries arrays statuses
+alone (entry.Register at old) entries arrays statuses h = refl
+alone (entry.Home at old) entries arrays statuses h = refl
+alone (entry.Status at old) entries arrays statuses h = refl
+alone (entry.Return at old) entries arrays statuses h = refl
+alone (entry.Element slot at old) entries arrays statuses h = refl
+alone (entry.Hidden slot old) entries arrays statuses h = refl
+alone (entry.ScalarSaved slot) entries arrays statuses h = refl
+alone (entry.ScalarTaken slot number) entries arrays statuses h = refl
+alone (entry.ScalarRestored slot number old) entries arrays statuses h = refl
+alone (entry.ArraySaved slot) entries arrays statuses h = refl
+alone (entry.Array change slot) entries arrays statuses h = absurd (cc)
+alone entry.Statuses entries arrays statuses h = absurd (cc)
+alone (entry.Taken old) entries arrays statuses h = refl
+alone (entry.Output count) entries arrays statuses h = refl
+alone (entry.Last old) entries arrays statuses h = refl
+alone (entry.LastIn old) entries arrays statuses h = refl
 
-pub grown : (all rest : List Entry) (entry : Entry) → all ≡ rest ++ entry ∷ [] →
-    Extends (changes_of rest) (changes_of all)
-grown all rest entry is = record { more = change_of entry ∷ []; is = newest_change all rest entry is }
+-- there are as many changes as entries
+count_changes : (entries : List Entry) (arrays : List ArrayValue) (statuses : List (List ℕ)) →
+    length (changes_of entries arrays statuses) ≡ length entries
+count_changes [] arrays statuses = refl
+count_changes (entry.Register at old ∷ es) arrays statuses = ap suc (count_changes es arrays statuses)
+count_changes (entry.Home at old ∷ es) arrays statuses = ap suc (count_changes es arrays statuses)
+count_changes (entry.Status at old ∷ es) arrays statuses = ap suc (count_changes es arrays statuses)
+count_changes (entry.Return at old ∷ es) arrays statuses = ap suc (count_changes es arrays statuses)
+count_changes (entry.Element slot at old ∷ es) arrays statuses = ap suc (count_changes es arrays statuses)
+count_changes (entry.Hidden slot old ∷ es) arrays statuses = ap suc (count_changes es arrays statuses)
+count_changes (entry.ScalarSaved slot ∷ es) arrays statuses = ap suc (count_changes es arrays statuses)
+count_changes (entry.ScalarTaken slot number ∷ es) arrays statuses = ap suc (count_changes es arrays statuses)
+count_changes (entry.ScalarRestored slot number old ∷ es) arrays statuses = ap suc (count_changes es arrays statuses)
+count_changes (entry.ArraySaved slot ∷ es) arrays statuses = ap suc (count_changes es arrays statuses)
+count_changes (entry.Array change slot ∷ es) [] statuses = ap suc (count_changes es [] statuses)
+count_changes (entry.Array change slot ∷ es) (a ∷ arrays) statuses = ap suc (count_changes es arrays statuses)
+count_changes (entry.Statuses ∷ es) arrays [] = ap suc (count_changes es arrays [])
+count_changes (entry.Statuses ∷ es) arrays (old ∷ statuses) = ap suc (count_changes es arrays statuses)
+count_changes (entry.Taken old ∷ es) arrays statuses = ap suc (count_changes es arrays statuses)
+count_changes (entry.Output count ∷ es) arrays statuses = ap suc (count_changes es arrays statuses)
+count_changes (entry.Last old ∷ es) arrays statuses = ap suc (count_changes es arrays statuses)
+count_changes (entry.LastIn old ∷ es) arrays statuses = ap suc (count_changes es arrays statuses)
+
+pub count_history : (t : Trail) → length (history t) ≡ length t.entries.items
+count_history t =
+    let arrays = reverse (map array_of t.arrays.items) in
+    let statuses = reverse (map bytes_of t.statuses.items) in
+    length-reverse (changes_of (reverse t.entries.items) arrays statuses)
+    ∙ count_changes (reverse t.entries.items) arrays statuses ∙ length-reverse t.entries.items
+
+-- the newest entry is the newest change
+newest : (all rest : List Entry) (e : Entry) (change : Change) (arrays arrays' : List ArrayValue)
+    (statuses statuses' : List (List ℕ)) → all ≡ rest ++ e ∷ [] →
+    changes_of (e ∷ reverse rest) arrays statuses ≡ change ∷ changes_of (reverse rest) arrays' statuses' →
+    reverse (changes_of (reverse all) arrays statuses)
+    ≡ reverse (changes_of (reverse rest) arrays' statuses') ++ change ∷ []
+newest all rest e change arrays arrays' statuses statuses' is there =
+    ap (λ l. reverse (changes_of (reverse l) arrays statuses)) is
+    ∙ ap (λ l. reverse (changes_of l arrays statuses)) (reverse-append rest (e ∷ []))
+    ∙ ap reverse there
+    ∙ reverse-append (change ∷ []) (changes_of (reverse rest) arrays' statuses')
+
+pub newest_alone : (t : Trail) (all rest : List Entry) (e : Entry) → stands_apart e ≡ false → all ≡ rest ++ e ∷ [] →
+    reverse (changes_by t (reverse all)) ≡ reverse (changes_by t (reverse rest)) ++ change_of e ∷ []
+newest_alone t all rest e h is =
+    let arrays = reverse (map array_of t.arrays.items) in
+    let statuses = reverse (map bytes_of t.statuses.items) in
+    newest all rest e (change_of e) arrays arrays statuses statuses is (alone e (reverse rest) arrays statuses h)
+
+pub grown : (t : Trail) (all rest : List Entry) (e : Entry) → stands_apart e ≡ false → all ≡ rest ++ e ∷ [] →
+    Extends (reverse (changes_by t (reverse rest))) (reverse (changes_by t (reverse all)))
+grown t all rest e h is = record { more = change_of e ∷ []; is = newest_alone t all rest e h is }
+
+pub newest_array : (t : Trail) (all : List Entry) (arrays : List Array) (change : ArrayChange) (slot : ℕ) (copy : Array)
+    (old : ArrayValue) → all ≡ t.entries.items ++ entry.Array change slot ∷ [] → arrays ≡ t.arrays.items ++ copy ∷ [] →
+    array_of copy ≡ old →
+    reverse (changes_of (reverse all) (reverse (map array_of arrays)) (reverse (map bytes_of t.statuses.items)))
+    ≡ history t ++ array_was change slot old ∷ []
+newest_array t all arrays change slot copy old is pushed same =
+    let kept = map array_of t.arrays.items in
+    let statuses = reverse (map bytes_of t.statuses.items) in
+    newest all t.entries.items (entry.Array change slot) (array_was change slot old) (reverse (map array_of arrays))
+    (reverse kept) statuses statuses is
+    (ap (λ l. changes_of (entry.Array change slot ∷ reverse t.entries.items) l statuses)
+    (ap (λ l. reverse (map array_of l)) pushed ∙ ap reverse (map-append array_of t.arrays.items (copy ∷ []))
+    ∙ ap (λ a. reverse (kept ++ a ∷ [])) same ∙ reverse-append kept (old ∷ [])))
+
+pub newest_statuses : (t : Trail) (all : List Entry) (statuses : List (Vec ℕ)) (copy : Vec ℕ) (old : List ℕ) →
+    all ≡ t.entries.items ++ entry.Statuses ∷ [] → statuses ≡ t.statuses.items ++ copy ∷ [] → copy.items ≡ old →
+    reverse (changes_of (reverse all) (reverse (map array_of t.arrays.items)) (reverse (map bytes_of statuses)))
+    ≡ history t ++ statuses_were old ∷ []
+newest_statuses t all statuses copy old is pushed same =
+    let kept = map bytes_of t.statuses.items in
+    let arrays = reverse (map array_of t.arrays.items) in
+    newest all t.entries.items entry.Statuses (statuses_were old) arrays arrays (reverse (map bytes_of statuses))
+    (reverse kept) is
+    (ap (λ l. changes_of (entry.Statuses ∷ reverse t.entries.items) arrays l)
+    (ap (λ l. reverse (map bytes_of l)) pushed ∙ ap reverse (map-append bytes_of t.statuses.items (copy ∷ []))
+    ∙ ap (λ a. reverse (kept ++ a ∷ [])) same ∙ reverse-append kept (old ∷ [])))
+
+-- an entry that was taken off a trail and undone
+pub newest_undone : (all : List Entry) (mid new : Trail) (e : Entry) (v w : View) (u : IsUndone e mid new v w) →
+    all ≡ mid.entries.items ++ e ∷ [] → new.entries ≡ mid.entries →
+    reverse (changes_by mid (reverse all)) ≡ history new ++ u.change ∷ []
+newest_undone all mid new e v w u is same =
+    newest all mid.entries.items e u.change (reverse (map array_of mid.arrays.items)) (reverse (map array_of new.arrays.items))
+    (reverse (map bytes_of mid.statuses.items)) (reverse (map bytes_of new.statuses.items)) is
+    (u.off (reverse mid.entries.items))
+    ∙ ap (λ l. reverse (changes_by new (reverse l.items)) ++ u.change ∷ []) (sym same)
+
+-- an entry and what stands apart from it, taken off
+pub off_array : (t : Trail) (e : Entry) (arrays : List Array) (old : Array) (change : ArrayChange) (slot : ℕ)
+    (older : List Entry) → e ≡ entry.Array change slot → t.arrays.items ≡ arrays ++ old ∷ [] →
+    changes_by t (e ∷ older)
+    ≡ array_was change slot (array_of old)
+    ∷ changes_of older (reverse (map array_of arrays)) (reverse (map bytes_of t.statuses.items))
+off_array t e arrays old change slot older is popped =
+    let statuses = reverse (map bytes_of t.statuses.items) in
+    ap (λ x. changes_by t (x ∷ older)) is
+    ∙ ap (λ l. changes_of (entry.Array change slot ∷ older) l statuses)
+    (ap (λ l. reverse (map array_of l)) popped ∙ ap reverse (map-append array_of arrays (old ∷ []))
+    ∙ reverse-append (map array_of arrays) (array_of old ∷ []))
+
+pub off_statuses : (t : Trail) (e : Entry) (statuses : List (Vec ℕ)) (old : Vec ℕ) (older : List Entry) →
+    e ≡ entry.Statuses → t.statuses.items ≡ statuses ++ old ∷ [] →
+    changes_by t (e ∷ older)
+    ≡ statuses_were old.items
+    ∷ changes_of older (reverse (map array_of t.arrays.items)) (reverse (map bytes_of statuses))
+off_statuses t e statuses old older is popped =
+    let arrays = reverse (map array_of t.arrays.items) in
+    ap (λ x. changes_by t (x ∷ older)) is
+    ∙ ap (λ l. changes_of (entry.Statuses ∷ older) arrays l)
+    (ap (λ l. reverse (map bytes_of l)) popped ∙ ap reverse (map-append bytes_of statuses (old ∷ []))
+    ∙ reverse-append (map bytes_of statuses) (old.items ∷ []))
+
+-- an entry from which nothing stands apart
+pub off_no_array : (t : Trail) (e : Entry) (arrays : List Array) (change : ArrayChange) (slot : ℕ) (older : List Entry) →
+    e ≡ entry.Array change slot → t.arrays.items ≡ [] → arrays ≡ [] →
+    changes_by t (e ∷ older)
+    ≡ no_change ∷ changes_of older (reverse (map array_of arrays)) (reverse (map bytes_of t.statuses.items))
+off_no_array t e arrays change slot older is none new =
+    let statuses = reverse (map bytes_of t.statuses.items) in
+    ap (λ x. changes_by t (x ∷ older)) is
+    ∙ ap (λ l. changes_of (entry.Array change slot ∷ older) (reverse (map array_of l)) statuses) none
+    ∙ ap (λ l. no_change ∷ changes_of older (reverse (map array_of l)) statuses) (sym new)
+
+pub off_no_statuses : (t : Trail) (e : Entry) (statuses : List (Vec ℕ)) (older : List Entry) →
+    e ≡ entry.Statuses → t.statuses.items ≡ [] → statuses ≡ [] →
+    changes_by t (e ∷ older)
+    ≡ no_change ∷ changes_of older (reverse (map array_of t.arrays.items)) (reverse (map bytes_of statuses))
+off_no_statuses t e statuses older is none new =
+    let arrays = reverse (map array_of t.arrays.items) in
+    ap (λ x. changes_by t (x ∷ older)) is
+    ∙ ap (λ l. changes_of (entry.Statuses ∷ older) arrays (reverse (map bytes_of l))) none
+    ∙ ap (λ l. no_change ∷ changes_of older arrays (reverse (map bytes_of l))) (sym new)
+
+pub none_left : {A : Type 0} (xs : List A) → length xs ≤ 0 → xs ≡ []
+none_left [] h = refl
+none_left (x ∷ xs) h = absurd (omega (arith, h))

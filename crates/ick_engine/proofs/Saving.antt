@@ -11,6 +11,7 @@ use Rattle.ick_engine.specs.Steady.{IsSteady, IsReady, IsProgram}
 use Rattle.ick_engine.specs.Undo.{Like, HighSame, IsRestored}
 use Rattle.ick_engine.specs.View.{View, Parts, Input, state_of, dump_of}
 use Rattle.ick_engine.proofs.Restoring.{restored}
+use Rattle.ick_engine.proofs.StashLemmas.{parts_same}
 
 take_all : {A : Type 0} (n : ℕ) (xs : List A) → length xs ≤ n → take n xs ≡ xs
 take_all zero [] h = refl
@@ -115,7 +116,7 @@ module _ (code : Code) (lowered : LoweredParts) (is : IsProgram code lowered) wh
         ∙ get_or-take base m.registers r 0 low;
     home_same = home;
     statuses_same = statuses;
-    parts_same = parts;
+    parts_like = parts_same parts;
     returns_count = steady.returns ∙ sym marked.returns;
     returns_same = λ k low.
         sym (get_or-take m.depth v.returns k 0 low) ∙ ap (λ l. get_or l k 0) returns
@@ -154,6 +155,8 @@ module _ (code : Code) (lowered : LoweredParts) (is : IsProgram code lowered) wh
       constants = marked.steady.constants;
       arrays = marked.steady.arrays;
       hidden = marked.steady.hidden;
+      scalar_stashes = was.steady.scalar_stashes;
+      array_stashes = was.steady.array_stashes;
     };
     stands = λ input. record {
       represented = record {
@@ -215,7 +218,7 @@ module _ (code : Code) (lowered : LoweredParts) (is : IsProgram code lowered) wh
               ∙ get_or-take base m.registers r 0 low;
           home_same = home;
           statuses_same = statuses;
-          parts_same = parts_by new.parts m.parts arrays hidden rest;
+          parts_like = parts_same (parts_by new.parts m.parts arrays hidden rest);
           returns_count =
               ap length returns ∙ put_count used old.returns used_low ∙ was.steady.returns ∙ sym marked.steady.returns;
           returns_same = λ k low.

@@ -1,7 +1,8 @@
 -- Changes noted, and undone.
-use Rattle.std.proofs.Common.{◌≡◌, ℕ, ◌+◌, ◌<◌, ◌≤◌, List, [], ◌∷◌, ◌++◌, refl, ap, sym, ◌∙◌, subst, inl, inr}
+use Rattle.std.proofs.Common.{◌≡◌, ℕ, zero, suc, ◌+◌, ◌<◌, ◌≤◌, Bool, true, false, List, [], ◌∷◌, ◌++◌, refl, ap, sym, ◌∙◌}
+use Rattle.std.proofs.Common.{subst, inl, inr}
 use Rattle.std.proofs.Common.{length, take, drop, get_or, arith, length-append}
-use Rattle.std.specs.Prelude.{reverse, slice_set}
+use Rattle.std.specs.Prelude.{reverse, slice_set, nat_lt, if◌then◌else◌}
 use Rattle.std.proofs.lemmas.Bool.{cases_eq}
 use Rattle.std.proofs.lemmas.List.{drop-append-le, reverse-append, length-set, set-set, set-get_or, set_past}
 use Rattle.std.proofs.lemmas.List.{get_or-set_same, get_or-set_other, length-take-le, take-append-drop}
@@ -9,9 +10,16 @@ use Rattle.std.proofs.Math.Seq.{drop-length}
 use Rattle.std.proofs.Math.ListN.{drop_of_length-le}
 use Rattle.ick_code.specs.meaning.State.{Array, no_array}
 use Rattle.ick_engine.specs.Elements.{with_element}
-use Rattle.ick_engine.specs.View.{View, Parts}
-use Rattle.ick_engine.specs.Undo.{Change, register_was, home_was, status_was, return_was, element_was}
-use Rattle.ick_engine.specs.Undo.{undone, rewound, with_arrays, with_number, Like, HighSame, Rewinds}
+use Rattle.ick_engine.specs.declared.change.ArrayChange.{ArrayChange}
+use Rattle.ick_engine.specs.declared.change.ArrayChange.TheVariants as now
+use Rattle.ick_engine.specs.View.{View, Parts, Stash, no_stash}
+use Rattle.ick_engine.specs.Undo.{Change, register_was, home_was, status_was, return_was, element_was, hidden_was}
+use Rattle.ick_engine.specs.Undo.{scalar_saved, scalar_taken, scalar_restored, array_saved, array_was}
+use Rattle.ick_engine.specs.Undo.{statuses_were, taken_was}
+use Rattle.ick_engine.specs.Undo.{output_was, last_was, lastin_was, no_change, given_back, undone_array, undone, rewound}
+use Rattle.ick_engine.specs.Undo.{with_arrays, with_number, put_on, taken_off, at_slot, but_stashes, HasPlace}
+use Rattle.ick_engine.specs.Undo.{StashLike, StashesLike, PartsLike, IsUndoable, Like, HighSame, Rewinds}
+use Rattle.ick_engine.proofs.StashLemmas.{parts_refl, parts_trans, parts_same, taken_off_like, put_on_like, at_slot_like}
 
 pub like_refl : (base deep : ℕ) (v : View) → Like base deep v v
 like_refl base deep v = record {
@@ -19,7 +27,7 @@ like_refl base deep v = record {
   registers_same = λ r low. refl;
   home_same = refl;
   statuses_same = refl;
-  parts_same = refl;
+  parts_like = parts_refl v.parts;
   returns_count = refl;
   returns_same = λ k low. refl;
 }
@@ -30,7 +38,7 @@ like_trans a b = record {
   registers_same = λ r low. b.registers_same r low ∙ a.registers_same r low;
   home_same = b.home_same ∙ a.home_same;
   statuses_same = b.statuses_same ∙ a.statuses_same;
-  parts_same = b.parts_same ∙ a.parts_same;
+  parts_like = parts_trans a.parts_like b.parts_like;
   returns_count = b.returns_count ∙ a.returns_count;
   returns_same = λ k low. b.returns_same k low ∙ a.returns_same k low;
 }
@@ -41,7 +49,7 @@ like_lower fewer a = record {
   registers_same = a.registers_same;
   home_same = a.home_same;
   statuses_same = a.statuses_same;
-  parts_same = a.parts_same;
+  parts_like = a.parts_like;
   returns_count = a.returns_count;
   returns_same = λ k low. a.returns_same k (omega (arith, fewer, low));
 }
@@ -69,7 +77,7 @@ pushed_like base low depth place v above = record {
   registers_same = λ r few. refl;
   home_same = refl;
   statuses_same = refl;
-  parts_same = refl;
+  parts_like = parts_refl v.parts;
   returns_count = length-set v.returns depth place;
   returns_same = λ k few. get_or-set_other v.returns depth k place 0 (λ e. absurd (omega (arith, e, few, above)));
 }
@@ -90,8 +98,274 @@ noted base changes low low' k change u v m h back = record {
       (h.stays (undone change w) (back w like).0 r high ∙ (back w like).1 r high);
 }
 
+-- numbers that are set at one place in both of two lists
+set_same : (xs ys : List ℕ) (at n r : ℕ) → length ys ≡ length xs → get_or ys r 0 ≡ get_or xs r 0 →
+    get_or (slice_set ys at n) r 0 ≡ get_or (slice_set xs at n) r 0
+set_same [] [] at n r count same = same
+set_same [] (y ∷ ys) at n r count same = absurd (omega (arith, count))
+set_same (x ∷ xs) [] at n r count same = absurd (omega (arith, count))
+set_same (x ∷ xs) (y ∷ ys) zero n zero count same = refl
+set_same (x ∷ xs) (y ∷ ys) zero n (suc r) count same = same
+set_same (x ∷ xs) (y ∷ ys) (suc at) n zero count same = same
+set_same (x ∷ xs) (y ∷ ys) (suc at) n (suc r) count same = set_same xs ys at n r (omega (arith, count)) same
+
+set_count : (xs ys : List ℕ) (at n : ℕ) → length ys ≡ length xs → length (slice_set ys at n) ≡ length (slice_set xs at n)
+set_count xs ys at n count = length-set ys at n ∙ count ∙ sym (length-set xs at n)
+
+-- parts of which one stash is changed in the same way
+scalars_alike : (f : Stash ℕ → Stash ℕ) (slot : ℕ) (p q : Parts) → PartsLike p q →
+    StashLike (f (get_or p.scalar_stashes slot no_stash)) (f (get_or q.scalar_stashes slot no_stash)) →
+    PartsLike (record p { scalar_stashes = at_slot f slot p.scalar_stashes })
+    (record q { scalar_stashes = at_slot f slot q.scalar_stashes })
+scalars_alike f slot p q like one = record {
+  others = like.others;
+  scalars = at_slot_like f slot p.scalar_stashes q.scalar_stashes like.scalars one;
+  arrays = like.arrays;
+}
+
+arrays_alike : (f : Stash Array → Stash Array) (slot : ℕ) (p q : Parts) → PartsLike p q →
+    StashLike (f (get_or p.array_stashes slot no_stash)) (f (get_or q.array_stashes slot no_stash)) →
+    PartsLike (record p { array_stashes = at_slot f slot p.array_stashes })
+    (record q { array_stashes = at_slot f slot q.array_stashes })
+arrays_alike f slot p q like one = record {
+  others = like.others;
+  scalars = like.scalars;
+  arrays = at_slot_like f slot p.array_stashes q.array_stashes like.arrays one;
+}
+
+given_alike : (slot : ℕ) (old : Array) (p q : Parts) → PartsLike p q → HasPlace p.array_stashes slot →
+    PartsLike (given_back slot old p) (given_back slot old q)
+given_alike slot old p q like place =
+    let present : get_or q.arrays slot no_array ≡ get_or p.arrays slot no_array =
+    ap (λ r. get_or r.arrays slot no_array) like.others in
+    record {
+      others = ap {A = Parts} (λ r. record r { arrays = slice_set r.arrays slot old }) like.others;
+      scalars = like.scalars;
+      arrays =
+          subst (λ a. StashesLike (at_slot (put_on (get_or p.arrays slot no_array)) slot p.array_stashes)
+          (at_slot (put_on a) slot q.array_stashes)) (sym present)
+          (at_slot_like (put_on (get_or p.arrays slot no_array)) slot p.array_stashes q.array_stashes like.arrays
+          (put_on_like (get_or p.arrays slot no_array) place (like.arrays.each slot)));
+    }
+
+restored_alike : (slot : ℕ) (old : Array) (p q : Parts) → PartsLike p q → HasPlace p.array_stashes slot →
+    PartsLike (undone_array now.Restored slot old p) (undone_array now.Restored slot old q)
+restored_alike slot old p q like place =
+    let count : nat_lt slot (length q.arrays) ≡ nat_lt slot (length p.arrays) =
+    ap (λ r. nat_lt slot (length r.arrays)) like.others in
+    subst (λ b. PartsLike (undone_array now.Restored slot old p) (if b then given_back slot old q else q)) (sym count)
+    (cases (nat_lt slot (length p.arrays)))
+  where
+    cases : (b : Bool) → PartsLike (if b then given_back slot old p else p) (if b then given_back slot old q else q)
+    cases true = given_alike slot old p q like place
+    cases false = like
+
+array_alike : (base : ℕ) (change : ArrayChange) (slot : ℕ) (old : Array) (v : View) (q : Parts) →
+    PartsLike v.parts q → IsUndoable base (array_was change slot old) v →
+    PartsLike (undone_array change slot old v.parts) (undone_array change slot old q)
+array_alike base now.Replaced slot old v q like can = record {
+  others = ap {A = Parts} (λ r. record r { arrays = slice_set r.arrays slot old }) like.others;
+  scalars = like.scalars;
+  arrays = like.arrays;
+}
+array_alike base now.Taken slot old v q like can =
+    arrays_alike (put_on old) slot v.parts q like (put_on_like old can (like.arrays.each slot))
+array_alike base now.Restored slot old v q like can = restored_alike slot old v.parts q like can
+
+-- views that are alike are so after a change of both is undone
+with_parts_like : {base low : ℕ} {v w : View} (p q : Parts) → Like base low v w → PartsLike p q →
+    Like base low (record v { parts = p }) (record w { parts = q })
+with_parts_like p q like parts = record {
+  registers_count = like.registers_count;
+  registers_same = like.registers_same;
+  home_same = like.home_same;
+  statuses_same = like.statuses_same;
+  parts_like = parts;
+  returns_count = like.returns_count;
+  returns_same = like.returns_same;
+}
+
+pub undone_like : (base low : ℕ) (change : Change) (v w : View) → IsUndoable base change v → Like base low v w →
+    Like base low (undone change v) (undone change w)
+undone_like base low (register_was at old) v w can like = record {
+  registers_count = set_count v.registers w.registers at old like.registers_count;
+  registers_same = λ r few.
+      set_same v.registers w.registers at old r like.registers_count (like.registers_same r few);
+  home_same = like.home_same;
+  statuses_same = like.statuses_same;
+  parts_like = like.parts_like;
+  returns_count = like.returns_count;
+  returns_same = like.returns_same;
+}
+undone_like base low (home_was at old) v w can like = record {
+  registers_count = like.registers_count;
+  registers_same = like.registers_same;
+  home_same = ap (λ l. slice_set l at old) like.home_same;
+  statuses_same = like.statuses_same;
+  parts_like = like.parts_like;
+  returns_count = like.returns_count;
+  returns_same = like.returns_same;
+}
+undone_like base low (status_was at old) v w can like = record {
+  registers_count = like.registers_count;
+  registers_same = like.registers_same;
+  home_same = like.home_same;
+  statuses_same = ap (λ l. slice_set l at old) like.statuses_same;
+  parts_like = like.parts_like;
+  returns_count = like.returns_count;
+  returns_same = like.returns_same;
+}
+undone_like base low (return_was at old) v w can like = record {
+  registers_count = like.registers_count;
+  registers_same = like.registers_same;
+  home_same = like.home_same;
+  statuses_same = like.statuses_same;
+  parts_like = like.parts_like;
+  returns_count = set_count v.returns w.returns at old like.returns_count;
+  returns_same = λ k few. set_same v.returns w.returns at old k like.returns_count (like.returns_same k few);
+}
+undone_like base low (element_was slot at old) v w can like =
+    with_parts_like _ _ like (record {
+      others = ap {A = Parts} (λ r. record r { arrays = with_number r.arrays slot at old }) like.parts_like.others;
+      scalars = like.parts_like.scalars;
+      arrays = like.parts_like.arrays;
+    })
+undone_like base low (hidden_was slot old) v w can like =
+    with_parts_like _ _ like (record {
+      others = ap {A = Parts} (λ r. record r { hidden = slice_set r.hidden slot old }) like.parts_like.others;
+      scalars = like.parts_like.scalars;
+      arrays = like.parts_like.arrays;
+    })
+undone_like base low (scalar_saved slot) v w can like =
+    with_parts_like _ _ like (scalars_alike taken_off slot v.parts w.parts like.parts_like
+    (taken_off_like (like.parts_like.scalars.each slot)))
+undone_like base low (scalar_taken slot number) v w can like =
+    with_parts_like _ _ like (scalars_alike (put_on number) slot v.parts w.parts like.parts_like
+    (put_on_like number can (like.parts_like.scalars.each slot)))
+undone_like base low (scalar_restored slot number old) v w can like = record {
+  registers_count = set_count v.registers w.registers slot old like.registers_count;
+  registers_same = λ r few.
+      set_same v.registers w.registers slot old r like.registers_count (like.registers_same r few);
+  home_same = like.home_same;
+  statuses_same = like.statuses_same;
+  parts_like =
+      scalars_alike (put_on number) slot v.parts w.parts like.parts_like
+      (put_on_like number can.1 (like.parts_like.scalars.each slot));
+  returns_count = like.returns_count;
+  returns_same = like.returns_same;
+}
+undone_like base low (array_saved slot) v w can like =
+    with_parts_like _ _ like (arrays_alike taken_off slot v.parts w.parts like.parts_like
+    (taken_off_like (like.parts_like.arrays.each slot)))
+undone_like base low (array_was change slot old) v w can like =
+    with_parts_like _ _ like (array_alike base change slot old v w.parts like.parts_like can)
+undone_like base low (statuses_were old) v w can like = record {
+  registers_count = like.registers_count;
+  registers_same = like.registers_same;
+  home_same = like.home_same;
+  statuses_same = refl;
+  parts_like = like.parts_like;
+  returns_count = like.returns_count;
+  returns_same = like.returns_same;
+}
+undone_like base low (taken_was old) v w can like =
+    with_parts_like _ _ like (record {
+      others = ap {A = Parts} (λ r. record r { taken = old }) like.parts_like.others;
+      scalars = like.parts_like.scalars;
+      arrays = like.parts_like.arrays;
+    })
+undone_like base low (output_was count) v w can like =
+    with_parts_like _ _ like (record {
+      others = ap {A = Parts} (λ r. record r { output = take count r.output }) like.parts_like.others;
+      scalars = like.parts_like.scalars;
+      arrays = like.parts_like.arrays;
+    })
+undone_like base low (last_was old) v w can like =
+    with_parts_like _ _ like (record {
+      others = ap {A = Parts} (λ r. record r { last = old }) like.parts_like.others;
+      scalars = like.parts_like.scalars;
+      arrays = like.parts_like.arrays;
+    })
+undone_like base low (lastin_was old) v w can like =
+    with_parts_like _ _ like (record {
+      others = ap {A = Parts} (λ r. record r { lastin = old }) like.parts_like.others;
+      scalars = like.parts_like.scalars;
+      arrays = like.parts_like.arrays;
+    })
+undone_like base low no_change v w can like = like
+
+undone_high : (base : ℕ) (change : Change) (v w : View) → IsUndoable base change v → HighSame base w (undone change w)
+undone_high base (register_was at old) v w can = λ r high.
+    get_or-set_other w.registers at r old 0 (λ e. absurd (omega (arith, e, high, can)))
+undone_high base (home_was at old) v w can = λ r high. refl
+undone_high base (status_was at old) v w can = λ r high. refl
+undone_high base (return_was at old) v w can = λ r high. refl
+undone_high base (element_was slot at old) v w can = λ r high. refl
+undone_high base (hidden_was slot old) v w can = λ r high. refl
+undone_high base (scalar_saved slot) v w can = λ r high. refl
+undone_high base (scalar_taken slot number) v w can = λ r high. refl
+undone_high base (scalar_restored slot number old) v w can = λ r high.
+    get_or-set_other w.registers slot r old 0 (λ e. absurd (omega (arith, e, high, can.0)))
+undone_high base (array_saved slot) v w can = λ r high. refl
+undone_high base (array_was change slot old) v w can = λ r high. refl
+undone_high base (statuses_were old) v w can = λ r high. refl
+undone_high base (taken_was old) v w can = λ r high. refl
+undone_high base (output_was count) v w can = λ r high. refl
+undone_high base (last_was old) v w can = λ r high. refl
+undone_high base (lastin_was old) v w can = λ r high. refl
+undone_high base no_change v w can = λ r high. refl
+
+-- a change by which a view came from one like another
+pub notes_change : (base : ℕ) (changes : List Change) (low k : ℕ) (change : Change) (u v m : View) →
+    IsUndoable base change u → Like base low v (undone change u) → Rewinds base changes low k v m →
+    Rewinds base (changes ++ change ∷ []) low k u m
+notes_change base changes low k change u v m can before h =
+    noted base changes low low k change u v m h
+    (λ w like. (like_trans before (undone_like base low change u w can like), undone_high base change u w can))
+
 put_back : (xs : List ℕ) (at n : ℕ) → slice_set (slice_set xs at n) at (get_or xs at 0) ≡ xs
 put_back xs at n = set-set xs at n (get_or xs at 0) ∙ set-get_or xs at 0
+
+-- a number of a stash becomes the number of its scalar
+pub notes_restored : (base : ℕ) (changes : List Change) (low k slot number n : ℕ) (v m : View) (p : Parts) → slot < base →
+    HasPlace p.scalar_stashes slot →
+    PartsLike v.parts (record p { scalar_stashes = at_slot (put_on number) slot p.scalar_stashes }) →
+    Rewinds base changes low k v m →
+    Rewinds base (changes ++ scalar_restored slot number (get_or v.registers slot 0) ∷ []) low k
+    (record v { registers = slice_set v.registers slot n; parts = p }) m
+notes_restored base changes low k slot number n v m p below place parts h =
+    let old = get_or v.registers slot 0 in
+    notes_change base changes low k (scalar_restored slot number old)
+    (record v { registers = slice_set v.registers slot n; parts = p }) v m (below, place)
+    (record {
+      registers_count = length-set (slice_set v.registers slot n) slot old ∙ length-set v.registers slot n;
+      registers_same = λ r few. ap (λ l. get_or l r 0) (put_back v.registers slot n);
+      home_same = refl;
+      statuses_same = refl;
+      parts_like = parts;
+      returns_count = refl;
+      returns_same = λ j few. refl;
+    }) h
+
+-- the same with a register that is never restored
+pub skips_restored : (base : ℕ) (changes : List Change) (low k slot number n : ℕ) (v m : View) (p : Parts) → base ≤ slot →
+    HasPlace p.scalar_stashes slot →
+    PartsLike v.parts (record p { scalar_stashes = at_slot (put_on number) slot p.scalar_stashes }) →
+    Rewinds base changes low k v m →
+    Rewinds base (changes ++ scalar_taken slot number ∷ []) low k
+    (record v { registers = slice_set v.registers slot n; parts = p }) m
+skips_restored base changes low k slot number n v m p above place parts h =
+    notes_change base changes low k (scalar_taken slot number)
+    (record v { registers = slice_set v.registers slot n; parts = p }) v m place
+    (record {
+      registers_count = length-set v.registers slot n;
+      registers_same = λ r few. get_or-set_other v.registers slot r n 0 (λ e. absurd (omega (arith, e, few, above)));
+      home_same = refl;
+      statuses_same = refl;
+      parts_like = parts;
+      returns_count = refl;
+      returns_same = λ j few. refl;
+    }) h
 
 register_back : (base low at number : ℕ) (v w : View) → at < base → at < length v.registers →
     Like base low (record v { registers = slice_set v.registers at number }) w →
@@ -104,7 +378,7 @@ register_back base low at number v w below there like = (
     registers_same = same;
     home_same = like.home_same;
     statuses_same = like.statuses_same;
-    parts_same = like.parts_same;
+    parts_like = like.parts_like;
     returns_count = like.returns_count;
     returns_same = like.returns_same;
   },
@@ -147,7 +421,7 @@ skips_register base changes low k at number v m above h =
       registers_same = λ r low. get_or-set_other v.registers at r number 0 (λ e. absurd (omega (arith, e, low, above)));
       home_same = refl;
       statuses_same = refl;
-      parts_same = refl;
+      parts_like = parts_refl v.parts;
       returns_count = refl;
       returns_same = λ k low. refl;
     }) h
@@ -163,7 +437,7 @@ notes_home base changes low k at number v m h =
         registers_same = like.registers_same;
         home_same = ap (λ l. slice_set l at (get_or v.home at 0)) like.home_same ∙ put_back v.home at number;
         statuses_same = like.statuses_same;
-        parts_same = like.parts_same;
+        parts_like = like.parts_like;
         returns_count = like.returns_count;
         returns_same = like.returns_same;
       },
@@ -184,7 +458,7 @@ notes_status base changes low k at number v m h =
         home_same = like.home_same;
         statuses_same =
             ap (λ l. slice_set l at (get_or v.statuses at 0)) like.statuses_same ∙ put_back v.statuses at number;
-        parts_same = like.parts_same;
+        parts_like = like.parts_like;
         returns_count = like.returns_count;
         returns_same = like.returns_same;
       },
@@ -209,22 +483,18 @@ pub notes_element : (base : ℕ) (changes : List Change) (low k slot at number :
     (changes ++ element_was slot at (get_or (get_or v.parts.arrays slot no_array).elements at 0) ∷ []) low k
     (with_arrays (with_number v.parts.arrays slot at number) v) m
 notes_element base changes low k slot at number v m there h =
-    let old = get_or (get_or v.parts.arrays slot no_array).elements at 0 in
-    noted base changes low low k (element_was slot at old) (with_arrays (with_number v.parts.arrays slot at number) v) v m h
-    (λ w like. (
-      record {
-        registers_count = like.registers_count;
-        registers_same = like.registers_same;
-        home_same = like.home_same;
-        statuses_same = like.statuses_same;
-        parts_same =
-            ap {A = Parts} (λ p. record p { arrays = with_number p.arrays slot at old }) like.parts_same
-            ∙ ap {A = List Array} (λ l. record v.parts { arrays = l }) (element_same v.parts.arrays slot at number there);
-        returns_count = like.returns_count;
-        returns_same = like.returns_same;
-      },
-      λ r high. refl,
-    ))
+    notes_change base changes low k (element_was slot at (get_or (get_or v.parts.arrays slot no_array).elements at 0))
+    (with_arrays (with_number v.parts.arrays slot at number) v) v m tt
+    (record {
+      registers_count = refl;
+      registers_same = λ r few. refl;
+      home_same = refl;
+      statuses_same = refl;
+      parts_like =
+          parts_same (ap {A = List Array} (λ l. record v.parts { arrays = l }) (element_same v.parts.arrays slot at number there));
+      returns_count = refl;
+      returns_same = λ j few. refl;
+    }) h
 
 -- an element that isn't there
 pub element_past : (arrays : List Array) (slot at number : ℕ) → length (get_or arrays slot no_array).elements ≤ at →
@@ -246,7 +516,7 @@ notes_return base changes low at k v m next there h =
         registers_same = like.registers_same;
         home_same = like.home_same;
         statuses_same = like.statuses_same;
-        parts_same = like.parts_same;
+        parts_like = like.parts_like;
         returns_count = length-set w.returns at old ∙ like.returns_count;
         returns_same = same w like;
       },
@@ -329,7 +599,7 @@ like_moved place depth a = record {
   registers_same = a.registers_same;
   home_same = a.home_same;
   statuses_same = a.statuses_same;
-  parts_same = a.parts_same;
+  parts_like = a.parts_like;
   returns_count = a.returns_count;
   returns_same = a.returns_same;
 }

@@ -1,7 +1,20 @@
 -- The changes that a trail has, the newest last.
-use Rattle.std.specs.Prelude.{List}
-use Rattle.ick_engine.specs.Undo.{Change, changes_of}
+use Rattle.std.specs.Prelude.{◌≡◌, List, ◌∷◌, map, reverse}
+use Rattle.ick_engine.specs.declared.change.Entry.{Entry}
 use Rattle.ick_engine.specs.declared.trail.Trail.{Trail}
+use Rattle.ick_engine.specs.Undo.{Change, changes_of, undone}
+use Rattle.ick_engine.specs.View.{View, array_of, bytes_of}
+
+-- the changes of entries, the newest first, with the arrays and statuses of a trail
+abbrev pub changes_by : Trail → List Entry → List Change
+changes_by t entries =
+    changes_of entries (reverse (map array_of t.arrays.items)) (reverse (map bytes_of t.statuses.items))
 
 abbrev pub history : Trail → List Change
-history t = changes_of t.entries.items
+history t = reverse (changes_by t (reverse t.entries.items))
+
+-- an entry was undone, and what stands apart from it was taken off the trail
+pub record IsUndone (entry : Entry) (old new : Trail) (v w : View) : Type 0 where
+  pub change : Change
+  pub off : (older : List Entry) → changes_by old (entry ∷ older) ≡ change ∷ changes_by new older
+  pub view_is : w ≡ undone change v

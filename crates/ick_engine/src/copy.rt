@@ -34,7 +34,7 @@ pub fn copy_bytes(alloc: Global, bytes: &[u8]) -> Result<Vec<u8>, NoMemory>
 }
 
 /// Copies an array.
-fn copy_array(alloc: Global, array: &Array) -> Result<Array, NoMemory>
+pub fn copy_array(alloc: Global, array: &Array) -> Result<Array, NoMemory>
     ensures array { IfOk result (λ copy. array_of copy ≡ array_of array.now) }
     ensures hidden { IfOk result (λ copy. is_hidden copy ≡ is_hidden array.now) }
 {

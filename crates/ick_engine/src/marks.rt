@@ -1,17 +1,22 @@
 //! Marks: states that a run can go back to.
 
-ghost use Rattle.std.specs.Prelude.{◌≡◌, ◌≤◌, ℕ, map, slice_set, take};
-ghost use Rattle.ick_engine.specs.History.{history};
+ghost use Rattle.std.specs.Prelude.{◌≡◌, ◌<◌, ◌≤◌, ℕ, length, map, slice_set, take, true};
+ghost use Rattle.std.proofs.Common.{get_or};
+ghost use Rattle.ick_code.specs.meaning.State.{no_array};
+ghost use Rattle.ick_engine.specs.History.{history, IsUndone};
 ghost use Rattle.ick_engine.specs.Memory.{view_in};
 ghost use Rattle.ick_engine.specs.Steady.{IsReady, IsSteady};
-ghost use Rattle.ick_engine.specs.Undo.{change_of, undone, with_number, IsRestored, Rewinds};
-ghost use Rattle.ick_engine.specs.View.{View, array_of, is_hidden};
+ghost use Rattle.ick_engine.specs.Undo.{change_of, stands_apart, undone, undone_array};
+ghost use Rattle.ick_engine.specs.Undo.{with_number, IsRestored, Rewinds};
+ghost use Rattle.ick_engine.specs.View.{View, array_of, is_hidden, parts_of};
 
-use crate::change::Entry;
+use crate::change::{ArrayChange, Entry};
 use crate::element::set_element;
-use crate::memory::{Array, Memory};
+use crate::memory::{Array, Memory, Rest};
+use crate::stash::{drop_array, drop_number, put_array, put_number};
 use crate::trail::Trail;
 use ick_lowering::Lowered;
+use std::mem::replace;
 
 /// A mark: the place and the depth of the NEXT stack, and how many changes were noted before it.
 #[derive(Clone, Copy)]
@@ -75,16 +80,114 @@ fn put_element(arrays: &mut Vec<Array>, slot: u32, at: u32, old: u32)
     set_element(arrays, slot, at, old);
 }
 
-/// Undoes a change.
+/// Hides an array again, or shows it, if there is such an array.
+pub fn put_hidden(arrays: &mut Vec<Array>, slot: u32, old: bool)
+    ensures arrays { map array_of arrays.new.items ≡ map array_of arrays.old.items }
+    ensures hidden { map is_hidden arrays.new.items
+        ≡ slice_set (map is_hidden arrays.old.items) slot old }
+{
+    if slot as usize >= arrays.len() {
+        return;
+    }
+    arrays[slot as usize].hidden = old;
+}
+
+/// Undoes a change whose old value is in its entry.
 fn undo(memory: &mut Memory, entry: Entry)
     ensures { view_in memory.new ≡ undone (change_of entry) (view_in memory.old) }
 {
+    let rest = &mut memory.rest;
     match entry {
         Entry::Register(at, old) => put_back(&mut memory.registers, at, old),
         Entry::Home(at, old) => put_back(&mut memory.home, at, old),
         Entry::Status(at, old) => put_status(&mut memory.statuses, at, old),
         Entry::Return(at, old) => put_back(&mut memory.returns, at, old),
-        Entry::Element(slot, at, old) => put_element(&mut memory.rest.arrays, slot, at, old),
+        Entry::Element(slot, at, old) => put_element(&mut rest.arrays, slot, at, old),
+        Entry::Hidden(slot, old) => put_hidden(&mut rest.arrays, slot, old),
+        Entry::ScalarSaved(slot) => drop_number(&mut rest.scalar_stashes, slot),
+        Entry::ScalarTaken(slot, old) => put_number(&mut rest.scalar_stashes, slot, old),
+        Entry::ScalarRestored(slot, number, old) => {
+            put_back(&mut memory.registers, slot, old);
+            put_number(&mut rest.scalar_stashes, slot, number);
+        }
+        Entry::ArraySaved(slot) => drop_array(&mut rest.array_stashes, slot),
+        Entry::Array(_, _) | Entry::Statuses => {}
+        Entry::Taken(old) => rest.taken = old,
+        Entry::Output(count) => rest.output.truncate(count),
+        Entry::Last(old) => rest.last = old,
+        Entry::LastIn(old) => rest.lastin = old,
+    }
+}
+
+/// Puts an array back, if there is such a slot. The present one is returned.
+fn replace_array(arrays: &mut Vec<Array>, slot: u32, old: Array) -> Array
+    requires { slot < length arrays.old.items }
+    ensures arrays { map array_of arrays.new.items
+        ≡ slice_set (map array_of arrays.old.items) slot (array_of old) }
+    ensures hidden { map is_hidden arrays.new.items ≡ map is_hidden arrays.old.items }
+    ensures present { array_of result ≡ get_or (map array_of arrays.old.items) slot no_array }
+{
+    let mut old = old;
+    old.hidden = arrays[slot as usize].hidden;
+    replace(&mut arrays[slot as usize], old)
+}
+
+/// Undoes a change of an array.
+fn undo_array(rest: &mut Rest, change: ArrayChange, slot: u32, old: Array)
+    ensures { parts_of rest.new ≡ undone_array change slot (array_of old) (parts_of rest.old) }
+{
+    match change {
+        ArrayChange::Taken => put_array(&mut rest.array_stashes, slot, old),
+        ArrayChange::Replaced => {
+            if slot as usize >= rest.arrays.len() {
+                return;
+            }
+            let _ = replace_array(&mut rest.arrays, slot, old);
+        }
+        ArrayChange::Restored => {
+            if slot as usize >= rest.arrays.len() {
+                return;
+            }
+            let present = replace_array(&mut rest.arrays, slot, old);
+            put_array(&mut rest.array_stashes, slot, present);
+        }
+    }
+}
+
+/// Undoes a change whose old value stands apart from its entry, and takes it off the trail.
+fn undo_apart(trail: &mut Trail, memory: &mut Memory, entry: Entry)
+    requires { stands_apart entry ≡ true }
+    ensures entries { trail.new.entries ≡ trail.old.entries }
+    ensures low { trail.new.low ≡ trail.old.low }
+    ensures base { trail.new.base ≡ trail.old.base }
+    ensures undone { IsUndone entry trail.old trail.new (view_in memory.old)
+        (view_in memory.new) }
+{
+    match entry {
+        Entry::Array(change, slot) => match trail.arrays.pop() {
+            Some(old) => undo_array(&mut memory.rest, change, slot, old),
+            None => {}
+        },
+        Entry::Statuses => match trail.statuses.pop() {
+            Some(old) => memory.statuses = old,
+            None => {}
+        },
+        _ => unreachable!(),
+    }
+}
+
+/// Undoes a change whose entry was taken off the trail.
+fn undo_newest(trail: &mut Trail, memory: &mut Memory, entry: Entry)
+    ensures entries { trail.new.entries ≡ trail.old.entries }
+    ensures low { trail.new.low ≡ trail.old.low }
+    ensures base { trail.new.base ≡ trail.old.base }
+    ensures undone { IsUndone entry trail.old trail.new (view_in memory.old)
+        (view_in memory.new) }
+{
+    if entry.stands_apart() {
+        undo_apart(trail, memory, entry)
+    } else {
+        undo(memory, entry)
     }
 }
 
@@ -107,7 +210,7 @@ pub fn back(trail: &mut Trail, mark: Mark, memory: &mut Memory, program: &Lowere
     code.law();
     'changes: while trail.entries.len() > mark.changes {
         if let Some(entry) = trail.entries.pop() {
-            undo(memory, entry);
+            undo_newest(trail, memory, entry);
         }
     }
     trail.low = mark.depth;

@@ -2,15 +2,19 @@
 
 ghost use Rattle.std.specs.Bool.{MatchBool};
 ghost use Rattle.std.specs.Prelude.{◌≡◌, ◌+◌, ◌<◌, ◌≤◌, ◌^◌, ℕ, Bool, true, false, List, []};
-ghost use Rattle.std.specs.Prelude.{length, map};
+ghost use Rattle.std.specs.Prelude.{length, map, OnErr, OnOk};
 ghost use Rattle.std.proofs.Common.{get_or};
 ghost use Rattle.ick_code.specs.meaning.State.{no_array};
 ghost use Rattle.ick_lowering.specs.Extends.{Extends};
-ghost use Rattle.ick_engine.specs.Undo.{AlikeUndo, Change, Means, NotesElement, NotesHome};
-ghost use Rattle.ick_engine.specs.Undo.{NotesRegister, NotesReturns, NotesStatus};
+ghost use Rattle.ick_engine.specs.Undo.{array_was, change_of, stands_apart, statuses_were};
+ghost use Rattle.ick_engine.specs.Undo.{AlikeUndo, Change, KeepsUndoing, Means, NotesChange};
+ghost use Rattle.ick_engine.specs.Undo.{NotesElement, NotesHome, NotesRegister, NotesRestored};
+ghost use Rattle.ick_engine.specs.Undo.{NotesReturns, NotesStatus};
 ghost use Rattle.ick_engine.specs.View.{View, array_of};
 
+use crate::change::{ArrayChange, Entry};
 use crate::memory::Array;
+use ick_bits::NoMemory;
 
 /// Notes changes before they are made, so that they can be undone.
 pub trait Notes: Drop {
@@ -97,6 +101,61 @@ pub trait Notes: Drop {
         ensures base { base self.new ≡ base self.old }
         ensures changes { Extends (changes self.old) (changes self.new) }
         ensures notes { NotesReturns Undoes self.old self.new returns.now };
+
+    /// Notes a change whose old value is in its entry. It may have been made already.
+    fn note(&mut self, entry: Entry)
+        requires room { 0 < room self.old }
+        requires alone { stands_apart entry ≡ false }
+        ensures room { room self.old ≤ room self.new + 1 }
+        ensures low { low self.new ≡ low self.old }
+        ensures base { base self.new ≡ base self.old }
+        ensures changes { Extends (changes self.old) (changes self.new) }
+        ensures notes { NotesChange Undoes self.old self.new (base self.old) (change_of entry) };
+
+    /// Notes that the number of the scalar in a slot will change to one that was taken off its
+    /// stash.
+    fn note_restored(&mut self, registers: &[u32], slot: u32, number: u32)
+        requires room { 0 < room self.old }
+        requires there { slot < length registers.now }
+        ensures room { room self.old ≤ room self.new + 1 }
+        ensures low { low self.new ≡ low self.old }
+        ensures base { base self.new ≡ base self.old }
+        ensures changes { Extends (changes self.old) (changes self.new) }
+        ensures notes { NotesRestored Undoes self.old self.new slot number registers.now };
+
+    /// Makes room for so many changes and all return addresses. If memory runs out, nothing else
+    /// changes.
+    fn make_room(&mut self, more: usize) -> Result<(), NoMemory>
+        ensures room { OnOk result (more + 79 ≤ room self.new) }
+        ensures low { low self.new ≡ low self.old }
+        ensures base { base self.new ≡ base self.old }
+        ensures changes { changes self.new ≡ changes self.old }
+        ensures keeps { KeepsUndoing Undoes self.old self.new };
+
+    /// Notes how an array changes, with a copy of the old one. If memory runs out, nothing is noted.
+    fn note_array(&mut self, change: ArrayChange, slot: u32, array: &Array) -> Result<(), NoMemory>
+        requires room { 0 < room self.old }
+        ensures room { room self.old ≤ room self.new + 1 }
+        ensures low { low self.new ≡ low self.old }
+        ensures base { base self.new ≡ base self.old }
+        ensures changes { Extends (changes self.old) (changes self.new) }
+        ensures notes { OnOk result (NotesChange Undoes self.old self.new (base self.old)
+            (array_was change slot (array_of array.now))) }
+        ensures same { OnErr result (changes self.new ≡ changes self.old) }
+        ensures keeps { OnErr result (KeepsUndoing Undoes self.old self.new) };
+
+    /// Notes that statuses will change, with a copy of them all. If memory runs out, nothing is
+    /// noted.
+    fn note_statuses(&mut self, statuses: &[u8]) -> Result<(), NoMemory>
+        requires room { 0 < room self.old }
+        ensures room { room self.old ≤ room self.new + 1 }
+        ensures low { low self.new ≡ low self.old }
+        ensures base { base self.new ≡ base self.old }
+        ensures changes { Extends (changes self.old) (changes self.new) }
+        ensures notes { OnOk result (NotesChange Undoes self.old self.new (base self.old)
+            (statuses_were statuses.now)) }
+        ensures same { OnErr result (changes self.new ≡ changes self.old) }
+        ensures keeps { OnErr result (KeepsUndoing Undoes self.old self.new) };
 }
 
 /// Notes nothing.
@@ -159,5 +218,42 @@ impl Notes for Nobody {
     fn note_dropped(&mut self, returns: &[u32], depth: usize) {
         let _ = returns;
         let _ = depth;
+    }
+
+    #[inline(always)]
+    fn note(&mut self, entry: Entry) {
+        let _ = entry;
+    }
+
+    #[inline(always)]
+    fn note_restored(&mut self, registers: &[u32], slot: u32, number: u32) {
+        let _ = registers;
+        let _ = slot;
+        let _ = number;
+    }
+
+    #[inline(always)]
+    fn make_room(&mut self, more: usize) -> Result<(), NoMemory> {
+        let _ = more;
+        Ok(())
+    }
+
+    #[inline(always)]
+    fn note_array(
+        &mut self,
+        change: ArrayChange,
+        slot: u32,
+        array: &Array,
+    ) -> Result<(), NoMemory> {
+        let _ = change;
+        let _ = slot;
+        let _ = array;
+        Ok(())
+    }
+
+    #[inline(always)]
+    fn note_statuses(&mut self, statuses: &[u8]) -> Result<(), NoMemory> {
+        let _ = statuses;
+        Ok(())
     }
 }

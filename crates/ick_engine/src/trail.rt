@@ -9,17 +9,21 @@ ghost use Rattle.ick_engine.specs.History.{history};
 ghost use Rattle.ick_engine.specs.Undo.{Rewinds};
 ghost use Rattle.ick_engine.specs.View.{View, array_of};
 
-use crate::change::Entry;
+use crate::change::{ArrayChange, Entry};
+use crate::copy::{copy_array, copy_bytes};
 use crate::memory::Array;
 use crate::notes::Notes;
 use ick_bits::NoMemory;
 use std::alloc::Global;
 
 /// Changes, the newest last, the least depth of the NEXT stack since the newest mark, and the first
-/// temporary register. Temporaries, and what is behind them, are never noted.
+/// temporary register. Temporaries, and what is behind them, are never noted. Arrays and statuses
+/// that entries need stand apart, so that an entry is small.
 #[derive(Drop)]
 pub struct Trail {
     pub(crate) entries: Vec<Entry>,
+    pub(crate) arrays: Vec<Array>,
+    pub(crate) statuses: Vec<Vec<u8>>,
     pub(crate) low: usize,
     pub(crate) base: u32,
 }
@@ -33,6 +37,8 @@ impl Trail {
     {
         Trail {
             entries: Vec::new(alloc),
+            arrays: Vec::new(alloc),
+            statuses: Vec::new(alloc),
             low: 0,
             base,
         }
@@ -132,6 +138,47 @@ impl Notes for Trail {
         if depth < self.low {
             self.keep_returns(returns, depth);
         }
+    }
+
+    #[inline(always)]
+    fn note(&mut self, entry: Entry) {
+        self.entries.push_reserved(entry);
+    }
+
+    fn note_restored(&mut self, registers: &[u32], slot: u32, number: u32) {
+        if slot >= self.base {
+            self.entries.push_reserved(Entry::ScalarTaken(slot, number));
+            return;
+        }
+        let old = registers[slot as usize];
+        self.entries
+            .push_reserved(Entry::ScalarRestored(slot, number, old));
+    }
+
+    fn make_room(&mut self, more: usize) -> Result<(), NoMemory> {
+        let Some(places) = more.checked_add(79) else {
+            return Err(NoMemory);
+        };
+        self.reserve(places)
+    }
+
+    fn note_array(
+        &mut self,
+        change: ArrayChange,
+        slot: u32,
+        array: &Array,
+    ) -> Result<(), NoMemory> {
+        let alloc = *self.entries.allocator();
+        self.arrays.push(copy_array(alloc, array)?)?;
+        self.entries.push_reserved(Entry::Array(change, slot));
+        Ok(())
+    }
+
+    fn note_statuses(&mut self, statuses: &[u8]) -> Result<(), NoMemory> {
+        let alloc = *self.entries.allocator();
+        self.statuses.push(copy_bytes(alloc, statuses)?)?;
+        self.entries.push_reserved(Entry::Statuses);
+        Ok(())
     }
 }
 

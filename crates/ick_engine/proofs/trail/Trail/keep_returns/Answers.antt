@@ -1,8 +1,9 @@
-use Rattle.std.proofs.Common.{◌≡◌, ℕ, ◌+◌, ◌-◌, ◌<◌, ◌≤◌, ◌++◌, [], ◌∷◌, sym, ap, ◌∙◌, subst, arith, length, get_or, Fits, w32}
+use Rattle.std.proofs.Common.{refl, ◌≡◌, ℕ, ◌+◌, ◌-◌, ◌<◌, ◌≤◌, ◌++◌, [], ◌∷◌, sym, ap, ◌∙◌, subst, arith, length, get_or, Fits, w32}
 use Rattle.ick_engine.specs.declared.change.Entry.TheVariants.{Return}
-use Rattle.ick_engine.specs.Undo.{Rewinds, return_was, changes_of}
+use Rattle.ick_engine.specs.Undo.{Rewinds, return_was}
 use Rattle.ick_lowering.proofs.Lists.{extends_trans}
-use Rattle.ick_engine.proofs.Changes.{newest_change, grown}
+use Rattle.ick_engine.specs.History.{history}
+use Rattle.ick_engine.proofs.Changes.{newest_alone, grown}
 use Rattle.ick_engine.proofs.Undoing.{notes_return}
 use Rattle.ick_engine.proofs.trail.Trail.keep_returns.Goals as goal
 
@@ -20,14 +21,14 @@ returns-preserved c =
       base = old.base;
       changes =
           extends_trans old.changes
-          (grown c.push_reserved.new.self.items t.entries.items (Return (t.low - 1) (get_or c.args.returns.now (t.low - 1) 0))
-          pushed.items);
+          (grown t c.push_reserved.new.self.items t.entries.items (Return (t.low - 1) (get_or c.args.returns.now (t.low - 1) 0))
+          refl pushed.items);
       notes = λ k v m same h.
           subst (λ es. Rewinds base es (t.low - 1) k v m)
-          (ap (λ n. changes_of t.entries.items ++ return_was (t.low - 1) n ∷ []) (ap (λ l. get_or l (t.low - 1) 0) same)
-          ∙ sym (newest_change c.push_reserved.new.self.items t.entries.items
-          (Return (t.low - 1) (get_or c.args.returns.now (t.low - 1) 0)) pushed.items))
-          (notes_return base (changes_of t.entries.items) t.low (t.low - 1) k v m next
+          (ap (λ n. history t ++ return_was (t.low - 1) n ∷ []) (ap (λ l. get_or l (t.low - 1) 0) same)
+          ∙ sym (newest_alone t c.push_reserved.new.self.items t.entries.items
+          (Return (t.low - 1) (get_or c.args.returns.now (t.low - 1) 0)) refl pushed.items))
+          (notes_return base (history t) t.low (t.low - 1) k v m next
           (omega (arith, there, ap length same)) (old.notes k v m same h));
     }
 
@@ -42,4 +43,4 @@ overflow_cast-at c =
 pub returns-clause-notes : goal.returns-clause-notes
 returns-clause-notes c = λ k v m same h.
     let inv = c.returns.invariant in
-    subst (λ b. Rewinds b (changes_of c.returns.self.entries.items) c.returns.self.low k v m) (sym inv.base) (inv.notes k v m same h)
+    subst (λ b. Rewinds b (history c.returns.self) c.returns.self.low k v m) (sym inv.base) (inv.notes k v m same h)

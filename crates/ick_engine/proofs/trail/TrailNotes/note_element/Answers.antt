@@ -1,10 +1,11 @@
-use Rattle.std.proofs.Common.{◌++◌, [], ◌∷◌, sym, ap, subst, arith, length, get_or}
+use Rattle.std.proofs.Common.{refl, ◌++◌, [], ◌∷◌, sym, ap, subst, arith, length, get_or}
 use Rattle.std.specs.Prelude.{map}
 use Rattle.std.proofs.lemmas.List.{length-map}
 use Rattle.ick_code.specs.meaning.State.{no_array}
 use Rattle.ick_engine.specs.declared.change.Entry.TheVariants.{Element}
-use Rattle.ick_engine.specs.Undo.{Rewinds, with_arrays, with_number, element_was, changes_of}
-use Rattle.ick_engine.proofs.Changes.{newest_change, grown}
+use Rattle.ick_engine.specs.Undo.{Rewinds, with_arrays, with_number, element_was}
+use Rattle.ick_engine.specs.History.{history}
+use Rattle.ick_engine.proofs.Changes.{newest_alone, grown}
 use Rattle.ick_engine.specs.View.{array_of}
 use Rattle.ick_engine.proofs.Undoing.{notes_element}
 use Rattle.ick_engine.proofs.trail.TrailNotes.note_element.Goals as goal
@@ -14,17 +15,17 @@ returns-clause-notes c = λ k number v m same h.
     let t = c.args.self.now in
     let arrays = map array_of c.args.arrays.now in
     subst (λ es. Rewinds t.base es t.low k (with_arrays (with_number arrays c.args.slot c.args.at number) v) m)
-    (sym (newest_change c.push_reserved.new.self.items t.entries.items (Element c.args.slot c.args.at c.element_of-old.result)
+    (sym (newest_alone t c.push_reserved.new.self.items t.entries.items (Element c.args.slot c.args.at c.element_of-old.result) refl
     c.push_reserved.ensures.items))
-    (subst (λ n. Rewinds t.base (changes_of t.entries.items ++ element_was c.args.slot c.args.at n ∷ []) t.low k
+    (subst (λ n. Rewinds t.base (history t ++ element_was c.args.slot c.args.at n ∷ []) t.low k
     (with_arrays (with_number arrays c.args.slot c.args.at number) v) m) (sym c.element_of-old.ensures)
     (subst (λ l. Rewinds t.base
-    (changes_of t.entries.items ++ element_was c.args.slot c.args.at (get_or (get_or l c.args.slot no_array).elements c.args.at 0) ∷ [])
+    (history t ++ element_was c.args.slot c.args.at (get_or (get_or l c.args.slot no_array).elements c.args.at 0) ∷ [])
     t.low k (with_arrays (with_number l c.args.slot c.args.at number) v) m) same
-    (notes_element t.base (changes_of t.entries.items) t.low k c.args.slot c.args.at number v m
+    (notes_element t.base (history t) t.low k c.args.slot c.args.at number v m
     (omega (arith, c.requires.slot, length-map c.args.arrays.now array_of, ap length same)) h)))
 
 pub returns-clause-changes : goal.returns-clause-changes
 returns-clause-changes c =
-    grown c.push_reserved.new.self.items c.args.self.now.entries.items
-    (Element c.args.slot c.args.at c.element_of-old.result) c.push_reserved.ensures.items
+    grown c.args.self.now c.push_reserved.new.self.items c.args.self.now.entries.items
+    (Element c.args.slot c.args.at c.element_of-old.result) refl c.push_reserved.ensures.items

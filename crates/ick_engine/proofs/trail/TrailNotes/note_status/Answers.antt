@@ -1,8 +1,9 @@
-use Rattle.std.proofs.Common.{◌++◌, [], ◌∷◌, sym, subst, get_or}
+use Rattle.std.proofs.Common.{refl, ◌++◌, [], ◌∷◌, sym, subst, get_or}
 use Rattle.std.specs.Prelude.{slice_set}
 use Rattle.ick_engine.specs.declared.change.Entry.TheVariants.{Status}
-use Rattle.ick_engine.specs.Undo.{Rewinds, status_was, changes_of}
-use Rattle.ick_engine.proofs.Changes.{newest_change, grown}
+use Rattle.ick_engine.specs.Undo.{Rewinds, status_was}
+use Rattle.ick_engine.specs.History.{history}
+use Rattle.ick_engine.proofs.Changes.{newest_alone, grown}
 use Rattle.ick_engine.proofs.Undoing.{notes_status}
 use Rattle.ick_engine.proofs.trail.TrailNotes.note_status.Goals as goal
 
@@ -10,13 +11,13 @@ pub returns-clause-notes : goal.returns-clause-notes
 returns-clause-notes c = λ k number v m same h.
     let t = c.args.self.now in
     subst (λ es. Rewinds t.base es t.low k (record v { statuses = slice_set c.args.statuses.now c.args.at number }) m)
-    (sym (newest_change c.push_reserved.new.self.items t.entries.items (Status c.args.at (get_or c.args.statuses.now c.args.at 0))
+    (sym (newest_alone t c.push_reserved.new.self.items t.entries.items (Status c.args.at (get_or c.args.statuses.now c.args.at 0)) refl
     c.push_reserved.ensures.items))
-    (subst (λ l. Rewinds t.base (changes_of t.entries.items ++ status_was c.args.at (get_or l c.args.at 0) ∷ []) t.low k
+    (subst (λ l. Rewinds t.base (history t ++ status_was c.args.at (get_or l c.args.at 0) ∷ []) t.low k
     (record v { statuses = slice_set l c.args.at number }) m) same
-    (notes_status t.base (changes_of t.entries.items) t.low k c.args.at number v m h))
+    (notes_status t.base (history t) t.low k c.args.at number v m h))
 
 pub returns-clause-changes : goal.returns-clause-changes
 returns-clause-changes c =
-    grown c.push_reserved.new.self.items c.args.self.now.entries.items
-    (Status c.args.at (get_or c.args.statuses.now c.args.at 0)) c.push_reserved.ensures.items
+    grown c.args.self.now c.push_reserved.new.self.items c.args.self.now.entries.items
+    (Status c.args.at (get_or c.args.statuses.now c.args.at 0)) refl c.push_reserved.ensures.items

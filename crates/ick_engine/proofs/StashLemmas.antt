@@ -1,0 +1,148 @@
+-- Stashes that are alike, and changes of one of them.
+use Rattle.std.proofs.Common.{◌≡◌, ℕ, zero, suc, ◌+◌, ◌-◌, ◌<◌, ◌≤◌, List, [], ◌∷◌, ◌++◌, refl, ap, ap₂, sym, ◌∙◌, subst}
+use Rattle.std.proofs.Common.{length, take, map, get_or, arith, true, false}
+use Rattle.std.specs.Prelude.{slice_set, nat_lt, if◌then◌else◌}
+use Rattle.std.proofs.lemmas.Bool.Decides.{nat_tests}
+use Rattle.std.proofs.lemmas.List.{length-set, set_past, map-set, get_or-map}
+use Rattle.ick_engine.specs.View.{Parts, Stash, no_stash, used}
+use Rattle.ick_engine.specs.Undo.{StashLike, StashesLike, PartsLike, HasPlace, but_stashes, put_on, taken_off, at_slot}
+
+pub stash_refl : {A : Type 0} (s : Stash A) → StashLike s s
+stash_refl s = record { depth_same = refl; places = omega arith; values = refl }
+
+stash_trans : {A : Type 0} {a b c : Stash A} → StashLike a b → StashLike b c → StashLike a c
+stash_trans p q = record {
+  depth_same = q.depth_same ∙ p.depth_same;
+  places = omega (arith, p.places, q.places);
+  values = q.values ∙ p.values;
+}
+
+pub stashes_refl : {A : Type 0} (ss : List (Stash A)) → StashesLike ss ss
+stashes_refl ss = record { count = refl; each = λ slot. stash_refl (get_or ss slot no_stash) }
+
+pub stashes_trans : {A : Type 0} {xs ys zs : List (Stash A)} → StashesLike xs ys → StashesLike ys zs → StashesLike xs zs
+stashes_trans p q = record {
+  count = q.count ∙ p.count;
+  each = λ slot. stash_trans (p.each slot) (q.each slot);
+}
+
+pub parts_refl : (p : Parts) → PartsLike p p
+parts_refl p = record {
+  others = refl;
+  scalars = stashes_refl p.scalar_stashes;
+  arrays = stashes_refl p.array_stashes;
+}
+
+pub parts_trans : {p q r : Parts} → PartsLike p q → PartsLike q r → PartsLike p r
+parts_trans a b = record {
+  others = b.others ∙ a.others;
+  scalars = stashes_trans a.scalars b.scalars;
+  arrays = stashes_trans a.arrays b.arrays;
+}
+
+pub parts_same : {p q : Parts} → q ≡ p → PartsLike p q
+parts_same {p} e = subst (PartsLike p) (sym e) (parts_refl p)
+
+take_less : {A : Type 0} (k n : ℕ) (xs : List A) → k ≤ n → take k (take n xs) ≡ take k xs
+take_less zero n xs h = refl
+take_less (suc k) zero xs h = absurd (omega (arith, h))
+take_less (suc k) (suc n) [] h = refl
+take_less (suc k) (suc n) (x ∷ xs) h = ap (λ l. x ∷ l) (take_less k n xs (omega (arith, h)))
+
+-- the values below one less
+pub fewer_used : {A : Type 0} (n : ℕ) (xs ys : List A) → take n ys ≡ take n xs → take (n - 1) ys ≡ take (n - 1) xs
+fewer_used n xs ys same =
+    let less : n - 1 ≤ n = omega arith in
+    sym (take_less (n - 1) n ys less) ∙ ap (take (n - 1)) same ∙ take_less (n - 1) n xs less
+
+pub taken_off_like : {A : Type 0} {a b : Stash A} → StashLike a b → StashLike (taken_off a) (taken_off b)
+taken_off_like {a} {b} p = record {
+  depth_same = ap (λ d. d - 1) p.depth_same;
+  places = p.places;
+  values =
+      ap (λ d. take (d - 1) b.items) p.depth_same
+      ∙ fewer_used a.depth a.items b.items (ap (λ d. take d b.items) (sym p.depth_same) ∙ p.values);
+}
+
+-- one more value behind the first ones
+pub take_put : {A : Type 0} (n : ℕ) (xs : List A) (x : A) → n < length xs →
+    take (n + 1) (slice_set xs n x) ≡ take n xs ++ x ∷ []
+take_put n [] x low = absurd (omega (arith, low))
+take_put zero (y ∷ xs) x low = refl
+take_put (suc n) (y ∷ xs) x low =
+    let one : suc n + 1 ≡ suc (n + 1) = omega arith in
+    ap (λ k. take k (slice_set (y ∷ xs) (suc n) x)) one ∙ ap (λ l. y ∷ l) (take_put n xs x (omega (arith, low)))
+
+pub put_deeper : {A : Type 0} (x : A) (s : Stash A) → s.depth < length s.items → (put_on x s).depth ≡ s.depth + 1
+put_deeper x s low =
+    let yes : nat_lt s.depth (length s.items) ≡ true = grind (arith, nat_tests, low) in
+    ap (λ b. if b then s.depth + 1 else s.depth) yes
+
+pub put_used : {A : Type 0} (x : A) (s : Stash A) → s.depth < length s.items → used (put_on x s) ≡ used s ++ x ∷ []
+put_used x s low =
+    ap (λ d. take d (slice_set s.items s.depth x)) (put_deeper x s low) ∙ take_put s.depth s.items x low
+
+pub put_on_like : {A : Type 0} {a b : Stash A} (x : A) → a.depth < length a.items → StashLike a b →
+    StashLike (put_on x a) (put_on x b)
+put_on_like {a = a} {b = b} x low p =
+    let low' : b.depth < length b.items = omega (arith, low, p.places, p.depth_same) in
+    record {
+      depth_same = put_deeper x b low' ∙ ap (λ d. d + 1) p.depth_same ∙ sym (put_deeper x a low);
+      places = omega (arith, p.places, length-set a.items a.depth x, length-set b.items b.depth x);
+      values = put_used x b low' ∙ ap (λ l. l ++ x ∷ []) p.values ∙ sym (put_used x a low);
+    }
+
+-- one of many
+set_each : {A : Type 0} (xs ys : List (Stash A)) (slot : ℕ) (x y : Stash A) → length ys ≡ length xs → StashLike x y →
+    (k : ℕ) → StashLike (get_or xs k no_stash) (get_or ys k no_stash) →
+    StashLike (get_or (slice_set xs slot x) k no_stash) (get_or (slice_set ys slot y) k no_stash)
+set_each [] [] slot x y count like k same = same
+set_each [] (b ∷ ys) slot x y count like k same = absurd (omega (arith, count))
+set_each (a ∷ xs) [] slot x y count like k same = absurd (omega (arith, count))
+set_each (a ∷ xs) (b ∷ ys) zero x y count like zero same = like
+set_each (a ∷ xs) (b ∷ ys) zero x y count like (suc k) same = same
+set_each (a ∷ xs) (b ∷ ys) (suc slot) x y count like zero same = same
+set_each (a ∷ xs) (b ∷ ys) (suc slot) x y count like (suc k) same =
+    set_each xs ys slot x y (omega (arith, count)) like k same
+
+pub at_slot_like : {A : Type 0} (f : Stash A → Stash A) (slot : ℕ) (xs ys : List (Stash A)) → StashesLike xs ys →
+    StashLike (f (get_or xs slot no_stash)) (f (get_or ys slot no_stash)) →
+    StashesLike (at_slot f slot xs) (at_slot f slot ys)
+at_slot_like f slot xs ys p like = record {
+  count =
+      length-set ys slot (f (get_or ys slot no_stash)) ∙ p.count ∙ sym (length-set xs slot (f (get_or xs slot no_stash)));
+  each = λ k. set_each xs ys slot (f (get_or xs slot no_stash)) (f (get_or ys slot no_stash)) p.count like k (p.each k);
+}
+
+-- the values of all stashes
+pub used_same : {A : Type 0} (xs ys : List (Stash A)) → length ys ≡ length xs →
+    ((k : ℕ) → StashLike (get_or xs k no_stash) (get_or ys k no_stash)) → map used ys ≡ map used xs
+used_same [] [] count each = refl
+used_same [] (b ∷ ys) count each = absurd (omega (arith, count))
+used_same (a ∷ xs) [] count each = absurd (omega (arith, count))
+used_same (a ∷ xs) (b ∷ ys) count each =
+    ap (λ l. l ∷ map used ys) (each 0).values
+    ∙ ap (λ l. used a ∷ l) (used_same xs ys (omega (arith, count)) (λ k. each (suc k)))
+
+-- a value that is put back
+pub put_full : {A : Type 0} (x : A) (s : Stash A) → length s.items ≤ s.depth → put_on x s ≡ s
+put_full {A} x s full =
+    let no : nat_lt s.depth (length s.items) ≡ false = grind (arith, nat_tests, full) in
+    let mk : List A → ℕ → Stash A = λ l d. record { items = l; depth = d } in
+    ap₂ mk (set_past s.items s.depth x full) (ap (λ b. if b then s.depth + 1 else s.depth) no)
+
+pub put_there : {A : Type 0} (x : A) (s : Stash A) → s.depth < length s.items →
+    put_on x s ≡ record { items = slice_set s.items s.depth x; depth = s.depth + 1 }
+put_there {A} x s low =
+    let mk : ℕ → Stash A = λ d. record { items = slice_set s.items s.depth x; depth = d } in
+    ap mk (put_deeper x s low)
+
+pub at_slot_past : {A : Type 0} (f : Stash A → Stash A) (slot : ℕ) (ss : List (Stash A)) → length ss ≤ slot →
+    at_slot f slot ss ≡ ss
+at_slot_past f slot ss past = set_past ss slot (f (get_or ss slot no_stash)) past
+
+pub set_at : {A B : Type 0} (g : B → Stash A) (f : Stash A → Stash A) (xs : List B) (slot : ℕ) (old new : B) →
+    slot < length xs → old ≡ get_or xs slot old → g new ≡ f (g old) → map g (slice_set xs slot new) ≡ at_slot f slot (map g xs)
+set_at g f xs slot old new low is same =
+    map-set g xs slot new
+    ∙ ap (slice_set (map g xs) slot) (same ∙ ap f (ap g is ∙ sym (get_or-map g xs slot old no_stash low)))

@@ -1,0 +1,121 @@
+-- Bytes that are read into elements.
+use Rattle.std.proofs.Common.{◌≡◌, ℕ, zero, suc, ◌+◌, ◌<◌, Bool, true, false, List, [], ◌∷◌, ◌++◌}
+use Rattle.std.proofs.Common.{length, drop, Option, Some, None, refl, sym, ap, ap₂, ◌∙◌, arith, length-drop}
+use Rattle.std.specs.Prelude.{slice_set, if◌then◌else◌}
+use Rattle.std.proofs.lemmas.List.{drop-drop}
+use Rattle.ick_bits.specs.Tape.{tape_difference}
+use Rattle.ick_code.specs.meaning.Tape.{tape_numbers, last_read}
+use Rattle.ick_engine.specs.View.{Input}
+use Rattle.ick_engine.specs.Reads.{IsByte, HasRead, number_read, last_after, place_after}
+
+-- one more byte
+next_numbers : (n lastin b : ℕ) (input rest : List ℕ) → drop n input ≡ b ∷ rest →
+    tape_numbers (suc n) lastin input
+    ≡ tape_numbers n lastin input ++ tape_difference (last_read n lastin input) b ∷ []
+next_numbers zero lastin b [] rest is = absurd (cc)
+next_numbers zero lastin b (a ∷ input) rest is = let e : a ≡ b = cc in ap (λ x. tape_difference lastin x ∷ []) e
+next_numbers (suc n) lastin b [] rest is = absurd (cc)
+next_numbers (suc n) lastin b (a ∷ input) rest is =
+    ap (λ l. tape_difference lastin a ∷ l) (next_numbers n a b input rest is)
+
+next_last : (n lastin b : ℕ) (input rest : List ℕ) → drop n input ≡ b ∷ rest →
+    last_read (suc n) lastin input ≡ b
+next_last zero lastin b [] rest is = absurd (cc)
+next_last zero lastin b (a ∷ input) rest is = cc
+next_last (suc n) lastin b [] rest is = absurd (cc)
+next_last (suc n) lastin b (a ∷ input) rest is = next_last n a b input rest is
+
+next_rest : (n b : ℕ) (input rest : List ℕ) → drop n input ≡ b ∷ rest → drop (suc n) input ≡ rest
+next_rest zero b [] rest is = absurd (cc)
+next_rest zero b (a ∷ input) rest is = cc
+next_rest (suc n) b [] rest is = absurd (cc)
+next_rest (suc n) b (a ∷ input) rest is = next_rest n b input rest is
+
+-- and past the end
+drop_none : (n : ℕ) → drop {A = ℕ} n [] ≡ []
+drop_none zero = refl
+drop_none (suc n) = refl
+
+end_numbers : (n lastin : ℕ) (input : List ℕ) → drop n input ≡ [] →
+    tape_numbers (suc n) lastin input ≡ tape_numbers n lastin input ++ 256 ∷ []
+end_numbers zero lastin [] is = refl
+end_numbers zero lastin (a ∷ input) is = absurd (cc)
+end_numbers (suc n) lastin [] is = ap (λ l. 256 ∷ l) (end_numbers n lastin [] (drop_none n))
+end_numbers (suc n) lastin (a ∷ input) is = ap (λ l. tape_difference lastin a ∷ l) (end_numbers n a input is)
+
+end_last : (n lastin : ℕ) (input : List ℕ) → drop n input ≡ [] →
+    last_read (suc n) lastin input ≡ last_read n lastin input
+end_last zero lastin [] is = refl
+end_last zero lastin (a ∷ input) is = absurd (cc)
+end_last (suc n) lastin [] is = refl
+end_last (suc n) lastin (a ∷ input) is = end_last n a input is
+
+end_rest : (n : ℕ) (input : List ℕ) → drop n input ≡ [] → drop (suc n) input ≡ []
+end_rest zero [] is = refl
+end_rest zero (a ∷ input) is = absurd (cc)
+end_rest (suc n) [] is = refl
+end_rest (suc n) (a ∷ input) is = end_rest n input is
+
+tape_count : (n lastin : ℕ) (input : List ℕ) → length (tape_numbers n lastin input) ≡ n
+tape_count zero lastin input = refl
+tape_count (suc n) lastin [] = ap suc (tape_count n lastin [])
+tape_count (suc n) lastin (b ∷ bs) = ap suc (tape_count n b bs)
+
+-- the element behind those that were read
+set_behind : (front behind : List ℕ) (x : ℕ) → 0 < length behind →
+    slice_set (front ++ behind) (length front) x ≡ (front ++ x ∷ []) ++ drop 1 behind
+set_behind [] [] x some = absurd (omega arith)
+set_behind [] (y ∷ behind) x some = refl
+set_behind (y ∷ front) behind x some = ap (λ l. y ∷ l) (set_behind front behind x some)
+
+abbrev filled : Bool → List ℕ → ℕ → List ℕ → List ℕ
+filled stays numbers count old = if stays then old else numbers ++ drop count old
+
+fill_next : (stays : Bool) (numbers more old now new : List ℕ) (count x : ℕ) → length numbers ≡ count → count < length old →
+    more ≡ numbers ++ x ∷ [] → now ≡ filled stays numbers count old →
+    new ≡ (if stays then now else slice_set now count x) → new ≡ filled stays more (count + 1) old
+fill_next true numbers more old now new count x long within added was put = put ∙ was
+fill_next false numbers more old now new count x long within added was put =
+    put ∙ ap (λ l. slice_set l count x) was
+    ∙ ap (λ k. slice_set (numbers ++ drop count old) k x) (sym long)
+    ∙ set_behind numbers (drop count old) x (let left = length-drop count old in omega (arith, left, within))
+    ∙ ap₂ (λ l m. l ++ m) (sym added) (drop-drop 1 count old)
+
+pub read_next : (stays : Bool) (count lastin from : ℕ) (old now new : List ℕ) (last last' to to' : ℕ)
+    (byte : Option (ℕ × ℕ)) (before mid after : Input) → count < length old →
+    HasRead stays count lastin from old now last to before mid →
+    IsByte byte to mid after → new ≡ (if stays then now else slice_set now count (number_read last byte)) →
+    last' ≡ last_after last byte → to' ≡ place_after to byte →
+    HasRead stays (count + 1) lastin from old new last' to' before after
+read_next stays count lastin from old now new last last' to to' None before mid after within read end put more_last more_to =
+    let input = before.left from in
+    let one : suc count ≡ count + 1 = omega arith in
+    let none : drop count input ≡ [] = sym read.rest_is ∙ end.0 in
+    record {
+      elements_are =
+          fill_next stays (tape_numbers count lastin input) (tape_numbers (count + 1) lastin input) old now new count 256
+          (tape_count count lastin input) within
+          (ap (λ n. tape_numbers n lastin input) (sym one) ∙ end_numbers count lastin input none)
+          read.elements_are put;
+      last_is = more_last ∙ read.last_is ∙ sym (end_last count lastin input none)
+          ∙ ap (λ n. last_read n lastin input) one;
+      rest_is = ap (after.left) more_to ∙ end.1 ∙ sym (end_rest count input none) ∙ ap (λ n. drop n input) one;
+    }
+read_next stays count lastin from old now new last last' to to' (Some (b, next)) before mid after within read here put
+    more_last more_to =
+    let input = before.left from in
+    let one : suc count ≡ count + 1 = omega arith in
+    let some : drop count input ≡ b ∷ after.left next = sym read.rest_is ∙ here in
+    record {
+      elements_are =
+          fill_next stays (tape_numbers count lastin input) (tape_numbers (count + 1) lastin input) old now new count
+          (tape_difference last b) (tape_count count lastin input) within
+          (ap (λ n. tape_numbers n lastin input) (sym one)
+          ∙ next_numbers count lastin b input (after.left next) some
+          ∙ ap (λ p. tape_numbers count lastin input ++ tape_difference p b ∷ []) (sym read.last_is))
+          read.elements_are put;
+      last_is = more_last ∙ sym (next_last count lastin b input (after.left next) some)
+          ∙ ap (λ n. last_read n lastin input) one;
+      rest_is = ap (after.left) more_to ∙ sym (next_rest count b input (after.left next) some)
+          ∙ ap (λ n. drop n input) one;
+    }

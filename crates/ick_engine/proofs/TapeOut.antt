@@ -1,0 +1,50 @@
+-- Elements printed one after another.
+use Rattle.std.proofs.Common.{◌≡◌, ℕ, suc, ◌+◌, ◌-◌, ◌%◌, ◌<◌, List, [], ◌∷◌, ◌++◌}
+use Rattle.std.proofs.Common.{length, take, get_or, refl, sym, ap, ap₂, ◌∙◌, arith}
+use Rattle.std.proofs.lemmas.List.{append_assoc}
+use Rattle.std.proofs.Math.Seq.{take-suc}
+use Rattle.ick_bits.specs.Tape.{tape_position, reversed_byte}
+use Rattle.ick_code.specs.meaning.Tape.{tape_bytes, tape_after}
+
+tape_bytes-append : (last : ℕ) (vs : List ℕ) (v : ℕ) →
+    tape_bytes last (vs ++ v ∷ [])
+    ≡ tape_bytes last vs ++ reversed_byte (tape_position (tape_after last vs) v) ∷ []
+tape_bytes-append last [] v = refl
+tape_bytes-append last (x ∷ vs) v =
+    ap (λ l. reversed_byte (tape_position last x) ∷ l) (tape_bytes-append (tape_position last x) vs v)
+
+tape_after-append : (last : ℕ) (vs : List ℕ) (v : ℕ) →
+    tape_after last (vs ++ v ∷ []) ≡ tape_position (tape_after last vs) v
+tape_after-append last [] v = refl
+tape_after-append last (x ∷ vs) v = tape_after-append (tape_position last x) vs v
+
+-- a position rests on the low bits of a number alone
+low_position : (last v : ℕ) → tape_position last (v % 65536) ≡ tape_position last v
+low_position last v = let low : v % 65536 % 256 ≡ v % 256 = omega arith in ap (λ n. (last + (256 - n)) % 256) low
+
+next_taken : (vs : List ℕ) (at v : ℕ) → at < length vs → v ≡ get_or vs at v →
+    take (at + 1) vs ≡ take at vs ++ v ∷ []
+next_taken vs at v within read =
+    let one : at + 1 ≡ suc at = omega arith in
+    ap (λ n. take n vs) one ∙ take-suc vs at v within ∙ ap (λ x. take at vs ++ x ∷ []) (sym read)
+
+-- one more element
+pub next_position : (vs : List ℕ) (at v last position next : ℕ) → at < length vs → v ≡ get_or vs at v →
+    position ≡ tape_after last (take at vs) → next ≡ tape_position position (v % 65536) →
+    next ≡ tape_after last (take (at + 1) vs)
+next_position vs at v last position next within read here moved =
+    moved ∙ low_position position v ∙ ap (λ p. tape_position p v) here
+    ∙ sym (tape_after-append last (take at vs) v) ∙ ap (tape_after last) (sym (next_taken vs at v within read))
+
+pub next_bytes : (vs : List ℕ) (at v last position next byte : ℕ) (output output' before : List ℕ) →
+    at < length vs → v ≡ get_or vs at v → position ≡ tape_after last (take at vs) →
+    next ≡ tape_position position (v % 65536) → byte ≡ reversed_byte next →
+    output' ≡ output ++ byte ∷ [] → output ≡ before ++ tape_bytes last (take at vs) →
+    output' ≡ before ++ tape_bytes last (take (at + 1) vs)
+next_bytes vs at v last position next byte output output' before within read here moved is pushed done =
+    pushed ∙ ap₂ (λ l b. l ++ b ∷ []) done
+    (is ∙ ap reversed_byte (moved ∙ low_position position v ∙ ap (λ p. tape_position p v) here))
+    ∙ append_assoc before (tape_bytes last (take at vs))
+    (reversed_byte (tape_position (tape_after last (take at vs)) v) ∷ [])
+    ∙ ap (λ l. before ++ l)
+    (sym (tape_bytes-append last (take at vs) v) ∙ ap (tape_bytes last) (sym (next_taken vs at v within read)))

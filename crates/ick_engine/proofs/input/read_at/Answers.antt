@@ -1,0 +1,109 @@
+use Rattle.std.proofs.Common.{◌≡◌, ◌+◌, ◌<◌, ℕ, List, Option, Some, None, length, map, get_or, refl, ap, sym, ◌∙◌, arith}
+use Rattle.std.specs.Prelude.{slice_range}
+use Rattle.std.proofs.lemmas.List.{get_or-map, length-map}
+use Rattle.ick_code.specs.meaning.State.{no_array}
+use Rattle.ick_code.specs.meaning.Value.{element_place}
+use Rattle.ick_lowering.specs.Meaning.{values_of}
+use Rattle.ick_engine.specs.declared.memory.Array.{Array}
+use Rattle.ick_engine.specs.Steady.{IsProgram}
+use Rattle.ick_engine.specs.View.{array_of, is_hidden, parts_of}
+use Rattle.ick_engine.proofs.Fetching.{stored_by_lists}
+use Rattle.ick_engine.proofs.Reading.{reads_nowhere, read_at_stops, reads_at}
+use Rattle.ick_engine.proofs.Steadiness.{steady_by}
+use Rattle.ick_engine.proofs.input.read_at.Goals as goal
+
+-- the place of an element, by the lists
+placed : (all : List Array) (slot : ℕ) (r : Array) (subs subs' regs : List ℕ) (from to : ℕ) (o : Option ℕ) →
+    slot < length all → r ≡ get_or all slot r → subs ≡ subs' →
+    o ≡ element_place (array_of r) (values_of (slice_range subs from to) regs) →
+    o ≡ element_place (get_or (map array_of all) slot no_array) (values_of (slice_range subs' from to) regs)
+placed all slot r subs subs' regs from to o within here same is =
+    is
+    ∙ ap (λ a. element_place a (values_of (slice_range subs from to) regs))
+    (ap array_of here ∙ sym (get_or-map array_of all slot r no_array within))
+    ∙ ap (λ l. element_place (get_or (map array_of all) slot no_array) (values_of (slice_range l from to) regs)) same
+
+long : (new old : List Array) → map is_hidden new ≡ map is_hidden old →
+    length (map array_of new) ≡ length (map array_of old)
+long new old same =
+    length-map new array_of ∙ sym (length-map new is_hidden) ∙ ap length same ∙ length-map old is_hidden
+    ∙ sym (length-map old array_of)
+
+pub returns-in_default-clause-does : goal.returns-in_default-clause-does
+returns-in_default-clause-does g c = λ home statuses returns place depth text steady.
+    let i = c.args.i.now in
+    let all = c.args.rest.now.arrays.items in
+    let is : IsProgram c.args.program.now.code.now c.args.program.now.parts = record { compiled = c.law.ensures; lowered_is = c.law-2.ensures } in
+    let within : i.to < length all = omega (arith, c.requires.slot, c.requires.arrays) in
+    let none = placed all i.to c.index.result.now c.subscripts.result.now c.args.program.now.parts.subscripts.items
+    c.args.registers.now i.right (i.right + i.number) None within c.index.ensures c.subscripts.ensures
+    c.in_default.ensures.place in
+    (steady, reads_nowhere is steady i text g.R.Reader.Has c.args.reader.now c.requires.operation c.requires.slot none)
+
+pub returns-in-None-clause-does : goal.returns-in-None-clause-does
+returns-in-None-clause-does g c = λ home statuses returns place depth text steady.
+    let i = c.args.i.now in
+    let all = c.args.rest.now.arrays.items in
+    let subs = c.args.program.now.parts.subscripts.items in
+    let regs = c.args.registers.now in
+    let is : IsProgram c.args.program.now.code.now c.args.program.now.parts = record { compiled = c.law.ensures; lowered_is = c.law-2.ensures } in
+    let within : i.to < length all = omega (arith, c.requires.slot, c.requires.arrays) in
+    let some = placed all i.to c.index.result.now c.subscripts.result.now subs regs i.right (i.right + i.number)
+    (Some c.in-Some._at) within c.index.ensures c.subscripts.ensures c.in-Some.ensures.place in
+    let mid = parts_of c.read_line.new.rest in
+    let was = c.read_line.new.rest.arrays.items in
+    let now = c.store_at.new.arrays.items in
+    let kept = c.in-Ok.ensures.parts in (
+      steady_by steady regs (record mid { arrays = map array_of now; hidden = map is_hidden now }) refl steady.constants
+          (long now was c.in-None.ensures.hidden ∙ ap (λ p. length p.arrays) kept)
+          (ap length c.in-None.ensures.hidden ∙ ap (λ p. length p.hidden) kept)
+          (ap (λ p. length p.scalar_stashes) kept) (ap (λ p. length p.array_stashes) kept),
+      reads_at is steady i text g.R.Reader.Has c.args.reader.now c.read_line.new.reader c.requires.operation
+          c.requires.slot c.in-Some._at some c.in-Ok.number mid kept c.in-Ok.ensures.read None (map array_of now)
+          (map is_hidden now) c.in-None.ensures.hidden
+          (λ name at. stored_by_lists name was now c.subscripts.result.now subs regs i.to i.right (i.right + i.number)
+          c.in-Ok.number None None c.subscripts.ensures refl (c.in-None.ensures.stored name at)),
+    )
+
+pub returns-in-Some-store_at-clause-does : goal.returns-in-Some-store_at-clause-does
+returns-in-Some-store_at-clause-does g c = λ home statuses returns place depth text steady.
+    let i = c.args.i.now in
+    let all = c.args.rest.now.arrays.items in
+    let subs = c.args.program.now.parts.subscripts.items in
+    let regs = c.args.registers.now in
+    let is : IsProgram c.args.program.now.code.now c.args.program.now.parts = record { compiled = c.law.ensures; lowered_is = c.law-2.ensures } in
+    let within : i.to < length all = omega (arith, c.requires.slot, c.requires.arrays) in
+    let some = placed all i.to c.index.result.now c.subscripts.result.now subs regs i.right (i.right + i.number)
+    (Some c.in-Some._at) within c.index.ensures c.subscripts.ensures c.in-Some.ensures.place in
+    let mid = parts_of c.read_line.new.rest in
+    let was = c.read_line.new.rest.arrays.items in
+    let now = c.store_at.new.arrays.items in
+    let kept = c.in-Ok.ensures.parts in
+    let fault = Some c.in-Some-store_at.fault in (
+      steady_by steady regs (record mid { arrays = map array_of now; hidden = map is_hidden now }) refl steady.constants
+          (long now was c.in-Some-store_at.ensures.hidden ∙ ap (λ p. length p.arrays) kept)
+          (ap length c.in-Some-store_at.ensures.hidden ∙ ap (λ p. length p.hidden) kept)
+          (ap (λ p. length p.scalar_stashes) kept) (ap (λ p. length p.array_stashes) kept),
+      reads_at is steady i text g.R.Reader.Has c.args.reader.now c.read_line.new.reader c.requires.operation
+          c.requires.slot c.in-Some._at some c.in-Ok.number mid kept c.in-Ok.ensures.read fault (map array_of now)
+          (map is_hidden now) c.in-Some-store_at.ensures.hidden
+          (λ name at. stored_by_lists name was now c.subscripts.result.now subs regs i.to i.right (i.right + i.number)
+          c.in-Ok.number fault fault c.subscripts.ensures refl (c.in-Some-store_at.ensures.stored name at)),
+    )
+
+pub returns-in-Err-clause-does : goal.returns-in-Err-clause-does
+returns-in-Err-clause-does g c = λ home statuses returns place depth text steady.
+    let i = c.args.i.now in
+    let all = c.args.rest.now.arrays.items in
+    let regs = c.args.registers.now in
+    let is : IsProgram c.args.program.now.code.now c.args.program.now.parts = record { compiled = c.law.ensures; lowered_is = c.law-2.ensures } in
+    let within : i.to < length all = omega (arith, c.requires.slot, c.requires.arrays) in
+    let some = placed all i.to c.index.result.now c.subscripts.result.now c.args.program.now.parts.subscripts.items regs
+    i.right (i.right + i.number) (Some c.in-Some._at) within c.index.ensures c.subscripts.ensures
+    c.in-Some.ensures.place in
+    let new = parts_of c.read_line.new.rest in
+    let kept = c.in-Err.ensures.parts in (
+      steady_by steady regs new refl steady.constants (ap (λ p. length p.arrays) kept) (ap (λ p. length p.hidden) kept) (ap (λ p. length p.scalar_stashes) kept) (ap (λ p. length p.array_stashes) kept),
+      read_at_stops is steady i text g.R.Reader.Has c.args.reader.now c.read_line.new.reader c.requires.operation
+          c.requires.slot c.in-Some._at some c.in-Err.halt new kept c.in-Err.ensures.read,
+    )

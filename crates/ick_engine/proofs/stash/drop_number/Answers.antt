@@ -1,0 +1,16 @@
+use Rattle.std.proofs.Common.{map, sym, arith, length}
+use Rattle.std.proofs.lemmas.List.{length-map}
+use Rattle.ick_engine.specs.Undo.{put_on, taken_off}
+use Rattle.ick_engine.specs.View.{array_of, numbers_of}
+use Rattle.ick_engine.proofs.StashLemmas.{at_slot_past, set_at}
+use Rattle.ick_engine.proofs.stash.drop_number.Goals as goal
+
+pub returns-then-slot-len : goal.returns-then-slot-len
+returns-then-slot-len c =
+    sym (at_slot_past taken_off c.args.slot (map numbers_of c.args.stashes.now.items)
+    (omega (arith, c.len.ensures, length-map c.args.stashes.now.items numbers_of)))
+
+pub returns : goal.returns
+returns c =
+    set_at numbers_of taken_off c.args.stashes.now.items c.args.slot c.index_mut.result.now c.drop_newest.new.self
+    (omega (arith, c.len.ensures)) c.index_mut.ensures.value c.drop_newest.ensures

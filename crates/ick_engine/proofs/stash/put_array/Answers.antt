@@ -1,0 +1,16 @@
+use Rattle.std.proofs.Common.{map, sym, arith, length}
+use Rattle.std.proofs.lemmas.List.{length-map}
+use Rattle.ick_engine.specs.Undo.{put_on, taken_off}
+use Rattle.ick_engine.specs.View.{array_of, arrays_of}
+use Rattle.ick_engine.proofs.StashLemmas.{at_slot_past, set_at}
+use Rattle.ick_engine.proofs.stash.put_array.Goals as goal
+
+pub returns-then-slot-len : goal.returns-then-slot-len
+returns-then-slot-len c =
+    sym (at_slot_past (put_on (array_of c.args.array)) c.args.slot (map arrays_of c.args.stashes.now.items)
+    (omega (arith, c.len.ensures, length-map c.args.stashes.now.items arrays_of)))
+
+pub returns : goal.returns
+returns c =
+    set_at arrays_of (put_on (array_of c.args.array)) c.args.stashes.now.items c.args.slot c.index_mut.result.now c.put_back.new.self
+    (omega (arith, c.len.ensures)) c.index_mut.ensures.value c.put_back.ensures

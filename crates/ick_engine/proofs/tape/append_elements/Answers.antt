@@ -1,0 +1,37 @@
+use Rattle.std.proofs.Common.{◌<◌, ◌≤◌, ◌+◌, ◌++◌, length, ap, ◌∙◌, arith, take, take_all, sym, subst, vec_len}
+use Rattle.ick_code.specs.meaning.Tape.{tape_bytes, tape_after}
+use Rattle.ick_engine.proofs.TapeOut.{next_bytes, next_position}
+use Rattle.ick_engine.proofs.tape.append_elements.Goals as goal
+
+pub loop-at-preserved : goal.loop-at-preserved
+loop-at-preserved c =
+    let vs = c.args.elements.now.items in
+    let at = c.loop-at.at in
+    let within : at < length vs = omega (arith, c.loop-at-test.true, c.args.elements.now.ok.0) in
+    record {
+      output =
+          next_bytes vs at c.index.result.now c.args.last c.loop-at.position c.tape_out-next.result.0
+          c.tape_out-next.result.1 c.loop-at.output.items c.push_reserved.new.self.items c.reserve.new.self.items within
+          c.index.ensures c.loop-at.invariant.position c.tape_out-next.ensures.position c.tape_out-next.ensures.byte
+          c.push_reserved.ensures.items c.loop-at.invariant.output;
+      position =
+          next_position vs at c.index.result.now c.args.last c.loop-at.position c.tape_out-next.result.0 within
+          c.index.ensures c.loop-at.invariant.position c.tape_out-next.ensures.position;
+      room =
+          subst (λ n. vec_len c.reserve.new.self + vec_len c.args.elements.now ≤ n)
+          (sym c.push_reserved.ensures.capacity) c.loop-at.invariant.room;
+      count = omega (arith, c.push_reserved.ensures.len, c.loop-at.invariant.count);
+    }
+
+pub returns-clause-output : goal.returns-clause-output
+returns-clause-output c =
+    c.loop-at.invariant.output
+    ∙ ap (λ l. l ++ tape_bytes c.args.last (take c.loop-at.at c.args.elements.now.items)) c.reserve.ensures.items
+    ∙ ap (λ l. c.args.output.now.items ++ tape_bytes c.args.last l)
+    (take_all c.loop-at.at c.args.elements.now.items (omega (arith, c.loop-at-test.false, c.args.elements.now.ok.0)))
+
+pub returns-clause-last : goal.returns-clause-last
+returns-clause-last c =
+    c.loop-at.invariant.position
+    ∙ ap (tape_after c.args.last)
+    (take_all c.loop-at.at c.args.elements.now.items (omega (arith, c.loop-at-test.false, c.args.elements.now.ok.0)))

@@ -1,0 +1,25 @@
+use Rattle.std.proofs.Common.{◌≡◌, ◌<◌, length, ap, ◌∙◌, sym, arith}
+use Rattle.std.specs.Prelude.{slice_set, if◌then◌else◌}
+use Rattle.ick_engine.proofs.TapeIn.{read_next}
+use Rattle.ick_engine.proofs.tape.read_bytes.Goals as goal
+
+pub loop-at-preserved : goal.loop-at-preserved
+loop-at-preserved g c =
+    let now = c.loop-at.elements in
+    let at = c.loop-at.at in
+    let within : at < length c.args.elements.now = omega (arith, c.loop-at-test.true, c.loop-at.auto.elements) in
+    record {
+      read = λ after has.
+          let byte = c.in_ok-byte.ensures.next after has in
+          let past = c.loop-at.invariant.read byte.0 byte.1 in (
+            past.0,
+            past.1,
+            read_next c.args.stays at c.args.start.last c.args.start.to c.args.elements.now now c.put_unless.new.elements
+                c.loop-at.tape.last c.take-number.new.self.last c.loop-at.tape.to c.take-number.new.self.to
+                c.in_ok-byte.byte past.0 byte.0 after within past.2 byte.2
+                (c.put_unless.ensures
+                ∙ ap (λ n. if c.args.stays then now else slice_set now at n) c.take-number.ensures.number)
+                c.take-number.ensures.last c.take-number.ensures.to,
+          );
+      held = c.byte.ensures.held ∙ c.loop-at.invariant.held;
+    }

@@ -1,0 +1,20 @@
+use Rattle.std.proofs.Common.{sym, subst}
+use Rattle.ick_engine.specs.History.{history}
+use Rattle.ick_engine.specs.Undo.{Rewinds, change_of, undone}
+use Rattle.ick_engine.proofs.Changes.{newest_alone, grown}
+use Rattle.ick_engine.proofs.Undoing.{like_refl, notes_change}
+use Rattle.ick_engine.proofs.trail.TrailNotes.note.Goals as goal
+
+pub returns-clause-changes : goal.returns-clause-changes
+returns-clause-changes c =
+    let t = c.args.self.now in
+    grown t c.push_reserved.new.self.items t.entries.items c.args.entry c.requires.alone c.push_reserved.ensures.items
+
+pub returns-clause-notes : goal.returns-clause-notes
+returns-clause-notes c = λ k v m can h.
+    let t = c.args.self.now in
+    subst (λ es. Rewinds t.base es t.low k v m)
+    (sym (newest_alone t c.push_reserved.new.self.items t.entries.items c.args.entry c.requires.alone
+    c.push_reserved.ensures.items))
+    (notes_change t.base (history t) t.low k (change_of c.args.entry) v (undone (change_of c.args.entry) v) m can
+    (like_refl t.base t.low (undone (change_of c.args.entry) v)) h)

@@ -1,0 +1,27 @@
+use Rattle.std.proofs.Common.{[], ◌∷◌, sym, subst}
+use Rattle.ick_engine.specs.History.{history}
+use Rattle.ick_engine.specs.Undo.{Rewinds, array_was, undone}
+use Rattle.ick_engine.specs.View.{array_of}
+use Rattle.ick_engine.proofs.Changes.{newest_array}
+use Rattle.ick_engine.proofs.Undoing.{like_refl, notes_change}
+use Rattle.ick_engine.proofs.trail.TrailNotes.note_array.Goals as goal
+
+pub returns-clause-changes : goal.returns-clause-changes
+returns-clause-changes c =
+    let t = c.args.self.now in
+    let change = array_was c.args.change c.args.slot (array_of c.args.array.now) in
+    record {
+      more = change ∷ [];
+      is =
+          newest_array t c.push_reserved.new.self.items c.push.new.self.items c.args.change c.args.slot c.in_ok-copy_array.field-0
+          (array_of c.args.array.now) c.push_reserved.ensures.items c.in_ok-push.ensures.items c.in_ok-copy_array.ensures.array;
+    }
+
+pub returns-clause-notes : goal.returns-clause-notes
+returns-clause-notes c = λ k v m can h.
+    let t = c.args.self.now in
+    let change = array_was c.args.change c.args.slot (array_of c.args.array.now) in
+    subst (λ es. Rewinds t.base es t.low k v m)
+    (sym (newest_array t c.push_reserved.new.self.items c.push.new.self.items c.args.change c.args.slot c.in_ok-copy_array.field-0
+    (array_of c.args.array.now) c.push_reserved.ensures.items c.in_ok-push.ensures.items c.in_ok-copy_array.ensures.array))
+    (notes_change t.base (history t) t.low k change v (undone change v) m can (like_refl t.base t.low (undone change v)) h)

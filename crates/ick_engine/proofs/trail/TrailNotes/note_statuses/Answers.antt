@@ -1,0 +1,25 @@
+use Rattle.std.proofs.Common.{[], ◌∷◌, sym, subst}
+use Rattle.ick_engine.specs.History.{history}
+use Rattle.ick_engine.specs.Undo.{Rewinds, statuses_were, undone}
+use Rattle.ick_engine.proofs.Changes.{newest_statuses}
+use Rattle.ick_engine.proofs.Undoing.{like_refl, notes_change}
+use Rattle.ick_engine.proofs.trail.TrailNotes.note_statuses.Goals as goal
+
+pub returns-clause-changes : goal.returns-clause-changes
+returns-clause-changes c =
+    let t = c.args.self.now in
+    record {
+      more = statuses_were c.args.statuses.now ∷ [];
+      is =
+          newest_statuses t c.push_reserved.new.self.items c.push.new.self.items c.in_ok-copy_bytes.field-0
+          c.args.statuses.now c.push_reserved.ensures.items c.in_ok-push.ensures.items c.in_ok-copy_bytes.ensures;
+    }
+
+pub returns-clause-notes : goal.returns-clause-notes
+returns-clause-notes c = λ k v m can h.
+    let t = c.args.self.now in
+    let change = statuses_were c.args.statuses.now in
+    subst (λ es. Rewinds t.base es t.low k v m)
+    (sym (newest_statuses t c.push_reserved.new.self.items c.push.new.self.items c.in_ok-copy_bytes.field-0
+    c.args.statuses.now c.push_reserved.ensures.items c.in_ok-push.ensures.items c.in_ok-copy_bytes.ensures))
+    (notes_change t.base (history t) t.low k change v (undone change v) m can (like_refl t.base t.low (undone change v)) h)

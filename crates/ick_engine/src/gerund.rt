@@ -1,0 +1,45 @@
+//! Statements that are set by gerund.
+
+ghost use Rattle.std.specs.Prelude.{◌≡◌, ◌+◌, ◌==◌, length};
+ghost use Rattle.ick_code.specs.Compiled.{code_program};
+ghost use Rattle.ick_code.specs.meaning.Abstain.{kind_number};
+ghost use Rattle.ick_engine.specs.Gerunds.{IsFlagged, flag_if};
+
+use crate::status::flagged;
+use ick_code::{Code, Kind};
+
+/// Returns whether a kind has a number.
+#[inline(always)]
+fn has_number(kind: Kind, number: u8) -> bool
+    ensures { result ≡ (kind_number kind == number) }
+{
+    kind as u8 == number
+}
+
+/// Returns a status, with a flag if it is one that gets it. Both are computed and one is chosen, so
+/// that the loop over all statuses has no branch.
+#[inline(always)]
+fn flagged_if(chosen: bool, on: bool, status: u8) -> u8
+    ensures { result ≡ flag_if chosen on status }
+{
+    let flagged = flagged(status, on);
+    if chosen { flagged } else { status }
+}
+
+/// Abstains from all statements of the kind with a number, or reinstates them (Revised Manual,
+/// 4.4.9, 4.4.10).
+#[inline(never)]
+pub fn set_kind_abstained(code: &Code, statuses: &mut [u8], number: u32, on: bool)
+    requires { length statuses.old ≡ length (code_program code.now) + 2 }
+    ensures { IsFlagged (code_program code.now) on number statuses.old statuses.new }
+{
+    if number > 13 {
+        return;
+    }
+    let kind = number as u8;
+    let kinds = code.kinds();
+    for at in 0..kinds.len() {
+        let chosen = has_number(kinds[at], kind);
+        statuses[at + 1] = flagged_if(chosen, on, statuses[at + 1]);
+    }
+}

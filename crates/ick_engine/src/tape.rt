@@ -1,0 +1,144 @@
+//! Arrays that are printed and read as bytes.
+
+ghost use Rattle.std.specs.Prelude.{◌≡◌, ◌<◌, ◌++◌, length, map, IfOk, OnOk, OnErr, slice_set};
+ghost use Rattle.std.specs.Prelude.{if◌then◌else◌};
+ghost use Rattle.ick_code.specs.meaning.Tape.{tape_bytes, tape_after};
+ghost use Rattle.ick_engine.specs.Halts.{Took};
+ghost use Rattle.ick_engine.specs.Reads.{Leads, HasRead, number_read, last_after, place_after};
+ghost use Rattle.ick_engine.specs.Text.{IsArrayRead, IsPrinted};
+ghost use Rattle.ick_engine.specs.View.{is_hidden, parts_of};
+
+use crate::halt::Halt;
+use crate::memory::Rest;
+use crate::reader::Reader;
+use ick_bits::{FaultKind, NoMemory, tape_in, tape_out};
+
+/// Appends the bytes of elements to the output. Returns where the tape stands behind them. If
+/// memory runs out, the output doesn't change.
+fn append_elements(output: &mut Vec<u8>, last: u8, elements: &Vec<u32>) -> Result<u8, NoMemory>
+    ensures output { OnOk result (output.new.items ≡ output.old.items ++ tape_bytes last
+        elements.now.items) }
+    ensures last { IfOk result (λ position. position ≡ tape_after last elements.now.items) }
+    ensures err { OnErr result (output.new.items ≡ output.old.items) }
+{
+    output.reserve(elements.len())?;
+    let mut position = last;
+    for at in 0..elements.len() {
+        let number = (elements[at] % 65536) as u16;
+        let (next, byte) = tape_out(position, number);
+        output.push_reserved(byte);
+        position = next;
+    }
+    Ok(position)
+}
+
+/// Prints the elements of an array of one dimension as bytes (Revised Manual, 5.2). If memory runs
+/// out, nothing changes.
+#[inline(never)]
+pub fn print_array(rest: &mut Rest, slot: u32) -> Result<(), Halt>
+    requires slot { slot < length rest.old.arrays.items }
+    ensures { IsPrinted result slot (parts_of rest.old) (parts_of rest.new) }
+{
+    let array = &rest.arrays[slot as usize];
+    if array.dimensions.len() != 1 {
+        return Err(Halt::Fault(FaultKind::Hyperspace));
+    }
+    match append_elements(&mut rest.output, rest.last, &array.elements) {
+        Ok(position) => {
+            rest.last = position;
+            Ok(())
+        }
+        Err(_) => Err(Halt::NoMemory),
+    }
+}
+
+/// The place of the next byte of the input, and the byte that was read last.
+#[derive(Clone, Copy)]
+struct Tape {
+    to: usize,
+    last: u8,
+}
+
+impl Tape {
+    /// Goes on behind a byte, or stays at the end of the input. Returns the number that an element
+    /// gets from it.
+    #[inline(always)]
+    fn take(&mut self, byte: Option<(u8, usize)>) -> u32
+        ensures number { result ≡ number_read self.old.last byte }
+        ensures last { self.new.last ≡ last_after self.old.last byte }
+        ensures to { self.new.to ≡ place_after self.old.to byte }
+    {
+        match byte {
+            Some((byte, to)) => {
+                let number = u32::from(tape_in(self.last, byte));
+                self.last = byte;
+                self.to = to;
+                number
+            }
+            None => 256,
+        }
+    }
+}
+
+/// Sets an element, unless it stays as it is.
+#[inline(always)]
+fn put_unless(stays: bool, elements: &mut [u32], at: usize, number: u32)
+    requires { at < length elements.old }
+    ensures { elements.new ≡ (if stays then elements.old else slice_set elements.old at number) }
+{
+    if !stays {
+        elements[at] = number;
+    }
+}
+
+/// Reads bytes of the input into elements, unless these stay as they are. Returns where the input
+/// goes on, and the last byte. If the reader fails, some elements have changed.
+fn read_bytes<R: Reader>(
+    stays: bool,
+    elements: &mut [u32],
+    reader: &mut R,
+    start: Tape,
+) -> Result<Tape, NoMemory>
+    ensures count { length elements.new ≡ length elements.old }
+    ensures read { IfOk result (λ end. Leads R.Has reader.old reader.new
+        (HasRead stays (length elements.old) start.last start.to elements.old elements.new
+        end.last end.to)) }
+    ensures held { R.held reader.new ≡ R.held reader.old }
+{
+    let mut tape = start;
+    for at in 0..elements.len() {
+        let byte = reader.byte(tape.to)?;
+        let number = tape.take(byte);
+        put_unless(stays, elements, at, number);
+    }
+    Ok(tape)
+}
+
+/// Reads a byte of the input into each element of an array of one dimension (Revised Manual, 5.2).
+/// An ignored array takes its bytes and stays as it is. If the reader fails, some elements have
+/// changed.
+#[inline(never)]
+pub fn read_array<R: Reader>(rest: &mut Rest, reader: &mut R, slot: u32) -> Result<(), Halt>
+    requires slot { slot < length rest.old.arrays.items }
+    ensures read { Took R.Has reader.old reader.new result
+        (IsArrayRead result slot (parts_of rest.old) (parts_of rest.new)) }
+    ensures hidden { map is_hidden rest.new.arrays.items ≡ map is_hidden rest.old.arrays.items }
+    ensures held { R.held reader.new ≡ R.held reader.old }
+{
+    let start = Tape {
+        to: rest.taken,
+        last: rest.lastin,
+    };
+    let array = &mut rest.arrays[slot as usize];
+    if array.dimensions.len() != 1 {
+        return Err(Halt::Fault(FaultKind::Hyperspace));
+    }
+    match read_bytes(array.hidden, array.elements.as_mut_slice(), reader, start) {
+        Ok(end) => {
+            rest.taken = end.to;
+            rest.lastin = end.last;
+            Ok(())
+        }
+        Err(_) => Err(Halt::NoMemory),
+    }
+}
