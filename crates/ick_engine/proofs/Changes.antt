@@ -1,5 +1,5 @@
 -- The changes that a trail has.
-use Rattle.std.proofs.Common.{arith, ◌≤◌, ◌≡◌, ℕ, suc, true, false, List, [], ◌∷◌, ◌++◌, length, map, reverse, refl, ap, sym, ◌∙◌}
+use Rattle.std.proofs.Common.{arith, ◌≤◌, ◌≡◌, ℕ, suc, false, List, [], ◌∷◌, ◌++◌, length, map, reverse, refl, ap, sym, ◌∙◌}
 use Rattle.std.specs.Global.{Vec}
 use Rattle.std.proofs.lemmas.List.{reverse-append, length-reverse, map-append}
 use Rattle.ick_code.specs.meaning.State.{Array as ArrayValue}

@@ -5,7 +5,7 @@ use Rattle.std.specs.Prelude.{slice_set, nat_lt, if◌then◌else◌}
 use Rattle.std.proofs.lemmas.Bool.Decides.{nat_tests}
 use Rattle.std.proofs.lemmas.List.{length-set, set_past, map-set, get_or-map}
 use Rattle.ick_engine.specs.View.{Parts, Stash, no_stash, used}
-use Rattle.ick_engine.specs.Undo.{StashLike, StashesLike, PartsLike, HasPlace, but_stashes, put_on, taken_off, at_slot}
+use Rattle.ick_engine.specs.Undo.{StashLike, StashesLike, PartsLike, put_on, taken_off, at_slot}
 
 pub stash_refl : {A : Type 0} (s : Stash A) → StashLike s s
 stash_refl s = record { depth_same = refl; places = omega arith; values = refl }
@@ -93,7 +93,7 @@ put_on_like {a = a} {b = b} x low p =
     }
 
 -- one of many
-set_each : {A : Type 0} (xs ys : List (Stash A)) (slot : ℕ) (x y : Stash A) → length ys ≡ length xs → StashLike x y →
+pub set_each : {A : Type 0} (xs ys : List (Stash A)) (slot : ℕ) (x y : Stash A) → length ys ≡ length xs → StashLike x y →
     (k : ℕ) → StashLike (get_or xs k no_stash) (get_or ys k no_stash) →
     StashLike (get_or (slice_set xs slot x) k no_stash) (get_or (slice_set ys slot y) k no_stash)
 set_each [] [] slot x y count like k same = same

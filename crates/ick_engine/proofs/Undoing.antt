@@ -17,7 +17,7 @@ use Rattle.ick_engine.specs.Undo.{Change, register_was, home_was, status_was, re
 use Rattle.ick_engine.specs.Undo.{scalar_saved, scalar_taken, scalar_restored, array_saved, array_was}
 use Rattle.ick_engine.specs.Undo.{statuses_were, taken_was}
 use Rattle.ick_engine.specs.Undo.{output_was, last_was, lastin_was, no_change, given_back, undone_array, undone, rewound}
-use Rattle.ick_engine.specs.Undo.{with_arrays, with_number, put_on, taken_off, at_slot, but_stashes, HasPlace}
+use Rattle.ick_engine.specs.Undo.{with_arrays, with_number, put_on, taken_off, at_slot, HasPlace}
 use Rattle.ick_engine.specs.Undo.{StashLike, StashesLike, PartsLike, IsUndoable, Like, HighSame, Rewinds}
 use Rattle.ick_engine.proofs.StashLemmas.{parts_refl, parts_trans, parts_same, taken_off_like, put_on_like, at_slot_like}
 

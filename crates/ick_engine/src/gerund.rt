@@ -1,11 +1,14 @@
 //! Statements that are set by gerund.
 
-ghost use Rattle.std.specs.Prelude.{◌≡◌, ◌+◌, ◌==◌, length};
+ghost use Rattle.std.specs.Prelude.{◌≡◌, ◌+◌, ◌<◌, ◌≤◌, ◌==◌, length, OnErr, OnOk};
 ghost use Rattle.ick_code.specs.Compiled.{code_program};
 ghost use Rattle.ick_code.specs.meaning.Abstain.{kind_number};
 ghost use Rattle.ick_engine.specs.Gerunds.{IsFlagged, flag_if};
+ghost use Rattle.ick_engine.specs.Noting.{NotesStatuses};
 
+use crate::notes::Notes;
 use crate::status::flagged;
+use ick_bits::NoMemory;
 use ick_code::{Code, Kind};
 
 /// Returns whether a kind has a number.
@@ -26,20 +29,45 @@ fn flagged_if(chosen: bool, on: bool, status: u8) -> u8
     if chosen { flagged } else { status }
 }
 
-/// Abstains from all statements of the kind with a number, or reinstates them (Revised Manual,
-/// 4.4.9, 4.4.10).
-#[inline(never)]
-pub fn set_kind_abstained(code: &Code, statuses: &mut [u8], number: u32, on: bool)
+/// Sets or clears the flags of all statements of the kind with a number.
+fn flag_kind(code: &Code, statuses: &mut [u8], number: u8, on: bool)
     requires { length statuses.old ≡ length (code_program code.now) + 2 }
     ensures { IsFlagged (code_program code.now) on number statuses.old statuses.new }
 {
-    if number > 13 {
-        return;
-    }
-    let kind = number as u8;
     let kinds = code.kinds();
     for at in 0..kinds.len() {
-        let chosen = has_number(kinds[at], kind);
+        let chosen = has_number(kinds[at], number);
         statuses[at + 1] = flagged_if(chosen, on, statuses[at + 1]);
+    }
+}
+
+/// Abstains from all statements of the kind with a number, or reinstates them (Revised Manual,
+/// 4.4.9, 4.4.10). If memory runs out, nothing changes.
+#[inline(never)]
+pub fn set_kind_abstained<N: Notes>(
+    code: &Code,
+    statuses: &mut [u8],
+    notes: &mut N,
+    number: u32,
+    on: bool,
+) -> Result<(), NoMemory>
+    requires count { length statuses.old ≡ length (code_program code.now) + 2 }
+    requires room { 0 < N.room notes.old }
+    ensures flagged { OnOk result
+        (IsFlagged (code_program code.now) on number statuses.old statuses.new) }
+    ensures err { OnErr result (statuses.new ≡ statuses.old) }
+    ensures room { N.room notes.old ≤ N.room notes.new + 1 }
+    ensures notes { NotesStatuses N.Undoes N.low N.base N.changes notes.old notes.new
+        statuses.old statuses.new }
+{
+    if number > 13 {
+        return Ok(());
+    }
+    match notes.note_statuses(statuses) {
+        Ok(()) => {
+            flag_kind(code, statuses, number as u8, on);
+            Ok(())
+        }
+        Err(refused) => Err(refused),
     }
 }

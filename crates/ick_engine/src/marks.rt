@@ -12,6 +12,7 @@ ghost use Rattle.ick_engine.specs.View.{View, array_of, is_hidden, parts_of};
 
 use crate::change::{ArrayChange, Entry};
 use crate::element::set_element;
+use crate::hide::set_hidden;
 use crate::memory::{Array, Memory, Rest};
 use crate::stash::{drop_array, drop_number, put_array, put_number};
 use crate::trail::Trail;
@@ -81,7 +82,7 @@ fn put_element(arrays: &mut Vec<Array>, slot: u32, at: u32, old: u32)
 }
 
 /// Hides an array again, or shows it, if there is such an array.
-pub fn put_hidden(arrays: &mut Vec<Array>, slot: u32, old: bool)
+fn put_hidden(arrays: &mut Vec<Array>, slot: u32, old: bool)
     ensures arrays { map array_of arrays.new.items ≡ map array_of arrays.old.items }
     ensures hidden { map is_hidden arrays.new.items
         ≡ slice_set (map is_hidden arrays.old.items) slot old }
@@ -89,7 +90,7 @@ pub fn put_hidden(arrays: &mut Vec<Array>, slot: u32, old: bool)
     if slot as usize >= arrays.len() {
         return;
     }
-    arrays[slot as usize].hidden = old;
+    set_hidden(arrays, slot, old);
 }
 
 /// Undoes a change whose old value is in its entry.

@@ -1,12 +1,49 @@
 //! Stashes of scalars and arrays.
 
-ghost use Rattle.std.specs.Prelude.{◌≡◌, map};
-ghost use Rattle.ick_engine.specs.Undo.{at_slot, put_on, taken_off};
-ghost use Rattle.ick_engine.specs.View.{array_of, arrays_of, numbers_of};
+ghost use Rattle.std.specs.Prelude.{◌≡◌, ◌+◌, ◌<◌, ◌≤◌, ℕ, [], length, map};
+ghost use Rattle.std.specs.Prelude.{IfNone, IfSome, OnErr, OnOk};
+ghost use Rattle.std.specs.Bool.{OnFalse, OnTrue};
+ghost use Rattle.std.proofs.Common.{get_or};
+ghost use Rattle.ick_lowering.specs.Extends.{Extends};
+ghost use Rattle.ick_engine.specs.Stashes.{ChangesAt, IsPutOn, IsRestoredTo, IsTakenOff};
+ghost use Rattle.ick_engine.specs.Undo.{at_slot, put_on, taken_off, with_scalar_stashes};
+ghost use Rattle.ick_engine.specs.View.{View, array_of, arrays_of, no_stash, numbers_of, used};
 
+use crate::change::Entry;
 use crate::memory::{Array, ArrayStash, NumberStash};
+use crate::notes::Notes;
+use ick_bits::NoMemory;
 
 impl NumberStash {
+    /// Puts a number on the stash. If memory runs out, nothing changes.
+    fn save(&mut self, number: u32) -> Result<(), NoMemory>
+        ensures ok { OnOk result (IsPutOn number (numbers_of self.old) (numbers_of self.new)) }
+        ensures err { OnErr result (numbers_of self.new ≡ numbers_of self.old) }
+    {
+        if self.depth < self.items.len() {
+            self.items[self.depth] = number;
+            self.depth += 1;
+            return Ok(());
+        }
+        self.items.push(number)?;
+        self.depth += 1;
+        Ok(())
+    }
+
+    /// Takes the newest number off, if there is one.
+    fn take_newest(&mut self) -> Option<u32>
+        ensures some { IfSome result (λ number. IsTakenOff number (numbers_of self.old)
+            (numbers_of self.new)) }
+        ensures none { IfNone result (used (numbers_of self.old) ≡ []) }
+        ensures same { IfNone result (numbers_of self.new ≡ numbers_of self.old) }
+    {
+        if self.depth == 0 {
+            return None;
+        }
+        self.depth -= 1;
+        Some(self.items[self.depth])
+    }
+
     /// Takes the newest number off, if there is one. Its place stays.
     fn drop_newest(&mut self)
         ensures { numbers_of self.new ≡ taken_off (numbers_of self.old) }
@@ -88,4 +125,75 @@ pub fn put_array(stashes: &mut Vec<ArrayStash>, slot: u32, array: Array)
         return;
     }
     stashes[slot as usize].put_back(array);
+}
+
+/// Puts a number on the stash of the scalar in a slot, and notes that (Revised Manual, 4.4.5). If
+/// memory runs out, nothing changes.
+pub fn save_scalar<N: Notes>(
+    stashes: &mut Vec<NumberStash>,
+    notes: &mut N,
+    slot: u32,
+    number: u32,
+) -> Result<(), NoMemory>
+    requires slot { slot < length stashes.old.items }
+    requires room { 0 < N.room notes.old }
+    ensures saved { OnOk result (ChangesAt slot (IsPutOn number)
+        (map numbers_of stashes.old.items) (map numbers_of stashes.new.items)) }
+    ensures same { OnErr result (map numbers_of stashes.new.items
+        ≡ map numbers_of stashes.old.items) }
+    ensures room { N.room notes.old ≤ N.room notes.new + 1 }
+    ensures low { N.low notes.new ≡ N.low notes.old }
+    ensures base { N.base notes.new ≡ N.base notes.old }
+    ensures changes { Extends (N.changes notes.old) (N.changes notes.new) }
+    ensures notes { (k : ℕ) (v m : View) →
+        v.parts.scalar_stashes ≡ map numbers_of stashes.old.items → N.Undoes notes.old k v m →
+        N.Undoes notes.new k (with_scalar_stashes (map numbers_of stashes.new.items) v) m }
+{
+    stashes[slot as usize].save(number)?;
+    notes.law();
+    notes.note(Entry::ScalarSaved(slot));
+    Ok(())
+}
+
+/// Takes the newest number off the stash of the scalar in a slot, and notes that. The number
+/// becomes that of the scalar, unless stores to it lead elsewhere, as it is then ignored (Revised
+/// Manual, 4.4.6). Returns whether there was a number. If there was none, nothing changes.
+pub fn restore_scalar<N: Notes>(
+    registers: &mut [u32],
+    home: &[u32],
+    stashes: &mut Vec<NumberStash>,
+    notes: &mut N,
+    slot: u32,
+) -> bool
+    requires slot { slot < length stashes.old.items }
+    requires home { slot < length home.now }
+    requires there { slot < length registers.old }
+    requires room { 0 < N.room notes.old }
+    ensures restored { OnTrue result (IsRestoredTo slot (get_or home.now slot 0) registers.old
+        registers.new (map numbers_of stashes.old.items) (map numbers_of stashes.new.items)) }
+    ensures none { OnFalse result (used (get_or (map numbers_of stashes.old.items) slot no_stash)
+        ≡ []) }
+    ensures registers { OnFalse result (registers.new ≡ registers.old) }
+    ensures stashes { OnFalse result (map numbers_of stashes.new.items
+        ≡ map numbers_of stashes.old.items) }
+    ensures room { N.room notes.old ≤ N.room notes.new + 1 }
+    ensures low { N.low notes.new ≡ N.low notes.old }
+    ensures base { N.base notes.new ≡ N.base notes.old }
+    ensures changes { Extends (N.changes notes.old) (N.changes notes.new) }
+    ensures notes { (k : ℕ) (v m : View) → v.registers ≡ registers.old →
+        v.parts.scalar_stashes ≡ map numbers_of stashes.old.items → N.Undoes notes.old k v m →
+        N.Undoes notes.new k (with_scalar_stashes (map numbers_of stashes.new.items)
+        (record v { registers = registers.new })) m }
+{
+    let Some(number) = stashes[slot as usize].take_newest() else {
+        return false;
+    };
+    notes.law();
+    if home[slot as usize] != slot {
+        notes.note(Entry::ScalarTaken(slot, number));
+        return true;
+    }
+    notes.note_restored(registers, slot, number);
+    registers[slot as usize] = number;
+    true
 }

@@ -1,15 +1,18 @@
 //! Arrays that are printed and read as bytes.
 
-ghost use Rattle.std.specs.Prelude.{◌≡◌, ◌<◌, ◌++◌, length, map, IfOk, OnOk, OnErr, slice_set};
-ghost use Rattle.std.specs.Prelude.{if◌then◌else◌};
+ghost use Rattle.std.specs.Prelude.{◌≡◌, ◌+◌, ◌<◌, ◌≤◌, ◌++◌, length, take, IfOk, OnOk};
+ghost use Rattle.std.specs.Prelude.{OnErr, slice_set, if◌then◌else◌};
 ghost use Rattle.ick_code.specs.meaning.Tape.{tape_bytes, tape_after};
 ghost use Rattle.ick_engine.specs.Halts.{Took};
+ghost use Rattle.ick_engine.specs.Noting.{NotesBefore, NotesParts};
 ghost use Rattle.ick_engine.specs.Reads.{Leads, HasRead, number_read, last_after, place_after};
 ghost use Rattle.ick_engine.specs.Text.{IsArrayRead, IsPrinted};
-ghost use Rattle.ick_engine.specs.View.{is_hidden, parts_of};
+ghost use Rattle.ick_engine.specs.View.{parts_of};
 
+use crate::change::{ArrayChange, Entry};
 use crate::halt::Halt;
 use crate::memory::Rest;
+use crate::notes::Notes;
 use crate::reader::Reader;
 use ick_bits::{FaultKind, NoMemory, tape_in, tape_out};
 
@@ -32,17 +35,45 @@ fn append_elements(output: &mut Vec<u8>, last: u8, elements: &Vec<u32>) -> Resul
     Ok(position)
 }
 
+/// Notes the output and its tape, and makes room for a whole statement.
+fn note_printing<N: Notes>(rest: &Rest, notes: &mut N, longest: usize) -> Result<(), NoMemory>
+    requires room { 2 ≤ N.room notes.old }
+    ensures room { OnOk result (longest + 79 ≤ N.room notes.new) }
+    ensures notes { NotesBefore N.Undoes N.low N.base N.changes notes.old notes.new
+        (λ p. record p {
+          output = take (length rest.now.output.items) p.output;
+          last = rest.now.last;
+        }) }
+{
+    notes.note(Entry::Output(rest.output.len()));
+    notes.note(Entry::Last(rest.last));
+    notes.make_room(longest)
+}
+
 /// Prints the elements of an array of one dimension as bytes (Revised Manual, 5.2). If memory runs
 /// out, nothing changes.
 #[inline(never)]
-pub fn print_array(rest: &mut Rest, slot: u32) -> Result<(), Halt>
+pub fn print_array<N: Notes>(
+    rest: &mut Rest,
+    notes: &mut N,
+    slot: u32,
+    longest: usize,
+) -> Result<(), Halt>
     requires slot { slot < length rest.old.arrays.items }
-    ensures { IsPrinted result slot (parts_of rest.old) (parts_of rest.new) }
+    requires room { 2 ≤ N.room notes.old }
+    ensures printed { IsPrinted result slot (parts_of rest.old) (parts_of rest.new) }
+    ensures room { OnOk result (longest + 79 ≤ N.room notes.new) }
+    ensures notes { NotesParts N.Undoes N.low N.base N.changes notes.old notes.new
+        (parts_of rest.old) (parts_of rest.new) }
 {
     let array = &rest.arrays[slot as usize];
     if array.dimensions.len() != 1 {
         return Err(Halt::Fault(FaultKind::Hyperspace));
     }
+    let Ok(()) = note_printing(rest, notes, longest) else {
+        return Err(Halt::NoMemory);
+    };
+    let array = &rest.arrays[slot as usize];
     match append_elements(&mut rest.output, rest.last, &array.elements) {
         Ok(position) => {
             rest.last = position;
@@ -114,25 +145,59 @@ fn read_bytes<R: Reader>(
     Ok(tape)
 }
 
+/// Notes the input and its tape, and makes room for a whole statement.
+fn note_reading<N: Notes>(rest: &Rest, notes: &mut N, longest: usize) -> Result<(), NoMemory>
+    requires room { 2 ≤ N.room notes.old }
+    ensures room { OnOk result (longest + 79 ≤ N.room notes.new) }
+    ensures notes { NotesBefore N.Undoes N.low N.base N.changes notes.old notes.new
+        (λ p. record p { taken = rest.now.taken; lastin = rest.now.lastin }) }
+{
+    notes.note(Entry::Taken(rest.taken));
+    notes.note(Entry::LastIn(rest.lastin));
+    notes.make_room(longest)
+}
+
 /// Reads a byte of the input into each element of an array of one dimension (Revised Manual, 5.2).
 /// An ignored array takes its bytes and stays as it is. If the reader fails, some elements have
 /// changed.
 #[inline(never)]
-pub fn read_array<R: Reader>(rest: &mut Rest, reader: &mut R, slot: u32) -> Result<(), Halt>
+pub fn read_array<N: Notes, R: Reader>(
+    rest: &mut Rest,
+    notes: &mut N,
+    reader: &mut R,
+    slot: u32,
+    longest: usize,
+) -> Result<(), Halt>
     requires slot { slot < length rest.old.arrays.items }
+    requires room { 3 ≤ N.room notes.old }
     ensures read { Took R.Has reader.old reader.new result
         (IsArrayRead result slot (parts_of rest.old) (parts_of rest.new)) }
-    ensures hidden { map is_hidden rest.new.arrays.items ≡ map is_hidden rest.old.arrays.items }
+    ensures arrays { length (parts_of rest.new).arrays ≡ length (parts_of rest.old).arrays }
+    ensures others { parts_of rest.new ≡ record (parts_of rest.old) {
+      arrays = (parts_of rest.new).arrays;
+      taken = rest.new.taken;
+      lastin = rest.new.lastin;
+    } }
     ensures held { R.held reader.new ≡ R.held reader.old }
+    ensures room { OnOk result (longest + 79 ≤ N.room notes.new) }
+    ensures notes { NotesParts N.Undoes N.low N.base N.changes notes.old notes.new
+        (parts_of rest.old) (parts_of rest.new) }
 {
+    let array = &rest.arrays[slot as usize];
+    if array.dimensions.len() != 1 {
+        return Err(Halt::Fault(FaultKind::Hyperspace));
+    }
+    let Ok(()) = notes.note_array(ArrayChange::Replaced, slot, array) else {
+        return Err(Halt::NoMemory);
+    };
+    let Ok(()) = note_reading(rest, notes, longest) else {
+        return Err(Halt::NoMemory);
+    };
     let start = Tape {
         to: rest.taken,
         last: rest.lastin,
     };
     let array = &mut rest.arrays[slot as usize];
-    if array.dimensions.len() != 1 {
-        return Err(Halt::Fault(FaultKind::Hyperspace));
-    }
     match read_bytes(array.hidden, array.elements.as_mut_slice(), reader, start) {
         Ok(end) => {
             rest.taken = end.to;

@@ -1,7 +1,7 @@
-use Rattle.std.proofs.Common.{map, sym, arith, length}
+use Rattle.std.proofs.Common.{map, sym, arith}
 use Rattle.std.proofs.lemmas.List.{length-map}
-use Rattle.ick_engine.specs.Undo.{put_on, taken_off}
-use Rattle.ick_engine.specs.View.{array_of, numbers_of}
+use Rattle.ick_engine.specs.Undo.{taken_off}
+use Rattle.ick_engine.specs.View.{numbers_of}
 use Rattle.ick_engine.proofs.StashLemmas.{at_slot_past, set_at}
 use Rattle.ick_engine.proofs.stash.drop_number.Goals as goal
 

@@ -1,16 +1,16 @@
-use Rattle.std.proofs.Common.{◌≡◌, ap, sym, ◌∙◌, arith, map}
+use Rattle.std.proofs.Common.{◌≡◌, ap, sym, ◌∙◌, map}
 use Rattle.std.specs.Prelude.{slice_set}
 use Rattle.std.proofs.lemmas.List.{map-set, get_or-map, set-get_or}
 use Rattle.ick_code.specs.meaning.State.{no_array}
 use Rattle.ick_engine.specs.View.{array_of, is_hidden}
-use Rattle.ick_engine.proofs.marks.put_hidden.Goals as goal
+use Rattle.ick_engine.proofs.hide.set_hidden.Goals as goal
 
 pub returns-clause-arrays : goal.returns-clause-arrays
 returns-clause-arrays c =
     let all = c.args.arrays.now.items in
     let old = c.index_mut.result.now in
     let here : array_of old ≡ _ =
-    ap array_of c.index_mut.ensures.value ∙ sym (get_or-map array_of all c.args.slot old no_array (omega (arith, c.len.ensures))) in
+    ap array_of c.index_mut.ensures.value ∙ sym (get_or-map array_of all c.args.slot old no_array c.requires) in
     map-set array_of all c.args.slot _ ∙ ap (slice_set (map array_of all) c.args.slot) here
     ∙ set-get_or (map array_of all) c.args.slot no_array
 

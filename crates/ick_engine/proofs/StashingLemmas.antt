@@ -1,0 +1,163 @@
+-- Values that are put on stashes and taken off.
+use Rattle.std.proofs.Common.{◌≡◌, ℕ, zero, suc, ◌+◌, ◌-◌, ◌<◌, ◌≤◌, List, [], ◌∷◌, ◌++◌, refl, ap, ap₂, sym, ◌∙◌, subst}
+use Rattle.std.proofs.Common.{length, take, map, get_or, arith}
+use Rattle.std.specs.Prelude.{◌==◌, slice_set, if◌then◌else◌}
+use Rattle.std.proofs.Common.{true, false}
+use Rattle.std.proofs.lemmas.Bool.Decides.{nat_tests}
+use Rattle.std.proofs.lemmas.List.{length-set, length-map, length-append, map-set, get_or-map, set-set, set-get_or, get_or-set_same, take-set-le}
+use Rattle.std.proofs.Math.Seq.{take-suc}
+use Rattle.ick_engine.specs.Stashes.{IsPutOn, IsTakenOff, ChangesAt, IsRestoredTo}
+use Rattle.ick_engine.specs.Undo.{StashLike, StashesLike, Like, put_on, taken_off, at_slot, with_scalar_stashes}
+use Rattle.ick_engine.specs.View.{View, Stash, no_stash}
+use Rattle.ick_engine.proofs.StashLemmas.{take_put, put_deeper, set_each, stash_refl, stashes_refl}
+
+-- a value goes to a spare place
+pub put_spare : {A : Type 0} (x : A) (s : Stash A) → s.depth < length s.items →
+    IsPutOn x s (record { items = slice_set s.items s.depth x; depth = s.depth + 1 })
+put_spare x s low =
+    let one : s.depth + 1 - 1 ≡ s.depth = omega arith in
+    let few : s.depth ≤ s.depth = omega arith in
+    record {
+      values = take_put s.depth s.items x low;
+      back = record {
+        depth_same = one;
+        places = omega (arith, length-set s.items s.depth x);
+        values = ap (λ d. take d (slice_set s.items s.depth x)) one ∙ take-set-le s.depth s.items s.depth x few;
+      };
+    }
+
+take_front : {A : Type 0} (xs ys : List A) (n : ℕ) → n ≤ length xs → take n (xs ++ ys) ≡ take n xs
+take_front xs ys zero few = refl
+take_front [] ys (suc n) few = absurd (omega (arith, few))
+take_front (x ∷ xs) ys (suc n) few = ap (λ l. x ∷ l) (take_front xs ys n (omega (arith, few)))
+
+take_one_more : {A : Type 0} (xs : List A) (x : A) (n : ℕ) → n ≡ length xs → take (n + 1) (xs ++ x ∷ []) ≡ take n xs ++ x ∷ []
+take_one_more [] x zero is = refl
+take_one_more [] x (suc n) is = absurd (omega (arith, is))
+take_one_more (y ∷ xs) x zero is = absurd (omega (arith, is))
+take_one_more (y ∷ xs) x (suc n) is =
+    let one : suc n + 1 ≡ suc (n + 1) = omega arith in
+    ap (λ k. take k (y ∷ (xs ++ x ∷ []))) one ∙ ap (λ l. y ∷ l) (take_one_more xs x n (omega (arith, is)))
+
+-- and to a new one behind them
+pub put_behind : {A : Type 0} (x : A) (s : Stash A) (items : List A) → items ≡ s.items ++ x ∷ [] →
+    s.depth ≡ length s.items → IsPutOn x s (record { items = items; depth = s.depth + 1 })
+put_behind x s items is full =
+    let one : s.depth + 1 - 1 ≡ s.depth = omega arith in
+    record {
+      values = ap (take (s.depth + 1)) is ∙ take_one_more s.items x s.depth full;
+      back = record {
+        depth_same = one;
+        places = omega (arith, ap length is, length-append s.items (x ∷ []));
+        values =
+            ap (λ d. take d items) one ∙ ap (take s.depth) is
+            ∙ take_front s.items (x ∷ []) s.depth (omega (arith, full));
+      };
+    }
+
+-- the newest value is taken off
+pub take_newest : {A : Type 0} (x : A) (s : Stash A) (depth : ℕ) → depth + 1 ≡ s.depth → depth < length s.items →
+    x ≡ get_or s.items depth x → IsTakenOff x s (record { items = s.items; depth = depth })
+take_newest {A} x s depth next low is =
+    let new : Stash A = record { items = s.items; depth = depth } in
+    let own : slice_set s.items depth x ≡ s.items =
+    ap (slice_set s.items depth) is ∙ set-get_or s.items depth x in
+    let one : suc depth ≡ s.depth = omega (arith, next) in
+    let deeper : (put_on x new).depth ≡ s.depth = put_deeper x new low ∙ next in
+    record {
+      values =
+          ap (λ d. take d s.items) (sym one) ∙ take-suc s.items depth x low
+          ∙ ap (λ y. take depth s.items ++ y ∷ []) (sym is);
+      place = low;
+      back = record {
+        depth_same = deeper;
+        places = omega (arith, length-set s.items depth x);
+        values = ap₂ (λ d l. take d l) deeper own;
+      };
+    }
+
+-- one of many stashes is changed
+pub changes_at : {A B : Type 0} (g : B → Stash A) (P : Stash A → Stash A → Type 0) (xs : List B) (slot : ℕ) (old new : B) →
+    slot < length xs → old ≡ get_or xs slot old → P (g old) (g new) →
+    ChangesAt slot P (map g xs) (map g (slice_set xs slot new))
+changes_at g P xs slot old new low is h =
+    let set : map g (slice_set xs slot new) ≡ slice_set (map g xs) slot (g new) = map-set g xs slot new in
+    let long : slot < length (map g xs) = omega (arith, length-map xs g) in
+    let there : get_or (map g (slice_set xs slot new)) slot no_stash ≡ g new =
+    ap (λ l. get_or l slot no_stash) set ∙ get_or-set_same (map g xs) slot (g new) no_stash long in
+    let before : get_or (map g xs) slot no_stash ≡ g old =
+    get_or-map g xs slot old no_stash low ∙ ap g (sym is) in
+    record {
+      others = set ∙ ap (slice_set (map g xs) slot) (sym there);
+      here = subst (P (get_or (map g xs) slot no_stash)) (sym there) (subst (λ s. P s (g new)) (sym before) h);
+    }
+
+pub kept_at : {A B : Type 0} (g : B → A) (xs : List B) (slot : ℕ) (old new : B) (none : A) → slot < length xs →
+    old ≡ get_or xs slot old → g new ≡ g old → map g (slice_set xs slot new) ≡ map g xs
+kept_at g xs slot old new none low is same =
+    map-set g xs slot new
+    ∙ ap (slice_set (map g xs) slot) (same ∙ ap g is ∙ sym (get_or-map g xs slot old none low))
+    ∙ set-get_or (map g xs) slot none
+
+-- one of many stashes is like it was
+pub set_like : {A : Type 0} (xs : List (Stash A)) (slot : ℕ) (y : Stash A) → StashLike (get_or xs slot no_stash) y →
+    StashesLike xs (slice_set xs slot y)
+set_like xs slot y like = record {
+  count = length-set xs slot y;
+  each = λ k.
+      subst (λ l. StashLike (get_or l k no_stash) (get_or (slice_set xs slot y) k no_stash)) (set-get_or xs slot no_stash)
+      (set_each xs xs slot (get_or xs slot no_stash) y refl like k (stash_refl (get_or xs k no_stash)));
+}
+
+set_twice : {A : Type 0} (slot : ℕ) (P : Stash A → Stash A → Type 0) (f : Stash A → Stash A) (old new : List (Stash A)) →
+    ChangesAt slot P old new → at_slot f slot new ≡ slice_set old slot (f (get_or new slot no_stash))
+set_twice slot P f old new h =
+    let n = get_or new slot no_stash in
+    ap (λ l. slice_set l slot (f n)) h.others ∙ set-set old slot n (f n)
+
+pub saved_like : {A : Type 0} (x : A) (slot : ℕ) (old new : List (Stash A)) → ChangesAt slot (IsPutOn x) old new →
+    StashesLike old (at_slot taken_off slot new)
+saved_like x slot old new h =
+    subst (StashesLike old) (sym (set_twice slot (IsPutOn x) taken_off old new h))
+    (set_like old slot (taken_off (get_or new slot no_stash)) h.here.back)
+
+pub taken_like : {A : Type 0} (x : A) (slot : ℕ) (old new : List (Stash A)) → ChangesAt slot (IsTakenOff x) old new →
+    StashesLike old (at_slot (put_on x) slot new)
+taken_like x slot old new h =
+    subst (StashesLike old) (sym (set_twice slot (IsTakenOff x) (put_on x) old new h))
+    (set_like old slot (put_on x (get_or new slot no_stash)) h.here.back)
+
+-- a view with stashes like those that it had
+pub like_scalars : (base low : ℕ) (v : View) (stashes : List (Stash ℕ)) → StashesLike v.parts.scalar_stashes stashes →
+    Like base low v (with_scalar_stashes stashes v)
+like_scalars base low v stashes like = record {
+  registers_count = refl;
+  registers_same = λ r few. refl;
+  home_same = refl;
+  statuses_same = refl;
+  parts_like = record { others = refl; scalars = like; arrays = stashes_refl v.parts.array_stashes };
+  returns_count = refl;
+  returns_same = λ k few. refl;
+}
+
+-- a number that was taken off became the number of its scalar, or not
+pub restored_here : (slot home number : ℕ) (registers : List ℕ) (old new : List (Stash ℕ)) → home ≡ slot →
+    ChangesAt slot (IsTakenOff number) old new →
+    IsRestoredTo slot home registers (slice_set registers slot number) old new
+restored_here slot home number registers old new same taken =
+    let yes : (home == slot) ≡ true = grind (arith, nat_tests, same) in
+    record {
+      number = number;
+      taken = taken;
+      registers_are = sym (ap (λ b. if b then slice_set registers slot number else registers) yes);
+    }
+
+pub restored_elsewhere : (slot home number : ℕ) (registers : List ℕ) (old new : List (Stash ℕ)) → (home ≡ slot → ⊥) →
+    ChangesAt slot (IsTakenOff number) old new → IsRestoredTo slot home registers registers old new
+restored_elsewhere slot home number registers old new other taken =
+    let no : (home == slot) ≡ false = grind (arith, nat_tests, other) in
+    record {
+      number = number;
+      taken = taken;
+      registers_are = sym (ap (λ b. if b then slice_set registers slot number else registers) no);
+    }

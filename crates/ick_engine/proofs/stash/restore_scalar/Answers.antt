@@ -1,0 +1,70 @@
+use Rattle.std.proofs.Common.{sym, ◌∙◌, subst, map, get_or}
+use Rattle.std.specs.Prelude.{slice_set}
+use Rattle.ick_engine.specs.Stashes.{IsTakenOff, ChangesAt}
+use Rattle.ick_engine.specs.Undo.{StashesLike, at_slot, put_on, with_scalar_stashes}
+use Rattle.ick_engine.specs.View.{Parts, no_stash, numbers_of}
+use Rattle.ick_engine.proofs.StashingLemmas.{changes_at, kept_at, like_scalars, restored_elsewhere, restored_here, taken_like}
+use Rattle.ick_engine.proofs.stash.restore_scalar.Goals as goal
+
+pub returns-in_default-clause-stashes : goal.returns-in_default-clause-stashes
+returns-in_default-clause-stashes g c =
+    kept_at numbers_of c.args.stashes.now.items c.args.slot c.index_mut.result.now c.take_newest.new.self no_stash
+    c.requires.slot c.index_mut.ensures.value c.in_default.ensures.same
+
+pub returns-in_default-clause-notes : goal.returns-in_default-clause-notes
+returns-in_default-clause-notes g c = λ k v m registers same h.
+    let new = map numbers_of (slice_set c.args.stashes.now.items c.args.slot c.take_newest.new.self) in
+    let kept =
+    kept_at numbers_of c.args.stashes.now.items c.args.slot c.index_mut.result.now c.take_newest.new.self no_stash
+    c.requires.slot c.index_mut.ensures.value c.in_default.ensures.same in
+    subst (λ r. g.N.Notes.Undoes c.args.notes.now k (with_scalar_stashes new (record v { registers = r })) m) registers
+    (subst (λ l. g.N.Notes.Undoes c.args.notes.now k (with_scalar_stashes l v) m) (same ∙ sym kept) h)
+
+pub returns-then-home-slot-clause-restored : goal.returns-then-home-slot-clause-restored
+returns-then-home-slot-clause-restored g c =
+    let old = map numbers_of c.args.stashes.now.items in
+    let new = map numbers_of (slice_set c.args.stashes.now.items c.args.slot c.take_newest.new.self) in
+    restored_elsewhere c.args.slot (get_or c.args.home.now c.args.slot 0) c.in-Some.number c.args.registers.now old new
+    c.if-home-slot.true
+    (changes_at numbers_of (IsTakenOff c.in-Some.number) c.args.stashes.now.items c.args.slot c.index_mut.result.now
+    c.take_newest.new.self c.requires.slot c.index_mut.ensures.value c.in-Some.ensures.some)
+
+pub returns-then-home-slot-clause-notes : goal.returns-then-home-slot-clause-notes
+returns-then-home-slot-clause-notes g c = λ k v m registers same h.
+    let old = map numbers_of c.args.stashes.now.items in
+    let new = map numbers_of (slice_set c.args.stashes.now.items c.args.slot c.take_newest.new.self) in
+    let number = c.in-Some.number in
+    let at : ChangesAt c.args.slot (IsTakenOff number) old new =
+    changes_at numbers_of (IsTakenOff number) c.args.stashes.now.items c.args.slot c.index_mut.result.now
+    c.take_newest.new.self c.requires.slot c.index_mut.ensures.value c.in-Some.ensures.some in
+    let back = at_slot (put_on number) c.args.slot new in
+    let like : StashesLike v.parts.scalar_stashes back =
+    subst (λ l. StashesLike l back) (sym same) (taken_like number c.args.slot old new at) in
+    subst (λ r. g.N.Notes.Undoes c.note.new.self k (with_scalar_stashes new (record v { registers = r })) m) registers
+    (c.note.ensures.notes k (with_scalar_stashes new v) m at.here.place
+    (c.law.ensures.alike k v (with_scalar_stashes back v) m
+    (like_scalars (g.N.Notes.base c.args.notes.now) (g.N.Notes.low c.args.notes.now) v back like) h))
+
+pub returns-clause-restored : goal.returns-clause-restored
+returns-clause-restored g c =
+    let old = map numbers_of c.args.stashes.now.items in
+    let new = map numbers_of (slice_set c.args.stashes.now.items c.args.slot c.take_newest.new.self) in
+    restored_here c.args.slot (get_or c.args.home.now c.args.slot 0) c.in-Some.number c.args.registers.now old new
+    c.if-home-slot.false
+    (changes_at numbers_of (IsTakenOff c.in-Some.number) c.args.stashes.now.items c.args.slot c.index_mut.result.now
+    c.take_newest.new.self c.requires.slot c.index_mut.ensures.value c.in-Some.ensures.some)
+
+pub returns-clause-notes : goal.returns-clause-notes
+returns-clause-notes g c = λ k v m registers same h.
+    let old = map numbers_of c.args.stashes.now.items in
+    let new = map numbers_of (slice_set c.args.stashes.now.items c.args.slot c.take_newest.new.self) in
+    let number = c.in-Some.number in
+    let at : ChangesAt c.args.slot (IsTakenOff number) old new =
+    changes_at numbers_of (IsTakenOff number) c.args.stashes.now.items c.args.slot c.index_mut.result.now
+    c.take_newest.new.self c.requires.slot c.index_mut.ensures.value c.in-Some.ensures.some in
+    let back = at_slot (put_on number) c.args.slot new in
+    let like : StashesLike v.parts.scalar_stashes back =
+    subst (λ l. StashesLike l back) (sym same) (taken_like number c.args.slot old new at) in
+    let p : Parts = record v.parts { scalar_stashes = new } in
+    c.note_restored.ensures.notes k number v m p registers at.here.place
+    (like_scalars (g.N.Notes.base c.args.notes.now) (g.N.Notes.low c.args.notes.now) v back like).parts_like h

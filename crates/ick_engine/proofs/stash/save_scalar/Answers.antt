@@ -1,0 +1,43 @@
+use Rattle.std.proofs.Common.{sym, ◌∙◌, subst, map}
+use Rattle.std.specs.Prelude.{slice_set, Result, Ok, Err, OnErr}
+use Rattle.ick_engine.specs.Stashes.{IsPutOn, ChangesAt}
+use Rattle.ick_engine.specs.Undo.{StashesLike, at_slot, taken_off, with_scalar_stashes}
+use Rattle.ick_engine.specs.View.{no_stash, numbers_of}
+use Rattle.ick_engine.proofs.StashingLemmas.{changes_at, kept_at, like_scalars, saved_like}
+use Rattle.ick_engine.proofs.stash.save_scalar.Goals as goal
+
+pub returns-clause-saved : goal.returns-clause-saved
+returns-clause-saved g c =
+    changes_at numbers_of (IsPutOn c.args.number) c.args.stashes.now.items c.args.slot c.index_mut.result.now c.save.new.self
+    c.requires.slot c.index_mut.ensures.value c.in_ok-save.ensures.ok
+
+on_err : {A E : Type 0} (r : Result A E) (P : Type 0) → P → OnErr r P
+on_err (Ok x) P h = tt
+on_err (Err e) P h = h
+
+pub returns-in_err-save-clause-same : goal.returns-in_err-save-clause-same
+returns-in_err-save-clause-same g c =
+    on_err c.from_residual.result _
+    (kept_at numbers_of c.args.stashes.now.items c.args.slot c.index_mut.result.now c.save.new.self no_stash
+    c.requires.slot c.index_mut.ensures.value c.in_err-save.ensures.err)
+
+pub returns-in_err-save-clause-notes : goal.returns-in_err-save-clause-notes
+returns-in_err-save-clause-notes g c = λ k v m same h.
+    let kept =
+    kept_at numbers_of c.args.stashes.now.items c.args.slot c.index_mut.result.now c.save.new.self no_stash
+    c.requires.slot c.index_mut.ensures.value c.in_err-save.ensures.err in
+    subst (λ l. g.N.Notes.Undoes c.args.notes.now k (with_scalar_stashes l v) m) (same ∙ sym kept) h
+
+pub returns-clause-notes : goal.returns-clause-notes
+returns-clause-notes g c = λ k v m same h.
+    let old = map numbers_of c.args.stashes.now.items in
+    let new = map numbers_of (slice_set c.args.stashes.now.items c.args.slot c.save.new.self) in
+    let at : ChangesAt c.args.slot (IsPutOn c.args.number) old new =
+    changes_at numbers_of (IsPutOn c.args.number) c.args.stashes.now.items c.args.slot c.index_mut.result.now c.save.new.self
+    c.requires.slot c.index_mut.ensures.value c.in_ok-save.ensures.ok in
+    let back = at_slot taken_off c.args.slot new in
+    let like : StashesLike v.parts.scalar_stashes back =
+    subst (λ l. StashesLike l back) (sym same) (saved_like c.args.number c.args.slot old new at) in
+    c.note.ensures.notes k (with_scalar_stashes new v) m tt
+    (c.law.ensures.alike k v (with_scalar_stashes back v) m
+    (like_scalars (g.N.Notes.base c.args.notes.now) (g.N.Notes.low c.args.notes.now) v back like) h)

@@ -1,0 +1,27 @@
+-- Values that are put on stashes and taken off.
+use Rattle.std.specs.Prelude.{ℕ, ◌≡◌, ◌<◌, ◌==◌, List, [], ◌∷◌, ◌++◌, length, slice_set, if◌then◌else◌}
+use Rattle.std.proofs.Common.{get_or}
+use Rattle.ick_engine.specs.Undo.{StashLike, put_on, taken_off}
+use Rattle.ick_engine.specs.View.{Stash, no_stash, used}
+
+-- a value was put on a stash, and can be taken off again
+pub record IsPutOn {A : Type 0} (x : A) (old new : Stash A) : Type 0 where
+  pub values : used new ≡ used old ++ x ∷ []
+  pub back : StashLike old (taken_off new)
+
+-- the newest value of a stash was taken off, and can be put on again
+pub record IsTakenOff {A : Type 0} (x : A) (old new : Stash A) : Type 0 where
+  pub values : used old ≡ used new ++ x ∷ []
+  pub place : new.depth < length new.items
+  pub back : StashLike old (put_on x new)
+
+-- one stash of many was changed
+pub record ChangesAt {A : Type 0} (slot : ℕ) (P : Stash A → Stash A → Type 0) (old new : List (Stash A)) : Type 0 where
+  pub others : new ≡ slice_set old slot (get_or new slot no_stash)
+  pub here : P (get_or old slot no_stash) (get_or new slot no_stash)
+
+-- the newest number of a stash became the number of its scalar, unless stores to it lead elsewhere
+pub record IsRestoredTo (slot home : ℕ) (registers after : List ℕ) (old new : List (Stash ℕ)) : Type 0 where
+  pub number : ℕ
+  pub taken : ChangesAt slot (IsTakenOff number) old new
+  pub registers_are : after ≡ (if home == slot then slice_set registers slot number else registers)
