@@ -10,7 +10,7 @@ use Rattle.ick_engine.specs.Undo.{StashLike, StashesLike, PartsLike, put_on, tak
 pub stash_refl : {A : Type 0} (s : Stash A) → StashLike s s
 stash_refl s = record { depth_same = refl; places = omega arith; values = refl }
 
-stash_trans : {A : Type 0} {a b c : Stash A} → StashLike a b → StashLike b c → StashLike a c
+pub stash_trans : {A : Type 0} {a b c : Stash A} → StashLike a b → StashLike b c → StashLike a c
 stash_trans p q = record {
   depth_same = q.depth_same ∙ p.depth_same;
   places = omega (arith, p.places, q.places);

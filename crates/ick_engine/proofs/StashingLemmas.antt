@@ -1,15 +1,17 @@
 -- Values that are put on stashes and taken off.
 use Rattle.std.proofs.Common.{◌≡◌, ℕ, zero, suc, ◌+◌, ◌-◌, ◌<◌, ◌≤◌, List, [], ◌∷◌, ◌++◌, refl, ap, ap₂, sym, ◌∙◌, subst}
 use Rattle.std.proofs.Common.{length, take, map, get_or, arith}
-use Rattle.std.specs.Prelude.{◌==◌, slice_set, if◌then◌else◌}
+use Rattle.std.specs.Prelude.{Result, Ok, Err, OnErr, ◌==◌, slice_set, if◌then◌else◌}
 use Rattle.std.proofs.Common.{true, false}
 use Rattle.std.proofs.lemmas.Bool.Decides.{nat_tests}
 use Rattle.std.proofs.lemmas.List.{length-set, length-map, length-append, map-set, get_or-map, set-set, set-get_or, get_or-set_same, take-set-le}
 use Rattle.std.proofs.Math.Seq.{take-suc}
+use Rattle.ick_code.specs.meaning.State.{Array}
 use Rattle.ick_engine.specs.Stashes.{IsPutOn, IsTakenOff, ChangesAt, IsRestoredTo}
-use Rattle.ick_engine.specs.Undo.{StashLike, StashesLike, Like, put_on, taken_off, at_slot, with_scalar_stashes}
+use Rattle.ick_engine.specs.Undo.{StashLike, StashesLike, Like, put_on, taken_off, at_slot, with_array_stashes}
+use Rattle.ick_engine.specs.Undo.{with_scalar_stashes}
 use Rattle.ick_engine.specs.View.{View, Stash, no_stash}
-use Rattle.ick_engine.proofs.StashLemmas.{take_put, put_deeper, set_each, stash_refl, stashes_refl}
+use Rattle.ick_engine.proofs.StashLemmas.{take_put, put_deeper, set_each, stash_refl, stash_trans, stashes_refl}
 
 -- a value goes to a spare place
 pub put_spare : {A : Type 0} (x : A) (s : Stash A) → s.depth < length s.items →
@@ -140,6 +142,51 @@ like_scalars base low v stashes like = record {
   returns_same = λ k few. refl;
 }
 
+pub like_arrays : (base low : ℕ) (v : View) (stashes : List (Stash Array)) → StashesLike v.parts.array_stashes stashes →
+    Like base low v (with_array_stashes stashes v)
+like_arrays base low v stashes like = record {
+  registers_count = refl;
+  registers_same = λ r few. refl;
+  home_same = refl;
+  statuses_same = refl;
+  parts_like = record { others = refl; scalars = stashes_refl v.parts.scalar_stashes; arrays = like };
+  returns_count = refl;
+  returns_same = λ k few. refl;
+}
+
+-- a stash that has a further place, or another value in a spare one
+pub grown_like : {A : Type 0} (x : A) (s : Stash A) (items : List A) → items ≡ s.items ++ x ∷ [] →
+    s.depth ≤ length s.items → StashLike s (record { items = items; depth = s.depth })
+grown_like x s items is few = record {
+  depth_same = refl;
+  places = omega (arith, ap length is, length-append s.items (x ∷ []));
+  values = ap (take s.depth) is ∙ take_front s.items (x ∷ []) s.depth few;
+}
+
+pub spare_like : {A : Type 0} (x : A) (s : Stash A) → StashLike s (record { items = slice_set s.items s.depth x; depth = s.depth })
+spare_like x s =
+    let few : s.depth ≤ s.depth = omega arith in
+    record {
+      depth_same = refl;
+      places = omega (arith, length-set s.items s.depth x);
+      values = take-set-le s.depth s.items s.depth x few;
+    }
+
+pub put_grown : {A : Type 0} (x : A) (old s new : Stash A) → StashLike old s → IsPutOn x s new → IsPutOn x old new
+put_grown x old s new like put = record {
+  values = put.values ∙ ap (λ l. l ++ x ∷ []) like.values;
+  back = stash_trans like put.back;
+}
+
+-- one stash that is like it was
+pub like_at : {A B : Type 0} (g : B → Stash A) (xs : List B) (slot : ℕ) (old new : B) → slot < length xs →
+    old ≡ get_or xs slot old → StashLike (g old) (g new) → StashesLike (map g xs) (map g (slice_set xs slot new))
+like_at g xs slot old new low is like =
+    let before : get_or (map g xs) slot no_stash ≡ g old =
+    get_or-map g xs slot old no_stash low ∙ ap g (sym is) in
+    subst (StashesLike (map g xs)) (sym (map-set g xs slot new))
+    (set_like (map g xs) slot (g new) (subst (λ s. StashLike s (g new)) (sym before) like))
+
 -- a number that was taken off became the number of its scalar, or not
 pub restored_here : (slot home number : ℕ) (registers : List ℕ) (old new : List (Stash ℕ)) → home ≡ slot →
     ChangesAt slot (IsTakenOff number) old new →
@@ -161,3 +208,7 @@ restored_elsewhere slot home number registers old new other taken =
       taken = taken;
       registers_are = sym (ap (λ b. if b then slice_set registers slot number else registers) no);
     }
+
+pub on_err : {A E : Type 0} (r : Result A E) (P : Type 0) → P → OnErr r P
+on_err (Ok x) P h = tt
+on_err (Err e) P h = h

@@ -1,6 +1,6 @@
 //! Copies of lists.
 
-ghost use Rattle.std.specs.Prelude.{◌≡◌, ◌++◌, ◌≤◌, drop, length, map, take, IfOk};
+ghost use Rattle.std.specs.Prelude.{◌≡◌, ◌++◌, ◌≤◌, drop, length, map, take, IfOk, OnOk};
 ghost use Rattle.ick_engine.specs.View.{array_of, is_hidden};
 
 use crate::memory::Array;
@@ -43,6 +43,18 @@ pub fn copy_array(alloc: Global, array: &Array) -> Result<Array, NoMemory>
         elements: copy_numbers(alloc, &array.elements)?,
         hidden: array.hidden,
     })
+}
+
+/// Copies an array over the buffers of another one. If memory runs out, the other one may have any
+/// value.
+pub fn copy_into(place: &mut Array, array: &Array) -> Result<(), NoMemory>
+    ensures { OnOk result (array_of place.new ≡ array_of array.now) }
+{
+    place.dimensions.clear();
+    place.elements.clear();
+    place.dimensions.extend_from_slice(&array.dimensions)?;
+    place.elements.extend_from_slice(&array.elements)?;
+    Ok(())
 }
 
 /// Copies arrays.

@@ -24,8 +24,7 @@ pub enum Exit {
     Room,
     /// A choice is asked: whether the statement is done.
     Asked,
-    /// Memory has run out within a statement. What was noted can be undone, and the steps that were
-    /// left before the statement still are.
+    /// Memory has run out within a statement. What was noted can be undone.
     NoMemory,
     /// The run has ended.
     Stopped(Ended),

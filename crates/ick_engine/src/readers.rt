@@ -1,15 +1,15 @@
 //! Readers of the state that a memory represents.
 
-use crate::memory::Memory;
+use crate::memory::{Array, Memory};
 use ick_lowering::Lowered;
 
 impl Memory {
-    ghost use Rattle.std.specs.Prelude.{◌≡◌, ◌<◌, ◌≤◌, length, reverse, slice_get, Some};
+    ghost use Rattle.std.specs.Prelude.{◌≡◌, ◌<◌, ◌≤◌, length, map, reverse, slice_get, Some};
     ghost use Rattle.ick_code.specs.Compiled.{code_program};
     ghost use Rattle.ick_source.specs.declared.tree.Name.{Name};
     ghost use Rattle.ick_engine.specs.Memory.{view_in};
     ghost use Rattle.ick_engine.specs.Steady.{IsReady};
-    ghost use Rattle.ick_engine.specs.View.{Input, array_names, scalar_names, state_of};
+    ghost use Rattle.ick_engine.specs.View.{Input, array_names, array_of, scalar_names, state_of};
 
     /// Returns the number of the scalar in a slot.
     pub fn number(&self, program: &Lowered<'_, '_>, slot: u32) -> u32
@@ -113,5 +113,75 @@ impl Memory {
         let code = program.code;
         code.law();
         self.rest.arrays[slot as usize].hidden
+    }
+
+    /// Returns the numbers on the stash of the scalar in a slot, the newest last.
+    pub fn stashed_numbers(&self, program: &Lowered<'_, '_>, slot: u32) -> &[u32]
+        requires slot { slot < length (scalar_names program.now.code.now) }
+        requires ready { IsReady program.now.code.now program.now.parts (view_in self.now) }
+        ensures { (input : Input) (name : Name) →
+            slice_get (scalar_names program.now.code.now) slot ≡ Some name →
+            (state_of program.now.code.now program.now.parts input (view_in
+            self.now)).stashed_scalars name ≡ reverse result.now }
+    {
+        let code = program.code;
+        code.law();
+        let stash = &self.rest.scalar_stashes[slot as usize];
+        &stash.items[..stash.depth]
+    }
+
+    /// Returns the arrays on the stash of the array in a slot, the newest last.
+    pub fn stashed_arrays(&self, program: &Lowered<'_, '_>, slot: u32) -> &[Array]
+        requires slot { slot < length (array_names program.now.code.now) }
+        requires ready { IsReady program.now.code.now program.now.parts (view_in self.now) }
+        ensures { (input : Input) (name : Name) →
+            slice_get (array_names program.now.code.now) slot ≡ Some name →
+            (state_of program.now.code.now program.now.parts input (view_in
+            self.now)).stashed_arrays name ≡ reverse (map array_of result.now) }
+    {
+        let code = program.code;
+        code.law();
+        let stash = &self.rest.array_stashes[slot as usize];
+        &stash.items[..stash.depth]
+    }
+
+    /// Returns how many bytes of the input were taken.
+    pub fn taken(&self, program: &Lowered<'_, '_>) -> usize
+        ensures { (input : Input) →
+            (state_of program.now.code.now program.now.parts input (view_in self.now)).input
+            ≡ input.left result }
+    {
+        let _ = program;
+        self.rest.taken
+    }
+
+    /// Returns the output.
+    pub fn output(&self, program: &Lowered<'_, '_>) -> &[u8]
+        ensures { (input : Input) →
+            (state_of program.now.code.now program.now.parts input (view_in self.now)).output
+            ≡ result.now }
+    {
+        let _ = program;
+        &self.rest.output
+    }
+
+    /// Returns the position of the tape that arrays are printed to.
+    pub fn last(&self, program: &Lowered<'_, '_>) -> u8
+        ensures { (input : Input) →
+            (state_of program.now.code.now program.now.parts input (view_in self.now)).last
+            ≡ result }
+    {
+        let _ = program;
+        self.rest.last
+    }
+
+    /// Returns the position of the tape that arrays are read from.
+    pub fn lastin(&self, program: &Lowered<'_, '_>) -> u8
+        ensures { (input : Input) →
+            (state_of program.now.code.now program.now.parts input (view_in self.now)).lastin
+            ≡ result }
+    {
+        let _ = program;
+        self.rest.lastin
     }
 }

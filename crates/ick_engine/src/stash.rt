@@ -6,10 +6,13 @@ ghost use Rattle.std.specs.Bool.{OnFalse, OnTrue};
 ghost use Rattle.std.proofs.Common.{get_or};
 ghost use Rattle.ick_lowering.specs.Extends.{Extends};
 ghost use Rattle.ick_engine.specs.Stashes.{ChangesAt, IsPutOn, IsRestoredTo, IsTakenOff};
-ghost use Rattle.ick_engine.specs.Undo.{at_slot, put_on, taken_off, with_scalar_stashes};
+ghost use Rattle.ick_code.specs.meaning.State.{no_array};
+ghost use Rattle.ick_engine.specs.Undo.{at_slot, put_on, taken_off, with_array_stashes};
+ghost use Rattle.ick_engine.specs.Undo.{with_scalar_stashes, StashLike, StashesLike};
 ghost use Rattle.ick_engine.specs.View.{View, array_of, arrays_of, no_stash, numbers_of, used};
 
 use crate::change::Entry;
+use crate::copy::copy_into;
 use crate::memory::{Array, ArrayStash, NumberStash};
 use crate::notes::Notes;
 use ick_bits::NoMemory;
@@ -64,6 +67,37 @@ impl NumberStash {
 }
 
 impl ArrayStash {
+    /// Makes a spare place, if there is none. The arrays on the stash stay.
+    fn grow(&mut self) -> Result<(), NoMemory>
+        ensures spare { OnOk result (self.new.depth < length self.new.items.items) }
+        ensures like { StashLike (arrays_of self.old) (arrays_of self.new) }
+        ensures depth { self.new.depth ≡ self.old.depth }
+    {
+        if self.depth < self.items.len() {
+            return Ok(());
+        }
+        let alloc = *self.items.allocator();
+        self.items.push(Array {
+            dimensions: Vec::new(alloc),
+            elements: Vec::new(alloc),
+            hidden: false,
+        })?;
+        Ok(())
+    }
+
+    /// Puts a copy of an array on the stash, over the buffers of a spare place. If memory runs out,
+    /// the arrays on the stash stay.
+    fn save(&mut self, array: &Array) -> Result<(), NoMemory>
+        ensures ok { OnOk result (IsPutOn (array_of array.now) (arrays_of self.old)
+            (arrays_of self.new)) }
+        ensures err { OnErr result (StashLike (arrays_of self.old) (arrays_of self.new)) }
+    {
+        self.grow()?;
+        copy_into(&mut self.items[self.depth], array)?;
+        self.depth += 1;
+        Ok(())
+    }
+
     /// Takes the newest array off, if there is one. Its place and its buffers stay.
     fn drop_newest(&mut self)
         ensures { arrays_of self.new ≡ taken_off (arrays_of self.old) }
@@ -152,6 +186,36 @@ pub fn save_scalar<N: Notes>(
     stashes[slot as usize].save(number)?;
     notes.law();
     notes.note(Entry::ScalarSaved(slot));
+    Ok(())
+}
+
+/// Puts a copy of the array in a slot on its stash, and notes that (Revised Manual, 4.4.5). If
+/// memory runs out, the arrays on the stash stay.
+pub fn save_array<N: Notes>(
+    arrays: &Vec<Array>,
+    stashes: &mut Vec<ArrayStash>,
+    notes: &mut N,
+    slot: u32,
+) -> Result<(), NoMemory>
+    requires array { slot < length arrays.now.items }
+    requires slot { slot < length stashes.old.items }
+    requires room { 0 < N.room notes.old }
+    ensures saved { OnOk result (ChangesAt slot
+        (IsPutOn (get_or (map array_of arrays.now.items) slot no_array))
+        (map arrays_of stashes.old.items) (map arrays_of stashes.new.items)) }
+    ensures same { OnErr result (StashesLike (map arrays_of stashes.old.items)
+        (map arrays_of stashes.new.items)) }
+    ensures room { N.room notes.old ≤ N.room notes.new + 1 }
+    ensures low { N.low notes.new ≡ N.low notes.old }
+    ensures base { N.base notes.new ≡ N.base notes.old }
+    ensures changes { Extends (N.changes notes.old) (N.changes notes.new) }
+    ensures notes { (k : ℕ) (v m : View) →
+        v.parts.array_stashes ≡ map arrays_of stashes.old.items → N.Undoes notes.old k v m →
+        N.Undoes notes.new k (with_array_stashes (map arrays_of stashes.new.items) v) m }
+{
+    notes.law();
+    stashes[slot as usize].save(&arrays[slot as usize])?;
+    notes.note(Entry::ArraySaved(slot));
     Ok(())
 }
 

@@ -1,19 +1,15 @@
 use Rattle.std.proofs.Common.{sym, ◌∙◌, subst, map}
-use Rattle.std.specs.Prelude.{slice_set, Result, Ok, Err, OnErr}
+use Rattle.std.specs.Prelude.{slice_set}
 use Rattle.ick_engine.specs.Stashes.{IsPutOn, ChangesAt}
 use Rattle.ick_engine.specs.Undo.{StashesLike, at_slot, taken_off, with_scalar_stashes}
 use Rattle.ick_engine.specs.View.{no_stash, numbers_of}
-use Rattle.ick_engine.proofs.StashingLemmas.{changes_at, kept_at, like_scalars, saved_like}
+use Rattle.ick_engine.proofs.StashingLemmas.{on_err, changes_at, kept_at, like_scalars, saved_like}
 use Rattle.ick_engine.proofs.stash.save_scalar.Goals as goal
 
 pub returns-clause-saved : goal.returns-clause-saved
 returns-clause-saved g c =
     changes_at numbers_of (IsPutOn c.args.number) c.args.stashes.now.items c.args.slot c.index_mut.result.now c.save.new.self
     c.requires.slot c.index_mut.ensures.value c.in_ok-save.ensures.ok
-
-on_err : {A E : Type 0} (r : Result A E) (P : Type 0) → P → OnErr r P
-on_err (Ok x) P h = tt
-on_err (Err e) P h = h
 
 pub returns-in_err-save-clause-same : goal.returns-in_err-save-clause-same
 returns-in_err-save-clause-same g c =

@@ -1,0 +1,52 @@
+use Rattle.std.proofs.Common.{◌≡◌, ap, sym, ◌∙◌, subst, map, get_or}
+use Rattle.std.specs.Prelude.{slice_set}
+use Rattle.std.proofs.lemmas.List.{get_or-map}
+use Rattle.ick_code.specs.meaning.State.{no_array}
+use Rattle.ick_engine.specs.Stashes.{IsPutOn, ChangesAt}
+use Rattle.ick_engine.specs.Undo.{StashesLike, at_slot, taken_off, with_array_stashes}
+use Rattle.ick_engine.specs.View.{array_of, arrays_of}
+use Rattle.ick_engine.proofs.StashingLemmas.{changes_at, like_arrays, like_at, on_err, saved_like}
+use Rattle.ick_engine.proofs.stash.save_array.Goals as goal
+
+pub returns-in_err-save-clause-same : goal.returns-in_err-save-clause-same
+returns-in_err-save-clause-same g c =
+    on_err c.from_residual.result _
+    (like_at arrays_of c.args.stashes.now.items c.args.slot c.index_mut.result.now c.save.new.self c.requires.slot
+    c.index_mut.ensures.value c.in_err-save.ensures.err)
+
+pub returns-in_err-save-clause-notes : goal.returns-in_err-save-clause-notes
+returns-in_err-save-clause-notes g c = λ k v m same h.
+    let new = map arrays_of (slice_set c.args.stashes.now.items c.args.slot c.save.new.self) in
+    let like : StashesLike v.parts.array_stashes new =
+    subst (λ l. StashesLike l new) (sym same)
+    (like_at arrays_of c.args.stashes.now.items c.args.slot c.index_mut.result.now c.save.new.self c.requires.slot
+    c.index_mut.ensures.value c.in_err-save.ensures.err) in
+    c.law.ensures.alike k v (with_array_stashes new v) m
+    (like_arrays (g.N.Notes.base c.args.notes.now) (g.N.Notes.low c.args.notes.now) v new like) h
+
+pub returns-clause-saved : goal.returns-clause-saved
+returns-clause-saved g c =
+    let arrays = c.args.arrays.now.items in
+    let array : array_of c.index.result.now ≡ get_or (map array_of arrays) c.args.slot no_array =
+    ap array_of c.index.ensures
+    ∙ sym (get_or-map array_of arrays c.args.slot c.index.result.now no_array c.requires.array) in
+    let old = map arrays_of c.args.stashes.now.items in
+    let new = map arrays_of (slice_set c.args.stashes.now.items c.args.slot c.save.new.self) in
+    subst (λ x. ChangesAt c.args.slot (IsPutOn x) old new) array
+    (changes_at arrays_of (IsPutOn (array_of c.index.result.now)) c.args.stashes.now.items c.args.slot
+    c.index_mut.result.now c.save.new.self c.requires.slot c.index_mut.ensures.value c.in_ok-save.ensures.ok)
+
+pub returns-clause-notes : goal.returns-clause-notes
+returns-clause-notes g c = λ k v m same h.
+    let old = map arrays_of c.args.stashes.now.items in
+    let new = map arrays_of (slice_set c.args.stashes.now.items c.args.slot c.save.new.self) in
+    let x = array_of c.index.result.now in
+    let at : ChangesAt c.args.slot (IsPutOn x) old new =
+    changes_at arrays_of (IsPutOn x) c.args.stashes.now.items c.args.slot c.index_mut.result.now c.save.new.self
+    c.requires.slot c.index_mut.ensures.value c.in_ok-save.ensures.ok in
+    let back = at_slot taken_off c.args.slot new in
+    let like : StashesLike v.parts.array_stashes back =
+    subst (λ l. StashesLike l back) (sym same) (saved_like x c.args.slot old new at) in
+    c.note.ensures.notes k (with_array_stashes new v) m tt
+    (c.law.ensures.alike k v (with_array_stashes back v) m
+    (like_arrays (g.N.Notes.base c.args.notes.now) (g.N.Notes.low c.args.notes.now) v back like) h)
