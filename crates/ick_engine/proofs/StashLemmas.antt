@@ -1,11 +1,15 @@
 -- Stashes that are alike, and changes of one of them.
 use Rattle.std.proofs.Common.{◌≡◌, ℕ, zero, suc, ◌+◌, ◌-◌, ◌<◌, ◌≤◌, List, [], ◌∷◌, ◌++◌, refl, ap, ap₂, sym, ◌∙◌, subst}
-use Rattle.std.proofs.Common.{length, take, map, get_or, arith, true, false}
+use Rattle.std.proofs.Common.{Bool, length, take, map, get_or, arith, true, false}
 use Rattle.std.specs.Prelude.{slice_set, nat_lt, if◌then◌else◌}
 use Rattle.std.proofs.lemmas.Bool.Decides.{nat_tests}
 use Rattle.std.proofs.lemmas.List.{length-set, set_past, map-set, get_or-map}
-use Rattle.ick_engine.specs.View.{Parts, Stash, no_stash, used}
-use Rattle.ick_engine.specs.Undo.{StashLike, StashesLike, PartsLike, put_on, taken_off, at_slot}
+use Rattle.ick_code.specs.meaning.State.{Array, no_array}
+use Rattle.ick_engine.specs.declared.change.ArrayChange.{ArrayChange}
+use Rattle.ick_engine.specs.declared.change.ArrayChange.TheVariants as now
+use Rattle.ick_engine.specs.View.{View, Parts, Stash, no_stash, used}
+use Rattle.ick_engine.specs.Undo.{StashLike, StashesLike, PartsLike, HasPlace, IsUndoable, array_was, put_on, taken_off}
+use Rattle.ick_engine.specs.Undo.{at_slot, given_back, undone_array}
 
 pub stash_refl : {A : Type 0} (s : Stash A) → StashLike s s
 stash_refl s = record { depth_same = refl; places = omega arith; values = refl }
@@ -146,3 +150,63 @@ pub set_at : {A B : Type 0} (g : B → Stash A) (f : Stash A → Stash A) (xs : 
 set_at g f xs slot old new low is same =
     map-set g xs slot new
     ∙ ap (slice_set (map g xs) slot) (same ∙ ap f (ap g is ∙ sym (get_or-map g xs slot old no_stash low)))
+
+-- parts of which one stash is changed in the same way
+pub scalars_alike : (f : Stash ℕ → Stash ℕ) (slot : ℕ) (p q : Parts) → PartsLike p q →
+    StashLike (f (get_or p.scalar_stashes slot no_stash)) (f (get_or q.scalar_stashes slot no_stash)) →
+    PartsLike (record p { scalar_stashes = at_slot f slot p.scalar_stashes })
+    (record q { scalar_stashes = at_slot f slot q.scalar_stashes })
+scalars_alike f slot p q like one = record {
+  others = like.others;
+  scalars = at_slot_like f slot p.scalar_stashes q.scalar_stashes like.scalars one;
+  arrays = like.arrays;
+}
+
+pub arrays_alike : (f : Stash Array → Stash Array) (slot : ℕ) (p q : Parts) → PartsLike p q →
+    StashLike (f (get_or p.array_stashes slot no_stash)) (f (get_or q.array_stashes slot no_stash)) →
+    PartsLike (record p { array_stashes = at_slot f slot p.array_stashes })
+    (record q { array_stashes = at_slot f slot q.array_stashes })
+arrays_alike f slot p q like one = record {
+  others = like.others;
+  scalars = like.scalars;
+  arrays = at_slot_like f slot p.array_stashes q.array_stashes like.arrays one;
+}
+
+given_alike : (slot : ℕ) (old : Array) (p q : Parts) → PartsLike p q → HasPlace p.array_stashes slot →
+    PartsLike (given_back slot old p) (given_back slot old q)
+given_alike slot old p q like place =
+    let present : get_or q.arrays slot no_array ≡ get_or p.arrays slot no_array =
+    ap (λ r. get_or r.arrays slot no_array) like.others in
+    record {
+      others = ap {A = Parts} (λ r. record r { arrays = slice_set r.arrays slot old }) like.others;
+      scalars = like.scalars;
+      arrays =
+          subst (λ a. StashesLike (at_slot (put_on (get_or p.arrays slot no_array)) slot p.array_stashes)
+          (at_slot (put_on a) slot q.array_stashes)) (sym present)
+          (at_slot_like (put_on (get_or p.arrays slot no_array)) slot p.array_stashes q.array_stashes like.arrays
+          (put_on_like (get_or p.arrays slot no_array) place (like.arrays.each slot)));
+    }
+
+restored_alike : (slot : ℕ) (old : Array) (p q : Parts) → PartsLike p q → HasPlace p.array_stashes slot →
+    PartsLike (undone_array now.Restored slot old p) (undone_array now.Restored slot old q)
+restored_alike slot old p q like place =
+    let count : nat_lt slot (length q.arrays) ≡ nat_lt slot (length p.arrays) =
+    ap (λ r. nat_lt slot (length r.arrays)) like.others in
+    subst (λ b. PartsLike (undone_array now.Restored slot old p) (if b then given_back slot old q else q)) (sym count)
+    (cases (nat_lt slot (length p.arrays)))
+  where
+    cases : (b : Bool) → PartsLike (if b then given_back slot old p else p) (if b then given_back slot old q else q)
+    cases true = given_alike slot old p q like place
+    cases false = like
+
+pub array_alike : (base : ℕ) (change : ArrayChange) (slot : ℕ) (old : Array) (v : View) (q : Parts) →
+    PartsLike v.parts q → IsUndoable base (array_was change slot old) v →
+    PartsLike (undone_array change slot old v.parts) (undone_array change slot old q)
+array_alike base now.Replaced slot old v q like can = record {
+  others = ap {A = Parts} (λ r. record r { arrays = slice_set r.arrays slot old }) like.others;
+  scalars = like.scalars;
+  arrays = like.arrays;
+}
+array_alike base now.Taken slot old v q like can =
+    arrays_alike (put_on old) slot v.parts q like (put_on_like old can (like.arrays.each slot))
+array_alike base now.Restored slot old v q like can = restored_alike slot old v.parts q like can

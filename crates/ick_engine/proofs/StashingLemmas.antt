@@ -1,16 +1,19 @@
 -- Values that are put on stashes and taken off.
 use Rattle.std.proofs.Common.{◌≡◌, ℕ, zero, suc, ◌+◌, ◌-◌, ◌<◌, ◌≤◌, List, [], ◌∷◌, ◌++◌, refl, ap, ap₂, sym, ◌∙◌, subst}
 use Rattle.std.proofs.Common.{length, take, map, get_or, arith}
-use Rattle.std.specs.Prelude.{Result, Ok, Err, OnErr, ◌==◌, slice_set, if◌then◌else◌}
+use Rattle.std.specs.Prelude.{nat_lt, Result, Ok, Err, OnErr, ◌==◌, slice_set, if◌then◌else◌}
 use Rattle.std.proofs.Common.{true, false}
 use Rattle.std.proofs.lemmas.Bool.Decides.{nat_tests}
 use Rattle.std.proofs.lemmas.List.{length-set, length-map, length-append, map-set, get_or-map, set-set, set-get_or, get_or-set_same, take-set-le}
 use Rattle.std.proofs.Math.Seq.{take-suc}
-use Rattle.ick_code.specs.meaning.State.{Array}
+use Rattle.ick_code.specs.meaning.State.{Array, no_array}
+use Rattle.ick_engine.specs.declared.change.ArrayChange.TheVariants as now
+use Rattle.ick_engine.specs.declared.memory.Array.{Array as Kept}
+use Rattle.ick_engine.specs.declared.memory.ArrayStash.{ArrayStash}
 use Rattle.ick_engine.specs.Stashes.{IsPutOn, IsTakenOff, ChangesAt, IsRestoredTo}
 use Rattle.ick_engine.specs.Undo.{StashLike, StashesLike, Like, put_on, taken_off, at_slot, with_array_stashes}
-use Rattle.ick_engine.specs.Undo.{with_scalar_stashes}
-use Rattle.ick_engine.specs.View.{View, Stash, no_stash}
+use Rattle.ick_engine.specs.Undo.{with_arrays, with_scalar_stashes, array_was, given_back, undone}
+use Rattle.ick_engine.specs.View.{View, Parts, Stash, array_of, arrays_of, no_stash}
 use Rattle.ick_engine.proofs.StashLemmas.{take_put, put_deeper, set_each, stash_refl, stash_trans, stashes_refl}
 
 -- a value goes to a spare place
@@ -74,6 +77,31 @@ take_newest {A} x s depth next low is =
       back = record {
         depth_same = deeper;
         places = omega (arith, length-set s.items depth x);
+        values = ap₂ (λ d l. take d l) deeper own;
+      };
+    }
+
+-- in exchange for another one, which is spare from then on
+pub take_replaced : {A : Type 0} (x y : A) (s : Stash A) (depth : ℕ) → depth + 1 ≡ s.depth → depth < length s.items →
+    x ≡ get_or s.items depth x → IsTakenOff x s (record { items = slice_set s.items depth y; depth = depth })
+take_replaced {A} x y s depth next low is =
+    let new : Stash A = record { items = slice_set s.items depth y; depth = depth } in
+    let own : slice_set (slice_set s.items depth y) depth x ≡ s.items =
+    set-set s.items depth y x ∙ ap (slice_set s.items depth) is ∙ set-get_or s.items depth x in
+    let one : suc depth ≡ s.depth = omega (arith, next) in
+    let few : depth ≤ depth = omega arith in
+    let there : depth < length (slice_set s.items depth y) = omega (arith, low, length-set s.items depth y) in
+    let deeper : (put_on x new).depth ≡ s.depth = put_deeper x new there ∙ next in
+    record {
+      values =
+          ap (λ d. take d s.items) (sym one) ∙ take-suc s.items depth x low
+          ∙ ap (λ z. take depth s.items ++ z ∷ []) (sym is)
+          ∙ ap (λ l. l ++ x ∷ []) (sym (take-set-le depth s.items depth y few));
+      place = there;
+      back = record {
+        depth_same = deeper;
+        places =
+            omega (arith, length-set s.items depth y, length-set (slice_set s.items depth y) depth x);
         values = ap₂ (λ d l. take d l) deeper own;
       };
     }
@@ -212,3 +240,51 @@ restored_elsewhere slot home number registers old new other taken =
 pub on_err : {A E : Type 0} (r : Result A E) (P : Type 0) → P → OnErr r P
 on_err (Ok x) P h = tt
 on_err (Err e) P h = h
+
+any_default : {A : Type 0} (xs : List A) (k : ℕ) (d e : A) → k < length xs → get_or xs k d ≡ get_or xs k e
+any_default [] k d e low = absurd (omega (arith, low))
+any_default (x ∷ xs) zero d e low = refl
+any_default (x ∷ xs) (suc k) d e low = any_default xs k d e (omega (arith, low))
+
+-- the newest array of the stash in a slot is taken off
+pub drops_at : (xs : List ArrayStash) (slot : ℕ) (stash met new : ArrayStash) (e : Kept) → slot < length xs →
+    stash ≡ get_or xs slot stash → met ≡ get_or xs slot met → arrays_of new ≡ taken_off (arrays_of met) →
+    0 < (get_or (map arrays_of xs) slot no_stash).depth → e ≡ get_or stash.items.items (stash.depth - 1) e →
+    ChangesAt slot (IsTakenOff (array_of e)) (map arrays_of xs) (map arrays_of (slice_set xs slot new))
+drops_at xs slot stash met new e low is met_is new_is some e_is =
+    let x = array_of e in
+    let at = stash.depth - 1 in
+    let same : met ≡ stash = met_is ∙ any_default xs slot met stash low ∙ sym is in
+    let depth : (get_or (map arrays_of xs) slot no_stash).depth ≡ stash.depth =
+    ap (λ s. s.depth) (get_or-map arrays_of xs slot stash no_stash low ∙ ap arrays_of (sym is)) in
+    let next : stash.depth - 1 + 1 ≡ stash.depth = omega (arith, some, depth) in
+    let inside : stash.depth - 1 < length stash.items.items = omega (arith, stash.there, some, depth) in
+    let inside' : stash.depth - 1 < length (map array_of stash.items.items) =
+    omega (arith, inside, length-map stash.items.items array_of) in
+    changes_at arrays_of (IsTakenOff x) xs slot stash new low is
+    (subst (IsTakenOff x (arrays_of stash)) (sym (new_is ∙ ap (λ s. taken_off (arrays_of s)) same))
+    (take_newest x (arrays_of stash) at next inside'
+    (ap array_of e_is ∙ sym (get_or-map array_of stash.items.items at e x inside))))
+
+-- an array that was exchanged for the newest one of its stash
+pub exchanged_like : (base low slot : ℕ) (v : View) (x : Array) (new : List (Stash Array)) → slot < length v.parts.arrays →
+    ChangesAt slot (IsTakenOff x) v.parts.array_stashes new →
+    Like base low v
+    (undone (array_was now.Restored slot (get_or v.parts.arrays slot no_array))
+    (with_array_stashes new (with_arrays (slice_set v.parts.arrays slot x) v)))
+exchanged_like base low slot v x new there h =
+    let arrays = v.parts.arrays in
+    let old = get_or arrays slot no_array in
+    let changed = slice_set arrays slot x in
+    let p : Parts = record v.parts { arrays = changed; array_stashes = new } in
+    let within : nat_lt slot (length changed) ≡ true =
+    grind (arith, nat_tests, length-set arrays slot x, there) in
+    let back : slice_set changed slot old ≡ arrays = set-set arrays slot x old ∙ set-get_or arrays slot no_array in
+    let present : get_or changed slot no_array ≡ x = get_or-set_same arrays slot x no_array there in
+    let given : Parts → View = λ q. record v { parts = q } in
+    let put : List Array → List (Stash Array) → Parts = λ l ss. record v.parts { arrays = l; array_stashes = ss } in
+    subst (Like base low v)
+    (sym (ap (λ b. given (if b then given_back slot old p else p)) within
+    ∙ ap (λ l. given (put l (at_slot (put_on (get_or changed slot no_array)) slot new))) back
+    ∙ ap (λ a. given (put arrays (at_slot (put_on a) slot new))) present))
+    (like_arrays base low v (at_slot (put_on x) slot new) (taken_like x slot v.parts.array_stashes new h))

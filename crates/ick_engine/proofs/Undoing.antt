@@ -1,8 +1,8 @@
 -- Changes noted, and undone.
-use Rattle.std.proofs.Common.{◌≡◌, ℕ, zero, suc, ◌+◌, ◌<◌, ◌≤◌, Bool, true, false, List, [], ◌∷◌, ◌++◌, refl, ap, sym, ◌∙◌}
+use Rattle.std.proofs.Common.{◌≡◌, ℕ, zero, suc, ◌+◌, ◌<◌, ◌≤◌, List, [], ◌∷◌, ◌++◌, refl, ap, sym, ◌∙◌}
 use Rattle.std.proofs.Common.{subst, inl, inr}
 use Rattle.std.proofs.Common.{length, take, drop, get_or, arith, length-append}
-use Rattle.std.specs.Prelude.{reverse, slice_set, nat_lt, if◌then◌else◌}
+use Rattle.std.specs.Prelude.{reverse, slice_set}
 use Rattle.std.proofs.lemmas.Bool.{cases_eq}
 use Rattle.std.proofs.lemmas.List.{drop-append-le, reverse-append, length-set, set-set, set-get_or, set_past}
 use Rattle.std.proofs.lemmas.List.{get_or-set_same, get_or-set_other, length-take-le, take-append-drop}
@@ -10,16 +10,15 @@ use Rattle.std.proofs.Math.Seq.{drop-length}
 use Rattle.std.proofs.Math.ListN.{drop_of_length-le}
 use Rattle.ick_code.specs.meaning.State.{Array, no_array}
 use Rattle.ick_engine.specs.Elements.{with_element}
-use Rattle.ick_engine.specs.declared.change.ArrayChange.{ArrayChange}
-use Rattle.ick_engine.specs.declared.change.ArrayChange.TheVariants as now
-use Rattle.ick_engine.specs.View.{View, Parts, Stash, no_stash}
+use Rattle.ick_engine.specs.View.{View, Parts}
 use Rattle.ick_engine.specs.Undo.{Change, register_was, home_was, status_was, return_was, element_was, hidden_was}
 use Rattle.ick_engine.specs.Undo.{scalar_saved, scalar_taken, scalar_restored, array_saved, array_was}
 use Rattle.ick_engine.specs.Undo.{statuses_were, taken_was}
-use Rattle.ick_engine.specs.Undo.{output_was, last_was, lastin_was, no_change, given_back, undone_array, undone, rewound}
+use Rattle.ick_engine.specs.Undo.{output_was, last_was, lastin_was, no_change, undone, rewound}
 use Rattle.ick_engine.specs.Undo.{with_arrays, with_number, put_on, taken_off, at_slot, HasPlace}
-use Rattle.ick_engine.specs.Undo.{StashLike, StashesLike, PartsLike, IsUndoable, Like, HighSame, Rewinds}
-use Rattle.ick_engine.proofs.StashLemmas.{parts_refl, parts_trans, parts_same, taken_off_like, put_on_like, at_slot_like}
+use Rattle.ick_engine.specs.Undo.{PartsLike, IsUndoable, Like, HighSame, Rewinds}
+use Rattle.ick_engine.proofs.StashLemmas.{parts_refl, parts_trans, parts_same, taken_off_like, put_on_like}
+use Rattle.ick_engine.proofs.StashLemmas.{scalars_alike, arrays_alike, array_alike}
 
 pub like_refl : (base deep : ℕ) (v : View) → Like base deep v v
 like_refl base deep v = record {
@@ -111,66 +110,6 @@ set_same (x ∷ xs) (y ∷ ys) (suc at) n (suc r) count same = set_same xs ys at
 
 set_count : (xs ys : List ℕ) (at n : ℕ) → length ys ≡ length xs → length (slice_set ys at n) ≡ length (slice_set xs at n)
 set_count xs ys at n count = length-set ys at n ∙ count ∙ sym (length-set xs at n)
-
--- parts of which one stash is changed in the same way
-scalars_alike : (f : Stash ℕ → Stash ℕ) (slot : ℕ) (p q : Parts) → PartsLike p q →
-    StashLike (f (get_or p.scalar_stashes slot no_stash)) (f (get_or q.scalar_stashes slot no_stash)) →
-    PartsLike (record p { scalar_stashes = at_slot f slot p.scalar_stashes })
-    (record q { scalar_stashes = at_slot f slot q.scalar_stashes })
-scalars_alike f slot p q like one = record {
-  others = like.others;
-  scalars = at_slot_like f slot p.scalar_stashes q.scalar_stashes like.scalars one;
-  arrays = like.arrays;
-}
-
-arrays_alike : (f : Stash Array → Stash Array) (slot : ℕ) (p q : Parts) → PartsLike p q →
-    StashLike (f (get_or p.array_stashes slot no_stash)) (f (get_or q.array_stashes slot no_stash)) →
-    PartsLike (record p { array_stashes = at_slot f slot p.array_stashes })
-    (record q { array_stashes = at_slot f slot q.array_stashes })
-arrays_alike f slot p q like one = record {
-  others = like.others;
-  scalars = like.scalars;
-  arrays = at_slot_like f slot p.array_stashes q.array_stashes like.arrays one;
-}
-
-given_alike : (slot : ℕ) (old : Array) (p q : Parts) → PartsLike p q → HasPlace p.array_stashes slot →
-    PartsLike (given_back slot old p) (given_back slot old q)
-given_alike slot old p q like place =
-    let present : get_or q.arrays slot no_array ≡ get_or p.arrays slot no_array =
-    ap (λ r. get_or r.arrays slot no_array) like.others in
-    record {
-      others = ap {A = Parts} (λ r. record r { arrays = slice_set r.arrays slot old }) like.others;
-      scalars = like.scalars;
-      arrays =
-          subst (λ a. StashesLike (at_slot (put_on (get_or p.arrays slot no_array)) slot p.array_stashes)
-          (at_slot (put_on a) slot q.array_stashes)) (sym present)
-          (at_slot_like (put_on (get_or p.arrays slot no_array)) slot p.array_stashes q.array_stashes like.arrays
-          (put_on_like (get_or p.arrays slot no_array) place (like.arrays.each slot)));
-    }
-
-restored_alike : (slot : ℕ) (old : Array) (p q : Parts) → PartsLike p q → HasPlace p.array_stashes slot →
-    PartsLike (undone_array now.Restored slot old p) (undone_array now.Restored slot old q)
-restored_alike slot old p q like place =
-    let count : nat_lt slot (length q.arrays) ≡ nat_lt slot (length p.arrays) =
-    ap (λ r. nat_lt slot (length r.arrays)) like.others in
-    subst (λ b. PartsLike (undone_array now.Restored slot old p) (if b then given_back slot old q else q)) (sym count)
-    (cases (nat_lt slot (length p.arrays)))
-  where
-    cases : (b : Bool) → PartsLike (if b then given_back slot old p else p) (if b then given_back slot old q else q)
-    cases true = given_alike slot old p q like place
-    cases false = like
-
-array_alike : (base : ℕ) (change : ArrayChange) (slot : ℕ) (old : Array) (v : View) (q : Parts) →
-    PartsLike v.parts q → IsUndoable base (array_was change slot old) v →
-    PartsLike (undone_array change slot old v.parts) (undone_array change slot old q)
-array_alike base now.Replaced slot old v q like can = record {
-  others = ap {A = Parts} (λ r. record r { arrays = slice_set r.arrays slot old }) like.others;
-  scalars = like.scalars;
-  arrays = like.arrays;
-}
-array_alike base now.Taken slot old v q like can =
-    arrays_alike (put_on old) slot v.parts q like (put_on_like old can (like.arrays.each slot))
-array_alike base now.Restored slot old v q like can = restored_alike slot old v.parts q like can
 
 -- views that are alike are so after a change of both is undone
 with_parts_like : {base low : ℕ} {v w : View} (p q : Parts) → Like base low v w → PartsLike p q →

@@ -1,6 +1,7 @@
 -- Values that are put on stashes and taken off.
 use Rattle.std.specs.Prelude.{ℕ, ◌≡◌, ◌<◌, ◌==◌, List, [], ◌∷◌, ◌++◌, length, slice_set, if◌then◌else◌}
 use Rattle.std.proofs.Common.{get_or}
+use Rattle.ick_code.specs.meaning.State.{Array}
 use Rattle.ick_engine.specs.Undo.{StashLike, put_on, taken_off}
 use Rattle.ick_engine.specs.View.{Stash, no_stash, used}
 
@@ -25,3 +26,9 @@ pub record IsRestoredTo (slot home : ℕ) (registers after : List ℕ) (old new 
   pub number : ℕ
   pub taken : ChangesAt slot (IsTakenOff number) old new
   pub registers_are : after ≡ (if home == slot then slice_set registers slot number else registers)
+
+-- an array was exchanged for the newest one of its stash
+pub record IsExchanged (slot : ℕ) (arrays after : List Array) (old new : List (Stash Array)) : Type 0 where
+  pub array : Array
+  pub taken : ChangesAt slot (IsTakenOff array) old new
+  pub arrays_are : after ≡ slice_set arrays slot array

@@ -5,17 +5,21 @@ ghost use Rattle.std.specs.Prelude.{IfNone, IfSome, OnErr, OnOk};
 ghost use Rattle.std.specs.Bool.{OnFalse, OnTrue};
 ghost use Rattle.std.proofs.Common.{get_or};
 ghost use Rattle.ick_lowering.specs.Extends.{Extends};
-ghost use Rattle.ick_engine.specs.Stashes.{ChangesAt, IsPutOn, IsRestoredTo, IsTakenOff};
-ghost use Rattle.ick_code.specs.meaning.State.{no_array};
+ghost use Rattle.ick_engine.specs.Stashes.{ChangesAt, IsExchanged, IsPutOn, IsRestoredTo};
+ghost use Rattle.ick_engine.specs.Stashes.{IsTakenOff};
+ghost use Rattle.ick_code.specs.meaning.State.{no_array, Array as ArrayValue};
 ghost use Rattle.ick_engine.specs.Undo.{at_slot, put_on, taken_off, with_array_stashes};
-ghost use Rattle.ick_engine.specs.Undo.{with_scalar_stashes, StashLike, StashesLike};
-ghost use Rattle.ick_engine.specs.View.{View, array_of, arrays_of, no_stash, numbers_of, used};
+ghost use Rattle.ick_engine.specs.Undo.{with_arrays, with_scalar_stashes};
+ghost use Rattle.ick_engine.specs.Undo.{StashLike, StashesLike};
+ghost use Rattle.ick_engine.specs.View.{View, array_of, arrays_of, is_hidden, no_stash};
+ghost use Rattle.ick_engine.specs.View.{numbers_of, used};
 
-use crate::change::Entry;
+use crate::change::{ArrayChange, Entry};
 use crate::copy::copy_into;
 use crate::memory::{Array, ArrayStash, NumberStash};
 use crate::notes::Notes;
 use ick_bits::NoMemory;
+use std::mem::swap;
 
 impl NumberStash {
     /// Puts a number on the stash. If memory runs out, nothing changes.
@@ -67,6 +71,18 @@ impl NumberStash {
 }
 
 impl ArrayStash {
+    /// Takes the newest array off, in exchange for another one. Whether that one is ignored stays.
+    fn exchange(&mut self, array: &mut Array)
+        requires { 0 < self.old.depth }
+        ensures taken { IsTakenOff (array_of array.new) (arrays_of self.old) (arrays_of self.new) }
+        ensures hidden { is_hidden array.new ≡ is_hidden array.old }
+    {
+        self.depth -= 1;
+        let hidden = array.hidden;
+        swap(array, &mut self.items[self.depth]);
+        array.hidden = hidden;
+    }
+
     /// Makes a spare place, if there is none. The arrays on the stash stay.
     fn grow(&mut self) -> Result<(), NoMemory>
         ensures spare { OnOk result (self.new.depth < length self.new.items.items) }
@@ -260,4 +276,68 @@ pub fn restore_scalar<N: Notes>(
     notes.note_restored(registers, slot, number);
     registers[slot as usize] = number;
     true
+}
+
+/// Takes the newest array off the stash in a slot, and notes that. If memory runs out, nothing
+/// changes.
+pub fn drop_stashed<N: Notes>(
+    stashes: &mut Vec<ArrayStash>,
+    notes: &mut N,
+    slot: u32,
+) -> Result<(), NoMemory>
+    requires slot { slot < length stashes.old.items }
+    requires some { 0 < (get_or (map arrays_of stashes.old.items) slot no_stash).depth }
+    requires room { 0 < N.room notes.old }
+    ensures taken { OnOk result ((array : ArrayValue) × ChangesAt slot (IsTakenOff array)
+        (map arrays_of stashes.old.items) (map arrays_of stashes.new.items)) }
+    ensures same { OnErr result (map arrays_of stashes.new.items
+        ≡ map arrays_of stashes.old.items) }
+    ensures room { N.room notes.old ≤ N.room notes.new + 1 }
+    ensures low { N.low notes.new ≡ N.low notes.old }
+    ensures base { N.base notes.new ≡ N.base notes.old }
+    ensures changes { Extends (N.changes notes.old) (N.changes notes.new) }
+    ensures notes { (k : ℕ) (v m : View) →
+        v.parts.array_stashes ≡ map arrays_of stashes.old.items → N.Undoes notes.old k v m →
+        N.Undoes notes.new k (with_array_stashes (map arrays_of stashes.new.items) v) m }
+{
+    notes.law();
+    let stash = &stashes[slot as usize];
+    notes.note_array(ArrayChange::Taken, slot, &stash.items[stash.depth - 1])?;
+    stashes[slot as usize].drop_newest();
+    Ok(())
+}
+
+/// Exchanges the array in a slot for the newest one of its stash, and notes that. If memory runs
+/// out, nothing changes.
+pub fn exchange_stashed<N: Notes>(
+    arrays: &mut Vec<Array>,
+    stashes: &mut Vec<ArrayStash>,
+    notes: &mut N,
+    slot: u32,
+) -> Result<(), NoMemory>
+    requires array { slot < length arrays.old.items }
+    requires slot { slot < length stashes.old.items }
+    requires some { 0 < (get_or (map arrays_of stashes.old.items) slot no_stash).depth }
+    requires room { 0 < N.room notes.old }
+    ensures taken { OnOk result (IsExchanged slot (map array_of arrays.old.items)
+        (map array_of arrays.new.items) (map arrays_of stashes.old.items)
+        (map arrays_of stashes.new.items)) }
+    ensures arrays { OnErr result (map array_of arrays.new.items
+        ≡ map array_of arrays.old.items) }
+    ensures stashes { OnErr result (map arrays_of stashes.new.items
+        ≡ map arrays_of stashes.old.items) }
+    ensures hidden { map is_hidden arrays.new.items ≡ map is_hidden arrays.old.items }
+    ensures room { N.room notes.old ≤ N.room notes.new + 1 }
+    ensures low { N.low notes.new ≡ N.low notes.old }
+    ensures base { N.base notes.new ≡ N.base notes.old }
+    ensures changes { Extends (N.changes notes.old) (N.changes notes.new) }
+    ensures notes { (k : ℕ) (v m : View) → v.parts.arrays ≡ map array_of arrays.old.items →
+        v.parts.array_stashes ≡ map arrays_of stashes.old.items → N.Undoes notes.old k v m →
+        N.Undoes notes.new k (with_array_stashes (map arrays_of stashes.new.items)
+        (with_arrays (map array_of arrays.new.items) v)) m }
+{
+    notes.law();
+    notes.note_array(ArrayChange::Restored, slot, &arrays[slot as usize])?;
+    stashes[slot as usize].exchange(&mut arrays[slot as usize]);
+    Ok(())
 }

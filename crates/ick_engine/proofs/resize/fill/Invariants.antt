@@ -1,0 +1,11 @@
+use Rattle.std.proofs.Common.{◌≡◌, ◌≤◌, length, map, take, vec_len, vec_capacity}
+use Rattle.ick_bits.specs.Values.{number_of}
+use Rattle.ick_lowering.specs.Meaning.{values_of}
+use Rattle.ick_engine.proofs.resize.fill.Given as goal
+
+abbrev pub invariant-loop-register : goal.invariant-loop-register
+invariant-loop-register l = record {
+  numbers : l.numbers.items ≡ map number_of (values_of (take l.register-index l.subscripts) l.registers);
+  count : vec_len l.numbers ≡ l.register-index;
+  room : length l.subscripts ≤ vec_capacity l.numbers;
+}

@@ -1,0 +1,43 @@
+use Rattle.std.proofs.Common.{map, ap, sym, ◌∙◌}
+use Rattle.std.proofs.Math.Seq.{map-set_same}
+use Rattle.ick_bits.specs.Values.{number_of}
+use Rattle.ick_code.specs.meaning.Store.{zeros}
+use Rattle.ick_lowering.specs.Meaning.{values_of}
+use Rattle.ick_engine.specs.View.{array_of, is_hidden}
+use Rattle.ick_engine.proofs.DimensionLemmas.{no_fault, array_sized, sized_back}
+use Rattle.ick_engine.proofs.resize.resize.Goals as goal
+
+pub returns-in-Ok-set_dimensions-clause-resized : goal.returns-in-Ok-set_dimensions-clause-resized
+returns-in-Ok-set_dimensions-clause-resized g c =
+    let sizes = map number_of (values_of c.args.subscripts.now c.args.registers.now) in (
+      no_fault sizes c.in-Some.count (sym c.has_zero.ensures ∙ c.if-has_zero.false) c.in-Some.ensures,
+      array_sized c.args.arrays.now.items c.args.slot c.set_dimensions.new.array c.index_mut-array.result.now
+          c.index_mut-array.ensures.value (zeros sizes) c.requires.slot c.if-array.false c.in-Ok-set_dimensions.ensures.ok,
+    )
+
+pub returns-in-Ok-set_dimensions-clause-hidden : goal.returns-in-Ok-set_dimensions-clause-hidden
+returns-in-Ok-set_dimensions-clause-hidden g c =
+    map-set_same is_hidden c.args.arrays.now.items c.args.slot c.set_dimensions.new.array c.index_mut-array.result.now
+    (c.set_dimensions.ensures.hidden ∙ ap is_hidden c.index_mut-array.ensures.value)
+
+pub returns-in-Ok-set_dimensions-clause-notes : goal.returns-in-Ok-set_dimensions-clause-notes
+returns-in-Ok-set_dimensions-clause-notes g c =
+    sized_back c.args.arrays.now.items c.args.slot c.set_dimensions.new.array c.index_mut-array.result.now
+    c.index_mut-array.ensures.value g.N.Notes.Undoes c.args.notes.now c.note_array.new.self
+    (g.N.Notes.base c.args.notes.now) c.in-Ok.ensures.notes
+
+pub returns-in-Err-clause-resized : goal.returns-in-Err-clause-resized
+returns-in-Err-clause-resized g c =
+    map-set_same array_of c.args.arrays.now.items c.args.slot c.set_dimensions.new.array c.index_mut-array.result.now
+    (c.in-Err.ensures.err ∙ ap array_of c.index_mut-array.ensures.value)
+
+pub returns-in-Err-clause-hidden : goal.returns-in-Err-clause-hidden
+returns-in-Err-clause-hidden g c =
+    map-set_same is_hidden c.args.arrays.now.items c.args.slot c.set_dimensions.new.array c.index_mut-array.result.now
+    (c.set_dimensions.ensures.hidden ∙ ap is_hidden c.index_mut-array.ensures.value)
+
+pub returns-in-Err-clause-notes : goal.returns-in-Err-clause-notes
+returns-in-Err-clause-notes g c =
+    sized_back c.args.arrays.now.items c.args.slot c.set_dimensions.new.array c.index_mut-array.result.now
+    c.index_mut-array.ensures.value g.N.Notes.Undoes c.args.notes.now c.note_array.new.self
+    (g.N.Notes.base c.args.notes.now) c.in-Ok.ensures.notes
