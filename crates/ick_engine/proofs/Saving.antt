@@ -1,23 +1,20 @@
 -- Lists that are copied and compared, and states that are kept.
 use Rattle.std.proofs.Common.{◌≡◌, ℕ, zero, suc, ◌+◌, ◌<◌, ◌≤◌, Bool, List, [], ◌∷◌, ◌++◌, refl, ap, sym, ◌∙◌, subst}
-use Rattle.std.proofs.Common.{length, take, drop, get_or, map, arith}
+use Rattle.std.proofs.Common.{length, take, drop, get_or, map, reverse, arith}
 use Rattle.std.proofs.lemmas.List.{get_or-take, length-take-le, get_or-map, length-map, get_or_append_left}
 use Rattle.std.proofs.Math.Seq.{take-suc}
-use Rattle.ick_code.specs.meaning.State.{Array}
+use Rattle.ick_code.specs.meaning.State.{Array, State}
 use Rattle.ick_code.specs.declared.code.Code.{Code}
 use Rattle.ick_lowering.specs.declared.lowered.LoweredParts.{LoweredParts}
-use Rattle.ick_engine.specs.Saved.{unsaved, put_into}
+use Rattle.ick_engine.specs.declared.memory.Rest.{Rest}
+use Rattle.ick_engine.specs.Run.{Stands}
+use Rattle.ick_engine.specs.Saved.{AreSame, IsLoaded, arrays_on, numbers_on}
 use Rattle.ick_engine.specs.Steady.{IsSteady, IsReady, IsProgram}
 use Rattle.ick_engine.specs.Undo.{Like, HighSame, IsRestored}
-use Rattle.ick_engine.specs.View.{View, Parts, Input, state_of, dump_of}
+use Rattle.ick_engine.specs.View.{View, Parts, Input, state_of, dump_of, file_of, map_of, used as used_values}
+use Rattle.ick_engine.specs.View.{Stash, array_names, array_of, arrays_of, is_hidden, numbers_of, parts_of, scalar_names}
 use Rattle.ick_engine.proofs.Restoring.{restored}
 use Rattle.ick_engine.proofs.StashLemmas.{parts_same}
-
-take_all : {A : Type 0} (n : ℕ) (xs : List A) → length xs ≤ n → take n xs ≡ xs
-take_all zero [] h = refl
-take_all zero (x ∷ xs) h = absurd (omega (arith, h))
-take_all (suc n) [] h = refl
-take_all (suc n) (x ∷ xs) h = ap (λ l. x ∷ l) (take_all n xs (omega (arith, h)))
 
 map_pushed : {A B : Type 0} (f : A → B) (xs : List A) (x : A) → map f (xs ++ x ∷ []) ≡ map f xs ++ f x ∷ []
 map_pushed f [] x = refl
@@ -36,11 +33,6 @@ copied_next f xs copies copies' at x y within read pushed same done =
     ∙ ap (λ z. take at (map f xs) ++ z ∷ []) (same ∙ sym there)
     ∙ sym (take-suc (map f xs) at (f y) inside) ∙ ap (λ n. take n (map f xs)) one
 
-pub copied_whole : {A B : Type 0} (f : A → B) (xs copies : List A) (at : ℕ) → length xs ≤ at →
-    map f copies ≡ take at (map f xs) → map f copies ≡ map f xs
-copied_whole f xs copies at whole done =
-    done ∙ take_all at (map f xs) (subst (λ n. n ≤ at) (sym (length-map xs f)) whole)
-
 -- lists that are compared value by value
 pub compared_next : {A B : Type 0} (f : A → B) (xs ys : List A) (at : ℕ) (x y : A) → at < length xs →
     length xs ≡ length ys → x ≡ get_or xs at x → y ≡ get_or ys at y → f x ≡ f y →
@@ -57,12 +49,6 @@ compared_next f xs ys at x y within count read read' same done =
     ∙ ap (λ z. take at (map f ys) ++ z ∷ []) (here ∙ sym there)
     ∙ sym (take-suc (map f ys) at (f x) (subst (λ n. at < n) (sym (length-map ys f)) within'))
     ∙ ap (λ n. take n (map f ys)) one
-
-pub compared_whole : {A B : Type 0} (f : A → B) (xs ys : List A) (at : ℕ) → length xs ≤ at → length xs ≡ length ys →
-    take at (map f xs) ≡ take at (map f ys) → map f xs ≡ map f ys
-compared_whole f xs ys at whole count done =
-    sym (take_all at (map f xs) (subst (λ n. n ≤ at) (sym (length-map xs f)) whole)) ∙ done
-    ∙ take_all at (map f ys) (subst (λ n. n ≤ at) (sym (length-map ys f)) (omega (arith, whole, count)))
 
 -- numbers that were put in place of the first ones
 put_high : (xs ys : List ℕ) (r : ℕ) → length xs ≤ length ys → length xs ≤ r →
@@ -89,13 +75,61 @@ pub put_long : (new kept old : List ℕ) → new ≡ kept ++ drop (length kept) 
     length new ≡ length old
 put_long new kept old is count = ap length is ∙ put_count kept old count
 
-abbrev with_kept : List Array → List Bool → Parts → Parts
-with_kept arrays hidden parts = record parts { arrays = arrays; hidden = hidden }
+-- parts that differ in spare places alone
+pub same_parts_sym : {p q : Parts} → AreSame p q → AreSame q p
+same_parts_sym h = record { others = sym h.others; scalars = sym h.scalars; arrays = sym h.arrays }
 
-parts_by : (p q : Parts) → p.arrays ≡ q.arrays → p.hidden ≡ q.hidden → unsaved p ≡ unsaved q → p ≡ q
-parts_by p q arrays hidden rest =
-    ap (with_kept p.arrays p.hidden) rest ∙ ap (λ a. with_kept a p.hidden q) arrays
-    ∙ ap (λ h. with_kept q.arrays h q) hidden
+pub same_parts_trans : {p q r : Parts} → AreSame p q → AreSame q r → AreSame p r
+same_parts_trans a b = record {
+  others = b.others ∙ a.others;
+  scalars = b.scalars ∙ a.scalars;
+  arrays = b.arrays ∙ a.arrays;
+}
+
+map_used : {A B : Type 0} (f : A → Stash B) (xs : List A) →
+    map used_values (map f xs) ≡ map (λ x. used_values (f x)) xs
+map_used f [] = refl
+map_used f (x ∷ xs) = ap (λ l. used_values (f x) ∷ l) (map_used f xs)
+
+abbrev parts_by : List Array → List Bool → (taken : ℕ) → List ℕ → (last lastin : ℕ) → Parts
+parts_by arrays hidden taken output last lastin = record {
+  arrays = arrays;
+  hidden = hidden;
+  scalar_stashes = [];
+  array_stashes = [];
+  taken = taken;
+  output = output;
+  last = last;
+  lastin = lastin;
+}
+
+pub rest_same : (p q : Rest) → map array_of q.arrays.items ≡ map array_of p.arrays.items →
+    map is_hidden q.arrays.items ≡ map is_hidden p.arrays.items →
+    map numbers_on q.scalar_stashes.items ≡ map numbers_on p.scalar_stashes.items →
+    map arrays_on q.array_stashes.items ≡ map arrays_on p.array_stashes.items → q.taken ≡ p.taken →
+    q.output.items ≡ p.output.items → q.last ≡ p.last → q.lastin ≡ p.lastin → AreSame (parts_of p) (parts_of q)
+rest_same p q arrays hidden numbers stashed taken output last lastin =
+    let a = map array_of p.arrays.items in
+    let h = map is_hidden p.arrays.items in
+    record {
+      others =
+          ap (λ l. parts_by l (map is_hidden q.arrays.items) q.taken q.output.items q.last q.lastin) arrays
+          ∙ ap (λ l. parts_by a l q.taken q.output.items q.last q.lastin) hidden
+          ∙ ap (λ n. parts_by a h n q.output.items q.last q.lastin) taken
+          ∙ ap (λ l. parts_by a h p.taken l q.last q.lastin) output
+          ∙ ap (λ n. parts_by a h p.taken p.output.items n q.lastin) last
+          ∙ ap (parts_by a h p.taken p.output.items p.last) lastin;
+      scalars =
+          map_used numbers_of q.scalar_stashes.items ∙ numbers ∙ sym (map_used numbers_of p.scalar_stashes.items);
+      arrays = map_used arrays_of q.array_stashes.items ∙ stashed ∙ sym (map_used arrays_of p.array_stashes.items);
+    }
+
+-- the state by the values on stashes
+abbrev state_by : Code → LoweredParts → Input → View → Parts → List (List ℕ) → List (List Array) → State
+state_by code lowered input v parts numbers arrays = record (state_of code lowered input (record v { parts = parts })) {
+  stashed_scalars = λ name. reverse (map_of (scalar_names code) numbers [] name);
+  stashed_arrays = λ name. reverse (map_of (array_names code) arrays [] name);
+}
 
 module _ (code : Code) (lowered : LoweredParts) (is : IsProgram code lowered) where
   abbrev pub base : ℕ
@@ -129,53 +163,55 @@ module _ (code : Code) (lowered : LoweredParts) (is : IsProgram code lowered) wh
       sym (length-take-le v.depth v.returns (omega (arith, steady.depth, steady.returns))) ∙ ap length same
       ∙ length-take-le m.depth m.returns (omega (arith, marked.depth, marked.returns))
 
-  pub same_states : (v m : View) → IsReady code lowered v → IsReady code lowered m → v.place ≡ m.place →
-      take base v.registers ≡ take base m.registers → v.home ≡ m.home → v.statuses ≡ m.statuses →
-      take v.depth v.returns ≡ take m.depth m.returns → v.parts.arrays ≡ m.parts.arrays →
-      v.parts.hidden ≡ m.parts.hidden → unsaved v.parts ≡ unsaved m.parts →
-      (input : Input) → state_of code lowered input v ≡ state_of code lowered input m
-  same_states v m ready marked place registers home statuses returns arrays hidden rest =
-      let depth = depth_by m v marked.steady ready.steady returns in
-      (restored code lowered is v m v ready.steady.constants marked
-      (like_by m v marked.steady ready.steady registers home statuses depth
-      (subst (λ d. take d v.returns ≡ take m.depth m.returns) depth returns)
-      (parts_by v.parts m.parts arrays hidden rest)) (λ r high. refl) place depth).states
+  -- a view with other spare places
+  state_with : (v : View) (q : Parts) → AreSame v.parts q → (input : Input) →
+      state_of code lowered input (record v { parts = q }) ≡ state_of code lowered input v
+  state_with v q same input =
+      let numbers = map used_values q.scalar_stashes in
+      let arrays = map used_values q.array_stashes in
+      ap (λ p. state_by code lowered input v p numbers arrays) same.others
+      ∙ ap (λ l. state_by code lowered input v v.parts l arrays) same.scalars
+      ∙ ap (λ l. state_by code lowered input v v.parts (map used_values v.parts.scalar_stashes) l) same.arrays
 
-  -- what is put into a memory can go on there
-  pub ready_in : (old m : View) → IsReady code lowered old → IsReady code lowered m →
-      IsReady code lowered (put_into old m)
-  ready_in old m was marked = record {
+  ready_with : (v : View) (q : Parts) → AreSame v.parts q → IsReady code lowered v →
+      IsReady code lowered (record v { parts = q })
+  ready_with v q same ready = record {
     steady = record {
-      registers = marked.steady.registers;
-      home = marked.steady.home;
-      homes = marked.steady.homes;
-      statuses = marked.steady.statuses;
-      returns = marked.steady.returns;
-      depth = marked.steady.depth;
-      constants = marked.steady.constants;
-      arrays = marked.steady.arrays;
-      hidden = marked.steady.hidden;
-      scalar_stashes = was.steady.scalar_stashes;
-      array_stashes = was.steady.array_stashes;
+      registers = ready.steady.registers;
+      home = ready.steady.home;
+      homes = ready.steady.homes;
+      statuses = ready.steady.statuses;
+      returns = ready.steady.returns;
+      depth = ready.steady.depth;
+      constants = ready.steady.constants;
+      arrays = ap (λ p. length p.arrays) same.others ∙ ready.steady.arrays;
+      hidden = ap (λ p. length p.hidden) same.others ∙ ready.steady.hidden;
+      scalar_stashes =
+          sym (length-map q.scalar_stashes used_values) ∙ ap length same.scalars
+          ∙ length-map v.parts.scalar_stashes used_values ∙ ready.steady.scalar_stashes;
+      array_stashes =
+          sym (length-map q.array_stashes used_values) ∙ ap length same.arrays
+          ∙ length-map v.parts.array_stashes used_values ∙ ready.steady.array_stashes;
     };
-    stands = λ input. record {
-      represented = record {
-        holds = record {
-          numbers = (marked.stands input).represented.holds.numbers;
-          fits = λ slot name at. record {
-            number = ((marked.stands input).represented.holds.fits slot name at).number;
-            stashed = ((was.stands input).represented.holds.fits slot name at).stashed;
-          };
-        };
-        constant = (marked.stands input).represented.constant;
-      };
-      within = record {
-        place_is = (marked.stands input).within.place_is;
-        returns_are = (marked.stands input).within.returns_are;
-        few = (marked.stands input).within.few;
-      };
-    };
+    stands = λ input.
+        subst (Stands code lowered (file_of lowered v.registers)) (sym (state_with v q same input)) (ready.stands input);
   }
+
+  pub same_states : (v m : View) (p q : Parts) → IsReady code lowered v → IsReady code lowered m → v.place ≡ m.place →
+      take base v.registers ≡ take base m.registers → v.home ≡ m.home → v.statuses ≡ m.statuses →
+      take v.depth v.returns ≡ take m.depth m.returns → AreSame v.parts p → AreSame p q → AreSame m.parts q →
+      (input : Input) → state_of code lowered input v ≡ state_of code lowered input m
+  same_states v m p q ready marked place registers home statuses returns kept same kept' input =
+      let parts : AreSame v.parts m.parts =
+      same_parts_trans kept (same_parts_trans same (same_parts_sym kept')) in
+      let v' : View = record v { parts = m.parts } in
+      let ready' = ready_with v m.parts parts ready in
+      let depth = depth_by m v marked.steady ready.steady returns in
+      sym (state_with v m.parts parts input)
+      ∙ (restored code lowered is v' m v' ready'.steady.constants marked
+      (like_by m v' marked.steady ready'.steady registers home statuses depth
+      (subst (λ d. take d v.returns ≡ take m.depth m.returns) depth returns) refl) (λ r high. refl) place depth).states
+      input
 
   -- a state that was put into a memory
   module _ (old m : View) (was : IsReady code lowered old) (marked : IsReady code lowered m) where
@@ -197,19 +233,27 @@ module _ (code : Code) (lowered : LoweredParts) (is : IsProgram code lowered) wh
     pub used_low : length used ≤ length old.returns
     used_low = omega (arith, used_count, marked.steady.depth, was.steady.returns)
 
-    pub loaded : (new : View) → new.registers ≡ first ++ drop (length first) old.registers →
+    pub loaded : (new : View) (kept : Parts) → new.registers ≡ first ++ drop (length first) old.registers →
         new.returns ≡ used ++ drop (length used) old.returns → new.home ≡ m.home → new.statuses ≡ m.statuses →
-        new.place ≡ m.place → new.depth ≡ length used → new.parts.arrays ≡ m.parts.arrays →
-        new.parts.hidden ≡ m.parts.hidden → unsaved new.parts ≡ unsaved m.parts → IsRestored code lowered m new
-    loaded new registers returns home statuses place depth arrays hidden rest =
-        restored code lowered is old m new was.steady.constants marked like high place (depth ∙ used_count)
+        new.place ≡ m.place → new.depth ≡ length used → AreSame m.parts kept → AreSame kept new.parts →
+        IsLoaded code lowered m new
+    loaded new kept registers returns home statuses place depth saved copied = record {
+      ready = whole.ready;
+      states = λ input. whole.states input ∙ state_with m new.parts parts input;
+    }
       where
+        parts : AreSame m.parts new.parts
+        parts = same_parts_trans saved copied
+
+        m' : View
+        m' = record m { parts = new.parts }
+
         count : length new.registers ≡ length m.registers
         count =
             ap length registers ∙ put_count first old.registers first_low ∙ was.steady.registers
             ∙ sym marked.steady.registers
 
-        like : Like base m.depth m new
+        like : Like base m.depth m' new
         like = record {
           registers_count = count;
           registers_same = λ r low.
@@ -218,7 +262,7 @@ module _ (code : Code) (lowered : LoweredParts) (is : IsProgram code lowered) wh
               ∙ get_or-take base m.registers r 0 low;
           home_same = home;
           statuses_same = statuses;
-          parts_like = parts_same (parts_by new.parts m.parts arrays hidden rest);
+          parts_like = parts_same refl;
           returns_count =
               ap length returns ∙ put_count used old.returns used_low ∙ was.steady.returns ∙ sym marked.steady.returns;
           returns_same = λ k low.
@@ -230,3 +274,8 @@ module _ (code : Code) (lowered : LoweredParts) (is : IsProgram code lowered) wh
         high : HighSame base old new
         high = λ r above.
             ap (λ l. get_or l r 0) registers ∙ put_high first old.registers r first_low (omega (arith, above, first_count))
+
+        whole : IsRestored code lowered m' new
+        whole =
+            restored code lowered is old m' new was.steady.constants (ready_with m new.parts parts marked) like high place
+            (depth ∙ used_count)

@@ -1,16 +1,27 @@
 -- States that are kept apart from a memory.
-use Rattle.std.specs.Prelude.{◌≡◌, [], map, take}
+use Rattle.std.specs.Prelude.{ℕ, ◌≡◌, List, map, take}
+use Rattle.ick_code.specs.meaning.State.{Array}
+use Rattle.ick_code.specs.declared.code.Code.{Code}
 use Rattle.ick_lowering.specs.declared.lowered.LoweredParts.{LoweredParts}
+use Rattle.ick_engine.specs.declared.memory.ArrayStash.{ArrayStash}
+use Rattle.ick_engine.specs.declared.memory.NumberStash.{NumberStash}
 use Rattle.ick_engine.specs.declared.saved.Saved.{Saved}
-use Rattle.ick_engine.specs.View.{View, Parts, array_of, is_hidden}
+use Rattle.ick_engine.specs.Steady.{IsReady}
+use Rattle.ick_engine.specs.Undo.{but_stashes}
+use Rattle.ick_engine.specs.View.{View, Parts, Input, arrays_of, numbers_of, parts_of, state_of, used}
 
--- the parts that aren't kept
-abbrev pub unsaved : Parts → Parts
-unsaved parts = record parts { arrays = []; hidden = [] }
+-- the values on a stash
+abbrev pub numbers_on : NumberStash → List ℕ
+numbers_on stash = used (numbers_of stash)
 
--- a view with the parts of another one that aren't kept
-abbrev pub put_into : View → View → View
-put_into old v = record v { parts = record old.parts { arrays = v.parts.arrays; hidden = v.parts.hidden } }
+abbrev pub arrays_on : ArrayStash → List Array
+arrays_on stash = used (arrays_of stash)
+
+-- parts that differ in the spare places of stashes alone
+pub record AreSame (p q : Parts) : Type 0 where
+  pub others : but_stashes q ≡ but_stashes p
+  pub scalars : map used q.scalar_stashes ≡ map used p.scalar_stashes
+  pub arrays : map used q.array_stashes ≡ map used p.array_stashes
 
 -- what is kept of a view
 pub record IsSaved (lowered : LoweredParts) (saved : Saved) (v : View) : Type 0 where
@@ -19,5 +30,9 @@ pub record IsSaved (lowered : LoweredParts) (saved : Saved) (v : View) : Type 0 
   pub home_kept : saved.home.items ≡ v.home
   pub statuses_kept : saved.statuses.items ≡ v.statuses
   pub returns_kept : saved.returns.items ≡ take v.depth v.returns
-  pub arrays_kept : map array_of saved.arrays.items ≡ v.parts.arrays
-  pub hidden_kept : map is_hidden saved.arrays.items ≡ v.parts.hidden
+  pub parts_kept : AreSame v.parts (parts_of saved.rest)
+
+-- a run can go on from a view, in the state of another one
+pub record IsLoaded (code : Code) (lowered : LoweredParts) (m v : View) : Type 0 where
+  pub ready : IsReady code lowered v
+  pub states : (input : Input) → state_of code lowered input v ≡ state_of code lowered input m

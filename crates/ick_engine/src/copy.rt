@@ -1,9 +1,10 @@
 //! Copies of lists.
 
 ghost use Rattle.std.specs.Prelude.{◌≡◌, ◌++◌, ◌≤◌, drop, length, map, take, IfOk, OnOk};
-ghost use Rattle.ick_engine.specs.View.{array_of, is_hidden};
+ghost use Rattle.ick_engine.specs.Saved.{arrays_on, numbers_on, AreSame};
+ghost use Rattle.ick_engine.specs.View.{array_of, is_hidden, parts_of};
 
-use crate::memory::Array;
+use crate::memory::{Array, ArrayStash, NumberStash, Rest};
 use ick_bits::NoMemory;
 use std::alloc::Global;
 
@@ -58,17 +59,73 @@ pub fn copy_into(place: &mut Array, array: &Array) -> Result<(), NoMemory>
 }
 
 /// Copies arrays.
-pub fn copy_arrays(alloc: Global, arrays: &Vec<Array>) -> Result<Vec<Array>, NoMemory>
-    ensures arrays { IfOk result (λ copies. map array_of copies.items
-        ≡ map array_of arrays.now.items) }
+pub fn copy_arrays(alloc: Global, arrays: &[Array]) -> Result<Vec<Array>, NoMemory>
+    ensures arrays { IfOk result (λ copies. map array_of copies.items ≡ map array_of arrays.now) }
     ensures hidden { IfOk result (λ copies. map is_hidden copies.items
-        ≡ map is_hidden arrays.now.items) }
+        ≡ map is_hidden arrays.now) }
 {
     let mut copies = Vec::new(alloc);
-    for at in 0..arrays.len() {
-        copies.push(copy_array(alloc, &arrays[at])?)?;
+    for array in arrays {
+        copies.push(copy_array(alloc, array)?)?;
     }
     Ok(copies)
+}
+
+/// Copies the numbers on a stash. The copy has no spare places.
+fn copy_number_stash(alloc: Global, stash: &NumberStash) -> Result<NumberStash, NoMemory>
+    ensures { IfOk result (λ copy. numbers_on copy ≡ numbers_on stash.now) }
+{
+    Ok(NumberStash {
+        items: copy_first(alloc, &stash.items, stash.depth)?,
+        depth: stash.depth,
+    })
+}
+
+/// Copies the numbers on stashes.
+fn copy_number_stashes(alloc: Global, stashes: &[NumberStash]) -> Result<Vec<NumberStash>, NoMemory>
+    ensures { IfOk result (λ copies. map numbers_on copies.items ≡ map numbers_on stashes.now) }
+{
+    let mut copies = Vec::new(alloc);
+    for stash in stashes {
+        copies.push(copy_number_stash(alloc, stash)?)?;
+    }
+    Ok(copies)
+}
+
+/// Copies the arrays on a stash. The copy has no spare places.
+fn copy_array_stash(alloc: Global, stash: &ArrayStash) -> Result<ArrayStash, NoMemory>
+    ensures { IfOk result (λ copy. arrays_on copy ≡ arrays_on stash.now) }
+{
+    let items = copy_arrays(alloc, &stash.items[..stash.depth])?;
+    let depth = items.len();
+    Ok(ArrayStash { items, depth })
+}
+
+/// Copies the arrays on stashes.
+fn copy_array_stashes(alloc: Global, stashes: &[ArrayStash]) -> Result<Vec<ArrayStash>, NoMemory>
+    ensures { IfOk result (λ copies. map arrays_on copies.items ≡ map arrays_on stashes.now) }
+{
+    let mut copies = Vec::new(alloc);
+    for stash in stashes {
+        copies.push(copy_array_stash(alloc, stash)?)?;
+    }
+    Ok(copies)
+}
+
+/// Copies the parts of a state that few instructions change. Stashes of the copy have no spare
+/// places.
+pub fn copy_rest(alloc: Global, rest: &Rest) -> Result<Rest, NoMemory>
+    ensures { IfOk result (λ copy. AreSame (parts_of rest.now) (parts_of copy)) }
+{
+    Ok(Rest {
+        arrays: copy_arrays(alloc, &rest.arrays)?,
+        scalar_stashes: copy_number_stashes(alloc, &rest.scalar_stashes)?,
+        array_stashes: copy_array_stashes(alloc, &rest.array_stashes)?,
+        taken: rest.taken,
+        output: copy_bytes(alloc, &rest.output)?,
+        last: rest.last,
+        lastin: rest.lastin,
+    })
 }
 
 /// Puts numbers in place of the first ones of a list.

@@ -1,16 +1,16 @@
 //! States that are kept apart from a memory.
 
-ghost use Rattle.std.specs.Prelude.{◌≡◌, true, map};
-ghost use Rattle.ick_engine.specs.View.{array_of, is_hidden};
+ghost use Rattle.std.specs.Prelude.{◌≡◌, true};
 
-use crate::copy::{copy_arrays, copy_bytes, copy_first, copy_numbers, put_first};
-use crate::memory::{Array, Memory};
+use crate::copy::{copy_bytes, copy_first, copy_numbers, copy_rest, put_first};
+use crate::memory::{Array, ArrayStash, Memory, NumberStash, Rest};
+use crate::same::same_rest;
 use ick_bits::NoMemory;
 use ick_lowering::Lowered;
 use std::alloc::Global;
 
-/// A state of a run. It has no temporaries, no constants, and only those return addresses that are
-/// used. It lacks what no operation of the loop changes yet: stashes, input, output and the tape.
+/// A state of a run. It has no temporaries, no constants, and only those return addresses and
+/// places of stashes that are used.
 #[derive(Drop)]
 pub struct Saved {
     pub(crate) place: u32,
@@ -18,36 +18,10 @@ pub struct Saved {
     pub(crate) home: Vec<u32>,
     pub(crate) statuses: Vec<u8>,
     pub(crate) returns: Vec<u32>,
-    pub(crate) arrays: Vec<Array>,
+    pub(crate) rest: Rest,
 }
 
-/// Returns whether two arrays are the same.
-fn same_array(one: &Array, other: &Array) -> bool
-    ensures array { result ≡ true → array_of one.now ≡ array_of other.now }
-    ensures hidden { result ≡ true → is_hidden one.now ≡ is_hidden other.now }
-{
-    one.dimensions == other.dimensions
-        && one.elements == other.elements
-        && one.hidden == other.hidden
-}
-
-/// Returns whether two lists have the same arrays.
-fn same_arrays(one: &Vec<Array>, other: &Vec<Array>) -> bool
-    ensures arrays { result ≡ true → map array_of one.now.items ≡ map array_of other.now.items }
-    ensures hidden { result ≡ true → map is_hidden one.now.items ≡ map is_hidden other.now.items }
-{
-    if one.len() != other.len() {
-        return false;
-    }
-    for at in 0..one.len() {
-        if !same_array(&one[at], &other[at]) {
-            return false;
-        }
-    }
-    true
-}
-
-/// Returns whether two states have the same numbers in all lists but those of arrays.
+/// Returns whether two states have the same place, registers, statuses and return addresses.
 fn same_numbers(one: &Saved, other: &Saved) -> bool
     ensures place { result ≡ true → one.now.place ≡ other.now.place }
     ensures numbers { result ≡ true → one.now.numbers.items ≡ other.now.numbers.items }
@@ -86,9 +60,9 @@ fn mix_bytes(hash: u64, bytes: &[u8]) -> u64 {
     hash
 }
 
-/// Mixes arrays into a hash.
+/// Mixes arrays, and how many they are, into a hash.
 fn mix_arrays(hash: u64, arrays: &[Array]) -> u64 {
-    let mut hash = hash;
+    let mut hash = mixed(hash, arrays.len() as u64);
     for array in arrays {
         hash = mixed(hash, array.hidden as u64);
         hash = mix_numbers(hash, &array.dimensions);
@@ -97,12 +71,40 @@ fn mix_arrays(hash: u64, arrays: &[Array]) -> u64 {
     hash
 }
 
+/// Mixes the numbers on stashes into a hash.
+fn mix_number_stashes(hash: u64, stashes: &[NumberStash]) -> u64 {
+    let mut hash = hash;
+    for stash in stashes {
+        hash = mix_numbers(hash, &stash.items[..stash.depth]);
+    }
+    hash
+}
+
+/// Mixes the arrays on stashes into a hash.
+fn mix_array_stashes(hash: u64, stashes: &[ArrayStash]) -> u64 {
+    let mut hash = hash;
+    for stash in stashes {
+        hash = mix_arrays(hash, &stash.items[..stash.depth]);
+    }
+    hash
+}
+
+/// Mixes the parts that few instructions change into a hash.
+fn mix_rest(hash: u64, rest: &Rest) -> u64 {
+    let hash = mix_arrays(hash, &rest.arrays);
+    let hash = mix_number_stashes(hash, &rest.scalar_stashes);
+    let hash = mix_array_stashes(hash, &rest.array_stashes);
+    let hash = mixed(hash, rest.taken as u64);
+    let hash = mix_bytes(hash, &rest.output);
+    let hash = mixed(hash, rest.last as u64);
+    mixed(hash, rest.lastin as u64)
+}
+
 impl Saved {
     ghost use Rattle.std.specs.Prelude.{◌≡◌, true, IfOk, OnErr, OnOk};
     ghost use Rattle.ick_engine.specs.Memory.{view_in};
-    ghost use Rattle.ick_engine.specs.Saved.{IsSaved, put_into, unsaved};
+    ghost use Rattle.ick_engine.specs.Saved.{IsLoaded, IsSaved};
     ghost use Rattle.ick_engine.specs.Steady.{IsReady};
-    ghost use Rattle.ick_engine.specs.Undo.{IsRestored};
     ghost use Rattle.ick_engine.specs.View.{Input, View, state_of};
 
     /// Returns the state that a memory represents. `NoMemory` is returned only if a growth was
@@ -122,12 +124,12 @@ impl Saved {
             home: copy_numbers(alloc, &memory.home)?,
             statuses: copy_bytes(alloc, &memory.statuses)?,
             returns: copy_first(alloc, &memory.returns, memory.cursor.depth)?,
-            arrays: copy_arrays(alloc, &memory.rest.arrays)?,
+            rest: copy_rest(alloc, &memory.rest)?,
         })
     }
 
-    /// Puts the state into a memory of the same program. What a state of this type lacks stays, and
-    /// so do the number of steps left and the answer. If memory runs out, nothing changes.
+    /// Puts the state into a memory of the same program. The number of steps left and the answer
+    /// stay. If memory runs out, nothing changes.
     pub fn load(
         &self,
         alloc: Global,
@@ -138,38 +140,37 @@ impl Saved {
         requires saved { IsSaved program.now.parts self.now m }
         requires was { IsReady program.now.code.now program.now.parts m }
         requires ready { IsReady program.now.code.now program.now.parts (view_in memory.old) }
-        ensures loaded { OnOk result (IsRestored program.now.code.now program.now.parts
-            (put_into (view_in memory.old) m) (view_in memory.new)) }
+        ensures loaded { OnOk result (IsLoaded program.now.code.now program.now.parts m
+            (view_in memory.new)) }
         ensures err { OnErr result (memory.new ≡ memory.old) }
     {
         program.law();
         let code = program.code;
         code.law();
-        let arrays = copy_arrays(alloc, &self.arrays)?;
+        let rest = copy_rest(alloc, &self.rest)?;
         put_first(memory.registers.as_mut_slice(), &self.numbers);
         put_first(memory.returns.as_mut_slice(), &self.returns);
         memory.home.copy_from_slice(&self.home);
         memory.statuses.copy_from_slice(&self.statuses);
-        memory.rest.arrays = arrays;
+        memory.rest = rest;
         memory.cursor.place = self.place;
         memory.cursor.depth = self.returns.len();
         Ok(())
     }
 
-    /// Returns true only if both states are the same, if what a state of this type lacks is.
+    /// Returns true only if both states are the same.
     pub fn same(&self, other: &Saved, program: &Lowered<'_, '_>) -> bool
         ensures { result ≡ true → (v w : View) →
             IsReady program.now.code.now program.now.parts v →
             IsReady program.now.code.now program.now.parts w →
             IsSaved program.now.parts self.now v → IsSaved program.now.parts other.now w →
-            unsaved v.parts ≡ unsaved w.parts → (input : Input) →
-            state_of program.now.code.now program.now.parts input v
+            (input : Input) → state_of program.now.code.now program.now.parts input v
             ≡ state_of program.now.code.now program.now.parts input w }
     {
         program.law();
         let code = program.code;
         code.law();
-        same_numbers(self, other) && same_arrays(&self.arrays, &other.arrays)
+        same_numbers(self, other) && same_rest(&self.rest, &other.rest)
     }
 
     /// Returns a number by which states can be looked up. States that are the same have the same
@@ -180,6 +181,6 @@ impl Saved {
         let hash = mix_numbers(hash, &self.home);
         let hash = mix_bytes(hash, &self.statuses);
         let hash = mix_numbers(hash, &self.returns);
-        mix_arrays(hash, &self.arrays)
+        mix_rest(hash, &self.rest)
     }
 }

@@ -1,9 +1,9 @@
-use Rattle.std.proofs.Common.{◌≡◌, refl, ap, ◌∙◌, length, drop, ◌++◌, arith}
+use Rattle.std.proofs.Common.{◌≡◌, ap, ◌∙◌, length, drop, ◌++◌, arith}
 use Rattle.std.proofs.lemmas.List.{with_items_is}
 use Rattle.ick_engine.specs.Memory.{view_in}
-use Rattle.ick_engine.specs.Saved.{put_into}
+use Rattle.ick_engine.specs.View.{parts_of}
 use Rattle.ick_engine.specs.Steady.{IsProgram}
-use Rattle.ick_engine.proofs.Saving.{loaded, ready_in, first, first_low, used, used_low, put_in, put_long}
+use Rattle.ick_engine.proofs.Saving.{loaded, first, first_low, used, used_low, put_in, put_long}
 use Rattle.ick_engine.proofs.saved.Saved.load.Goals as goal
 
 pub returns-clause-loaded : goal.returns-clause-loaded
@@ -16,8 +16,8 @@ returns-clause-loaded g c =
     let was = c.requires.1.0 in
     let ready = c.requires.1.1 in
     let is : IsProgram code parts = record { compiled = c.law-2.ensures; lowered_is = c.law.ensures } in
-    let m = put_into old g.m in
-    let marked = ready_in code parts is old g.m ready was in
+    let m = g.m in
+    let marked = was in
     let front = first code parts is old m ready marked in
     let back = used code parts is old m ready marked in
     let registers : c.put_first.new.numbers ≡ front ++ drop (length front) memory.registers.items =
@@ -28,7 +28,7 @@ returns-clause-loaded g c =
     c.as_mut_slice-2.ensures.value in
     let registers_long = put_long _ front memory.registers.items registers (first_low code parts is old m ready marked) in
     let returns_long = put_long _ back memory.returns.items returns (used_low code parts is old m ready marked) in
-    loaded code parts is old m ready marked _
+    loaded code parts is old m ready marked _ (parts_of c.args.self.now.rest)
     (with_items_is memory.registers c.put_first.new.numbers (omega (arith, registers_long, memory.registers.ok.0))
     ∙ registers)
     (with_items_is memory.returns c.put_first-2.new.numbers (omega (arith, returns_long, memory.returns.ok.0)) ∙ returns)
@@ -36,5 +36,4 @@ returns-clause-loaded g c =
     (c.copy_from_slice-2.ensures.items ∙ c.deref-4.ensures.value ∙ saved.statuses_kept)
     saved.place_kept
     (c.len-memory.ensures ∙ c.args.self.now.returns.ok.0 ∙ ap length saved.returns_kept)
-    (c.in_ok-arrays.ensures.arrays ∙ saved.arrays_kept) (c.in_ok-arrays.ensures.hidden ∙ saved.hidden_kept)
-    refl
+    saved.parts_kept c.in_ok-rest.ensures

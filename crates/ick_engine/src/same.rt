@@ -1,0 +1,107 @@
+//! Lists that are compared.
+
+ghost use Rattle.std.specs.Prelude.{◌≡◌, true, map};
+ghost use Rattle.ick_engine.specs.Saved.{arrays_on, numbers_on, AreSame};
+ghost use Rattle.ick_engine.specs.View.{array_of, is_hidden, parts_of};
+
+use crate::memory::{Array, ArrayStash, NumberStash, Rest};
+
+/// Returns whether two arrays are the same.
+fn same_array(one: &Array, other: &Array) -> bool
+    ensures array { result ≡ true → array_of one.now ≡ array_of other.now }
+    ensures hidden { result ≡ true → is_hidden one.now ≡ is_hidden other.now }
+{
+    one.dimensions == other.dimensions
+        && one.elements == other.elements
+        && one.hidden == other.hidden
+}
+
+/// Returns whether two lists have the same arrays.
+fn same_arrays(one: &[Array], other: &[Array]) -> bool
+    ensures arrays { result ≡ true → map array_of one.now ≡ map array_of other.now }
+    ensures hidden { result ≡ true → map is_hidden one.now ≡ map is_hidden other.now }
+{
+    if one.len() != other.len() {
+        return false;
+    }
+    for at in 0..one.len() {
+        if !same_array(&one[at], &other[at]) {
+            return false;
+        }
+    }
+    true
+}
+
+/// Returns whether the same numbers are on two stashes.
+fn same_number_stash(one: &NumberStash, other: &NumberStash) -> bool
+    ensures { result ≡ true → numbers_on one.now ≡ numbers_on other.now }
+{
+    one.items[..one.depth] == other.items[..other.depth]
+}
+
+/// Returns whether the same numbers are on the stashes of two lists.
+fn same_number_stashes(one: &[NumberStash], other: &[NumberStash]) -> bool
+    ensures { result ≡ true → map numbers_on one.now ≡ map numbers_on other.now }
+{
+    if one.len() != other.len() {
+        return false;
+    }
+    for at in 0..one.len() {
+        if !same_number_stash(&one[at], &other[at]) {
+            return false;
+        }
+    }
+    true
+}
+
+/// Returns whether the same arrays are on two stashes.
+fn same_array_stash(one: &ArrayStash, other: &ArrayStash) -> bool
+    ensures { result ≡ true → arrays_on one.now ≡ arrays_on other.now }
+{
+    same_arrays(&one.items[..one.depth], &other.items[..other.depth])
+}
+
+/// Returns whether the same arrays are on the stashes of two lists.
+fn same_array_stashes(one: &[ArrayStash], other: &[ArrayStash]) -> bool
+    ensures { result ≡ true → map arrays_on one.now ≡ map arrays_on other.now }
+{
+    if one.len() != other.len() {
+        return false;
+    }
+    for at in 0..one.len() {
+        if !same_array_stash(&one[at], &other[at]) {
+            return false;
+        }
+    }
+    true
+}
+
+/// Returns whether two states have the same bytes of input and output.
+fn same_tape(one: &Rest, other: &Rest) -> bool
+    ensures taken { result ≡ true → one.now.taken ≡ other.now.taken }
+    ensures output { result ≡ true → one.now.output.items ≡ other.now.output.items }
+    ensures last { result ≡ true → one.now.last ≡ other.now.last }
+    ensures lastin { result ≡ true → one.now.lastin ≡ other.now.lastin }
+{
+    one.taken == other.taken
+        && one.output == other.output
+        && one.last == other.last
+        && one.lastin == other.lastin
+}
+
+/// Returns whether the parts that few instructions change are the same. Spare places of stashes
+/// don't matter.
+pub fn same_rest(one: &Rest, other: &Rest) -> bool
+    ensures { result ≡ true → AreSame (parts_of one.now) (parts_of other.now) }
+{
+    if !same_tape(one, other) {
+        return false;
+    }
+    if !same_arrays(&one.arrays, &other.arrays) {
+        return false;
+    }
+    if !same_number_stashes(&one.scalar_stashes, &other.scalar_stashes) {
+        return false;
+    }
+    same_array_stashes(&one.array_stashes, &other.array_stashes)
+}
