@@ -9,8 +9,14 @@ MACHINE the script counts on all four. It needs callgrind (Valgrind), Python 3.8
 
 For each kind the script writes a program of 3,000 like statements, which run in a circle. It counts the instructions of
 480,000 steps, takes off those of a run without a step, and divides by the steps. In rows of two kinds, such as IGNORE
-and REMEMBER, the number is the mean of both.
+and REMEMBER, the number is the mean of both. WRITE IN finds no input, so its elements become 256.
+
+The second table is of an array of 65,535 elements. The C library sets or copies the same bytes, by one call of memset
+or memmove for one statement or both. The script counts such calls from Python, without those of calls on no bytes.
+
+A cell is - if the machine lacks an operation that the statement needs.
 """
+import collections
 import os
 import re
 import subprocess
@@ -25,47 +31,100 @@ MACHINES = ["copied", "trailed", "live", "engine"]
 COUNT = 3000
 STEPS = 480_000
 FIRST = [".1 <- #1", ".2 <- #7", ".3 <- #300", ":1 <- #1$#300", ":2 <- #9$#9", ":3 <- :1"]
-# For each kind its statements in the circle, and the labelled statements behind the circle.
+Kind = collections.namedtuple("Kind", "circle behind before", defaults=[[], []])
+# For each kind its statements in the circle, the labelled statements behind the circle, and statements before it.
 KINDS = {
-    "FORGET #0": (["FORGET #0"], []),
-    ".1 <- #7": ([".1 <- #7"], []),
-    ":1 <- :2": ([":1 <- :2"], []),
-    ".1 <- :2": ([".1 <- :2"], []),
-    "and, by the mingle idiom": (['''.1 <- "'&.2$.3'~'#0$#65535'"'''], []),
-    "exclusive or, by the mingle idiom": (['''.1 <- "'?.2$.3'~'#0$#65535'"'''], []),
-    ".1 <- .?2": ([".1 <- .?2"], []),
-    ".1 <- .2~#12": ([".1 <- .2~#12"], []),
-    ".1 <- .2~#21845": ([".1 <- .2~#21845"], []),
-    ":1 <- .2$.3": ([":1 <- .2$.3"], []),
-    ".1 <- .2~.3": ([".1 <- .2~.3"], []),
-    ":1 <- :2~:3": ([":1 <- :2~:3"], []),
-    "IGNORE, REMEMBER": (["IGNORE .1", "REMEMBER .1"], []),
-    "ABSTAIN, REINSTATE by label": (["ABSTAIN FROM (2)", "REINSTATE (2)"], [(2, ".4 <- #1")]),
-    "NEXT and RESUME #1": (["(2) NEXT"], [(2, "RESUME #1")]),
-    "NEXT and RESUME .1": (["(2) NEXT"], [(2, "RESUME .1")]),
-    "passed over": (["NOT .1 <- #7"], []),
+    "FORGET #0": Kind(["FORGET #0"]),
+    ".1 <- #7": Kind([".1 <- #7"]),
+    ":1 <- :2": Kind([":1 <- :2"]),
+    ".1 <- :2": Kind([".1 <- :2"]),
+    "and, by the mingle idiom": Kind(['''.1 <- "'&.2$.3'~'#0$#65535'"''']),
+    "exclusive or, by the mingle idiom": Kind(['''.1 <- "'?.2$.3'~'#0$#65535'"''']),
+    ".1 <- .?2": Kind([".1 <- .?2"]),
+    ".1 <- .2~#12": Kind([".1 <- .2~#12"]),
+    ".1 <- .2~#21845": Kind([".1 <- .2~#21845"]),
+    ":1 <- .2$.3": Kind([":1 <- .2$.3"]),
+    ".1 <- .2~.3": Kind([".1 <- .2~.3"]),
+    ":1 <- :2~:3": Kind([":1 <- :2~:3"]),
+    "IGNORE, REMEMBER": Kind(["IGNORE .1", "REMEMBER .1"]),
+    "ABSTAIN, REINSTATE by label": Kind(["ABSTAIN FROM (2)", "REINSTATE (2)"], behind=[(2, ".4 <- #1")]),
+    "ABSTAIN, REINSTATE by gerund": Kind(["ABSTAIN FROM IGNORING", "REINSTATE IGNORING"]),
+    "NEXT and RESUME #1": Kind(["(2) NEXT"], behind=[(2, "RESUME #1")]),
+    "NEXT and RESUME .1": Kind(["(2) NEXT"], behind=[(2, "RESUME .1")]),
+    "passed over": Kind(["NOT .1 <- #7"]),
+    ".1 <- ,1SUB.2": Kind([".1 <- ,1SUB.2"], before=[",1 <- #9"]),
+    ",1SUB.2 <- .1": Kind([",1SUB.2 <- .1"], before=[",1 <- #9"]),
+    ".1 <- ,1SUB.2.2": Kind([".1 <- ,1SUB.2.2"], before=[",1 <- #9BY#9"]),
+    ".1 <- ,1SUB.2.2.2": Kind([".1 <- ,1SUB.2.2.2"], before=[",1 <- #9BY#9BY#9"]),
+    "READ OUT .1": Kind(["READ OUT .1"]),
+    "STASH, RETRIEVE .1": Kind(["STASH .1", "RETRIEVE .1"]),
+    "STASH, RETRIEVE ,1 of 3": Kind(["STASH ,1", "RETRIEVE ,1"], before=[",1 <- #3"]),
+    "WRITE IN ,1 of 3, at the end": Kind(["WRITE IN ,1"], before=[",1 <- #3"]),
 }
+# Kinds that change all elements of an array, of four bytes each, and the call of the C library that does as much. The
+# runs have fewer steps.
+LARGE = {
+    ",1 <- #65535": (Kind([",1 <- #65535"]), "memset(a, 0, {size})"),
+    "STASH, RETRIEVE ,1": (Kind(["STASH ,1", "RETRIEVE ,1"], before=[",1 <- #65535"]), "memmove(a, b, {size})"),
+}
+LARGE_STEPS = 1000
+LARGE_SIZE = 4 * 65535
+CALLS = 50
 
 
-def source_of(circle, behind):
+def source_of(kind):
     """Returns a program that runs in a circle of like statements."""
-    bodies = [(None, body) for body in FIRST] + [(1, "FORGET #1")] + [(None, body) for body in circle] * COUNT
-    bodies += [(None, "(1) NEXT")] + behind
+    bodies = [(None, body) for body in FIRST + kind.before] + [(1, "FORGET #1")]
+    bodies += [(None, body) for body in kind.circle] * COUNT + [(None, "(1) NEXT")] + kind.behind
     return "".join(f"{f'({label}) ' if label else ''}{'PLEASE' if at % 4 == 3 else 'DO'} {body}\n"
                    for at, (label, body) in enumerate(bodies))
 
 
-def instructions(program, machine, source, limit):
-    """Returns the instructions that the processor made for a run of at most so many steps."""
+def collected(words, source=""):
+    """Returns the instructions that the processor made for a command, and what it printed."""
     with tempfile.TemporaryFile() as text:
         text.write(source.encode())
         text.seek(0)
-        words = ["valgrind", "--tool=callgrind", "--callgrind-out-file=/dev/null", program, str(limit), machine]
-        ran = subprocess.run(words, stdin=text, stdout=subprocess.PIPE, stderr=subprocess.PIPE, universal_newlines=True)
+        ran = subprocess.run(["valgrind", "--tool=callgrind", "--callgrind-out-file=/dev/null", *words], stdin=text,
+                             stdout=subprocess.PIPE, stderr=subprocess.PIPE, universal_newlines=True,
+                             env={**os.environ, "PYTHONHASHSEED": "0"})
     found = re.search(r"Collected : (\d+)", ran.stderr)
-    if ran.returncode or ran.stdout.split() != [machine, str(limit)] or not found:
-        stop(f"{program} {limit} {machine} ended with status {ran.returncode}:\n{ran.stderr[-300:]}")
-    return int(found[1])
+    if ran.returncode or not found:
+        stop(f"{' '.join(words)} ended with status {ran.returncode}:\n{ran.stderr[-300:]}")
+    return int(found[1]), ran.stdout
+
+
+def instructions(program, machine, source, limit):
+    """Returns the instructions that the processor made for a run of at most so many steps."""
+    count, printed = collected([program, str(limit), machine], source)
+    if printed.split() != [machine, str(limit)]:
+        stop(f"{program} {limit} {machine} printed {printed}")
+    return count
+
+
+def lacks(program, machine, source):
+    """Returns whether the machine lacks an operation of a program."""
+    ran = subprocess.run([program, "0", machine], input=source, stdout=subprocess.DEVNULL, stderr=subprocess.PIPE,
+                         universal_newlines=True)
+    return "Unsupported" in ran.stderr
+
+
+def of_each_step(program, machine, kind, steps):
+    """Returns the instructions for a step, without those of the start, or - if the machine lacks an operation."""
+    source = source_of(kind)
+    if lacks(program, machine, source):
+        return "-"
+    count = instructions(program, machine, source, steps) - instructions(program, machine, source, 0)
+    return f"{count / steps:.1f}"
+
+
+def of_library(call):
+    """Returns the instructions that a call of the C library takes for the bytes of a large array."""
+    def calls(size):
+        lines = ["import ctypes", f"a, b = (ctypes.create_string_buffer({LARGE_SIZE}) for _ in range(2))",
+                 f"for _ in range({CALLS}): ctypes.{call.format(size=size)}"]
+        return collected([sys.executable, "-c", "\n".join(lines)])[0]
+    return (calls(LARGE_SIZE) - calls(0)) / CALLS
 
 
 def main():
@@ -80,12 +139,15 @@ def main():
         sys.exit(__doc__)
     if not os.access(program, os.X_OK) or os.path.isdir(program):
         stop(f"{program} is no program that can be run: `dev/build_unproved.py . bench_steps bare` builds it")
-    print_heading("Statement", *[f"`{machine}`" for machine in machines])
-    for kind, (circle, behind) in KINDS.items():
-        source = source_of(circle, behind)
-        row = [(instructions(program, machine, source, STEPS) - instructions(program, machine, source, 0)) / STEPS
-               for machine in machines]
-        print_row(f"`{kind}`", *[f"{count:.1f}" for count in row])
+    heading = [f"`{machine}`" for machine in machines]
+    print_heading("Statement", *heading)
+    for name, kind in KINDS.items():
+        print_row(f"`{name}`", *[of_each_step(program, machine, kind, STEPS) for machine in machines])
+    print()
+    print_heading("65,535 elements", "C library", *heading)
+    for name, (kind, call) in LARGE.items():
+        print_row(f"`{name}`", f"{of_library(call) / len(kind.circle):.1f}",
+                  *[of_each_step(program, machine, kind, LARGE_STEPS) for machine in machines])
 
 
 if __name__ == "__main__":
