@@ -7,13 +7,14 @@ ghost use Rattle.ick_explorer.specs.Runs.{run};
 
 use crate::fault::RunFault;
 use ick_code::Code;
-use ick_engine::{Exit, Nobody, fresh_memory, is_core};
+use ick_engine::{Exit, Nobody, TextReader, fresh_memory, is_core};
 use ick_lowering::lower;
 use std::alloc::Global;
 
 /// Runs a program without input and choices on the engine, for at most `limit` steps, and returns
 /// the number of steps. The answer is `Unsupported` if the loop lacks an operation of the program.
-/// Nothing notes the changes, so the loop never stops for want of room.
+/// It is `NoMemory` if memory runs out. Nothing notes the changes, so the loop never stops for want
+/// of room.
 pub(crate) fn run_on_engine(alloc: Global, code: &Code<'_>, limit: u32) -> Result<u32, RunFault>
     ensures { let program = code_program code.now in IfOk result (λ steps.
         steps ≡ (run program (first_state program []) limit []).steps) }
@@ -25,9 +26,10 @@ pub(crate) fn run_on_engine(alloc: Global, code: &Code<'_>, limit: u32) -> Resul
     let mut memory = fresh_memory(alloc, &lowered)?;
     memory.cursor.left = limit;
     memory.cursor.answer = None;
-    let exit = memory.run_steps(&lowered, &mut Nobody);
-    if let Exit::Room = exit {
-        return Err(RunFault::NoMemory);
+    let mut reader = TextReader::new(&[]);
+    match memory.run_steps(&lowered, &mut Nobody, &mut reader) {
+        Exit::Room => Err(RunFault::NoMemory),
+        Exit::NoMemory => Err(RunFault::NoMemory),
+        _ => Ok(limit - memory.cursor.left),
     }
-    Ok(limit - memory.cursor.left)
 }
