@@ -1,7 +1,8 @@
 -- The changes that a trail has.
-use Rattle.std.proofs.Common.{arith, ◌≤◌, ◌≡◌, ℕ, suc, false, List, [], ◌∷◌, ◌++◌, length, map, reverse, refl, ap, sym, ◌∙◌}
+use Rattle.std.proofs.Common.{arith, ◌≤◌, ◌≡◌, ℕ, suc, false, List, [], ◌∷◌, ◌++◌, refl, ap, sym, ◌∙◌}
+use Rattle.std.proofs.Common.{length, map, reverse, take}
 use Rattle.std.specs.Global.{Vec}
-use Rattle.std.proofs.lemmas.List.{reverse-append, length-reverse, map-append}
+use Rattle.std.proofs.lemmas.List.{reverse-append, length-reverse, map-append, take-append-le}
 use Rattle.ick_code.specs.meaning.State.{Array as ArrayValue}
 use Rattle.ick_lowering.specs.Extends.{Extends}
 use Rattle.ick_engine.specs.declared.change.ArrayChange.{ArrayChange}
@@ -9,8 +10,9 @@ use Rattle.ick_engine.specs.declared.change.Entry.{Entry}
 use Rattle.ick_engine.specs.declared.change.Entry.TheVariants as entry
 use Rattle.ick_engine.specs.declared.memory.Array.{Array}
 use Rattle.ick_engine.specs.declared.trail.Trail.{Trail}
-use Rattle.ick_engine.specs.History.{changes_by, history, IsUndone}
+use Rattle.ick_engine.specs.History.{changes_by, fixed_by, history, IsUndone}
 use Rattle.ick_engine.specs.Undo.{Change, array_was, statuses_were, no_change, change_of, changes_of, stands_apart}
+use Rattle.ick_engine.specs.Undo.{fixed_of}
 use Rattle.ick_engine.specs.View.{View, array_of, bytes_of}
 
 -- an entry with its old value is a change of its own
@@ -63,6 +65,19 @@ count_history t =
     let statuses = reverse (map bytes_of t.statuses.items) in
     length-reverse (changes_of (reverse t.entries.items) arrays statuses)
     ∙ count_changes (reverse t.entries.items) arrays statuses ∙ length-reverse t.entries.items
+
+-- changes that are added belong to no older mark
+pub fixed_grown : (t : Trail) (changes : List Change) → Extends (history t) changes →
+    fixed_of t.base (take t.kept changes) ≡ fixed_by t
+fixed_grown t changes more =
+    ap (fixed_of t.base)
+    (ap (take t.kept) more.is ∙ take-append-le t.kept (history t) more.more (omega (arith, t.few, count_history t)))
+
+pub fixed_moved : (t u : Trail) → u.base ≡ t.base → u.kept ≡ t.kept → Extends (history t) (history u) →
+    fixed_by u ≡ fixed_by t
+fixed_moved t u base kept more =
+    ap (λ b. fixed_of b (take u.kept (history u))) base ∙ ap (λ k. fixed_of t.base (take k (history u))) kept
+    ∙ fixed_grown t (history u) more
 
 -- the newest entry is the newest change
 newest : (all rest : List Entry) (e : Entry) (change : Change) (arrays arrays' : List ArrayValue)

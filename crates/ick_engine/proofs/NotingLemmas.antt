@@ -6,13 +6,13 @@ use Rattle.ick_code.specs.meaning.State.{Array}
 use Rattle.ick_lowering.specs.Extends.{Extends}
 use Rattle.ick_engine.specs.declared.change.ArrayChange.TheVariants.{Replaced}
 use Rattle.ick_engine.specs.Noting.{NotesParts, NotesBefore}
-use Rattle.ick_engine.specs.Undo.{Change, NotesChange, array_was, with_arrays}
+use Rattle.ick_engine.specs.Undo.{Change, Fixed, NotesChange, array_was, with_arrays}
 use Rattle.ick_engine.specs.View.{View, Parts}
 
-module _ {N : Type 0} {Undoes : N → ℕ → View → View → Type 0} {low base : N → ℕ} {changes : N → List Change}
-    {first last : N} {before : Parts → Parts} (noted : NotesBefore Undoes low base changes first last before) where
+module _ {N : Type 0} {Undoes : N → ℕ → View → View → Type 0} {low : N → ℕ} {fixed : N → Fixed}
+    {changes : N → List Change} {first last : N} {before : Parts → Parts} (noted : NotesBefore Undoes low fixed changes first last before) where
   -- parts that were the old ones before
-  pub noted_parts : (old new : Parts) → before new ≡ old → NotesParts Undoes low base changes first last old new
+  pub noted_parts : (old new : Parts) → before new ≡ old → NotesParts Undoes low fixed changes first last old new
   noted_parts old new is = record {
     low_same = noted.low_same;
     base_same = noted.base_same;
@@ -30,11 +30,11 @@ grown_twice {A} {old} one other = record {
 }
 
 -- an array that was noted first
-module _ {N : Type 0} {Undoes : N → ℕ → View → View → Type 0} {low base : N → ℕ} {changes : N → List Change}
-    {first mid last : N} {before : Parts → Parts} (noted : NotesBefore Undoes low base changes mid last before) where
-  pub array_noted : (slot b : ℕ) (a : Array) → low mid ≡ low first → base mid ≡ base first →
+module _ {N : Type 0} {Undoes : N → ℕ → View → View → Type 0} {low : N → ℕ} {fixed : N → Fixed}
+    {changes : N → List Change} {first mid last : N} {before : Parts → Parts} (noted : NotesBefore Undoes low fixed changes mid last before) where
+  pub array_noted : (slot b : ℕ) (a : Array) → low mid ≡ low first → fixed mid ≡ fixed first →
       Extends (changes first) (changes mid) → NotesChange Undoes first mid b (array_was Replaced slot a) →
-      NotesBefore Undoes low base changes first last
+      NotesBefore Undoes low fixed changes first last
       (λ p. record (before p) { arrays = slice_set (before p).arrays slot a })
   array_noted slot b a low_is base_is more change = record {
     low_same = noted.low_same ∙ low_is;
@@ -45,13 +45,13 @@ module _ {N : Type 0} {Undoes : N → ℕ → View → View → Type 0} {low bas
   }
 
 -- arrays that were noted behind
-module _ {N : Type 0} {Undoes : N → ℕ → View → View → Type 0} {low base : N → ℕ} {changes : N → List Change}
-    {first mid last : N} {old new : Parts} (noted : NotesParts Undoes low base changes first mid old new) where
-  pub arrays_noted : (arrays : List Array) (hidden : List Bool) → low last ≡ low mid → base last ≡ base mid →
+module _ {N : Type 0} {Undoes : N → ℕ → View → View → Type 0} {low : N → ℕ} {fixed : N → Fixed}
+    {changes : N → List Change} {first mid last : N} {old new : Parts} (noted : NotesParts Undoes low fixed changes first mid old new) where
+  pub arrays_noted : (arrays : List Array) (hidden : List Bool) → low last ≡ low mid → fixed last ≡ fixed mid →
       Extends (changes mid) (changes last) → hidden ≡ new.hidden →
       ((k : ℕ) (v m : View) → v.parts.arrays ≡ new.arrays → Undoes mid k v m →
       Undoes last k (with_arrays arrays v) m) →
-      NotesParts Undoes low base changes first last old (record new { arrays = arrays; hidden = hidden })
+      NotesParts Undoes low fixed changes first last old (record new { arrays = arrays; hidden = hidden })
   arrays_noted arrays hidden low_is base_is more kept change = record {
     low_same = low_is ∙ noted.low_same;
     base_same = base_is ∙ noted.base_same;

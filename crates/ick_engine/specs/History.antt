@@ -1,8 +1,8 @@
 -- The changes that a trail has, the newest last.
-use Rattle.std.specs.Prelude.{◌≡◌, List, ◌∷◌, map, reverse}
+use Rattle.std.specs.Prelude.{ℕ, ◌≡◌, List, ◌∷◌, map, reverse, take}
 use Rattle.ick_engine.specs.declared.change.Entry.{Entry}
 use Rattle.ick_engine.specs.declared.trail.Trail.{Trail}
-use Rattle.ick_engine.specs.Undo.{Change, changes_of, undone}
+use Rattle.ick_engine.specs.Undo.{Change, Fixed, Rewinds, changes_of, fixed_of, undone}
 use Rattle.ick_engine.specs.View.{View, array_of, bytes_of}
 
 -- the changes of entries, the newest first, with the arrays and statuses of a trail
@@ -12,6 +12,14 @@ changes_by t entries =
 
 abbrev pub history : Trail → List Change
 history t = reverse (changes_by t (reverse t.entries.items))
+
+-- what no note on a trail changes
+abbrev pub fixed_by : Trail → Fixed
+fixed_by t = fixed_of t.base (take t.kept (history t))
+
+-- undoing all changes of a trail but the first ones leads from a view to one like another
+abbrev pub UndoesBy : Trail → ℕ → View → View → Type 0
+UndoesBy t k v m = Rewinds t.base (history t) t.low k v m
 
 -- an entry was undone, and what stands apart from it was taken off the trail
 pub record IsUndone (entry : Entry) (old new : Trail) (v w : View) : Type 0 where

@@ -192,11 +192,23 @@ pub record Rewinds (base : ℕ) (changes : List Change) (low k : ℕ) (v m : Vie
   pub leads : (w : View) → Like base low v w → Like base m.depth m (rewound (reverse (drop k changes)) w)
   pub stays : (w : View) → Like base low v w → HighSame base w (rewound (reverse (drop k changes)) w)
 
+-- what no note changes: registers from a number on are never restored, and the changes that belong to older marks
+pub record Fixed : Type 0 where
+  pub base : ℕ
+  pub kept : List Change
+
+abbrev pub fixed_of : ℕ → List Change → Fixed
+fixed_of base kept = record { base = base; kept = kept }
+
+-- the same if no change is left that was noted since the newest mark
+abbrev pub RewindsMarked : Fixed → List Change → (low k : ℕ) → View → View → Type 0
+RewindsMarked fixed changes low k v m = (k ≤ length fixed.kept) × Rewinds fixed.base changes low k v m
+
 -- what undoing is, for notes of these changes: if somebody is told of changes, they can be rewound
 pub record Means {N : Type 0} (Undoes : N → ℕ → View → View → Type 0) (tells : Bool) (notes : N)
-    (changes : List Change) (base low : ℕ) : Type 0 where
-  pub rewinds : tells ≡ true → (k : ℕ) (v m : View) → Undoes notes k v m → Rewinds base changes low k v m
-  pub undoes : (k : ℕ) (v m : View) → (tells ≡ true → Rewinds base changes low k v m) → Undoes notes k v m
+    (changes : List Change) (fixed : Fixed) (low : ℕ) : Type 0 where
+  pub rewinds : tells ≡ true → (k : ℕ) (v m : View) → Undoes notes k v m → Rewinds fixed.base changes low k v m
+  pub undoes : (k : ℕ) (v m : View) → (tells ≡ true → RewindsMarked fixed changes low k v m) → Undoes notes k v m
 
 -- what can be undone from a view can be undone from each one like it
 abbrev pub AlikeUndo : {N : Type 0} → (N → ℕ → View → View → Type 0) → N → (base low : ℕ) → Type 0

@@ -57,7 +57,7 @@ pub fn set_kind_abstained<N: Notes>(
         (IsFlagged (code_program code.now) on number statuses.old statuses.new) }
     ensures err { OnErr result (statuses.new ≡ statuses.old) }
     ensures room { N.room notes.old ≤ N.room notes.new + 1 }
-    ensures notes { NotesStatuses N.Undoes N.low N.base N.changes notes.old notes.new
+    ensures notes { NotesStatuses N.Undoes N.low N.fixed N.changes notes.old notes.new
         statuses.old statuses.new }
 {
     if number > 13 {

@@ -1,9 +1,11 @@
 //! Marks: states that a run can go back to.
 
-ghost use Rattle.std.specs.Prelude.{◌≡◌, ◌<◌, ◌≤◌, ℕ, length, map, slice_set, take, true};
+ghost use Rattle.std.specs.Prelude.{◌≡◌, ◌<◌, ◌≤◌, ℕ, List, ◌∷◌, length, map, slice_set, take};
+ghost use Rattle.std.specs.Prelude.{true};
 ghost use Rattle.std.proofs.Common.{get_or};
 ghost use Rattle.ick_code.specs.meaning.State.{no_array};
 ghost use Rattle.ick_engine.specs.History.{history, IsUndone};
+ghost use Rattle.ick_engine.specs.Marks.{Marked, HasMarks, kept_by, marked};
 ghost use Rattle.ick_engine.specs.Memory.{view_in};
 ghost use Rattle.ick_engine.specs.Steady.{IsReady, IsSteady};
 ghost use Rattle.ick_engine.specs.Undo.{change_of, stands_apart, undone, undone_array};
@@ -20,6 +22,7 @@ use ick_lowering::Lowered;
 use std::mem::replace;
 
 /// A mark: the place and the depth of the NEXT stack, and how many changes were noted before it.
+/// Marks form a stack: `HasMarks` says that each of them leads back to its state, the newest first.
 #[derive(Clone, Copy)]
 pub struct Mark {
     pub place: u32,
@@ -27,24 +30,33 @@ pub struct Mark {
     pub changes: usize,
 }
 
-/// Marks the state of a run. What can be undone up to an older mark still can.
+/// Marks the state of a run. What can be undone up to an older mark still can. All changes noted so
+/// far belong to older marks.
 pub fn make_mark(trail: &mut Trail, memory: &Memory) -> Mark
     requires { trail.old.low ≤ memory.now.cursor.depth }
     ensures place { result.place ≡ memory.now.cursor.place }
     ensures depth { result.depth ≡ memory.now.cursor.depth }
     ensures low { trail.new.low ≡ memory.now.cursor.depth }
     ensures base { trail.new.base ≡ trail.old.base }
+    ensures changes { history trail.new ≡ history trail.old }
+    ensures count { result.changes ≡ length (history trail.new) }
+    ensures kept { trail.new.kept ≡ length (history trail.new) }
+    ensures marks { (older : List Marked) → HasMarks trail.old (view_in memory.now) older →
+        HasMarks trail.new (view_in memory.now)
+        (marked result.changes (view_in memory.now) ∷ older) }
     ensures marked { Rewinds trail.new.base (history trail.new) trail.new.low result.changes
         (view_in memory.now) (view_in memory.now) }
     ensures older { (k : ℕ) (m : View) →
         Rewinds trail.old.base (history trail.old) trail.old.low k (view_in memory.now) m →
         Rewinds trail.new.base (history trail.new) trail.new.low k (view_in memory.now) m }
 {
+    let changes = trail.entries.len();
     trail.low = memory.cursor.depth;
+    trail.kept = changes;
     Mark {
         place: memory.cursor.place,
         depth: memory.cursor.depth,
-        changes: trail.entries.len(),
+        changes,
     }
 }
 
@@ -161,6 +173,7 @@ fn undo_apart(trail: &mut Trail, memory: &mut Memory, entry: Entry)
     ensures entries { trail.new.entries ≡ trail.old.entries }
     ensures low { trail.new.low ≡ trail.old.low }
     ensures base { trail.new.base ≡ trail.old.base }
+    ensures kept { trail.new.kept ≡ trail.old.kept }
     ensures undone { IsUndone entry trail.old trail.new (view_in memory.old)
         (view_in memory.new) }
 {
@@ -182,6 +195,7 @@ fn undo_newest(trail: &mut Trail, memory: &mut Memory, entry: Entry)
     ensures entries { trail.new.entries ≡ trail.old.entries }
     ensures low { trail.new.low ≡ trail.old.low }
     ensures base { trail.new.base ≡ trail.old.base }
+    ensures kept { trail.new.kept ≡ trail.old.kept }
     ensures undone { IsUndone entry trail.old trail.new (view_in memory.old)
         (view_in memory.new) }
 {
@@ -192,8 +206,8 @@ fn undo_newest(trail: &mut Trail, memory: &mut Memory, entry: Entry)
     }
 }
 
-/// Goes back to a mark: undoes all changes noted since, and takes them off the trail. The number of
-/// steps left stays.
+/// Goes back to a mark: undoes all changes noted since, and takes them off the trail. The mark
+/// stays, and newer marks are gone. The number of steps left stays.
 pub fn back(trail: &mut Trail, mark: Mark, memory: &mut Memory, program: &Lowered<'_, '_>)
     requires base { trail.old.base ≡ program.now.parts.layout.base }
     requires steady { IsSteady program.now.code.now program.now.parts (view_in memory.old) }
@@ -205,29 +219,38 @@ pub fn back(trail: &mut Trail, mark: Mark, memory: &mut Memory, program: &Lowere
     ensures changes { history trail.new ≡ take mark.changes (history trail.old) }
     ensures low { trail.new.low ≡ mark.depth }
     ensures base { trail.new.base ≡ trail.old.base }
+    ensures kept { trail.new.kept ≡ length (history trail.new) }
+    ensures marks { (m : View) (older : List Marked) → m.place ≡ mark.place →
+        m.depth ≡ mark.depth → IsReady program.now.code.now program.now.parts m →
+        HasMarks trail.old (view_in memory.old) (marked mark.changes m ∷ older) →
+        HasMarks trail.new (view_in memory.new) (marked mark.changes m ∷ older) }
 {
     program.law();
     let code = program.code;
     code.law();
+    trail.kept = 0;
     'changes: while trail.entries.len() > mark.changes {
         if let Some(entry) = trail.entries.pop() {
             undo_newest(trail, memory, entry);
         }
     }
+    trail.kept = trail.entries.len();
     trail.low = mark.depth;
     memory.cursor.place = mark.place;
     memory.cursor.depth = mark.depth;
 }
 
-/// States that the newest mark can be dropped: if an older mark could be gone back to from the
-/// state of the newer one, it can be gone back to from the present state.
-pub fn drop_mark(trail: &Trail, newer: Mark, older: Mark)
-    ensures { (v m n : View) → Rewinds trail.now.base (history trail.now) trail.now.low
-        newer.changes v m →
-        Rewinds trail.now.base (take newer.changes (history trail.now)) m.depth older.changes
-        m n → Rewinds trail.now.base (history trail.now) trail.now.low older.changes v n }
+/// Drops the newest mark: the changes noted since belong to the next older mark. `kept` is how many
+/// changes were noted before that mark, and 0 if there is none. A run can go back to an older mark
+/// from the present state, if it could from the state of the newest mark.
+pub fn drop_mark(trail: &mut Trail, kept: usize)
+    requires { kept ≤ trail.old.kept }
+    ensures changes { history trail.new ≡ history trail.old }
+    ensures low { trail.new.low ≡ trail.old.low }
+    ensures base { trail.new.base ≡ trail.old.base }
+    ensures kept { trail.new.kept ≡ kept }
+    ensures marks { (v : View) (newest : Marked) (older : List Marked) → kept ≡ kept_by older →
+        HasMarks trail.old v (newest ∷ older) → HasMarks trail.new v older }
 {
-    let _ = trail;
-    let _ = newer;
-    let _ = older;
+    trail.kept = kept;
 }

@@ -7,7 +7,8 @@ ghost use Rattle.std.proofs.Common.{get_or};
 ghost use Rattle.ick_code.specs.meaning.State.{no_array};
 ghost use Rattle.ick_lowering.specs.Extends.{Extends};
 ghost use Rattle.ick_engine.specs.Undo.{array_was, change_of, stands_apart, statuses_were};
-ghost use Rattle.ick_engine.specs.Undo.{AlikeUndo, Change, KeepsUndoing, Means, NotesChange};
+ghost use Rattle.ick_engine.specs.Undo.{AlikeUndo, Change, Fixed, KeepsUndoing, Means};
+ghost use Rattle.ick_engine.specs.Undo.{NotesChange};
 ghost use Rattle.ick_engine.specs.Undo.{NotesElement, NotesHome, NotesRegister, NotesRestored};
 ghost use Rattle.ick_engine.specs.Undo.{NotesReturns, NotesStatus};
 ghost use Rattle.ick_engine.specs.View.{View, array_of};
@@ -24,8 +25,9 @@ pub trait Notes: Drop {
     /// The return addresses below this depth are those of the newest mark.
     ghost low: { Self → ℕ };
 
-    /// Registers from this one on are never restored.
-    ghost base: { Self → ℕ };
+    /// The first register that is never restored, and the changes that belong to older marks. No
+    /// call here changes either.
+    ghost fixed: { Self → Fixed };
 
     /// Whether changes are noted at all.
     ghost tells: { Bool };
@@ -46,8 +48,8 @@ pub trait Notes: Drop {
 
     /// States what undoing is, and that nothing else than the places that can be noted matters.
     fn law(&self)
-        ensures alike { AlikeUndo Undoes self.now (base self.now) (low self.now) }
-        ensures means { Means Undoes tells self.now (changes self.now) (base self.now)
+        ensures alike { AlikeUndo Undoes self.now (fixed self.now).base (low self.now) }
+        ensures means { Means Undoes tells self.now (changes self.now) (fixed self.now)
             (low self.now) };
 
     /// Notes that a register will change.
@@ -56,7 +58,7 @@ pub trait Notes: Drop {
         requires there { at < length registers.now }
         ensures room { room self.old ≤ room self.new + 1 }
         ensures low { low self.new ≡ low self.old }
-        ensures base { base self.new ≡ base self.old }
+        ensures base { fixed self.new ≡ fixed self.old }
         ensures changes { Extends (changes self.old) (changes self.new) }
         ensures notes { NotesRegister Undoes self.old self.new at registers.now };
 
@@ -66,7 +68,7 @@ pub trait Notes: Drop {
         requires there { at < length home.now }
         ensures room { room self.old ≤ room self.new + 1 }
         ensures low { low self.new ≡ low self.old }
-        ensures base { base self.new ≡ base self.old }
+        ensures base { fixed self.new ≡ fixed self.old }
         ensures changes { Extends (changes self.old) (changes self.new) }
         ensures notes { NotesHome Undoes self.old self.new at home.now };
 
@@ -76,7 +78,7 @@ pub trait Notes: Drop {
         requires there { at < length statuses.now }
         ensures room { room self.old ≤ room self.new + 1 }
         ensures low { low self.new ≡ low self.old }
-        ensures base { base self.new ≡ base self.old }
+        ensures base { fixed self.new ≡ fixed self.old }
         ensures changes { Extends (changes self.old) (changes self.new) }
         ensures notes { NotesStatus Undoes self.old self.new at statuses.now };
 
@@ -87,7 +89,7 @@ pub trait Notes: Drop {
         requires at { at < length (get_or (map array_of arrays.now) slot no_array).elements }
         ensures room { room self.old ≤ room self.new + 1 }
         ensures low { low self.new ≡ low self.old }
-        ensures base { base self.new ≡ base self.old }
+        ensures base { fixed self.new ≡ fixed self.old }
         ensures changes { Extends (changes self.old) (changes self.new) }
         ensures notes { NotesElement Undoes self.old self.new slot at (map array_of arrays.now) };
 
@@ -98,7 +100,7 @@ pub trait Notes: Drop {
         requires there { low self.old ≤ 79 }
         ensures low { low self.new ≤ depth }
         ensures lower { low self.new ≤ low self.old }
-        ensures base { base self.new ≡ base self.old }
+        ensures base { fixed self.new ≡ fixed self.old }
         ensures changes { Extends (changes self.old) (changes self.new) }
         ensures notes { NotesReturns Undoes self.old self.new returns.now };
 
@@ -108,9 +110,10 @@ pub trait Notes: Drop {
         requires alone { stands_apart entry ≡ false }
         ensures room { room self.old ≤ room self.new + 1 }
         ensures low { low self.new ≡ low self.old }
-        ensures base { base self.new ≡ base self.old }
+        ensures base { fixed self.new ≡ fixed self.old }
         ensures changes { Extends (changes self.old) (changes self.new) }
-        ensures notes { NotesChange Undoes self.old self.new (base self.old) (change_of entry) };
+        ensures notes { NotesChange Undoes self.old self.new (fixed self.old).base
+            (change_of entry) };
 
     /// Notes that the number of the scalar in a slot will change to one that was taken off its
     /// stash.
@@ -119,7 +122,7 @@ pub trait Notes: Drop {
         requires there { slot < length registers.now }
         ensures room { room self.old ≤ room self.new + 1 }
         ensures low { low self.new ≡ low self.old }
-        ensures base { base self.new ≡ base self.old }
+        ensures base { fixed self.new ≡ fixed self.old }
         ensures changes { Extends (changes self.old) (changes self.new) }
         ensures notes { NotesRestored Undoes self.old self.new slot number registers.now };
 
@@ -128,7 +131,7 @@ pub trait Notes: Drop {
     fn make_room(&mut self, more: usize) -> Result<(), NoMemory>
         ensures room { OnOk result (more + 79 ≤ room self.new) }
         ensures low { low self.new ≡ low self.old }
-        ensures base { base self.new ≡ base self.old }
+        ensures base { fixed self.new ≡ fixed self.old }
         ensures changes { changes self.new ≡ changes self.old }
         ensures keeps { KeepsUndoing Undoes self.old self.new };
 
@@ -137,9 +140,9 @@ pub trait Notes: Drop {
         requires room { 0 < room self.old }
         ensures room { room self.old ≤ room self.new + 1 }
         ensures low { low self.new ≡ low self.old }
-        ensures base { base self.new ≡ base self.old }
+        ensures base { fixed self.new ≡ fixed self.old }
         ensures changes { Extends (changes self.old) (changes self.new) }
-        ensures notes { OnOk result (NotesChange Undoes self.old self.new (base self.old)
+        ensures notes { OnOk result (NotesChange Undoes self.old self.new (fixed self.old).base
             (array_was change slot (array_of array.now))) }
         ensures same { OnErr result (changes self.new ≡ changes self.old) }
         ensures keeps { OnErr result (KeepsUndoing Undoes self.old self.new) };
@@ -150,9 +153,9 @@ pub trait Notes: Drop {
         requires room { 0 < room self.old }
         ensures room { room self.old ≤ room self.new + 1 }
         ensures low { low self.new ≡ low self.old }
-        ensures base { base self.new ≡ base self.old }
+        ensures base { fixed self.new ≡ fixed self.old }
         ensures changes { Extends (changes self.old) (changes self.new) }
-        ensures notes { OnOk result (NotesChange Undoes self.old self.new (base self.old)
+        ensures notes { OnOk result (NotesChange Undoes self.old self.new (fixed self.old).base
             (statuses_were statuses.now)) }
         ensures same { OnErr result (changes self.new ≡ changes self.old) }
         ensures keeps { OnErr result (KeepsUndoing Undoes self.old self.new) };
@@ -167,7 +170,7 @@ impl Notes for Nobody {
 
     ghost low = { λ _. 0 };
 
-    ghost base = { λ _. 0 };
+    ghost fixed = { λ _. record { base = 0; kept = [] } };
 
     ghost tells = { false };
 

@@ -193,7 +193,7 @@ pub fn save_scalar<N: Notes>(
         ≡ map numbers_of stashes.old.items) }
     ensures room { N.room notes.old ≤ N.room notes.new + 1 }
     ensures low { N.low notes.new ≡ N.low notes.old }
-    ensures base { N.base notes.new ≡ N.base notes.old }
+    ensures base { N.fixed notes.new ≡ N.fixed notes.old }
     ensures changes { Extends (N.changes notes.old) (N.changes notes.new) }
     ensures notes { (k : ℕ) (v m : View) →
         v.parts.scalar_stashes ≡ map numbers_of stashes.old.items → N.Undoes notes.old k v m →
@@ -223,7 +223,7 @@ pub fn save_array<N: Notes>(
         (map arrays_of stashes.new.items)) }
     ensures room { N.room notes.old ≤ N.room notes.new + 1 }
     ensures low { N.low notes.new ≡ N.low notes.old }
-    ensures base { N.base notes.new ≡ N.base notes.old }
+    ensures base { N.fixed notes.new ≡ N.fixed notes.old }
     ensures changes { Extends (N.changes notes.old) (N.changes notes.new) }
     ensures notes { (k : ℕ) (v m : View) →
         v.parts.array_stashes ≡ map arrays_of stashes.old.items → N.Undoes notes.old k v m →
@@ -258,7 +258,7 @@ pub fn restore_scalar<N: Notes>(
         ≡ map numbers_of stashes.old.items) }
     ensures room { N.room notes.old ≤ N.room notes.new + 1 }
     ensures low { N.low notes.new ≡ N.low notes.old }
-    ensures base { N.base notes.new ≡ N.base notes.old }
+    ensures base { N.fixed notes.new ≡ N.fixed notes.old }
     ensures changes { Extends (N.changes notes.old) (N.changes notes.new) }
     ensures notes { (k : ℕ) (v m : View) → v.registers ≡ registers.old →
         v.parts.scalar_stashes ≡ map numbers_of stashes.old.items → N.Undoes notes.old k v m →
@@ -294,7 +294,7 @@ pub fn drop_stashed<N: Notes>(
         ≡ map arrays_of stashes.old.items) }
     ensures room { N.room notes.old ≤ N.room notes.new + 1 }
     ensures low { N.low notes.new ≡ N.low notes.old }
-    ensures base { N.base notes.new ≡ N.base notes.old }
+    ensures base { N.fixed notes.new ≡ N.fixed notes.old }
     ensures changes { Extends (N.changes notes.old) (N.changes notes.new) }
     ensures notes { (k : ℕ) (v m : View) →
         v.parts.array_stashes ≡ map arrays_of stashes.old.items → N.Undoes notes.old k v m →
@@ -329,7 +329,7 @@ pub fn exchange_stashed<N: Notes>(
     ensures hidden { map is_hidden arrays.new.items ≡ map is_hidden arrays.old.items }
     ensures room { N.room notes.old ≤ N.room notes.new + 1 }
     ensures low { N.low notes.new ≡ N.low notes.old }
-    ensures base { N.base notes.new ≡ N.base notes.old }
+    ensures base { N.fixed notes.new ≡ N.fixed notes.old }
     ensures changes { Extends (N.changes notes.old) (N.changes notes.new) }
     ensures notes { (k : ℕ) (v m : View) → v.parts.arrays ≡ map array_of arrays.old.items →
         v.parts.array_stashes ≡ map arrays_of stashes.old.items → N.Undoes notes.old k v m →

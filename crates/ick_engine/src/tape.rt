@@ -39,7 +39,7 @@ fn append_elements(output: &mut Vec<u8>, last: u8, elements: &Vec<u32>) -> Resul
 fn note_printing<N: Notes>(rest: &Rest, notes: &mut N, longest: usize) -> Result<(), NoMemory>
     requires room { 2 ≤ N.room notes.old }
     ensures room { OnOk result (longest + 79 ≤ N.room notes.new) }
-    ensures notes { NotesBefore N.Undoes N.low N.base N.changes notes.old notes.new
+    ensures notes { NotesBefore N.Undoes N.low N.fixed N.changes notes.old notes.new
         (λ p. record p {
           output = take (length rest.now.output.items) p.output;
           last = rest.now.last;
@@ -63,7 +63,7 @@ pub fn print_array<N: Notes>(
     requires room { 2 ≤ N.room notes.old }
     ensures printed { IsPrinted result slot (parts_of rest.old) (parts_of rest.new) }
     ensures room { OnOk result (longest + 79 ≤ N.room notes.new) }
-    ensures notes { NotesParts N.Undoes N.low N.base N.changes notes.old notes.new
+    ensures notes { NotesParts N.Undoes N.low N.fixed N.changes notes.old notes.new
         (parts_of rest.old) (parts_of rest.new) }
 {
     let array = &rest.arrays[slot as usize];
@@ -149,7 +149,7 @@ fn read_bytes<R: Reader>(
 fn note_reading<N: Notes>(rest: &Rest, notes: &mut N, longest: usize) -> Result<(), NoMemory>
     requires room { 2 ≤ N.room notes.old }
     ensures room { OnOk result (longest + 79 ≤ N.room notes.new) }
-    ensures notes { NotesBefore N.Undoes N.low N.base N.changes notes.old notes.new
+    ensures notes { NotesBefore N.Undoes N.low N.fixed N.changes notes.old notes.new
         (λ p. record p { taken = rest.now.taken; lastin = rest.now.lastin }) }
 {
     notes.note(Entry::Taken(rest.taken));
@@ -180,7 +180,7 @@ pub fn read_array<N: Notes, R: Reader>(
     } }
     ensures held { R.held reader.new ≡ R.held reader.old }
     ensures room { OnOk result (longest + 79 ≤ N.room notes.new) }
-    ensures notes { NotesParts N.Undoes N.low N.base N.changes notes.old notes.new
+    ensures notes { NotesParts N.Undoes N.low N.fixed N.changes notes.old notes.new
         (parts_of rest.old) (parts_of rest.new) }
 {
     let array = &rest.arrays[slot as usize];

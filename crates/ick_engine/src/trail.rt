@@ -1,13 +1,9 @@
 //! A trail of changes, which can be undone.
 
-ghost use Rattle.std.specs.Prelude.{◌≡◌, ◌-◌, ◌<◌, ◌≤◌, ℕ, true, [], length, map, OnOk};
-ghost use Rattle.std.specs.Prelude.{vec_len, vec_capacity};
+ghost use Rattle.std.specs.Prelude.{◌≡◌, ◌<◌, ◌≤◌, length, map};
 ghost use Rattle.std.proofs.Common.{get_or};
 ghost use Rattle.ick_code.specs.meaning.State.{no_array};
-ghost use Rattle.ick_lowering.specs.Extends.{Extends};
-ghost use Rattle.ick_engine.specs.History.{history};
-ghost use Rattle.ick_engine.specs.Undo.{Rewinds};
-ghost use Rattle.ick_engine.specs.View.{View, array_of};
+ghost use Rattle.ick_engine.specs.View.{array_of};
 
 use crate::change::{ArrayChange, Entry};
 use crate::copy::{copy_array, copy_bytes};
@@ -16,9 +12,10 @@ use crate::notes::Notes;
 use ick_bits::NoMemory;
 use std::alloc::Global;
 
-/// Changes, the newest last, the least depth of the NEXT stack since the newest mark, and the first
-/// temporary register. Temporaries, and what is behind them, are never noted. Arrays and statuses
-/// that entries need stand apart, so that an entry is small.
+/// Changes, the newest last, the least depth of the NEXT stack since the newest mark, the first
+/// temporary register, and how many changes were noted before the newest mark. Temporaries, and
+/// what is behind them, are never noted. Arrays and statuses that entries need stand apart, so that
+/// an entry is small.
 #[derive(Drop)]
 pub struct Trail {
     pub(crate) entries: Vec<Entry>,
@@ -26,14 +23,26 @@ pub struct Trail {
     pub(crate) statuses: Vec<Vec<u8>>,
     pub(crate) low: usize,
     pub(crate) base: u32,
+    pub(crate) kept: usize,
+    pub ghost few: { kept ≤ length entries.items },
 }
 
 impl Trail {
+    ghost use Rattle.std.specs.Prelude.{◌≡◌, ◌-◌, ◌≤◌, ℕ, [], length, OnOk};
+    ghost use Rattle.std.specs.Prelude.{vec_len, vec_capacity, List};
+    ghost use Rattle.ick_lowering.specs.Extends.{Extends};
+    ghost use Rattle.ick_engine.specs.declared.trail.Trail.{Trail};
+    ghost use Rattle.ick_engine.specs.History.{history, fixed_by, UndoesBy};
+    ghost use Rattle.ick_engine.specs.Marks.{Marked, HasMarks};
+    ghost use Rattle.ick_engine.specs.Undo.{Rewinds};
+    ghost use Rattle.ick_engine.specs.View.{View};
+
     /// Returns a trail without changes, of a program whose first temporary register is `base`.
     pub fn new(alloc: Global, base: u32) -> Trail
         ensures empty { history result ≡ [] }
         ensures low { result.low ≡ 0 }
         ensures base { result.base ≡ base }
+        ensures kept { result.kept ≡ 0 }
     {
         Trail {
             entries: Vec::new(alloc),
@@ -41,6 +50,7 @@ impl Trail {
             statuses: Vec::new(alloc),
             low: 0,
             base,
+            kept: 0,
         }
     }
 
@@ -49,12 +59,38 @@ impl Trail {
         ensures changes { history self.new ≡ history self.old }
         ensures low { self.new.low ≡ self.old.low }
         ensures base { self.new.base ≡ self.old.base }
+        ensures kept { self.new.kept ≡ self.old.kept }
         ensures room { OnOk result (changes ≤
             vec_capacity self.new.entries - vec_len self.new.entries) }
     {
         self.entries.reserve(changes)?;
         Ok(())
     }
+
+    /// Forgets all changes and all marks. The room for changes stays.
+    pub fn clear(&mut self)
+        ensures empty { history self.new ≡ [] }
+        ensures low { self.new.low ≡ 0 }
+        ensures base { self.new.base ≡ self.old.base }
+        ensures kept { self.new.kept ≡ 0 }
+        ensures room { vec_capacity self.new.entries - vec_len self.new.entries
+            ≡ vec_capacity self.old.entries }
+    {
+        self.kept = 0;
+        self.entries.clear();
+        self.arrays.clear();
+        self.statuses.clear();
+        self.low = 0;
+    }
+
+    /// States that calls keep the marks of a trail, as `run_steps` does: calls that change nothing
+    /// of what is fixed, and after which what could be undone before still can.
+    pub fn marks_law(&self)
+        ensures { (old : Trail) (v w : View) (marks : List Marked) →
+            fixed_by self.now ≡ fixed_by old →
+            ((k : ℕ) (m : View) → UndoesBy old k v m → UndoesBy self.now k w m) →
+            HasMarks old v marks → HasMarks self.now w marks }
+    {}
 
     /// Notes the return addresses from a depth on that aren't noted yet.
     #[cold]
@@ -66,6 +102,7 @@ impl Trail {
         ensures low { self.new.low ≤ depth }
         ensures lower { self.new.low ≤ self.old.low }
         ensures base { self.new.base ≡ self.old.base }
+        ensures kept { self.new.kept ≡ self.old.kept }
         ensures changes { Extends (history self.old) (history self.new) }
         ensures notes { (k : ℕ) (v m : View) → v.returns ≡ returns.now →
             Rewinds self.old.base (history self.old) self.old.low k v m →
@@ -81,17 +118,20 @@ impl Trail {
 }
 
 impl Notes for Trail {
+    ghost use Rattle.std.specs.Prelude.{◌-◌, true, vec_len, vec_capacity};
+    ghost use Rattle.ick_engine.specs.History.{history, fixed_by, UndoesBy};
+
     ghost room = { λ t. vec_capacity t.entries - vec_len t.entries };
 
     ghost low = { λ t. t.low };
 
-    ghost base = { λ t. t.base };
+    ghost fixed = { fixed_by };
 
     ghost tells = { true };
 
     ghost changes = { history };
 
-    ghost Undoes = { λ t k v m. Rewinds t.base (history t) t.low k v m };
+    ghost Undoes = { UndoesBy };
 
     #[inline(always)]
     fn count(&self) -> usize {

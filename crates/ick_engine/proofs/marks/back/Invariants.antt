@@ -9,6 +9,7 @@ use Rattle.ick_engine.proofs.marks.back.Given as goal
 abbrev pub invariant-changes : goal.invariant-changes
 invariant-changes l = record {
   base : l.trail.base ≡ l.initial.trail.base;
+  none : l.trail.kept ≡ 0;
   kept : take l.mark.changes (history l.trail) ≡ take l.mark.changes (history l.initial.trail);
   leads : (m : View) →
       Rewinds l.initial.trail.base (history l.initial.trail) l.initial.trail.low l.mark.changes

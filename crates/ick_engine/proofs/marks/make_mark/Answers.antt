@@ -1,14 +1,33 @@
-use Rattle.std.proofs.Common.{◌≡◌, length, sym, ◌∙◌, subst}
+use Rattle.std.proofs.Common.{refl, sym, ◌∙◌, subst}
 use Rattle.ick_engine.specs.History.{history}
 use Rattle.ick_engine.specs.Memory.{view_in}
 use Rattle.ick_engine.specs.Undo.{Rewinds}
 use Rattle.ick_engine.proofs.Changes.{count_history}
+use Rattle.ick_engine.proofs.Marking.{lead_more}
 use Rattle.ick_engine.proofs.Undoing.{marks_here}
 use Rattle.ick_engine.proofs.marks.make_mark.Goals as goal
+
+pub returns-clause-count : goal.returns-clause-count
+returns-clause-count c =
+    let t = c.args.trail.now in
+    c.len-changes.ensures ∙ t.entries.ok.0 ∙ sym (count_history t)
+
+pub returns-clause-kept : goal.returns-clause-kept
+returns-clause-kept c = returns-clause-count c
 
 pub returns-clause-marked : goal.returns-clause-marked
 returns-clause-marked c =
     let t = c.args.trail.now in
     let v = view_in c.args.memory.now in
-    let count : c.len.result ≡ length (history t) = c.len.ensures ∙ t.entries.ok.0 ∙ sym (count_history t) in
-    subst (λ k. Rewinds t.base (history t) v.depth k v v) (sym count) (marks_here t.base (history t) v)
+    subst (λ k. Rewinds t.base (history t) v.depth k v v) (sym (returns-clause-count c))
+    (marks_here t.base (history t) v)
+
+pub returns-clause-marks : goal.returns-clause-marks
+returns-clause-marks c = λ older has.
+    let t = c.args.trail.now in
+    record {
+      lead =
+          lead_more t.base (history t) t.low _ (view_in c.args.memory.now) older c.requires (returns-clause-count c)
+          has.lead;
+      kept_is = refl;
+    }

@@ -28,4 +28,4 @@ returns-clause-notes g c = λ k v m same h.
     subst (λ l. StashesLike l back) (sym same) (taken_like x c.args.slot old new at) in
     c.in_ok-note_array.ensures.notes k (with_array_stashes new v) m at.here.place
     (c.law.ensures.alike k v (with_array_stashes back v) m
-    (like_arrays (g.N.Notes.base c.args.notes.now) (g.N.Notes.low c.args.notes.now) v back like) h)
+    (like_arrays ((g.N.Notes.fixed c.args.notes.now).base) (g.N.Notes.low c.args.notes.now) v back like) h)

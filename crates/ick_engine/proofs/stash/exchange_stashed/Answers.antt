@@ -32,7 +32,7 @@ returns-clause-notes g c = λ k v m same_arrays same h.
     let after = map array_of (slice_set arrays slot c.exchange.new.array) in
     let old = map arrays_of c.args.stashes.now.items in
     let new = map arrays_of (slice_set c.args.stashes.now.items slot c.exchange.new.self) in
-    let base = g.N.Notes.base c.args.notes.now in
+    let base = (g.N.Notes.fixed c.args.notes.now).base in
     let low = g.N.Notes.low c.args.notes.now in
     let at : ChangesAt slot (IsTakenOff x) old new =
     changes_at arrays_of (IsTakenOff x) c.args.stashes.now.items slot c.index_mut.result.now c.exchange.new.self

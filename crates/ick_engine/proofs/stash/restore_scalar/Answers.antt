@@ -43,7 +43,7 @@ returns-then-home-slot-clause-notes g c = λ k v m registers same h.
     subst (λ r. g.N.Notes.Undoes c.note.new.self k (with_scalar_stashes new (record v { registers = r })) m) registers
     (c.note.ensures.notes k (with_scalar_stashes new v) m at.here.place
     (c.law.ensures.alike k v (with_scalar_stashes back v) m
-    (like_scalars (g.N.Notes.base c.args.notes.now) (g.N.Notes.low c.args.notes.now) v back like) h))
+    (like_scalars ((g.N.Notes.fixed c.args.notes.now).base) (g.N.Notes.low c.args.notes.now) v back like) h))
 
 pub returns-clause-restored : goal.returns-clause-restored
 returns-clause-restored g c =
@@ -67,4 +67,4 @@ returns-clause-notes g c = λ k v m registers same h.
     subst (λ l. StashesLike l back) (sym same) (taken_like number c.args.slot old new at) in
     let p : Parts = record v.parts { scalar_stashes = new } in
     c.note_restored.ensures.notes k number v m p registers at.here.place
-    (like_scalars (g.N.Notes.base c.args.notes.now) (g.N.Notes.low c.args.notes.now) v back like).parts_like h
+    (like_scalars ((g.N.Notes.fixed c.args.notes.now).base) (g.N.Notes.low c.args.notes.now) v back like).parts_like h

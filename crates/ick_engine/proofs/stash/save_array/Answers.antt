@@ -22,7 +22,7 @@ returns-in_err-save-clause-notes g c = λ k v m same h.
     (like_at arrays_of c.args.stashes.now.items c.args.slot c.index_mut.result.now c.save.new.self c.requires.slot
     c.index_mut.ensures.value c.in_err-save.ensures.err) in
     c.law.ensures.alike k v (with_array_stashes new v) m
-    (like_arrays (g.N.Notes.base c.args.notes.now) (g.N.Notes.low c.args.notes.now) v new like) h
+    (like_arrays ((g.N.Notes.fixed c.args.notes.now).base) (g.N.Notes.low c.args.notes.now) v new like) h
 
 pub returns-clause-saved : goal.returns-clause-saved
 returns-clause-saved g c =
@@ -49,4 +49,4 @@ returns-clause-notes g c = λ k v m same h.
     subst (λ l. StashesLike l back) (sym same) (saved_like x c.args.slot old new at) in
     c.note.ensures.notes k (with_array_stashes new v) m tt
     (c.law.ensures.alike k v (with_array_stashes back v) m
-    (like_arrays (g.N.Notes.base c.args.notes.now) (g.N.Notes.low c.args.notes.now) v back like) h)
+    (like_arrays ((g.N.Notes.fixed c.args.notes.now).base) (g.N.Notes.low c.args.notes.now) v back like) h)

@@ -36,4 +36,4 @@ returns-clause-notes g c = λ k v m same h.
     subst (λ l. StashesLike l back) (sym same) (saved_like c.args.number c.args.slot old new at) in
     c.note.ensures.notes k (with_scalar_stashes new v) m tt
     (c.law.ensures.alike k v (with_scalar_stashes back v) m
-    (like_scalars (g.N.Notes.base c.args.notes.now) (g.N.Notes.low c.args.notes.now) v back like) h)
+    (like_scalars ((g.N.Notes.fixed c.args.notes.now).base) (g.N.Notes.low c.args.notes.now) v back like) h)

@@ -60,7 +60,7 @@ returns-in_default-note_reading-clause-notes g c =
     let old = parts_of m in
     let r = c.index-array.result.now in
     noted_parts
-    (array_noted c.note_reading.ensures.notes c.args.slot (g.N.Notes.base c.args.notes.now) (array_of r)
+    (array_noted c.note_reading.ensures.notes c.args.slot ((g.N.Notes.fixed c.args.notes.now).base) (array_of r)
     c.in-Ok.ensures.low c.in-Ok.ensures.base c.in-Ok.ensures.changes c.in-Ok.ensures.notes) old old
     (ap (λ l. record old { arrays = l }) (put_same array_of m.arrays.items c.args.slot r c.index-array.ensures))
 
@@ -72,7 +72,7 @@ returns-in-Ok-read_bytes-clause-notes g c =
     let slot = c.args.slot in
     let r = c.index-array.result.now in
     noted_parts
-    (array_noted c.note_reading.ensures.notes slot (g.N.Notes.base c.args.notes.now) (array_of r)
+    (array_noted c.note_reading.ensures.notes slot ((g.N.Notes.fixed c.args.notes.now).base) (array_of r)
     c.in-Ok.ensures.low c.in-Ok.ensures.base c.in-Ok.ensures.changes c.in-Ok.ensures.notes) old _
     (ap₂ (λ arrays hidden. record old { arrays = arrays; hidden = hidden })
     (put_back array_of all slot _ r c.index-array.ensures)
@@ -94,7 +94,7 @@ returns-in-Err-clause-notes g c =
     let slot = c.args.slot in
     let r = c.index-array.result.now in
     noted_parts
-    (array_noted c.note_reading.ensures.notes slot (g.N.Notes.base c.args.notes.now) (array_of r)
+    (array_noted c.note_reading.ensures.notes slot ((g.N.Notes.fixed c.args.notes.now).base) (array_of r)
     c.in-Ok.ensures.low c.in-Ok.ensures.base c.in-Ok.ensures.changes c.in-Ok.ensures.notes) old _
     (ap₂ (λ arrays hidden. record old { arrays = arrays; hidden = hidden })
     (put_back array_of all slot _ r c.index-array.ensures)

@@ -19,6 +19,7 @@ returns-preserved c =
       room = omega (arith, old.room, pushed.len, pushed.capacity);
       lower = omega (arith, old.lower);
       base = old.base;
+      kept = old.kept;
       changes =
           extends_trans old.changes
           (grown t c.push_reserved.new.self.items t.entries.items (Return (t.low - 1) (get_or c.args.returns.now (t.low - 1) 0))

@@ -10,6 +10,7 @@ invariant-returns l = record {
   room : l.self.low ≤ vec_capacity l.self.entries - vec_len l.self.entries;
   lower : l.self.low ≤ l.initial.self.low;
   base : l.self.base ≡ l.initial.self.base;
+  kept : l.self.kept ≡ l.initial.self.kept;
   changes : Extends (history l.initial.self) (history l.self);
   notes : (k : ℕ) (v m : View) →
       v.returns ≡ l.returns →

@@ -1,7 +1,7 @@
 use Rattle.std.proofs.Common.{sym, subst}
 use Rattle.ick_engine.specs.History.{history}
 use Rattle.ick_engine.specs.Undo.{Rewinds, change_of, undone}
-use Rattle.ick_engine.proofs.Changes.{newest_alone, grown}
+use Rattle.ick_engine.proofs.Changes.{fixed_grown, newest_alone, grown}
 use Rattle.ick_engine.proofs.Undoing.{like_refl, notes_change}
 use Rattle.ick_engine.proofs.trail.TrailNotes.note.Goals as goal
 
@@ -18,3 +18,6 @@ returns-clause-notes c = λ k v m can h.
     c.push_reserved.ensures.items))
     (notes_change t.base (history t) t.low k (change_of c.args.entry) v (undone (change_of c.args.entry) v) m can
     (like_refl t.base t.low (undone (change_of c.args.entry) v)) h)
+
+pub returns-clause-base : goal.returns-clause-base
+returns-clause-base c = fixed_grown c.args.self.now _ (returns-clause-changes c)

@@ -2,7 +2,7 @@ use Rattle.std.proofs.Common.{[], ◌∷◌, sym, subst}
 use Rattle.ick_engine.specs.History.{history}
 use Rattle.ick_engine.specs.Undo.{Rewinds, array_was, undone}
 use Rattle.ick_engine.specs.View.{array_of}
-use Rattle.ick_engine.proofs.Changes.{newest_array}
+use Rattle.ick_engine.proofs.Changes.{fixed_grown, newest_array}
 use Rattle.ick_engine.proofs.Undoing.{like_refl, notes_change}
 use Rattle.ick_engine.proofs.trail.TrailNotes.note_array.Goals as goal
 
@@ -25,3 +25,6 @@ returns-clause-notes c = λ k v m can h.
     (sym (newest_array t c.push_reserved.new.self.items c.push.new.self.items c.args.change c.args.slot c.in_ok-copy_array.field-0
     (array_of c.args.array.now) c.push_reserved.ensures.items c.in_ok-push.ensures.items c.in_ok-copy_array.ensures.array))
     (notes_change t.base (history t) t.low k change v (undone change v) m can (like_refl t.base t.low (undone change v)) h)
+
+pub returns-clause-base : goal.returns-clause-base
+returns-clause-base c = fixed_grown c.args.self.now _ (returns-clause-changes c)

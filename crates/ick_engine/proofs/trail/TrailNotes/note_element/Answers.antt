@@ -5,7 +5,7 @@ use Rattle.ick_code.specs.meaning.State.{no_array}
 use Rattle.ick_engine.specs.declared.change.Entry.TheVariants.{Element}
 use Rattle.ick_engine.specs.Undo.{Rewinds, with_arrays, with_number, element_was}
 use Rattle.ick_engine.specs.History.{history}
-use Rattle.ick_engine.proofs.Changes.{newest_alone, grown}
+use Rattle.ick_engine.proofs.Changes.{fixed_grown, newest_alone, grown}
 use Rattle.ick_engine.specs.View.{array_of}
 use Rattle.ick_engine.proofs.Undoing.{notes_element}
 use Rattle.ick_engine.proofs.trail.TrailNotes.note_element.Goals as goal
@@ -29,3 +29,6 @@ pub returns-clause-changes : goal.returns-clause-changes
 returns-clause-changes c =
     grown c.args.self.now c.push_reserved.new.self.items c.args.self.now.entries.items
     (Element c.args.slot c.args.at c.element_of-old.result) refl c.push_reserved.ensures.items
+
+pub returns-clause-base : goal.returns-clause-base
+returns-clause-base c = fixed_grown c.args.self.now _ (returns-clause-changes c)

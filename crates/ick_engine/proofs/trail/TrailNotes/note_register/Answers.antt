@@ -4,7 +4,7 @@ use Rattle.ick_engine.specs.declared.change.Entry.TheVariants.{Register}
 use Rattle.ick_engine.specs.Undo.{Rewinds, register_was}
 use Rattle.ick_lowering.proofs.Lists.{extends_refl}
 use Rattle.ick_engine.specs.History.{history}
-use Rattle.ick_engine.proofs.Changes.{newest_alone, grown}
+use Rattle.ick_engine.proofs.Changes.{fixed_grown, newest_alone, grown}
 use Rattle.ick_engine.proofs.Undoing.{notes_register, skips_register}
 use Rattle.ick_engine.proofs.trail.TrailNotes.note_register.Goals as goal
 
@@ -33,3 +33,6 @@ returns-then-at-self-clause-changes c =
 
 pub returns-else-at-self-clause-changes : goal.returns-else-at-self-clause-changes
 returns-else-at-self-clause-changes c = extends_refl (history c.args.self.now)
+
+pub returns-then-at-self-clause-base : goal.returns-then-at-self-clause-base
+returns-then-at-self-clause-base c = fixed_grown c.args.self.now _ (returns-then-at-self-clause-changes c)

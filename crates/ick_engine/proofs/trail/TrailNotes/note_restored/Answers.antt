@@ -3,7 +3,7 @@ use Rattle.std.specs.Prelude.{slice_set}
 use Rattle.ick_engine.specs.declared.change.Entry.TheVariants.{ScalarRestored, ScalarTaken}
 use Rattle.ick_engine.specs.History.{history}
 use Rattle.ick_engine.specs.Undo.{Rewinds, scalar_restored, scalar_taken}
-use Rattle.ick_engine.proofs.Changes.{newest_alone, grown}
+use Rattle.ick_engine.proofs.Changes.{fixed_grown, newest_alone, grown}
 use Rattle.ick_engine.proofs.Undoing.{notes_restored, skips_restored}
 use Rattle.ick_engine.proofs.trail.TrailNotes.note_restored.Goals as goal
 
@@ -36,3 +36,9 @@ pub returns-clause-changes : goal.returns-clause-changes
 returns-clause-changes c =
     grown c.args.self.now _ c.args.self.now.entries.items
     (ScalarRestored c.args.slot c.args.number (get_or c.args.registers.now c.args.slot 0)) refl c.push_reserved-2.ensures.items
+
+pub returns-then-slot-self-clause-base : goal.returns-then-slot-self-clause-base
+returns-then-slot-self-clause-base c = fixed_grown c.args.self.now _ (returns-then-slot-self-clause-changes c)
+
+pub returns-clause-base : goal.returns-clause-base
+returns-clause-base c = fixed_grown c.args.self.now _ (returns-clause-changes c)

@@ -3,7 +3,7 @@ use Rattle.std.specs.Prelude.{slice_set}
 use Rattle.ick_engine.specs.declared.change.Entry.TheVariants.{Status}
 use Rattle.ick_engine.specs.Undo.{Rewinds, status_was}
 use Rattle.ick_engine.specs.History.{history}
-use Rattle.ick_engine.proofs.Changes.{newest_alone, grown}
+use Rattle.ick_engine.proofs.Changes.{fixed_grown, newest_alone, grown}
 use Rattle.ick_engine.proofs.Undoing.{notes_status}
 use Rattle.ick_engine.proofs.trail.TrailNotes.note_status.Goals as goal
 
@@ -21,3 +21,6 @@ pub returns-clause-changes : goal.returns-clause-changes
 returns-clause-changes c =
     grown c.args.self.now c.push_reserved.new.self.items c.args.self.now.entries.items
     (Status c.args.at (get_or c.args.statuses.now c.args.at 0)) refl c.push_reserved.ensures.items
+
+pub returns-clause-base : goal.returns-clause-base
+returns-clause-base c = fixed_grown c.args.self.now _ (returns-clause-changes c)
