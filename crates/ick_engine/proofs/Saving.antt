@@ -1,19 +1,22 @@
 -- Lists that are copied and compared, and states that are kept.
 use Rattle.std.proofs.Common.{◌≡◌, ℕ, zero, suc, ◌+◌, ◌<◌, ◌≤◌, Bool, List, [], ◌∷◌, ◌++◌, refl, ap, sym, ◌∙◌, subst}
-use Rattle.std.proofs.Common.{length, take, drop, get_or, map, reverse, arith}
+use Rattle.std.proofs.Common.{length, take, take_all, drop, get_or, map, reverse, arith, if◌then◌else◌}
+use mathlib.Core.Path.{fun_ext}
+use Rattle.ick_source.specs.declared.tree.Name.{Name}
 use Rattle.std.proofs.lemmas.List.{get_or-take, length-take-le, get_or-map, length-map, get_or_append_left}
 use Rattle.std.proofs.Math.Seq.{take-suc}
-use Rattle.ick_code.specs.meaning.State.{Array, State}
+use Rattle.ick_code.specs.meaning.State.{Array, State, same_name}
 use Rattle.ick_code.specs.declared.code.Code.{Code}
 use Rattle.ick_lowering.specs.declared.lowered.LoweredParts.{LoweredParts}
 use Rattle.ick_engine.specs.declared.memory.Rest.{Rest}
+use Rattle.ick_engine.specs.declared.saved.Saved.{Saved}
 use Rattle.ick_engine.specs.Run.{Stands}
-use Rattle.ick_engine.specs.Saved.{AreSame, IsLoaded, arrays_on, numbers_on}
+use Rattle.ick_engine.specs.Saved.{AreSame, IsLoaded, IsSaved, arrays_on, numbers_on, saved_view}
 use Rattle.ick_engine.specs.Steady.{IsSteady, IsReady, IsProgram}
 use Rattle.ick_engine.specs.Undo.{Like, HighSame, IsRestored}
 use Rattle.ick_engine.specs.View.{View, Parts, Input, state_of, dump_of, file_of, map_of, used as used_values}
 use Rattle.ick_engine.specs.View.{Stash, array_names, array_of, arrays_of, is_hidden, numbers_of, parts_of, scalar_names}
-use Rattle.ick_engine.proofs.Restoring.{restored}
+use Rattle.ick_engine.proofs.Restoring.{restored, state_by as state_from}
 use Rattle.ick_engine.proofs.StashLemmas.{parts_same}
 
 map_pushed : {A B : Type 0} (f : A → B) (xs : List A) (x : A) → map f (xs ++ x ∷ []) ≡ map f xs ++ f x ∷ []
@@ -79,6 +82,9 @@ put_long new kept old is count = ap length is ∙ put_count kept old count
 pub same_parts_sym : {p q : Parts} → AreSame p q → AreSame q p
 same_parts_sym h = record { others = sym h.others; scalars = sym h.scalars; arrays = sym h.arrays }
 
+pub same_parts_refl : (p : Parts) → AreSame p p
+same_parts_refl p = record { others = refl; scalars = refl; arrays = refl }
+
 pub same_parts_trans : {p q r : Parts} → AreSame p q → AreSame q r → AreSame p r
 same_parts_trans a b = record {
   others = b.others ∙ a.others;
@@ -123,6 +129,45 @@ rest_same p q arrays hidden numbers stashed taken output last lastin =
           map_used numbers_of q.scalar_stashes.items ∙ numbers ∙ sym (map_used numbers_of p.scalar_stashes.items);
       arrays = map_used arrays_of q.array_stashes.items ∙ stashed ∙ sym (map_used arrays_of p.array_stashes.items);
     }
+
+-- the first values of a list are those that names lead to
+map_first : {A : Type 0} (names : List Name) (n : ℕ) (xs : List A) (none : A) (name : Name) → length names ≤ n →
+    map_of names (take n xs) none name ≡ map_of names xs none name
+map_first [] n xs none name few = refl
+map_first (y ∷ names) zero xs none name few = absurd (omega (arith, few))
+map_first (y ∷ names) (suc n) [] none name few = refl
+map_first (y ∷ names) (suc n) (x ∷ xs) none name few =
+    ap (λ z. if same_name y name then x else z) (map_first names n xs none name (omega (arith, few)))
+
+-- the state that is kept
+pub kept_state : (code : Code) (lowered : LoweredParts) (saved : Saved) (v : View) →
+    lowered.layout.base ≡ length (scalar_names code) → IsSaved lowered saved v → (input : Input) →
+    state_of code lowered input (saved_view saved) ≡ state_of code lowered input v
+kept_state code lowered saved v count is input =
+    let names = scalar_names code in
+    let p = parts_of saved.rest in
+    let kept = is.parts_kept in
+    let kn = map used_values p.scalar_stashes in
+    let ka = map used_values p.array_stashes in
+    let vn = map used_values v.parts.scalar_stashes in
+    let kc = map_of names saved.numbers.items 0 in
+    let vc = map_of names v.registers 0 in
+    let kr = take (length saved.returns.items) saved.returns.items in
+    let vr = take v.depth v.returns in
+    let returns : kr ≡ vr =
+    take_all (length saved.returns.items) saved.returns.items (omega arith) ∙ is.returns_kept in
+    let scalars : kc ≡ vc =
+    ap (λ l. map_of names l 0) is.numbers_kept
+    ∙ fun_ext (λ name. map_first names lowered.layout.base v.registers 0 name (omega (arith, count))) in
+    let by = state_from code lowered input in
+    ap (λ n. by n kr kc saved.home.items saved.statuses.items p kn ka) is.place_kept
+    ∙ ap (λ r. by v.place r kc saved.home.items saved.statuses.items p kn ka) returns
+    ∙ ap (λ f. by v.place vr f saved.home.items saved.statuses.items p kn ka) scalars
+    ∙ ap (λ h. by v.place vr vc h saved.statuses.items p kn ka) is.home_kept
+    ∙ ap (λ s. by v.place vr vc v.home s p kn ka) is.statuses_kept
+    ∙ ap (λ q. by v.place vr vc v.home v.statuses q kn ka) kept.others
+    ∙ ap (λ l. by v.place vr vc v.home v.statuses v.parts l ka) kept.scalars
+    ∙ ap (λ l. by v.place vr vc v.home v.statuses v.parts vn l) kept.arrays
 
 -- the state by the values on stashes
 abbrev state_by : Code → LoweredParts → Input → View → Parts → List (List ℕ) → List (List Array) → State

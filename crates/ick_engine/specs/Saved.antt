@@ -1,5 +1,5 @@
 -- States that are kept apart from a memory.
-use Rattle.std.specs.Prelude.{ℕ, ◌≡◌, List, map, take}
+use Rattle.std.specs.Prelude.{ℕ, ◌≡◌, List, length, map, take}
 use Rattle.ick_code.specs.meaning.State.{Array}
 use Rattle.ick_code.specs.declared.code.Code.{Code}
 use Rattle.ick_lowering.specs.declared.lowered.LoweredParts.{LoweredParts}
@@ -31,6 +31,18 @@ pub record IsSaved (lowered : LoweredParts) (saved : Saved) (v : View) : Type 0 
   pub statuses_kept : saved.statuses.items ≡ v.statuses
   pub returns_kept : saved.returns.items ≡ take v.depth v.returns
   pub parts_kept : AreSame v.parts (parts_of saved.rest)
+
+-- the view of a kept state: it has no temporaries, and no spare places
+abbrev pub saved_view : Saved → View
+saved_view saved = record {
+  place = saved.place;
+  depth = length saved.returns.items;
+  returns = saved.returns.items;
+  registers = saved.numbers.items;
+  home = saved.home.items;
+  statuses = saved.statuses.items;
+  parts = parts_of saved.rest;
+}
 
 -- a run can go on from a view, in the state of another one
 pub record IsLoaded (code : Code) (lowered : LoweredParts) (m v : View) : Type 0 where

@@ -101,9 +101,9 @@ fn mix_rest(hash: u64, rest: &Rest) -> u64 {
 }
 
 impl Saved {
-    ghost use Rattle.std.specs.Prelude.{◌≡◌, true, IfOk, OnErr, OnOk};
+    ghost use Rattle.std.specs.Prelude.{◌≡◌, ◌++◌, ◌≤◌, true, drop, length, IfOk, OnErr, OnOk};
     ghost use Rattle.ick_engine.specs.Memory.{view_in};
-    ghost use Rattle.ick_engine.specs.Saved.{IsLoaded, IsSaved};
+    ghost use Rattle.ick_engine.specs.Saved.{IsLoaded, IsSaved, saved_view};
     ghost use Rattle.ick_engine.specs.Steady.{IsReady};
     ghost use Rattle.ick_engine.specs.View.{Input, View, state_of};
 
@@ -148,14 +148,57 @@ impl Saved {
         let code = program.code;
         code.law();
         let rest = copy_rest(alloc, &self.rest)?;
+        self.put_lists(memory);
+        memory.rest = rest;
+        Ok(())
+    }
+
+    /// Puts the state into a memory of the same program, and leaves none behind, so no memory is
+    /// taken. The number of steps left and the answer stay.
+    pub fn restore(self, memory: &mut Memory, program: &Lowered<'_, '_>)
+        ghost m: { View }
+        requires saved { IsSaved program.now.parts self m }
+        requires was { IsReady program.now.code.now program.now.parts m }
+        requires ready { IsReady program.now.code.now program.now.parts (view_in memory.old) }
+        ensures { IsLoaded program.now.code.now program.now.parts m (view_in memory.new) }
+    {
+        program.law();
+        let code = program.code;
+        code.law();
+        self.put_lists(memory);
+        memory.rest = self.rest;
+    }
+
+    /// Puts all but the parts that few instructions change into a memory.
+    fn put_lists(&self, memory: &mut Memory)
+        requires registers { length self.now.numbers.items ≤ length memory.old.registers.items }
+        requires returns { length self.now.returns.items ≤ length memory.old.returns.items }
+        requires home { length self.now.home.items ≡ length memory.old.home.items }
+        requires statuses { length self.now.statuses.items ≡ length memory.old.statuses.items }
+        ensures registers { memory.new.registers.items ≡ self.now.numbers.items
+            ++ drop (length self.now.numbers.items) memory.old.registers.items }
+        ensures returns { memory.new.returns.items ≡ self.now.returns.items
+            ++ drop (length self.now.returns.items) memory.old.returns.items }
+        ensures home { memory.new.home.items ≡ self.now.home.items }
+        ensures statuses { memory.new.statuses.items ≡ self.now.statuses.items }
+        ensures place { memory.new.cursor.place ≡ self.now.place }
+        ensures depth { memory.new.cursor.depth ≡ length self.now.returns.items }
+    {
         put_first(memory.registers.as_mut_slice(), &self.numbers);
         put_first(memory.returns.as_mut_slice(), &self.returns);
         memory.home.copy_from_slice(&self.home);
         memory.statuses.copy_from_slice(&self.statuses);
-        memory.rest = rest;
         memory.cursor.place = self.place;
         memory.cursor.depth = self.returns.len();
-        Ok(())
+    }
+
+    /// States which state is kept: that of the memory which was saved.
+    pub fn law(&self, program: &Lowered<'_, '_>)
+        ensures { (m : View) → IsSaved program.now.parts self.now m → (input : Input) →
+            state_of program.now.code.now program.now.parts input (saved_view self.now)
+            ≡ state_of program.now.code.now program.now.parts input m }
+    {
+        program.law();
     }
 
     /// Returns true only if both states are the same.
