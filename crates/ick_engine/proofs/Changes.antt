@@ -1,8 +1,9 @@
 -- The changes that a trail has.
 use Rattle.std.proofs.Common.{arith, ◌≤◌, ◌≡◌, ℕ, suc, false, List, [], ◌∷◌, ◌++◌, refl, ap, sym, ◌∙◌}
-use Rattle.std.proofs.Common.{length, map, reverse, take}
+use Rattle.std.proofs.Common.{get_or, length, map, reverse, take, take_all}
 use Rattle.std.specs.Global.{Vec}
-use Rattle.std.proofs.lemmas.List.{reverse-append, length-reverse, map-append, take-append-le}
+use Rattle.std.proofs.lemmas.List.{reverse-append, length-reverse, length-take-le, map-append, take-append-le}
+use Rattle.std.proofs.Math.Seq.{take-suc}
 use Rattle.ick_code.specs.meaning.State.{Array as ArrayValue}
 use Rattle.ick_lowering.specs.Extends.{Extends}
 use Rattle.ick_engine.specs.declared.change.ArrayChange.{ArrayChange}
@@ -10,7 +11,7 @@ use Rattle.ick_engine.specs.declared.change.Entry.{Entry}
 use Rattle.ick_engine.specs.declared.change.Entry.TheVariants as entry
 use Rattle.ick_engine.specs.declared.memory.Array.{Array}
 use Rattle.ick_engine.specs.declared.trail.Trail.{Trail}
-use Rattle.ick_engine.specs.History.{changes_by, fixed_by, history, IsUndone}
+use Rattle.ick_engine.specs.History.{changes_by, fixed_by, history, IsNoted, IsUndone}
 use Rattle.ick_engine.specs.Undo.{Change, array_was, statuses_were, no_change, change_of, changes_of, stands_apart}
 use Rattle.ick_engine.specs.Undo.{fixed_of}
 use Rattle.ick_engine.specs.View.{View, array_of, bytes_of}
@@ -101,6 +102,30 @@ newest_alone t all rest e h is =
 pub grown : (t : Trail) (all rest : List Entry) (e : Entry) → stands_apart e ≡ false → all ≡ rest ++ e ∷ [] →
     Extends (reverse (changes_by t (reverse rest))) (reverse (changes_by t (reverse all)))
 grown t all rest e h is = record { more = change_of e ∷ []; is = newest_alone t all rest e h is }
+
+-- the newest entry is one of a register
+pub newest_register : (t : Trail) (n at old : ℕ) (e : Entry) → length t.entries.items ≡ suc n →
+    get_or t.entries.items n e ≡ entry.Register at old → t.kept ≤ n → IsNoted t at
+newest_register t n at old e count is newer =
+    let all = t.entries.items in
+    let rest = take n all in
+    let behind : all ≡ rest ++ entry.Register at old ∷ [] =
+    sym (take_all (suc n) all (omega (arith, count))) ∙ take-suc all n e (omega (arith, count))
+    ∙ ap (λ x. rest ++ x ∷ []) is in
+    record {
+      older = reverse (changes_by t (reverse rest));
+      old = old;
+      noted_is = newest_alone t all rest (entry.Register at old) refl behind;
+      newer = omega (
+        arith,
+        newer,
+        count,
+        length-take-le n all (omega (arith, count)),
+        length-reverse (changes_by t (reverse rest)),
+        count_changes (reverse rest) (reverse (map array_of t.arrays.items)) (reverse (map bytes_of t.statuses.items)),
+        length-reverse rest,
+      );
+    }
 
 pub newest_array : (t : Trail) (all : List Entry) (arrays : List Array) (change : ArrayChange) (slot : ℕ) (copy : Array)
     (old : ArrayValue) → all ≡ t.entries.items ++ entry.Array change slot ∷ [] → arrays ≡ t.arrays.items ++ copy ∷ [] →

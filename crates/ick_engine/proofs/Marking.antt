@@ -28,7 +28,7 @@ pub marks_stay : (t u : Trail) (v w : View) (marks : List Marked) → fixed_by u
     ((k : ℕ) (m : View) → UndoesBy t k v m → UndoesBy u k w m) → HasMarks t v marks → HasMarks u w marks
 marks_stay t u v w [] same follows has = record { lead = tt; kept_is = kept_same t u same ∙ has.kept_is }
 marks_stay t u v w (m ∷ older) same follows has = record {
-  lead = (follows m.before m.view_then has.lead.0, below);
+  lead = ((follows m.before m.view_then (omega (arith, has.kept_is), has.lead.0)).1, below);
   kept_is = kept;
 }
   where

@@ -349,6 +349,34 @@ notes_register base changes low k at number v m below there h =
     (record v { registers = slice_set v.registers at number }) v m h
     (λ w like. register_back base low at number v w below there like)
 
+-- a register of which the newest change was noted
+pub keeps_register : (base : ℕ) (changes older : List Change) (low k at old number : ℕ) (v m : View) → at < base →
+    at < length v.registers → changes ≡ older ++ register_was at old ∷ [] → k ≤ length older →
+    Rewinds base changes low k v m →
+    Rewinds base changes low k (record v { registers = slice_set v.registers at number }) m
+keeps_register base changes older low k at old number v m below there is few h = record {
+  within = h.within;
+  leads = λ w like.
+      subst (Like base m.depth m) (same w) (h.leads (before w) (register_back base low at number v w below there like).0);
+  stays = λ w like r high.
+      let back = register_back base low at number v w below there like in
+      subst (λ u. get_or u.registers r 0 ≡ get_or w.registers r 0) (same w)
+      (h.stays (before w) back.0 r high ∙ back.1 r high);
+}
+  where
+    before : View → View
+    before w = undone (register_was at (get_or v.registers at 0)) w
+
+    first : reverse (drop k changes) ≡ register_was at old ∷ reverse (drop k older)
+    first = ap (λ l. reverse (drop k l)) is ∙ newest_first older (register_was at old) k few
+
+    same : (w : View) → rewound (reverse (drop k changes)) (before w) ≡ rewound (reverse (drop k changes)) w
+    same w =
+        ap (λ es. rewound es (before w)) first
+        ∙ ap {A = List ℕ} (λ l. rewound (reverse (drop k older)) (record w { registers = l }))
+        (set-set w.registers at (get_or v.registers at 0) old)
+        ∙ sym (ap (λ es. rewound es w) first)
+
 -- a register that is never restored
 pub skips_register : (base : ℕ) (changes : List Change) (low k at number : ℕ) (v m : View) → base ≤ at →
     Rewinds base changes low k v m →

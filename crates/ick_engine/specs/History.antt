@@ -1,8 +1,8 @@
 -- The changes that a trail has, the newest last.
-use Rattle.std.specs.Prelude.{ℕ, ◌≡◌, List, ◌∷◌, map, reverse, take}
+use Rattle.std.specs.Prelude.{ℕ, ◌≡◌, ◌≤◌, List, [], ◌∷◌, ◌++◌, length, map, reverse, take}
 use Rattle.ick_engine.specs.declared.change.Entry.{Entry}
 use Rattle.ick_engine.specs.declared.trail.Trail.{Trail}
-use Rattle.ick_engine.specs.Undo.{Change, Fixed, Rewinds, changes_of, fixed_of, undone}
+use Rattle.ick_engine.specs.Undo.{Change, Fixed, Rewinds, changes_of, fixed_of, register_was, undone}
 use Rattle.ick_engine.specs.View.{View, array_of, bytes_of}
 
 -- the changes of entries, the newest first, with the arrays and statuses of a trail
@@ -17,9 +17,17 @@ history t = reverse (changes_by t (reverse t.entries.items))
 abbrev pub fixed_by : Trail → Fixed
 fixed_by t = fixed_of t.base (take t.kept (history t))
 
--- undoing all changes of a trail but the first ones leads from a view to one like another
+-- undoing all changes of a trail but the first ones, all of them older than the newest mark, leads from a view to one
+-- like another
 abbrev pub UndoesBy : Trail → ℕ → View → View → Type 0
-UndoesBy t k v m = Rewinds t.base (history t) t.low k v m
+UndoesBy t k v m = (k ≤ t.kept) × Rewinds t.base (history t) t.low k v m
+
+-- the newest change is one of a register, and newer than the newest mark
+pub record IsNoted (t : Trail) (at : ℕ) : Type 0 where
+  pub older : List Change
+  pub old : ℕ
+  pub noted_is : history t ≡ older ++ register_was at old ∷ []
+  pub newer : t.kept ≤ length older
 
 -- an entry was undone, and what stands apart from it was taken off the trail
 pub record IsUndone (entry : Entry) (old new : Trail) (v w : View) : Type 0 where

@@ -28,11 +28,11 @@ pub struct Trail {
 }
 
 impl Trail {
-    ghost use Rattle.std.specs.Prelude.{◌≡◌, ◌-◌, ◌≤◌, ℕ, [], length, OnOk};
+    ghost use Rattle.std.specs.Prelude.{◌≡◌, ◌-◌, ◌≤◌, ℕ, true, [], length, OnOk};
     ghost use Rattle.std.specs.Prelude.{vec_len, vec_capacity, List};
     ghost use Rattle.ick_lowering.specs.Extends.{Extends};
     ghost use Rattle.ick_engine.specs.declared.trail.Trail.{Trail};
-    ghost use Rattle.ick_engine.specs.History.{history, fixed_by, UndoesBy};
+    ghost use Rattle.ick_engine.specs.History.{history, fixed_by, IsNoted, UndoesBy};
     ghost use Rattle.ick_engine.specs.Marks.{Marked, HasMarks};
     ghost use Rattle.ick_engine.specs.Undo.{Rewinds};
     ghost use Rattle.ick_engine.specs.View.{View};
@@ -92,6 +92,22 @@ impl Trail {
             HasMarks old v marks → HasMarks self.now w marks }
     {}
 
+    /// Returns whether the newest change is one of a register, and newer than the newest mark.
+    /// Undoing it restores the register, so a further change needs no entry.
+    #[inline(always)]
+    fn has_noted(&self, at: u32) -> bool
+        ensures { result ≡ true → IsNoted self.now at }
+    {
+        let count = self.entries.len();
+        if count <= self.kept {
+            return false;
+        }
+        match self.entries[count - 1] {
+            Entry::Register(newest, _) => newest == at,
+            _ => false,
+        }
+    }
+
     /// Notes the return addresses from a depth on that aren't noted yet.
     #[cold]
     #[inline(never)]
@@ -149,10 +165,14 @@ impl Notes for Trail {
 
     #[inline(always)]
     fn note_register(&mut self, registers: &[u32], at: u32) {
-        if at < self.base {
-            let old = registers[at as usize];
-            self.entries.push_reserved(Entry::Register(at, old));
+        if at >= self.base {
+            return;
         }
+        if self.has_noted(at) {
+            return;
+        }
+        let old = registers[at as usize];
+        self.entries.push_reserved(Entry::Register(at, old));
     }
 
     #[inline(always)]

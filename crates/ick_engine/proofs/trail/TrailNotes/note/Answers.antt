@@ -12,12 +12,14 @@ returns-clause-changes c =
 
 pub returns-clause-notes : goal.returns-clause-notes
 returns-clause-notes c = λ k v m can h.
-    let t = c.args.self.now in
-    subst (λ es. Rewinds t.base es t.low k v m)
-    (sym (newest_alone t c.push_reserved.new.self.items t.entries.items c.args.entry c.requires.alone
-    c.push_reserved.ensures.items))
-    (notes_change t.base (history t) t.low k (change_of c.args.entry) v (undone (change_of c.args.entry) v) m can
-    (like_refl t.base t.low (undone (change_of c.args.entry) v)) h)
+    let t = c.args.self.now in (
+      h.0,
+      subst (λ es. Rewinds t.base es t.low k v m)
+          (sym (newest_alone t c.push_reserved.new.self.items t.entries.items c.args.entry c.requires.alone
+          c.push_reserved.ensures.items))
+          (notes_change t.base (history t) t.low k (change_of c.args.entry) v (undone (change_of c.args.entry) v) m can
+          (like_refl t.base t.low (undone (change_of c.args.entry) v)) h.1),
+    )
 
 pub returns-clause-base : goal.returns-clause-base
 returns-clause-base c = fixed_grown c.args.self.now _ (returns-clause-changes c)

@@ -1,5 +1,11 @@
+use Rattle.std.proofs.Common.{arith}
 use Rattle.ick_engine.proofs.Changes.{fixed_moved}
 use Rattle.ick_engine.proofs.trail.TrailNotes.note_dropped.Goals as goal
+
+pub returns-then-depth-self-clause-notes : goal.returns-then-depth-self-clause-notes
+returns-then-depth-self-clause-notes c = λ k v m same h.
+    let kept = c.keep_returns.ensures in
+    (omega (arith, kept.kept, h.0), kept.notes k v m same h.1)
 
 pub returns-then-depth-self-clause-base : goal.returns-then-depth-self-clause-base
 returns-then-depth-self-clause-base c =

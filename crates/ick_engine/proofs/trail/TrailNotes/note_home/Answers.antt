@@ -9,13 +9,15 @@ use Rattle.ick_engine.proofs.trail.TrailNotes.note_home.Goals as goal
 
 pub returns-clause-notes : goal.returns-clause-notes
 returns-clause-notes c = λ k number v m same h.
-    let t = c.args.self.now in
-    subst (λ es. Rewinds t.base es t.low k (record v { home = slice_set c.args.home.now c.args.at number }) m)
-    (sym (newest_alone t c.push_reserved.new.self.items t.entries.items (Home c.args.at (get_or c.args.home.now c.args.at 0)) refl
-    c.push_reserved.ensures.items))
-    (subst (λ l. Rewinds t.base (history t ++ home_was c.args.at (get_or l c.args.at 0) ∷ []) t.low k
-    (record v { home = slice_set l c.args.at number }) m) same
-    (notes_home t.base (history t) t.low k c.args.at number v m h))
+    let t = c.args.self.now in (
+      h.0,
+      subst (λ es. Rewinds t.base es t.low k (record v { home = slice_set c.args.home.now c.args.at number }) m)
+          (sym (newest_alone t c.push_reserved.new.self.items t.entries.items (Home c.args.at (get_or c.args.home.now c.args.at 0)) refl
+          c.push_reserved.ensures.items))
+          (subst (λ l. Rewinds t.base (history t ++ home_was c.args.at (get_or l c.args.at 0) ∷ []) t.low k
+          (record v { home = slice_set l c.args.at number }) m) same
+          (notes_home t.base (history t) t.low k c.args.at number v m h.1)),
+    )
 
 pub returns-clause-changes : goal.returns-clause-changes
 returns-clause-changes c =

@@ -9,13 +9,15 @@ use Rattle.ick_engine.proofs.trail.TrailNotes.note_status.Goals as goal
 
 pub returns-clause-notes : goal.returns-clause-notes
 returns-clause-notes c = λ k number v m same h.
-    let t = c.args.self.now in
-    subst (λ es. Rewinds t.base es t.low k (record v { statuses = slice_set c.args.statuses.now c.args.at number }) m)
-    (sym (newest_alone t c.push_reserved.new.self.items t.entries.items (Status c.args.at (get_or c.args.statuses.now c.args.at 0)) refl
-    c.push_reserved.ensures.items))
-    (subst (λ l. Rewinds t.base (history t ++ status_was c.args.at (get_or l c.args.at 0) ∷ []) t.low k
-    (record v { statuses = slice_set l c.args.at number }) m) same
-    (notes_status t.base (history t) t.low k c.args.at number v m h))
+    let t = c.args.self.now in (
+      h.0,
+      subst (λ es. Rewinds t.base es t.low k (record v { statuses = slice_set c.args.statuses.now c.args.at number }) m)
+          (sym (newest_alone t c.push_reserved.new.self.items t.entries.items (Status c.args.at (get_or c.args.statuses.now c.args.at 0)) refl
+          c.push_reserved.ensures.items))
+          (subst (λ l. Rewinds t.base (history t ++ status_was c.args.at (get_or l c.args.at 0) ∷ []) t.low k
+          (record v { statuses = slice_set l c.args.at number }) m) same
+          (notes_status t.base (history t) t.low k c.args.at number v m h.1)),
+    )
 
 pub returns-clause-changes : goal.returns-clause-changes
 returns-clause-changes c =

@@ -18,11 +18,13 @@ returns-clause-changes c =
 pub returns-clause-notes : goal.returns-clause-notes
 returns-clause-notes c = λ k v m can h.
     let t = c.args.self.now in
-    let change = statuses_were c.args.statuses.now in
-    subst (λ es. Rewinds t.base es t.low k v m)
-    (sym (newest_statuses t c.push_reserved.new.self.items c.push.new.self.items c.in_ok-copy_bytes.field-0
-    c.args.statuses.now c.push_reserved.ensures.items c.in_ok-push.ensures.items c.in_ok-copy_bytes.ensures))
-    (notes_change t.base (history t) t.low k change v (undone change v) m can (like_refl t.base t.low (undone change v)) h)
+    let change = statuses_were c.args.statuses.now in (
+      h.0,
+      subst (λ es. Rewinds t.base es t.low k v m)
+          (sym (newest_statuses t c.push_reserved.new.self.items c.push.new.self.items c.in_ok-copy_bytes.field-0
+          c.args.statuses.now c.push_reserved.ensures.items c.in_ok-push.ensures.items c.in_ok-copy_bytes.ensures))
+          (notes_change t.base (history t) t.low k change v (undone change v) m can (like_refl t.base t.low (undone change v)) h.1),
+    )
 
 pub returns-clause-base : goal.returns-clause-base
 returns-clause-base c = fixed_grown c.args.self.now _ (returns-clause-changes c)
