@@ -242,6 +242,40 @@ module _ (code : Code) (lowered : LoweredParts) (is : IsProgram code lowered) wh
         subst (Stands code lowered (file_of lowered v.registers)) (sym (state_with v q same input)) (ready.stands input);
   }
 
+  -- kept states of which everything is the same
+  pub same_saved : (one other : Saved) → one.place ≡ other.place → one.numbers.items ≡ other.numbers.items →
+      one.home.items ≡ other.home.items → one.statuses.items ≡ other.statuses.items →
+      one.returns.items ≡ other.returns.items → AreSame (parts_of one.rest) (parts_of other.rest) → (input : Input) →
+      state_of code lowered input (saved_view one) ≡ state_of code lowered input (saved_view other)
+  same_saved one other place numbers home statuses returns parts input =
+      let v = saved_view one in
+      let p = parts_of other.rest in
+      sym (state_with v p parts input)
+      ∙ ap (λ n. state_of code lowered input (record v { parts = p; place = n })) place
+      ∙ ap (λ l. state_of code lowered input (record v { parts = p; place = other.place; registers = l })) numbers
+      ∙ ap (λ l. state_of code lowered input (record v {
+        parts = p;
+        place = other.place;
+        registers = other.numbers.items;
+        home = l;
+      })) home
+      ∙ ap (λ l. state_of code lowered input (record v {
+        parts = p;
+        place = other.place;
+        registers = other.numbers.items;
+        home = other.home.items;
+        statuses = l;
+      })) statuses
+      ∙ ap (λ l. state_of code lowered input (record v {
+        parts = p;
+        place = other.place;
+        registers = other.numbers.items;
+        home = other.home.items;
+        statuses = other.statuses.items;
+        returns = l;
+        depth = length l;
+      })) returns
+
   pub same_states : (v m : View) (p q : Parts) → IsReady code lowered v → IsReady code lowered m → v.place ≡ m.place →
       take base v.registers ≡ take base m.registers → v.home ≡ m.home → v.statuses ≡ m.statuses →
       take v.depth v.returns ≡ take m.depth m.returns → AreSame v.parts p → AreSame p q → AreSame m.parts q →

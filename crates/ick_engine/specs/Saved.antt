@@ -44,6 +44,10 @@ saved_view saved = record {
   parts = parts_of saved.rest;
 }
 
+-- a state of this program is kept, from which a run can go on
+abbrev pub IsKept : Code → LoweredParts → Saved → Type 0
+IsKept code lowered saved = ∥ ((m : View) × IsReady code lowered m × IsSaved lowered saved m) ∥₁
+
 -- a run can go on from a view, in the state of another one
 pub record IsLoaded (code : Code) (lowered : LoweredParts) (m v : View) : Type 0 where
   pub ready : IsReady code lowered v

@@ -103,7 +103,7 @@ fn mix_rest(hash: u64, rest: &Rest) -> u64 {
 impl Saved {
     ghost use Rattle.std.specs.Prelude.{◌≡◌, ◌++◌, ◌≤◌, true, drop, length, IfOk, OnErr, OnOk};
     ghost use Rattle.ick_engine.specs.Memory.{view_in};
-    ghost use Rattle.ick_engine.specs.Saved.{IsLoaded, IsSaved, saved_view};
+    ghost use Rattle.ick_engine.specs.Saved.{IsKept, IsLoaded, IsSaved, saved_view};
     ghost use Rattle.ick_engine.specs.Steady.{IsReady};
     ghost use Rattle.ick_engine.specs.View.{Input, View, state_of};
 
@@ -136,12 +136,10 @@ impl Saved {
         memory: &mut Memory,
         program: &Lowered<'_, '_>,
     ) -> Result<(), NoMemory>
-        ghost m: { View }
-        requires saved { IsSaved program.now.parts self.now m }
-        requires was { IsReady program.now.code.now program.now.parts m }
+        requires kept { IsKept program.now.code.now program.now.parts self.now }
         requires ready { IsReady program.now.code.now program.now.parts (view_in memory.old) }
-        ensures loaded { OnOk result (IsLoaded program.now.code.now program.now.parts m
-            (view_in memory.new)) }
+        ensures loaded { OnOk result (IsLoaded program.now.code.now program.now.parts
+            (saved_view self.now) (view_in memory.new)) }
         ensures err { OnErr result (memory.new ≡ memory.old) }
     {
         program.law();
@@ -156,11 +154,10 @@ impl Saved {
     /// Puts the state into a memory of the same program, and leaves none behind, so no memory is
     /// taken. The number of steps left and the answer stay.
     pub fn restore(self, memory: &mut Memory, program: &Lowered<'_, '_>)
-        ghost m: { View }
-        requires saved { IsSaved program.now.parts self m }
-        requires was { IsReady program.now.code.now program.now.parts m }
+        requires kept { IsKept program.now.code.now program.now.parts self }
         requires ready { IsReady program.now.code.now program.now.parts (view_in memory.old) }
-        ensures { IsLoaded program.now.code.now program.now.parts m (view_in memory.new) }
+        ensures { IsLoaded program.now.code.now program.now.parts (saved_view self)
+            (view_in memory.new) }
     {
         program.law();
         let code = program.code;
@@ -203,12 +200,9 @@ impl Saved {
 
     /// Returns true only if both states are the same.
     pub fn same(&self, other: &Saved, program: &Lowered<'_, '_>) -> bool
-        ensures { result ≡ true → (v w : View) →
-            IsReady program.now.code.now program.now.parts v →
-            IsReady program.now.code.now program.now.parts w →
-            IsSaved program.now.parts self.now v → IsSaved program.now.parts other.now w →
-            (input : Input) → state_of program.now.code.now program.now.parts input v
-            ≡ state_of program.now.code.now program.now.parts input w }
+        ensures { result ≡ true → (input : Input) →
+            state_of program.now.code.now program.now.parts input (saved_view self.now)
+            ≡ state_of program.now.code.now program.now.parts input (saved_view other.now) }
     {
         program.law();
         let code = program.code;

@@ -1,23 +1,33 @@
-use Rattle.std.proofs.Common.{refl, ap, ◌∙◌, length}
+use Rattle.std.proofs.Common.{◌≡◌, ap, sym, ◌∙◌, length, refl}
 use Rattle.ick_engine.specs.Memory.{view_in}
-use Rattle.ick_engine.specs.View.{parts_of}
-use Rattle.ick_engine.specs.Steady.{IsProgram}
-use Rattle.ick_engine.proofs.Saving.{loaded, first, used, put_in, same_parts_refl}
+use Rattle.ick_engine.specs.Saved.{IsLoaded, IsSaved, saved_view}
+use Rattle.ick_engine.specs.Steady.{IsProgram, IsReady}
+use Rattle.ick_engine.specs.View.{View, parts_of}
+use Rattle.ick_engine.proofs.Readiness.{as_long, at_most, ready_of, state_of_both}
+use Rattle.ick_engine.proofs.Saving.{first, first_low, kept_state, loaded, put_in, used, used_low, same_parts_refl}
 use Rattle.ick_engine.proofs.saved.Saved.restore.Goals as goal
 
 pub returns : goal.returns
-returns g c =
+returns c =
     let code = c.args.program.now.code.now in
     let parts = c.args.program.now.parts in
     let memory = c.args.memory.now in
     let old = view_in memory in
-    let saved = c.requires.0 in
-    let was = c.requires.1.0 in
-    let ready = c.requires.1.1 in
+    let saved = c.args.self in
+    let kept = c.requires.kept in
+    let ready = c.requires.ready in
     let is : IsProgram code parts = record { compiled = c.law-2.ensures; lowered_is = c.law.ensures } in
     let put = c.put_lists.ensures in
-    loaded code parts is old g.m ready was _ (parts_of c.args.self.rest)
-    (put_in _ _ (first code parts is old g.m ready was) _ memory.registers.items put.registers saved.numbers_kept refl)
-    (put_in _ _ (used code parts is old g.m ready was) _ memory.returns.items put.returns saved.returns_kept refl)
-    (put.home ∙ saved.home_kept) (put.statuses ∙ saved.statuses_kept) (put.place ∙ saved.place_kept)
-    (put.depth ∙ ap length saved.returns_kept) saved.parts_kept (same_parts_refl _)
+    let by : (h : (m : View) × IsReady code parts m × IsSaved parts saved m) → IsLoaded code parts h.0 _ =
+    λ h.
+        loaded code parts is old h.0 ready h.1 _ (parts_of c.args.self.rest)
+        (put_in _ _ (first code parts is old h.0 ready h.1) _ memory.registers.items put.registers h.2.numbers_kept refl)
+        (put_in _ _ (used code parts is old h.0 ready h.1) _ memory.returns.items put.returns h.2.returns_kept refl)
+        (put.home ∙ h.2.home_kept) (put.statuses ∙ h.2.statuses_kept) (put.place ∙ h.2.place_kept)
+        (put.depth ∙ ap length h.2.returns_kept) h.2.parts_kept (same_parts_refl _) in
+    record {
+      ready = ready_of code parts _ kept (λ h. (by h).ready);
+      states = λ input.
+          state_of_both _ _ kept
+          (λ h. (by h).states input ∙ sym (kept_state code parts saved h.0 is.lowered_is.base h.2 input));
+    }
