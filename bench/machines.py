@@ -27,7 +27,7 @@ ROUNDS = 10
 
 
 def run(program, machine, source, runs):
-    """Returns the processor time of some runs on a machine and the steps of each, or None if it can't run them."""
+    """Returns the processor time of some runs on a machine, and the steps of each."""
     with tempfile.TemporaryFile() as text:
         text.write(source.encode())
         text.seek(0)
@@ -39,25 +39,21 @@ def run(program, machine, source, runs):
         child.returncode = status
         child.stdout.close()
         child.stderr.close()
-    if "Unsupported" in refusal:
-        return None
     if status or len(words) != 2 * runs or len(set(words[1::2])) != 1:
         stop(f"{program} {machine} ended with status {status} and printed {words[:6]} {refusal}")
     return usage.ru_utime + usage.ru_stime, int(words[1])
 
 
 def least(program, source):
-    """Returns the least time of a step on each machine that can run the source, and how many steps each makes."""
-    first = {machine: run(program, machine, source, 1) for machine in MACHINES}
-    machines = [machine for machine in MACHINES if first[machine]]
-    made = {first[machine][1] for machine in machines}
+    """Returns the least time of a step on each machine, and how many steps each makes."""
+    made = {run(program, machine, source, 1)[1] for machine in MACHINES}
     if len(made) != 1:
         stop(f"the machines don't make equally many steps: {sorted(made)}")
     steps = made.pop()
     runs = max(1, STEPS // steps)
     best = {}
     for _ in range(ROUNDS):
-        for machine in machines:
+        for machine in MACHINES:
             for text in source, NOTHING + source:
                 for count in 1 + runs, 1:
                     taken, _ = run(program, machine, text, count)
@@ -67,7 +63,7 @@ def least(program, source):
         return best[machine, text, 1 + runs] - best[machine, text, 1]
 
     return {machine: (further(machine, source) - further(machine, NOTHING + source)) / (runs * steps)
-            for machine in machines}, steps
+            for machine in MACHINES}, steps
 
 
 def main():
@@ -75,7 +71,7 @@ def main():
     print_heading("Program", "steps", *[f"`{name}`, ns" for name in MACHINES.values()])
     for name in sorted(WORKLOADS):
         best, steps = least(program, WORKLOADS[name])
-        row = [f"{best[machine] * 1e9:.1f}" if machine in best else "-" for machine in MACHINES]
+        row = [f"{best[machine] * 1e9:.1f}" for machine in MACHINES]
         print_row(f"`{name}`", f"{steps:,}", *row)
 
 

@@ -13,8 +13,6 @@ and REMEMBER, the number is the mean of both. WRITE IN finds no input, so its el
 
 The second table is of an array of 65,535 elements. The C library sets or copies the same bytes, by one call of memset
 or memmove for one statement or both. The script counts such calls from Python, without those of calls on no bytes.
-
-A cell is - if the machine lacks an operation that the statement needs.
 """
 import collections
 import os
@@ -102,18 +100,9 @@ def instructions(program, machine, source, limit):
     return count
 
 
-def lacks(program, machine, source):
-    """Returns whether the machine lacks an operation of a program."""
-    ran = subprocess.run([program, "0", machine], input=source, stdout=subprocess.DEVNULL, stderr=subprocess.PIPE,
-                         universal_newlines=True)
-    return "Unsupported" in ran.stderr
-
-
 def of_each_step(program, machine, kind, steps):
-    """Returns the instructions for a step, without those of the start, or - if the machine lacks an operation."""
+    """Returns the instructions for a step, without those of the start."""
     source = source_of(kind)
-    if lacks(program, machine, source):
-        return "-"
     count = instructions(program, machine, source, steps) - instructions(program, machine, source, 0)
     return f"{count / steps:.1f}"
 

@@ -1,7 +1,7 @@
 //! The machines, and a run on each.
 
 ghost use Rattle.std.specs.Prelude.{◌≡◌, ◌≢◌, Bool, List};
-ghost use Rattle.std.specs.Prelude.{[], IfSome, IfNone, IfOk, IfErr};
+ghost use Rattle.std.specs.Prelude.{[], IfSome, IfNone, IfOk};
 ghost use Rattle.ick_code.specs.Compiled.{code_program};
 ghost use Rattle.ick_code.specs.meaning.Move.{first_state};
 ghost use Rattle.ick_explorer.specs.Runs.{Execution, run};
@@ -9,7 +9,7 @@ ghost use Rattle.ick_runs.specs.Ordinary.{IsRan};
 ghost use Rattle.bench_steps.specs.Machines.{name_of};
 
 use crate::engine::run_on_engine;
-use crate::fault::RunFault;
+use ick_bits::NoMemory;
 use ick_code::Code;
 use ick_machine::{Copied, Trailed};
 use ick_runs::{Chooser, Ran, SliceSource, VecSink, run_from, run_stream};
@@ -42,12 +42,10 @@ impl Machine {
     /// Runs a program without input and choices on this machine, for at most `limit` steps, and
     /// returns the number of steps. The output is kept until the end of the run.
     ///
-    /// The answer is `NoMemory` if the run or its output can't grow. It is `Unsupported` only on
-    /// the engine, if its loop lacks an operation of the program.
-    pub(crate) fn run(self, alloc: Global, code: &Code<'_>, limit: u32) -> Result<u32, RunFault>
-        ensures steps { let program = code_program code.now in IfOk result (λ steps.
+    /// The answer is `NoMemory` if the run or its output can't grow.
+    pub(crate) fn run(self, alloc: Global, code: &Code<'_>, limit: u32) -> Result<u32, NoMemory>
+        ensures { let program = code_program code.now in IfOk result (λ steps.
             steps ≡ (run program (first_state program []) limit []).steps) }
-        ensures unsupported { IfErr result (λ e. e ≡ RunFault.Unsupported → self ≡ Machine.Engine) }
     {
         match self {
             Machine::Copied => {
@@ -64,7 +62,7 @@ impl Machine {
                 let chooser = Chooser::Listed(&[]);
                 match run_stream(alloc, code, &mut reader, &mut writer, limit, chooser) {
                     Ok(run) => Ok(run.steps),
-                    Err(_) => Err(RunFault::NoMemory),
+                    Err(_) => Err(NoMemory),
                 }
             }
             Machine::Engine => run_on_engine(alloc, code, limit),

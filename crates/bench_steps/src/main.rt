@@ -7,19 +7,16 @@
 //! `live` or `engine`. Each run has an empty input and no choices. For each MACHINE the program
 //! prints its name and the number of steps that its run made.
 //!
-//! The program ends with status 1 if an argument or the source is wrong, or if memory runs out. It
-//! also does so if the loop of the engine lacks an operation that the source needs.
+//! The program ends with status 1 if an argument or the source is wrong, or if memory runs out.
 //!
 //! - `machine`: the machines, and a run on each
 //! - `engine`: a run on the engine
-//! - `fault`: why a run was not made
 #![tactic(auto)]
 
 mod engine;
-mod fault;
 mod machine;
 
-use fault::RunFault;
+use ick_bits::NoMemory;
 use ick_code::{Code, compile};
 use ick_source::read_source;
 use machine::Machine;
@@ -57,7 +54,6 @@ fn steps_on(alloc: Global, code: &Code<'_>, limit: u32, name: &str) -> io::Resul
     };
     match machine.run(alloc, code, limit) {
         Ok(steps) => Ok(steps),
-        Err(RunFault::NoMemory) => Err(ErrorKind::OutOfMemory.into()),
-        Err(RunFault::Unsupported) => Err(ErrorKind::Unsupported.into()),
+        Err(NoMemory) => Err(ErrorKind::OutOfMemory.into()),
     }
 }

@@ -1,7 +1,11 @@
 -- Values that are put on stashes and taken off.
-use Rattle.std.specs.Prelude.{ℕ, ◌≡◌, ◌<◌, ◌==◌, List, [], ◌∷◌, ◌++◌, length, slice_set, if◌then◌else◌}
+use Rattle.std.specs.Prelude.{ℕ, ◌≡◌, ◌<◌, ◌==◌, Bool, true, false, List, [], ◌∷◌, ◌++◌, length, slice_set, if◌then◌else◌}
+use Rattle.std.specs.Prelude.{Result, Ok, Err}
 use Rattle.std.proofs.Common.{get_or}
+use Rattle.ick_bits.specs.declared.faults.FaultKind.TheVariants.{NothingStashed}
 use Rattle.ick_code.specs.meaning.State.{Array}
+use Rattle.ick_engine.specs.declared.halt.Halt.{Halt}
+use Rattle.ick_engine.specs.declared.halt.Halt.TheVariants.{Fault, Word, NoMemory}
 use Rattle.ick_engine.specs.Undo.{StashLike, put_on, taken_off}
 use Rattle.ick_engine.specs.View.{Stash, no_stash, used}
 
@@ -32,3 +36,14 @@ pub record IsExchanged (slot : ℕ) (arrays after : List Array) (old new : List 
   pub array : Array
   pub taken : ChangesAt slot (IsTakenOff array) old new
   pub arrays_are : after ≡ slice_set arrays slot array
+
+-- an array was exchanged so, or the newest one of its stash was taken off if it is ignored, or nothing changed
+abbrev pub IsRetrieved : Result (Unit {0}) Halt → (hidden : Bool) (slot : ℕ) (arrays after : List Array)
+    (old new : List (Stash Array)) → Type 0
+IsRetrieved (Ok u) true slot arrays after old new =
+    ((array : Array) × ChangesAt slot (IsTakenOff array) old new) × (after ≡ arrays)
+IsRetrieved (Ok u) false slot arrays after old new = IsExchanged slot arrays after old new
+IsRetrieved (Err (Fault kind)) hidden slot arrays after old new =
+    (kind ≡ NothingStashed) × (used (get_or old slot no_stash) ≡ []) × (after ≡ arrays) × (new ≡ old)
+IsRetrieved (Err (Word from to)) hidden slot arrays after old new = ⊥
+IsRetrieved (Err NoMemory) hidden slot arrays after old new = (after ≡ arrays) × (new ≡ old)

@@ -1,12 +1,12 @@
 //! Stashes of scalars and arrays.
 
-ghost use Rattle.std.specs.Prelude.{◌≡◌, ◌+◌, ◌<◌, ◌≤◌, ℕ, [], length, map};
+ghost use Rattle.std.specs.Prelude.{◌≡◌, ◌+◌, ◌<◌, ◌≤◌, ℕ, [], false, length, map};
 ghost use Rattle.std.specs.Prelude.{IfNone, IfSome, OnErr, OnOk};
 ghost use Rattle.std.specs.Bool.{OnFalse, OnTrue};
 ghost use Rattle.std.proofs.Common.{get_or};
 ghost use Rattle.ick_lowering.specs.Extends.{Extends};
 ghost use Rattle.ick_engine.specs.Stashes.{ChangesAt, IsExchanged, IsPutOn, IsRestoredTo};
-ghost use Rattle.ick_engine.specs.Stashes.{IsTakenOff};
+ghost use Rattle.ick_engine.specs.Stashes.{IsRetrieved, IsTakenOff};
 ghost use Rattle.ick_code.specs.meaning.State.{no_array, Array as ArrayValue};
 ghost use Rattle.ick_engine.specs.Undo.{at_slot, put_on, taken_off, with_array_stashes};
 ghost use Rattle.ick_engine.specs.Undo.{with_arrays, with_scalar_stashes};
@@ -16,9 +16,10 @@ ghost use Rattle.ick_engine.specs.View.{numbers_of, used};
 
 use crate::change::{ArrayChange, Entry};
 use crate::copy::copy_into;
+use crate::halt::Halt;
 use crate::memory::{Array, ArrayStash, NumberStash};
 use crate::notes::Notes;
-use ick_bits::NoMemory;
+use ick_bits::{FaultKind, NoMemory};
 use std::mem::swap;
 
 impl NumberStash {
@@ -280,7 +281,7 @@ pub fn restore_scalar<N: Notes>(
 
 /// Takes the newest array off the stash in a slot, and notes that. If memory runs out, nothing
 /// changes.
-pub fn drop_stashed<N: Notes>(
+fn drop_stashed<N: Notes>(
     stashes: &mut Vec<ArrayStash>,
     notes: &mut N,
     slot: u32,
@@ -309,7 +310,7 @@ pub fn drop_stashed<N: Notes>(
 
 /// Exchanges the array in a slot for the newest one of its stash, and notes that. If memory runs
 /// out, nothing changes.
-pub fn exchange_stashed<N: Notes>(
+fn exchange_stashed<N: Notes>(
     arrays: &mut Vec<Array>,
     stashes: &mut Vec<ArrayStash>,
     notes: &mut N,
@@ -339,5 +340,47 @@ pub fn exchange_stashed<N: Notes>(
     notes.law();
     notes.note_array(ArrayChange::Restored, slot, &arrays[slot as usize])?;
     stashes[slot as usize].exchange(&mut arrays[slot as usize]);
+    Ok(())
+}
+
+/// Retrieves the array in a slot from its stash, and notes that (Revised Manual, 4.4.6). The newest
+/// array is taken off. It becomes the array in the slot, unless that one is ignored. An empty stash
+/// is a fault. Then, and if memory runs out, nothing changes.
+#[inline(never)]
+pub fn restore_array<N: Notes>(
+    arrays: &mut Vec<Array>,
+    stashes: &mut Vec<ArrayStash>,
+    notes: &mut N,
+    slot: u32,
+) -> Result<(), Halt>
+    requires array { slot < length arrays.old.items }
+    requires slot { slot < length stashes.old.items }
+    requires room { 0 < N.room notes.old }
+    ensures retrieved { IsRetrieved result (get_or (map is_hidden arrays.old.items) slot false) slot
+        (map array_of arrays.old.items) (map array_of arrays.new.items)
+        (map arrays_of stashes.old.items) (map arrays_of stashes.new.items) }
+    ensures hidden { map is_hidden arrays.new.items ≡ map is_hidden arrays.old.items }
+    ensures room { N.room notes.old ≤ N.room notes.new + 1 }
+    ensures low { N.low notes.new ≡ N.low notes.old }
+    ensures base { N.fixed notes.new ≡ N.fixed notes.old }
+    ensures changes { Extends (N.changes notes.old) (N.changes notes.new) }
+    ensures notes { (k : ℕ) (v m : View) → v.parts.arrays ≡ map array_of arrays.old.items →
+        v.parts.array_stashes ≡ map arrays_of stashes.old.items → N.Undoes notes.old k v m →
+        N.Undoes notes.new k (with_array_stashes (map arrays_of stashes.new.items)
+        (with_arrays (map array_of arrays.new.items) v)) m }
+{
+    notes.law();
+    if stashes[slot as usize].depth == 0 {
+        return Err(Halt::Fault(FaultKind::NothingStashed));
+    }
+    if arrays[slot as usize].hidden {
+        let Ok(()) = drop_stashed(stashes, notes, slot) else {
+            return Err(Halt::NoMemory);
+        };
+        return Ok(());
+    }
+    let Ok(()) = exchange_stashed(arrays, stashes, notes, slot) else {
+        return Err(Halt::NoMemory);
+    };
     Ok(())
 }
