@@ -5,7 +5,6 @@ ghost use Rattle.std.specs.Prelude.{true};
 ghost use Rattle.std.proofs.Common.{get_or};
 ghost use Rattle.ick_code.specs.meaning.State.{no_array};
 ghost use Rattle.ick_engine.specs.History.{history, IsUndone};
-ghost use Rattle.ick_engine.specs.Marks.{Marked, HasMarks, kept_by, marked};
 ghost use Rattle.ick_engine.specs.Memory.{view_in};
 ghost use Rattle.ick_engine.specs.Steady.{IsReady, IsSteady};
 ghost use Rattle.ick_engine.specs.Undo.{change_of, stands_apart, undone, undone_array};
@@ -22,7 +21,6 @@ use ick_lowering::Lowered;
 use std::mem::replace;
 
 /// A mark: the place and the depth of the NEXT stack, and how many changes were noted before it.
-/// Marks form a stack: `HasMarks` says that each of them leads back to its state, the newest first.
 #[derive(Clone, Copy)]
 pub struct Mark {
     pub place: u32,
@@ -41,9 +39,6 @@ pub fn make_mark(trail: &mut Trail, memory: &Memory) -> Mark
     ensures changes { history trail.new ≡ history trail.old }
     ensures count { result.changes ≡ length (history trail.new) }
     ensures kept { trail.new.kept ≡ length (history trail.new) }
-    ensures marks { (older : List Marked) → HasMarks trail.old (view_in memory.now) older →
-        HasMarks trail.new (view_in memory.now)
-        (marked result.changes (view_in memory.now) ∷ older) }
     ensures marked { Rewinds trail.new.base (history trail.new) trail.new.low result.changes
         (view_in memory.now) (view_in memory.now) }
     ensures older { (k : ℕ) (m : View) →
@@ -220,10 +215,6 @@ pub fn back(trail: &mut Trail, mark: Mark, memory: &mut Memory, program: &Lowere
     ensures low { trail.new.low ≡ mark.depth }
     ensures base { trail.new.base ≡ trail.old.base }
     ensures kept { trail.new.kept ≡ length (history trail.new) }
-    ensures marks { (m : View) (older : List Marked) → m.place ≡ mark.place →
-        m.depth ≡ mark.depth → IsReady program.now.code.now program.now.parts m →
-        HasMarks trail.old (view_in memory.old) (marked mark.changes m ∷ older) →
-        HasMarks trail.new (view_in memory.new) (marked mark.changes m ∷ older) }
 {
     program.law();
     let code = program.code;
@@ -249,8 +240,6 @@ pub fn drop_mark(trail: &mut Trail, kept: usize)
     ensures low { trail.new.low ≡ trail.old.low }
     ensures base { trail.new.base ≡ trail.old.base }
     ensures kept { trail.new.kept ≡ kept }
-    ensures marks { (v : View) (newest : Marked) (older : List Marked) → kept ≡ kept_by older →
-        HasMarks trail.old v (newest ∷ older) → HasMarks trail.new v older }
 {
     trail.kept = kept;
 }

@@ -33,7 +33,6 @@ impl Trail {
     ghost use Rattle.ick_lowering.specs.Extends.{Extends};
     ghost use Rattle.ick_engine.specs.declared.trail.Trail.{Trail};
     ghost use Rattle.ick_engine.specs.History.{history, fixed_by, IsNoted, UndoesBy};
-    ghost use Rattle.ick_engine.specs.Marks.{Marked, HasMarks};
     ghost use Rattle.ick_engine.specs.Undo.{Rewinds};
     ghost use Rattle.ick_engine.specs.View.{View};
 
@@ -82,15 +81,6 @@ impl Trail {
         self.statuses.clear();
         self.low = 0;
     }
-
-    /// States that calls keep the marks of a trail, as `run_steps` does: calls that change nothing
-    /// of what is fixed, and after which what could be undone before still can.
-    pub fn marks_law(&self)
-        ensures { (old : Trail) (v w : View) (marks : List Marked) →
-            fixed_by self.now ≡ fixed_by old →
-            ((k : ℕ) (m : View) → UndoesBy old k v m → UndoesBy self.now k w m) →
-            HasMarks old v marks → HasMarks self.now w marks }
-    {}
 
     /// Returns whether the newest change is one of a register, and newer than the newest mark.
     /// Undoing it restores the register, so a further change needs no entry.

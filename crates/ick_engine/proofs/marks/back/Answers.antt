@@ -1,5 +1,5 @@
 use Rattle.std.proofs.Common.{◌≡◌, ◌≤◌, [], ◌∷◌, ◌++◌, sym, ap, ◌∙◌, subst, arith, length, length-append, take, take_all}
-use Rattle.std.proofs.lemmas.List.{length-take-le, take-append-le}
+use Rattle.std.proofs.lemmas.List.{take-append-le}
 use Rattle.std.specs.Prelude.{option_to_list}
 use Rattle.ick_engine.specs.Memory.{view_in}
 use Rattle.ick_engine.specs.View.{View}
@@ -7,8 +7,6 @@ use Rattle.ick_engine.specs.History.{history}
 use Rattle.ick_engine.specs.Undo.{Like, HighSame}
 use Rattle.ick_engine.proofs.Changes.{count_history, newest_undone}
 use Rattle.ick_engine.proofs.Restoring.{restored}
-use Rattle.ick_engine.specs.Marks.{LeadBack, marked}
-use Rattle.ick_engine.proofs.Marking.{lead_back}
 use Rattle.ick_engine.proofs.Undoing.{all_undone, like_moved, undone_one}
 use Rattle.ick_engine.proofs.marks.back.Goals as goal
 
@@ -38,24 +36,6 @@ returns-clause-changes c =
 pub returns-clause-kept : goal.returns-clause-kept
 returns-clause-kept c =
     c.len-trail.ensures ∙ c.changes.trail.entries.ok.0 ∙ sym (count_history c.changes.trail)
-
-pub returns-clause-marks : goal.returns-clause-marks
-returns-clause-marks c = λ m older place depth was has.
-    let old = c.args.trail.now in
-    let new = c.changes.trail in
-    let k = c.args.mark.changes in
-    let v : View = record (view_in c.changes.memory) { place = c.args.mark.place; depth = c.args.mark.depth } in
-    let alike = (returns-clause-back c m place depth was has.lead.0).alike in
-    let lead = lead_back old.base (history old) (history new) old.low k (view_in c.args.memory.now) v m older
-    (returns-clause-changes c) (subst (λ b. Like b m.depth m v) (sym c.requires.base) alike) has.lead in
-    record {
-      lead =
-          subst (λ d. LeadBack new.base (history new) d v (marked k m ∷ older)) depth
-          (subst (λ b. LeadBack b (history new) m.depth v (marked k m ∷ older)) (sym c.changes.invariant.base) lead);
-      kept_is =
-          returns-clause-kept c ∙ ap length (returns-clause-changes c)
-          ∙ length-take-le k (history old) has.lead.0.within;
-    }
 
 pub changes-preserved-in-Some : goal.changes-preserved-in-Some
 changes-preserved-in-Some c =

@@ -1,9 +1,8 @@
-use Rattle.std.proofs.Common.{refl, sym, ◌∙◌, subst}
+use Rattle.std.proofs.Common.{sym, ◌∙◌, subst}
 use Rattle.ick_engine.specs.History.{history}
 use Rattle.ick_engine.specs.Memory.{view_in}
 use Rattle.ick_engine.specs.Undo.{Rewinds}
 use Rattle.ick_engine.proofs.Changes.{count_history}
-use Rattle.ick_engine.proofs.Marking.{lead_more}
 use Rattle.ick_engine.proofs.Undoing.{marks_here}
 use Rattle.ick_engine.proofs.marks.make_mark.Goals as goal
 
@@ -21,13 +20,3 @@ returns-clause-marked c =
     let v = view_in c.args.memory.now in
     subst (λ k. Rewinds t.base (history t) v.depth k v v) (sym (returns-clause-count c))
     (marks_here t.base (history t) v)
-
-pub returns-clause-marks : goal.returns-clause-marks
-returns-clause-marks c = λ older has.
-    let t = c.args.trail.now in
-    record {
-      lead =
-          lead_more t.base (history t) t.low _ (view_in c.args.memory.now) older c.requires (returns-clause-count c)
-          has.lead;
-      kept_is = refl;
-    }
