@@ -1,5 +1,5 @@
 -- A run on the engine makes as many steps as the run of the definition.
-use Rattle.std.proofs.Common.{◌≡◌, ◌≤◌, ℕ, zero, suc, ◌+◌, ◌-◌, Bool, false, List, [], refl, ap, sym, subst, ◌∙◌, arith}
+use Rattle.std.proofs.Common.{◌≡◌, ◌≤◌, ℕ, zero, suc, ◌+◌, ◌-◌, Bool, true, false, List, [], refl, ap, sym, subst, ◌∙◌, arith}
 use Rattle.std.specs.Prelude.{Option, None}
 use Rattle.ick_source.specs.StatementTree.{StatementTree}
 use Rattle.ick_code.specs.meaning.State.{State}
@@ -9,10 +9,10 @@ use Rattle.ick_code.specs.Compiled.{code_program}
 use Rattle.ick_backtrack.specs.Machine.{Program}
 use Rattle.ick_explorer.specs.Runs.{run, run_on, run_at_limit}
 use Rattle.ick_engine.specs.Reads.{Leads}
-use Rattle.ick_engine.specs.Run.{Stopped, stopped, on_ask, run_of, run_from, IsAsked, ComesTo, UnlessNoMemory}
+use Rattle.ick_engine.specs.Run.{Stopped, stopped, on_ask, run_of, run_from, IsAsked, ComesTo, IfWaits, UnlessNoMemory}
 use Rattle.ick_engine.specs.View.{Input, input_of}
 use Rattle.ick_engine.specs.declared.exit.Exit.{Exit}
-use Rattle.ick_engine.specs.declared.exit.Exit.TheVariants.{Limit, Room, Asked, NoMemory, Stopped as StoppedExit}
+use Rattle.ick_engine.specs.declared.exit.Exit.TheVariants.{Limit, Room, Asked, Waits, NoMemory, Stopped as StoppedExit}
 
 -- the steps of a run without choices, and those that are left, are as many as are allowed
 all_steps : (n : ℕ) (p : Program) (s : State) → (run p s n []).steps + (run_of n None p s).left ≡ n
@@ -41,24 +41,26 @@ none_left : (answer : Option Bool) (p : List StatementTree) (s : State) → (run
 unfolding run_of
 none_left answer p s = refl
 
--- unless memory runs out, or the room for notes, the engine says how many steps are left
+-- unless memory runs out, or the room for notes, or the loop waits, the engine says how many steps are left
 left_is : (code : Code) (input : Input) (out : ℕ → Stopped) (exit : Exit) (made left : ℕ) (answer : Option Bool)
-    (s : State) → ComesTo code input out exit made left answer s → (exit ≡ Room → ⊥) → (exit ≡ NoMemory → ⊥) →
+    (s : State) → ComesTo code input out exit made left answer s → (exit ≡ Room → ⊥) → (exit ≡ Waits → ⊥) → (exit ≡ NoMemory → ⊥) →
     (out (made + left)).left ≡ left
-left_is code input out Limit made left answer s (goes, none) has_room has_memory =
+left_is code input out Limit made left answer s (goes, none) has_room goes_by has_memory =
     rw none (sym (ap (λ o. o.left) (goes 0)) ∙ none_left answer (code_program code) s)
-left_is code input out Room made left answer s h has_room has_memory = absurd (has_room refl)
-left_is code input out NoMemory made left answer s h has_room has_memory = absurd (has_memory refl)
-left_is code input out Asked made left answer s (goes, none, asked) has_room has_memory =
+left_is code input out Room made left answer s h has_room goes_by has_memory = absurd (has_room refl)
+left_is code input out Waits made left answer s h has_room goes_by has_memory = absurd (goes_by refl)
+left_is code input out NoMemory made left answer s h has_room goes_by has_memory = absurd (has_memory refl)
+left_is code input out Asked made left answer s (goes, none, asked) has_room goes_by has_memory =
     sym (ap (λ o. o.left) (goes left))
     ∙ rw none (asked_left left (code_program code) s asked)
-left_is code input out (StoppedExit end) made left answer s stops has_room has_memory = ap (λ o. o.left) (stops left)
+left_is code input out (StoppedExit end) made left answer s stops has_room goes_by has_memory = ap (λ o. o.left) (stops left)
 
 -- what holds unless memory runs out
 unless : (exit : Exit) (P : Type 0) → (exit ≡ NoMemory → ⊥) → UnlessNoMemory exit P → P
 unless Limit P not h = h
 unless Room P not h = h
 unless Asked P not h = h
+unless Waits P not h = h
 unless NoMemory P not h = absurd (not refl)
 unless (StoppedExit end) P not h = h
 
@@ -68,10 +70,10 @@ pub made_and_left : {R : Type 0} (Has : R → Input → Type 0) (old new : R) (c
     ((i : Input) → Has old i → i ≡ input_of []) → code ≡ given →
     ((i : Input) → first i ≡ first_state (code_program code) (i.left 0)) → left ≤ limit →
     UnlessNoMemory exit (Leads Has old new (λ before after. ComesTo code after (run_from code None (first before)) exit
-    (limit - left) left answer (now after))) → (exit ≡ Room → ⊥) → (exit ≡ NoMemory → ⊥) →
+    (limit - left) left answer (now after))) → (exit ≡ Room → ⊥) → (exit ≡ Waits → ⊥) → (exit ≡ NoMemory → ⊥) →
     (run (code_program given) (first_state (code_program given) []) limit []).steps + left ≡ limit
 made_and_left Has old new code given exit limit left answer first now input has empty same begins within comes has_room
-    has_memory =
+    goes_by has_memory =
     let led = unless exit (Leads Has old new (λ before after. ComesTo code after (run_from code None (first before)) exit
     (limit - left) left answer (now after))) has_memory comes input has in
     let start : first led.0 ≡ first_state (code_program code) [] = begins led.0
@@ -80,8 +82,12 @@ made_and_left Has old new code given exit limit left answer first now input has 
     let whole : (limit - left) + left ≡ limit = omega (arith, within) in
     let rest : (run_of limit None (code_program code) (first led.0)).left ≡ left = subst (λ n. (run_of n None
     (code_program code) (first led.0)).left ≡ left) whole (left_is code input (run_from code None (first led.0)) exit
-    (limit - left) left answer (now input) led.2 has_room has_memory) in
+    (limit - left) left answer (now input) led.2 has_room goes_by has_memory) in
     let both : made code (first led.0) + left ≡ limit = subst (λ k. made code (first led.0) + k ≡ limit) rest
     (all_steps limit (code_program code) (first led.0)) in
     subst (λ k. made k (first_state (code_program k) []) + left ≡ limit) same
     (subst (λ t. made code t + left ≡ limit) start both)
+
+-- the loop doesn't wait if the reader doesn't
+pub never_waits : (exit : Exit) → IfWaits exit (false ≡ true) → exit ≡ Waits → ⊥
+never_waits exit waits is = absurd (cc (subst (λ e. IfWaits e (false ≡ true)) is waits))

@@ -1,6 +1,6 @@
 //! Readers of a run's input, line by line or byte by byte.
 
-ghost use Rattle.std.specs.Prelude.{◌≡◌, IfOk};
+ghost use Rattle.std.specs.Prelude.{◌≡◌, Bool, IfOk};
 ghost use Rattle.ick_engine.specs.Reads.{Leads, IsNext, IsByte};
 ghost use Rattle.ick_engine.specs.View.{Input};
 
@@ -32,8 +32,16 @@ pub trait Reader: Drop {
     /// What every call keeps: the text that is read, or the name of a reference to the source.
     ghost held: { Self → Self.Held };
 
+    /// Whether the loop waits before a statement of input or output that is sure to be done, by what
+    /// every call keeps.
+    ghost waits: { Self.Held → Bool };
+
     /// Some input may be left.
     ghost some: { (reader : Self) → (input : Input) × Has reader input };
+
+    /// Returns whether the loop waits before a statement of input or output that is sure to be done.
+    fn is_waiting(&self) -> bool
+        ensures { result ≡ waits (held self.now) };
 
     /// Reads the line that begins at a place.
     fn line(&mut self, from: usize) -> Result<Line, NoMemory>

@@ -1,6 +1,6 @@
 //! A text as the input of a run.
 
-ghost use Rattle.std.specs.Prelude.{◌≡◌, ◌==◌, ◌≤◌, ℕ, List, length, refl};
+ghost use Rattle.std.specs.Prelude.{◌≡◌, ◌==◌, ◌≤◌, ℕ, false, List, length, refl};
 ghost use Rattle.std.specs.List.{position_or_len};
 ghost use Rattle.ick_engine.specs.View.{input_of};
 
@@ -29,7 +29,13 @@ impl<'c> Reader for TextReader<'c> {
 
     ghost held = { λ reader. reader.text.now };
 
+    ghost waits = { λ _. false };
+
     ghost some = { λ reader. (input_of reader.text.now, refl) };
+
+    fn is_waiting(&self) -> bool {
+        false
+    }
 
     fn line(&mut self, from: usize) -> Result<Line, NoMemory> {
         if from >= self.text.len() {
