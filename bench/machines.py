@@ -8,8 +8,7 @@ It needs that program (`rt run` in crates/bench_steps builds it), Python 3.8 and
 For each program and machine the nanoseconds a step. The program makes a run once, and so often more that the further
 runs have some twenty million steps; what these take is measured, without what as many runs take of the same source with
 GIVE UP in front, which only make the machine. Each is the least processor time of ten rounds in each of which every
-machine is measured. All runs must make equally many steps. Nothing else is judged. If the engine's loop lacks an
-operation of a program, the table has `-`.
+machine is measured. All runs must make equally many steps. Nothing else is judged.
 """
 import os
 import subprocess
@@ -19,7 +18,7 @@ import measuring
 from measuring import print_heading, print_row, program_to_measure, stop
 from workloads import NOTHING, WORKLOADS
 
-MACHINES = {"copied": "Copied", "trailed": "Trailed", "live": "Live", "engine": "ick_engine"}
+MACHINES = {"copied": "Copied", "trailed": "Trailed", "live": "Live"}
 # The greatest limit on the steps of a run, which no program of workloads.py comes to.
 LIMIT = str(2**32 - 1)
 STEPS = 20_000_000

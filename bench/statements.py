@@ -4,8 +4,8 @@
   statements.py [--program PROGRAM] [MACHINE..]
 
 PROGRAM is the program `bench_steps`. Without --program the script takes the one that `dev/build_unproved.py . bench_steps
-bare` builds in a minute, which is neither proved nor checked. A MACHINE is copied, trailed, live or engine. Without a
-MACHINE the script counts on all four. It needs callgrind (Valgrind), Python 3.8 and Linux.
+bare` builds in a minute, which is neither proved nor checked. A MACHINE is copied, trailed or live. Without a MACHINE
+the script counts on all three. It needs callgrind (Valgrind), Python 3.8 and Linux.
 
 For each kind the script writes a program of 3,000 like statements, which run in a circle. It counts the instructions of
 480,000 steps, takes off those of a run without a step, and divides by the steps. In rows of two kinds, such as IGNORE
@@ -25,7 +25,7 @@ import measuring
 from measuring import TOP, print_heading, print_row, stop
 
 PROGRAM = f"{TOP}/crates/bench_steps/out/preview/bench_steps.bare"
-MACHINES = ["copied", "trailed", "live", "engine"]
+MACHINES = ["copied", "trailed", "live"]
 COUNT = 3000
 STEPS = 480_000
 FIRST = [".1 <- #1", ".2 <- #7", ".3 <- #300", ":1 <- #1$#300", ":2 <- #9$#9", ":3 <- :1"]

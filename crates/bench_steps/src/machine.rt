@@ -8,7 +8,6 @@ ghost use Rattle.ick_explorer.specs.Runs.{Execution, run};
 ghost use Rattle.ick_runs.specs.Ordinary.{IsRan};
 ghost use Rattle.bench_steps.specs.Machines.{name_of};
 
-use crate::engine::run_on_engine;
 use ick_bits::NoMemory;
 use ick_code::Code;
 use ick_machine::{Copied, Trailed};
@@ -21,7 +20,6 @@ pub(crate) enum Machine {
     Copied,
     Trailed,
     Live,
-    Engine,
 }
 
 impl Machine {
@@ -34,7 +32,6 @@ impl Machine {
             "copied" => Some(Machine::Copied),
             "trailed" => Some(Machine::Trailed),
             "live" => Some(Machine::Live),
-            "engine" => Some(Machine::Engine),
             _ => None,
         }
     }
@@ -65,7 +62,6 @@ impl Machine {
                     Err(_) => Err(NoMemory),
                 }
             }
-            Machine::Engine => run_on_engine(alloc, code, limit),
         }
     }
 }

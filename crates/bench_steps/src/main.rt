@@ -3,17 +3,15 @@
 //!
 //!     bench_steps LIMIT MACHINE.. < SOURCE
 //!
-//! LIMIT is the greatest number of steps of a run, below 2^32. A MACHINE is `copied`, `trailed`,
-//! `live` or `engine`. Each run has an empty input and no choices. For each MACHINE the program
+//! LIMIT is the greatest number of steps of a run, below 2^32. A MACHINE is `copied`, `trailed` or
+//! `live`. Each run has an empty input and no choices. For each MACHINE the program
 //! prints its name and the number of steps that its run made.
 //!
 //! The program ends with status 1 if an argument or the source is wrong, or if memory runs out.
 //!
 //! - `machine`: the machines, and a run on each
-//! - `engine`: a run on the engine
 #![tactic(auto)]
 
-mod engine;
 mod machine;
 
 use ick_bits::NoMemory;

@@ -1,13 +1,13 @@
-//! `call pairs` and `call many steps`: two machines run `programs` random programs side by side,
-//! and must be alike at every point. `pairs` and `many_steps` say which machines these are.
+//! `call pairs`: two machines run `programs` random programs side by side, and must be alike at
+//! every point. `pairs` says which machines these are.
 
 use crate::answers::Answers;
 use crate::failure::Failure;
 use crate::fields::number;
+use crate::pairs;
 use crate::programs::compiled;
 use crate::random_programs::source_of;
 use crate::words::Words;
-use crate::{many_steps, pairs};
 use ick_machine::{Ask, Asks, End};
 use std::alloc::Global;
 use test_rows::Row;
@@ -17,22 +17,17 @@ pub fn answer(alloc: Global, row: &Row, answers: &mut Answers) -> Result<(), Fai
     let mut words = Words {
         state: u64::from(number(row, b"seed")?),
     };
-    let has_pairs = row.calls(b"pairs");
     for _ in 0..number(row, b"programs")? {
         let source = source_of(alloc, &mut words)?;
-        lead(alloc, &source, has_pairs, &mut words)?;
+        lead(alloc, &source, &mut words)?;
     }
     answers.say(b"alike")
 }
 
 /// Compares two machines on the program of a source.
-fn lead(alloc: Global, source: &[u8], has_pairs: bool, words: &mut Words) -> Result<(), Failure> {
+fn lead(alloc: Global, source: &[u8], words: &mut Words) -> Result<(), Failure> {
     let code = compiled(alloc, source)?;
-    if has_pairs {
-        pairs::lead(alloc, &code, words)
-    } else {
-        many_steps::lead(alloc, &code, words)
-    }
+    pairs::lead(alloc, &code, words)
 }
 
 /// Checks that two machines have the same question, output, and numbers of steps and marks.

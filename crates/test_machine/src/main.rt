@@ -1,15 +1,12 @@
-//! The program `test_machine`: reads rows of tests from standard input, runs each on the machines,
-//! memories or plans that it names, and prints the rows that fail.
+//! The program `test_machine`: reads rows of tests from standard input, runs each on the machines
+//! that it names, and prints the rows that fail.
 //!
 //! | Module | What it has |
 //! |---|---|
 //! | `both` | `call run` and `call script`: both machines with marks answer a row |
 //! | `live` | `call live`: the machine that reads its input from a feed |
 //! | `counts` | `call count`: all runs of a program, and their steps |
-//! | `alike` | `call pairs` and `call many steps`: machines that must be alike on random programs |
-//! | `statements` | `call statements`: random statements by plans and by operations |
-//! | `memory` | `call memory ..`: a program's memory |
-//! | `plans` | `call plan ..`: plans made of compiled statements, and done |
+//! | `alike` | `call pairs`: machines that must be alike on random programs |
 //! | `answers` | the answers to a row |
 //! | `failure` | why a row has no answers |
 //! | `fields` | names and numbers in the fields of a row |
@@ -20,12 +17,9 @@
 //! | `scripts` | steps and marks as a script orders them |
 //! | `sides` | two machines with marks side by side |
 //! | `pairs` | steps and marks in random order on both machines with marks |
-//! | `many_steps` | many steps in one call, compared with single steps |
 //! | `feeds` | a text as a feed, and a machine that reads its input from it |
 //! | `words` | pseudo-random numbers |
 //! | `random_programs` | small random programs |
-//! | `random_statements` | long random programs whose statements are tried one by one |
-//! | `planned` | how many of these statements have plans |
 #![tactic(auto)]
 
 mod alike;
@@ -37,24 +31,17 @@ mod feeds;
 mod fields;
 mod live;
 mod machines;
-mod many_steps;
-mod memory;
 mod orders;
 mod pairs;
-mod planned;
-mod plans;
 mod programs;
 mod random_programs;
-mod random_statements;
 mod runs;
 mod scripts;
 mod sides;
-mod statements;
 mod words;
 
 use answers::Answers;
 use failure::Failure;
-use ick_code::Code;
 use programs::compiled;
 use std::alloc::Global;
 use std::io;
@@ -96,10 +83,8 @@ fn check(alloc: Global, row: &Row, tally: &mut Tally, out: &mut Vec<u8>) -> Resu
 fn answer(alloc: Global, row: &Row, answers: &mut Answers) -> Result<(), Failure> {
     if row.calls(b"count") {
         counts::answer(alloc, row, answers)
-    } else if row.calls(b"pairs") || row.calls(b"many steps") {
+    } else if row.calls(b"pairs") {
         alike::answer(alloc, row, answers)
-    } else if row.calls(b"statements") {
-        statements::answer(alloc, row, answers)
     } else {
         answer_by_code(alloc, row, answers)
     }
@@ -108,23 +93,11 @@ fn answer(alloc: Global, row: &Row, answers: &mut Answers) -> Result<(), Failure
 /// Adds the answers to a row that has a source.
 fn answer_by_code(alloc: Global, row: &Row, answers: &mut Answers) -> Result<(), Failure> {
     let code = compiled(alloc, row.field(b"source"))?;
-    answer_on(alloc, &code, row, answers)
-}
-
-/// Adds the answers to a row on the code of its source.
-fn answer_on(
-    alloc: Global,
-    code: &Code<'_>,
-    row: &Row,
-    answers: &mut Answers,
-) -> Result<(), Failure> {
     if row.calls(b"run") || row.calls(b"script") {
-        both::answer(alloc, code, row, answers)
+        both::answer(alloc, &code, row, answers)
     } else if row.calls(b"live") {
-        live::answer(alloc, code, row, answers)
-    } else if row.field(b"call").starts_with(b"memory ") {
-        memory::answer(alloc, code, row, answers)
+        live::answer(alloc, &code, row, answers)
     } else {
-        plans::answer(alloc, code, row, answers)
+        Err(Failure::NoSuchCall)
     }
 }

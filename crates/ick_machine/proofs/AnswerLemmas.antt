@@ -1,0 +1,174 @@
+-- What a machine asks, by the status of the statement that is met.
+use Rattle.std.proofs.Common.{◌≡◌, ℕ, zero, suc, ◌+◌, ◌-◌, ◌<◌, ◌≤◌, Bool, true, false, List, [], length, get_or}
+use Rattle.std.proofs.Common.{Option, Some, None, refl, sym, ap, ◌∙◌, inl, inr, arith}
+use Rattle.std.specs.Prelude.{◌⊎◌, nat_lt, nat_le, ◌&&◌, option_map, if◌then◌else◌, is_some, not}
+use Rattle.std.proofs.lemmas.Bool.{cases_lt, not-true, not-false}
+use Rattle.std.proofs.lemmas.Bool.Decides.{nat_tests}
+use Rattle.std.proofs.lemmas.Option.{slice_get_past}
+use Rattle.ick_source.specs.StatementTree.{StatementTree}
+use Rattle.ick_code.specs.declared.code.Code.{Code}
+use Rattle.ick_code.specs.meaning.State.{State, Ending, statement_at}
+use Rattle.ick_code.specs.meaning.Move.{plain, choice, ask, ask_of, ask_at, is_uncertain}
+use Rattle.ick_code.specs.Compiled.{code_program}
+use Rattle.ick_lowering.specs.declared.lowered.LoweredParts.{LoweredParts}
+use Rattle.ick_engine.specs.declared.exit.Ended.{Ended}
+use Rattle.ick_engine.specs.View.{View, Input, end_of}
+use Rattle.ick_engine.specs.Status.{percent_of, lack_of, is_abstained, past_the_end}
+use Rattle.ick_engine.specs.Steady.{IsReady}
+use Rattle.ick_engine.proofs.Statuses.{some_and}
+use Rattle.ick_backtrack.specs.Asked.{Finish, finished, asked_at_end}
+use Rattle.ick_backtrack.specs.Machine.{Program}
+use Rattle.ick_backtrack.specs.Steps.{IsPlain}
+use Rattle.ick_machine.specs.Asked.{is_open, asked_by}
+use Rattle.ick_machine.specs.Run.{ending_of, run_state}
+
+-- what a status lacks to 100, if no choice is asked at it
+sure_lacks : (status : ℕ) → is_open status ≡ false → is_abstained status ≡ false →
+    (lack_of status ≡ 0) ⊎ (100 ≤ lack_of status)
+sure_lacks status sure free = grind (arith, nat_tests, sure, free)
+
+-- and if one is
+open_lacks : (status : ℕ) → is_open status ≡ true → lack_of status ≡ status
+open_lacks status open_ = grind (arith, nat_tests, open_)
+
+open_free : (status : ℕ) → is_open status ≡ true → is_abstained status ≡ false
+open_free status open_ = grind (arith, nat_tests, open_)
+
+open_within : (status : ℕ) → is_open status ≡ true → (0 < status) × (status < 100)
+open_within status open_ = (grind (arith, nat_tests, open_), grind (arith, nat_tests, open_))
+
+-- whether a chance is between 0 and 100, by what it lacks
+sure_chance : (chance lack : ℕ) → lack ≡ 100 - percent_of chance → (lack ≡ 0) ⊎ (100 ≤ lack) →
+    (nat_lt 0 chance && nat_lt chance 100) ≡ false
+sure_chance chance lack is sure = cases (nat_le chance 100) refl
+  where
+    cases : (b : Bool) → nat_le chance 100 ≡ b → (nat_lt 0 chance && nat_lt chance 100) ≡ false
+    cases true e =
+        let percent : percent_of chance ≡ chance = rw e refl in
+        elim sure [
+          | inl none ↦ grind (arith, nat_tests, e, is, percent, none)
+          | inr many ↦ grind (arith, nat_tests, e, is, percent, many)
+        ]
+    cases false e = grind (arith, nat_tests, e)
+
+open_chance : (chance lack : ℕ) → lack ≡ 100 - percent_of chance → 0 < lack → lack < 100 →
+    ((nat_lt 0 chance && nat_lt chance 100) ≡ true) × (chance ≡ 100 - lack)
+open_chance chance lack is some few = cases (nat_le chance 100) refl
+  where
+    cases : (b : Bool) → nat_le chance 100 ≡ b →
+        ((nat_lt 0 chance && nat_lt chance 100) ≡ true) × (chance ≡ 100 - lack)
+    cases true e =
+        let percent : percent_of chance ≡ chance = rw e refl in
+        let low : chance ≤ 100 = grind (arith, nat_tests, e) in
+        let lacks : lack ≡ 100 - chance = is ∙ ap (λ n. 100 - n) percent in
+        (grind (arith, nat_tests, lacks, some, few), omega (arith, lacks, low))
+    cases false e =
+        let percent : percent_of chance ≡ 0 = rw e refl in
+        absurd (omega (arith, is, few, percent))
+
+-- a statement asks what its status says
+asked_there : (statement : StatementTree) (status : ℕ) → lack_of status ≡ 100 - percent_of statement.chance →
+    (if is_uncertain statement (is_abstained status) then choice statement.chance else plain) ≡ asked_by status
+asked_there statement status is = cases (is_open status) refl
+  where
+    sure : is_open status ≡ false → (a : Bool) → is_abstained status ≡ a → is_uncertain statement a ≡ false
+    sure open_ true a = refl
+    sure open_ false a = sure_chance statement.chance (lack_of status) is (sure_lacks status open_ a)
+
+    cases : (b : Bool) → is_open status ≡ b →
+        (if is_uncertain statement (is_abstained status) then choice statement.chance else plain) ≡ asked_by status
+    cases false open_ =
+        ap (λ b. if b then choice statement.chance else plain) (sure open_ (is_abstained status) refl)
+        ∙ sym (ap (λ b. if b then choice (100 - status) else plain) open_)
+    cases true open_ =
+        let within = open_within status open_ in
+        let lacks : lack_of status ≡ status = open_lacks status open_ in
+        let found = open_chance statement.chance status (sym lacks ∙ is) within.0 within.1 in
+        ap (λ a. if is_uncertain statement a then choice statement.chance else plain) (open_free status open_)
+        ∙ ap (λ b. if b then choice statement.chance else plain) found.0 ∙ ap choice found.1
+        ∙ sym (ap (λ b. if b then choice (100 - status) else plain) open_)
+
+past_none : (program : List StatementTree) → statement_at program (length program + 1) ≡ None
+past_none program =
+    let one : suc (length program) ≡ length program + 1 = omega arith in
+    ap (statement_at program) (sym one) ∙ slice_get_past program (length program) (omega arith)
+
+-- an ended run isn't plain
+pub ended_bound : (program : Program) (s : State) (end : Ending) → s.end ≡ Some end → ¬ IsPlain program s
+unfolding ask
+ended_bound program s end is free = absurd (cc (ap (λ e. ask_of e program s) is, free))
+
+pub some_bound : (code : Code) (lowered : LoweredParts) (input : Input) (v : View) (end : Option Ended) →
+    is_some end ≡ true → ¬ IsPlain (code_program code) (run_state code lowered input v end)
+some_bound code lowered input v None is = absurd (cc)
+some_bound code lowered input v (Some e) is =
+    ended_bound (code_program code) (run_state code lowered input v (Some e)) (end_of (code_program code) input e) refl
+
+no_input : Input
+no_input = record { left = λ n. []; word = λ from to. [] }
+
+module _ (code : Code) (lowered : LoweredParts) (v : View) (ready : IsReady code lowered v) where
+  pub place_is : (1 ≤ v.place) × (v.place ≤ length (code_program code) + 1)
+  place_is = (ready.stands no_input).within.place_is
+
+  pub place_low : v.place < length v.statuses
+  place_low = omega (arith, place_is, ready.steady.statuses.count)
+
+  module _ (input : Input) where
+    -- an end is answered as it is
+    pub asks_end : (e : Ended) (finish : Finish) → Some finish ≡ option_map finished (ending_of code input (Some e)) →
+        asked_at_end finish ≡ Some (ask (code_program code) (run_state code lowered input v (Some e)))
+    unfolding ask
+    asks_end e finish same =
+        let is : finish ≡ finished (end_of (code_program code) input e) = cc in
+        ap asked_at_end is
+
+    -- what is asked, by the statement that is met
+    asks_at : (o : Option StatementTree) → statement_at (code_program code) v.place ≡ o →
+        ask (code_program code) (run_state code lowered input v None)
+        ≡ ask_at o (run_state code lowered input v None)
+    unfolding ask
+    asks_at o is = ap (λ o. ask_at o (run_state code lowered input v None)) is
+
+    -- by its status
+    pub asks_by : ask (code_program code) (run_state code lowered input v None) ≡ asked_by (get_or v.statuses v.place 0)
+    asks_by = elim (cases_lt (length (code_program code)) v.place) [
+      | inr within ↦
+          let found = some_and
+          (λ (statement : StatementTree). lack_of (get_or v.statuses v.place 0) ≡ 100 - percent_of statement.chance)
+          (statement_at (code_program code) v.place) (ready.steady.statuses.each v.place place_is.0 within) in
+          asks_at (Some found.0) found.1 ∙ asked_there found.0 (get_or v.statuses v.place 0) found.2
+      | inl above ↦
+          let behind : v.place ≡ length (code_program code) + 1 = omega (arith, above, place_is) in
+          let status : get_or v.statuses v.place 0 ≡ past_the_end =
+          ap (λ k. get_or v.statuses k 0) behind ∙ ready.steady.statuses.past in
+          asks_at None (ap (statement_at (code_program code)) behind ∙ past_none (code_program code))
+          ∙ sym (ap asked_by status)
+    ]
+
+    pub asks_status : (status : ℕ) (end : Option Ended) → end ≡ None → status ≡ get_or v.statuses v.place 0 →
+        asked_by status ≡ ask (code_program code) (run_state code lowered input v end)
+    asks_status status end none is =
+        ap asked_by is ∙ sym asks_by
+        ∙ sym (ap (λ o. ask (code_program code) (run_state code lowered input v o)) none)
+
+    no_end : (o : Option Ended) → is_some o ≡ false → o ≡ None
+    no_end None is = refl
+    no_end (Some e) is = absurd (cc)
+
+    -- a run that goes on is plain unless its status asks a choice
+    module _ (status : ℕ) (end : Option Ended) (going : is_some end ≡ false)
+        (is : status ≡ get_or v.statuses v.place 0) (chance : Bool) (says : chance ≡ is_open status) where
+      asked : ask (code_program code) (run_state code lowered input v end)
+          ≡ (if chance then choice (100 - status) else plain)
+      asked =
+          sym (asks_status status end (no_end end going) is)
+          ∙ ap (λ b. if b then choice (100 - status) else plain) (sym says)
+
+      pub sure_free : not chance ≡ true → IsPlain (code_program code) (run_state code lowered input v end)
+      sure_free sure = asked ∙ ap (λ b. if b then choice (100 - status) else plain) (not-true chance sure)
+
+      pub open_bound : not chance ≡ false → ¬ IsPlain (code_program code) (run_state code lowered input v end)
+      open_bound open_ free =
+          let chosen = ap (λ b. if b then choice (100 - status) else plain) (not-false chance open_) in
+          absurd (cc (asked, chosen, free))

@@ -1,0 +1,14 @@
+mod AnswerLemmas
+mod StepLemmas
+mod Readiness
+mod Propositions
+mod StepsLemmas
+mod RunLemmas
+mod Marks
+mod TrailMarks
+mod Stack
+mod TrailedLemmas
+mod CopyLemmas
+mod FeedLemmas
+mod FedLemmas
+mod LiveLemmas

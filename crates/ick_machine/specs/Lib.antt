@@ -1,0 +1,10 @@
+pub mod Run
+pub mod RunIn
+pub mod Asked
+pub mod Marks
+pub mod Copies
+pub mod Seen
+pub mod Feeds
+pub mod LiveAsk
+pub mod Message
+pub mod Live

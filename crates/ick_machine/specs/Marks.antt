@@ -1,0 +1,78 @@
+-- Marks over a trail: the states that they stand for, which undoing leads to.
+use Rattle.std.specs.Prelude.{ℕ, ◌≡◌, List, [], ◌∷◌, ◌++◌, drop, length, take, reverse}
+use Rattle.ick_code.specs.declared.code.Code.{Code}
+use Rattle.ick_code.specs.meaning.State.{State}
+use Rattle.ick_lowering.specs.declared.lowered.LoweredParts.{LoweredParts}
+use Rattle.ick_engine.specs.declared.marks.Mark.{Mark}
+use Rattle.ick_engine.specs.declared.memory.Memory.{Memory}
+use Rattle.ick_engine.specs.declared.trail.Trail.{Trail}
+use Rattle.ick_engine.specs.History.{history}
+use Rattle.ick_engine.specs.Memory.{view_in}
+use Rattle.ick_engine.specs.Steady.{IsReady}
+use Rattle.ick_engine.specs.Undo.{Change, Rewinds, rewound}
+use Rattle.ick_engine.specs.View.{View, Input}
+use Rattle.ick_machine.specs.declared.whole.Marked.{Marked}
+use Rattle.ick_machine.specs.Run.{run_state}
+
+-- the view to which undoing all changes behind a mark leads
+abbrev pub marked_view : Mark → List Change → View → View
+marked_view mark changes v =
+    record (rewound (reverse (drop mark.changes changes)) v) { place = mark.place; depth = mark.depth }
+
+-- the states that marks stand for, the oldest first. The marks come with the newest first
+abbrev pub marked_states : Code → LoweredParts → Input → List Change → View → List Marked → List State
+marked_states code lowered input changes v [] = []
+marked_states code lowered input changes v (newest ∷ older) =
+    marked_states code lowered input (take newest.mark.changes changes) (marked_view newest.mark changes v) older
+    ++ run_state code lowered input (marked_view newest.mark changes v) newest.end ∷ []
+
+-- what could be undone from a view by an old trail can be undone from another one by a new trail
+abbrev pub Carries : Trail → Trail → View → View → Type 0
+Carries old new v w =
+    (k : ℕ) (m : View) → Rewinds old.base (history old) old.low k v m → Rewinds new.base (history new) new.low k w m
+
+-- a mark was made on a trail, of which nothing else has changed
+pub record IsMarked (old new : Trail) (v : View) : Type 0 where
+  pub base_same : new.base ≡ old.base
+  pub changes_same : history new ≡ history old
+  pub low_is : new.low ≡ v.depth
+  pub kept_is : new.kept ≡ length (history new)
+  pub older : Carries old new v v
+
+-- a mark that undoing leads to from the marked view itself
+pub record IsMarkOf (t : Trail) (v : View) (mark : Mark) : Type 0 where
+  pub place_is : mark.place ≡ v.place
+  pub depth_is : mark.depth ≡ v.depth
+  pub count : mark.changes ≡ length (history t)
+  pub rewinds : Rewinds t.base (history t) t.low mark.changes v v
+
+-- undoing leads from a view to one like m, which a mark stands for
+pub record IsMark (code : Code) (lowered : LoweredParts) (changes : List Change) (low : ℕ) (v : View) (mark : Mark)
+    (m : View) : Type 0 where
+  pub place_is : m.place ≡ mark.place
+  pub depth_is : m.depth ≡ mark.depth
+  pub ready : IsReady code lowered m
+  pub rewinds : Rewinds lowered.layout.base changes low mark.changes v m
+
+-- each mark can be gone back to, from the state of the next newer one; the newest first
+abbrev pub AreMarks : Code → LoweredParts → List Change → (low : ℕ) → View → List Marked → Type 0
+AreMarks code lowered changes low v [] = Unit {0}
+AreMarks code lowered changes low v (newest ∷ older) =
+    (m : View) × IsMark code lowered changes low v newest.mark m
+    × AreMarks code lowered (take newest.mark.changes changes) m.depth m older
+
+-- the same of a memory and a trail
+abbrev pub AreMarksIn : Code → LoweredParts → Trail → Memory → List Marked → Type 0
+AreMarksIn code lowered trail memory marks = AreMarks code lowered (history trail) trail.low (view_in memory) marks
+
+abbrev pub marked_in : Code → LoweredParts → Input → Trail → Memory → List Marked → List State
+marked_in code lowered input trail memory marks =
+    marked_states code lowered input (history trail) (view_in memory) marks
+
+-- whatever marks there are, they stay, and stand for the same
+abbrev pub KeepsMarks : Code → LoweredParts → Trail → Memory → Trail → Memory → Type 0
+KeepsMarks code lowered old_trail old trail new =
+    (marks : List Marked) → AreMarksIn code lowered old_trail old marks →
+    AreMarksIn code lowered trail new marks
+    × ((input : Input) →
+    marked_in code lowered input trail new marks ≡ marked_in code lowered input old_trail old marks)

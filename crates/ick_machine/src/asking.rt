@@ -1,0 +1,121 @@
+//! What a machine asks before a step, and how its run ended.
+
+ghost use Rattle.std.specs.Prelude.{◌≡◌, Some, slice_range, option_map};
+ghost use Rattle.std.specs.Prelude.{true, false};
+ghost use Rattle.ick_code.specs.meaning.State.{statement_at};
+ghost use Rattle.ick_code.specs.meaning.Move.{ask};
+ghost use Rattle.ick_code.specs.Compiled.{code_program};
+ghost use Rattle.ick_engine.specs.Memory.{view_in};
+ghost use Rattle.ick_engine.specs.Steady.{IsReady};
+ghost use Rattle.ick_engine.specs.View.{Input, input_of, text_of as text_in};
+ghost use Rattle.ick_machine.specs.Asked.{asked_by, is_open};
+ghost use Rattle.ick_machine.specs.Run.{ending_of, run_state};
+ghost use Rattle.ick_backtrack.specs.Asked.{asked_of, finish_of, finished};
+ghost use Rattle.ick_backtrack.specs.Steps.{IsPlain};
+
+use ick_backtrack::{Ask, End};
+use ick_bits::{Fault, FaultKind};
+use ick_code::Code;
+use ick_engine::{Ended, Memory};
+use ick_lowering::Lowered;
+
+/// The bytes of a text between two positions, as far as it goes.
+fn word<'c>(text: &'c [u8], from: usize, to: usize) -> &'c [u8]
+    ensures { result.now ≡ slice_range text.now from to }
+{
+    let end = to.min(text.len());
+    let begin = from.min(end);
+    &text[begin..end]
+}
+
+/// The text of statement `n`, none where there is no such statement.
+fn text_of<'c, 'a>(code: &'c Code<'a>, n: u32) -> &'c [u8]
+    ensures { result.now ≡ text_in (statement_at (code_program code.now) n) }
+{
+    if n == 0 {
+        return b"";
+    }
+    if n > code.count() {
+        return b"";
+    }
+    code.text(n)
+}
+
+/// How a run has ended, with the subject of its fault: the statement's text, or the word of the
+/// input (Revised Manual, 9.2).
+pub fn end_of<'c, 'a>(code: &'c Code<'a>, text: &'c [u8], ended: Ended) -> End<'c>
+    ensures { Some (finish_of result) ≡ option_map finished (ending_of code.now
+        (input_of text.now) (Some ended)) }
+{
+    match ended {
+        Ended::GaveUp => End::GiveUp,
+        Ended::Faulted(kind, statement) => End::Fault(Fault {
+            kind,
+            statement,
+            subject: b"",
+        }),
+        Ended::Unknown(statement) => End::Fault(Fault {
+            kind: FaultKind::Unrecognised,
+            statement,
+            subject: text_of(code, statement),
+        }),
+        Ended::Word(statement, from, to) => End::Fault(Fault {
+            kind: FaultKind::NoDigit,
+            statement,
+            subject: word(text, from, to),
+        }),
+    }
+}
+
+/// Returns whether a choice is asked at a statement with a status.
+fn is_chance(status: u8) -> bool
+    ensures { result ≡ is_open status }
+{
+    status > 0 && status < 100
+}
+
+/// Returns what is asked at a statement with a status.
+fn asked_at<'c>(status: u8) -> Ask<'c>
+    ensures { asked_of result ≡ Some (asked_by status) }
+{
+    if status == 0 {
+        return Ask::Plain;
+    }
+    if status < 100 {
+        return Ask::Choice(100 - status);
+    }
+    Ask::Plain
+}
+
+/// Returns what is asked before the next step of a run whose input is a text (Revised Manual, 4.3).
+pub fn answer<'c, 'a>(
+    lowered: &Lowered<'c, 'a>,
+    memory: &Memory,
+    end: Option<Ended>,
+    text: &'c [u8],
+) -> Ask<'c>
+    requires { IsReady lowered.now.code.now lowered.now.parts (view_in memory.now) }
+    ensures { asked_of result ≡ Some (ask (code_program lowered.now.code.now) (run_state
+        lowered.now.code.now lowered.now.parts (input_of text.now) (view_in memory.now) end)) }
+{
+    if let Some(ended) = end {
+        return Ask::Ended(end_of(lowered.code, text, ended));
+    }
+    asked_at(memory.statuses[memory.cursor.place as usize])
+}
+
+/// Returns whether nothing is asked before the next step, because there is one way to go on
+/// (Revised Manual, 4.3).
+pub fn is_plain(lowered: &Lowered<'_, '_>, memory: &Memory, end: Option<Ended>) -> bool
+    requires { IsReady lowered.now.code.now lowered.now.parts (view_in memory.now) }
+    ensures plain { (input : Input) → result ≡ true → IsPlain (code_program lowered.now.code.now)
+        (run_state lowered.now.code.now lowered.now.parts input (view_in memory.now) end) }
+    ensures asked { (input : Input) → result ≡ false →
+        ¬ IsPlain (code_program lowered.now.code.now)
+        (run_state lowered.now.code.now lowered.now.parts input (view_in memory.now) end) }
+{
+    if end.is_some() {
+        return false;
+    }
+    !is_chance(memory.statuses[memory.cursor.place as usize])
+}

@@ -1,0 +1,36 @@
+//! Machines over the engine: what runs a program step by step. Two can be set back to marked
+//! states, and one reads its input while it runs.
+//!
+//! | Module | What it has |
+//! |---|---|
+//! | `steps` | steps of a run: as many as it makes by itself, or one |
+//! | `asking` | what a machine asks before a step |
+//! | `whole` | steps that are made whole or not at all |
+//! | `trailed` | a machine with marks that notes each change |
+//! | `copied` | a machine with marks that copies its state |
+//! | `feed` | where the input of a run comes from that is read while it runs |
+//! | `feed_reader` | a feed as the input of a step |
+//! | `fed` | steps whose input comes from a feed |
+//! | `live_ask` | what a machine without marks asks |
+//! | `message` | the message that a run ends with |
+//! | `live` | a machine without marks, which takes its input from a feed |
+#![tactic(auto)]
+
+mod asking;
+mod copied;
+mod fed;
+mod feed;
+mod feed_reader;
+mod live;
+mod live_ask;
+mod message;
+mod steps;
+mod trailed;
+mod whole;
+
+pub use copied::Copied;
+pub use feed::Feed;
+pub use ick_backtrack::{Ask, Asks, Backtrack, End, FeedFault};
+pub use live::Live;
+pub use live_ask::{EndKind, LiveAsk};
+pub use trailed::Trailed;

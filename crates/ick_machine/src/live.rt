@@ -1,0 +1,206 @@
+//! A machine without marks, which takes its input from a feed.
+
+ghost use Rattle.std.specs.Prelude.{◌≡◌, false};
+ghost use Rattle.ick_machine.specs.RunIn.{CanGoOn};
+
+use crate::asking::{answer, end_of};
+use crate::fed::{fed_step, fed_steps};
+use crate::feed::Feed;
+use crate::live_ask::LiveAsk;
+use crate::message::append_end;
+use ick_backtrack::{Ask, FeedFault};
+use ick_bits::NoMemory;
+use ick_code::Code;
+use ick_engine::{Ended, Memory, Trail, fresh_memory};
+use ick_lowering::{Lowered, lower};
+use std::alloc::Global;
+
+/// Runs a program step by step, and reads its input from a feed when it needs it. Nothing is kept
+/// that a run could go back to.
+///
+/// Contracts see it as a program, a state, and whether it has failed. The state is without its
+/// input, which the feed has, and its output is what was written since it was last cleared.
+#[derive(Drop)]
+pub struct Live<'c, 'a> {
+    lowered: Lowered<'c, 'a>,
+    memory: Memory,
+    end: Option<Ended>,
+    /// The changes of one step. Between two calls there are none.
+    trail: Trail,
+    /// The last line that was read.
+    line: Vec<u8>,
+    failed: bool,
+    ghost ready: { ∥ (failed ≡ false → CanGoOn lowered memory) ∥₁ },
+    ghost low: { trail.low ≡ 0 },
+    ghost base: { trail.base ≡ lowered.parts.layout.base },
+}
+
+impl<'c, 'a> Live<'c, 'a> {
+    ghost use Rattle.std.specs.Prelude.{◌≡◌, ◌+◌, ◌<◌, ◌≤◌, ◌^◌, ◌++◌};
+    ghost use Rattle.std.specs.Prelude.{[], true, false, length, Err};
+    ghost use Rattle.std.specs.Prelude.{IfOk, OnOk, OnErr, vec_len, vec_capacity};
+    ghost use Rattle.ick_code.specs.Compiled.{code_program};
+    ghost use Rattle.ick_code.specs.meaning.Move.{ask, advance, first_state};
+    ghost use Rattle.ick_backtrack.specs.Asked.{IsGoing};
+    ghost use Rattle.ick_backtrack.specs.Steps.{IsQuiet, RunsOn, Rests};
+    ghost use Rattle.ick_machine.specs.Feeds.{feed_failures, MeetsInput, LeadsToInput};
+    ghost use Rattle.ick_machine.specs.Live.{seen, fed, cleared, live_ask, fault_message};
+
+    /// A machine at the start of a program (Revised Manual, 3.1, 3.3). `NoMemory` is answered where
+    /// memory is refused.
+    #[tactic(auto, unfolding(crate::specs::Live::seen))]
+    pub fn new(alloc: Global, code: &'c Code<'a>) -> Result<Live<'c, 'a>, NoMemory>
+        ensures { IfOk result (λ live. seen live ≡ record {
+          program = code_program code.now;
+          state = first_state (code_program code.now) [];
+          failed = false;
+        }) }
+    {
+        let lowered = lower(alloc, code)?;
+        let memory = fresh_memory(alloc, &lowered)?;
+        let trail = Trail::new(alloc, lowered.layout().base);
+        Ok(Live {
+            lowered,
+            memory,
+            end: None,
+            trail,
+            line: Vec::new(alloc),
+            failed: false,
+        })
+    }
+
+    /// What is asked before the next step (Revised Manual, 4.3): whether a statement is done that
+    /// isn't abstained from and has a chance strictly between 0 and 100; or nothing, since there is
+    /// one way to go on, or since the run has ended or the machine has failed.
+    #[tactic(auto, unfolding(crate::specs::Live::seen))]
+    pub fn asks(&self) -> LiveAsk
+        ensures { result ≡ live_ask (seen self.now) }
+    {
+        if self.failed {
+            return LiveAsk::Failed;
+        }
+        LiveAsk::of(answer(&self.lowered, &self.memory, self.end, &self.line))
+    }
+
+    /// Makes one step: the statement that is met is done or passed over (Revised Manual, 4.3), or
+    /// the program goes past its last statement (this profile: fault 633). A line, or a byte, is
+    /// taken off the feed when it is needed, and no byte more.
+    ///
+    /// Where a choice is asked, `done` is the choice; elsewhere it changes nothing. The machine
+    /// must neither have ended nor failed, and the feed's count of failures must be below its
+    /// greatest value. After an error it has failed, and its output is as before the step. `Read`
+    /// raises the feed's count of failures by one, and every other answer leaves it. A step answers
+    /// `Read` only if it meets a WRITE IN.
+    #[tactic(auto, unfolding(crate::specs::Live::seen))]
+    pub fn step<F: Feed>(&mut self, done: bool, feed: &mut F) -> Result<(), FeedFault>
+        requires sound { (seen self.old).failed ≡ false }
+        requires going { IsGoing (ask (seen self.old).program (seen self.old).state) }
+        requires room { F.failed feed.old + 1 < 2 ^ 64 }
+        ensures advances { F.told ≡ true → OnOk result
+            (fed (F.left feed.new) (seen self.new).state ≡ advance
+            (seen self.old).program (fed (F.left feed.old) (seen self.old).state) done) }
+        ensures program { (seen self.new).program ≡ (seen self.old).program }
+        ensures ok { OnOk result ((seen self.new).failed ≡ false) }
+        ensures err { OnErr result ((seen self.new).failed ≡ true) }
+        ensures output { OnErr result ((seen self.new).state.output ≡
+            (seen self.old).state.output) }
+        ensures count { F.failed feed.new ≡ F.failed feed.old + feed_failures result }
+        ensures held { F.held feed.new ≡ F.held feed.old }
+        ensures reads { result ≡ Err FeedFault.Read →
+            MeetsInput (seen self.old).program (seen self.old).state }
+    {
+        let stepped = fed_step(
+            &self.lowered,
+            &mut self.memory,
+            &mut self.end,
+            &mut self.trail,
+            &mut self.line,
+            feed,
+            done,
+        );
+        self.failed = stepped.is_err();
+        stepped
+    }
+
+    /// Makes steps, as many as the limit allows, while the run goes on by itself: nothing is asked,
+    /// and no output is held, so that it can leave before more input is taken. Answers their
+    /// number. Each takes off the feed what a single step takes.
+    ///
+    /// The machine must not have failed, and the feed's count of failures must be below its
+    /// greatest value. After an error it has failed, and holds no output. `Read` raises the feed's
+    /// count of failures by one, and every other answer leaves it. A run answers `Read`
+    /// only if it comes to a WRITE IN.
+    #[tactic(auto, unfolding(crate::specs::Live::seen))]
+    pub fn run<F: Feed>(&mut self, limit: u32, feed: &mut F) -> Result<u32, FeedFault>
+        requires sound { (seen self.old).failed ≡ false }
+        requires room { F.failed feed.old + 1 < 2 ^ 64 }
+        ensures runs { let old = seen self.old in F.told ≡ true
+            → IfOk result (λ k. RunsOn IsQuiet old.program (fed (F.left feed.old) old.state) k
+            (fed (F.left feed.new) (seen self.new).state)) }
+        ensures within { IfOk result (λ k. k ≤ limit) }
+        ensures moves { let old = seen self.old in IfOk result (λ k. IsQuiet
+            old.program old.state → 0 < limit → 0 < k) }
+        ensures rests { let new = seen self.new in IfOk result (λ k. Rests IsQuiet
+            new.program limit k new.state) }
+        ensures program { (seen self.new).program ≡ (seen self.old).program }
+        ensures ok { OnOk result ((seen self.new).failed ≡ false) }
+        ensures err { OnErr result ((seen self.new).failed ≡ true) }
+        ensures output { OnErr result ((seen self.new).state.output ≡ []) }
+        ensures count { F.failed feed.new ≡ F.failed feed.old + feed_failures result }
+        ensures held { F.held feed.new ≡ F.held feed.old }
+        ensures reads { let old = seen self.old in F.told ≡ true → result ≡ Err FeedFault.Read
+            → LeadsToInput old.program (fed (F.left feed.old) old.state) limit }
+    {
+        let ran = fed_steps(
+            &self.lowered,
+            &mut self.memory,
+            &mut self.end,
+            &mut self.trail,
+            &mut self.line,
+            feed,
+            limit,
+        );
+        self.failed = ran.is_err();
+        ran
+    }
+
+    /// What was written since the output was last cleared.
+    #[tactic(auto, unfolding(crate::specs::Live::seen))]
+    pub fn output(&self) -> &[u8]
+        ensures { result.now ≡ (seen self.now).state.output }
+    {
+        &self.memory.rest.output
+    }
+
+    /// The output becomes empty, and all else stays. It takes no memory.
+    #[tactic(auto, unfolding(crate::specs::Live::seen))]
+    pub fn clear_output(&mut self)
+        ensures { seen self.new
+            ≡ record (seen self.old) { state = cleared (seen self.old).state } }
+    {
+        self.memory.rest.output.clear();
+    }
+
+    /// Appends the message of the fault that the run has ended by, or nothing without a fault
+    /// (Revised Manual, 9.1).
+    ///
+    /// The answer is `NoMemory` only where `out` had no room for the whole message and could not
+    /// grow; `out` is then unchanged.
+    #[tactic(auto, unfolding(crate::specs::Live::seen))]
+    pub fn append_fault(&self, out: &mut Vec<u8>) -> Result<(), NoMemory>
+        ensures ok { OnOk result
+            (out.new.items ≡ out.old.items ++ fault_message (seen self.now)) }
+        ensures err { OnErr result (out.new.items ≡ out.old.items) }
+        ensures full { OnErr result (vec_capacity out.old <
+            vec_len out.old + length (fault_message (seen self.now))) }
+        ensures capacity { vec_capacity out.old ≤ vec_capacity out.new }
+    {
+        match self.end {
+            None => Ok(()),
+            Some(ended) => append_end(
+                out,
+                Ask::Ended(end_of(self.lowered.code, &self.line, ended)),
+            ),
+        }
+    }
+}

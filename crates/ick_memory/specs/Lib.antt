@@ -1,9 +1,0 @@
-pub mod Status
-pub mod View
-pub mod With
-pub mod Undo
-pub mod Met
-pub mod History
-pub mod Marks
-pub mod Output
-pub mod Cancelled
