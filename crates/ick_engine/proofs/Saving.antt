@@ -293,7 +293,7 @@ module _ (code : Code) (lowered : LoweredParts) (is : IsProgram code lowered) wh
       input
 
   -- a state that was put into a memory
-  module _ (old m : View) (was : IsReady code lowered old) (marked : IsReady code lowered m) where
+  module _ (old m : View) (was : IsSteady code lowered old) (marked : IsReady code lowered m) where
     abbrev pub first : List ℕ
     first = take base m.registers
 
@@ -307,10 +307,10 @@ module _ (code : Code) (lowered : LoweredParts) (is : IsProgram code lowered) wh
     used_count = length-take-le m.depth m.returns (omega (arith, marked.steady.depth, marked.steady.returns))
 
     pub first_low : length first ≤ length old.registers
-    first_low = omega (arith, first_count, base_low, was.steady.registers)
+    first_low = omega (arith, first_count, base_low, was.registers)
 
     pub used_low : length used ≤ length old.returns
-    used_low = omega (arith, used_count, marked.steady.depth, was.steady.returns)
+    used_low = omega (arith, used_count, marked.steady.depth, was.returns)
 
     pub loaded : (new : View) (kept : Parts) → new.registers ≡ first ++ drop (length first) old.registers →
         new.returns ≡ used ++ drop (length used) old.returns → new.home ≡ m.home → new.statuses ≡ m.statuses →
@@ -329,7 +329,7 @@ module _ (code : Code) (lowered : LoweredParts) (is : IsProgram code lowered) wh
 
         count : length new.registers ≡ length m.registers
         count =
-            ap length registers ∙ put_count first old.registers first_low ∙ was.steady.registers
+            ap length registers ∙ put_count first old.registers first_low ∙ was.registers
             ∙ sym marked.steady.registers
 
         like : Like base m.depth m' new
@@ -343,7 +343,7 @@ module _ (code : Code) (lowered : LoweredParts) (is : IsProgram code lowered) wh
           statuses_same = statuses;
           parts_like = parts_same refl;
           returns_count =
-              ap length returns ∙ put_count used old.returns used_low ∙ was.steady.returns ∙ sym marked.steady.returns;
+              ap length returns ∙ put_count used old.returns used_low ∙ was.returns ∙ sym marked.steady.returns;
           returns_same = λ k low.
               ap (λ l. get_or l k 0) returns
               ∙ get_or_append_left used (drop (length used) old.returns) 0 k (omega (arith, low, used_count))
@@ -356,5 +356,5 @@ module _ (code : Code) (lowered : LoweredParts) (is : IsProgram code lowered) wh
 
         whole : IsRestored code lowered m' new
         whole =
-            restored code lowered is old m' new was.steady.constants (ready_with m new.parts parts marked) like high place
+            restored code lowered is old m' new was.constants (ready_with m new.parts parts marked) like high place
             (depth ∙ used_count)

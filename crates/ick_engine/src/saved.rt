@@ -104,8 +104,10 @@ impl Saved {
     ghost use Rattle.std.specs.Prelude.{◌≡◌, ◌++◌, ◌≤◌, true, drop, length, IfOk, OnErr, OnOk};
     ghost use Rattle.ick_engine.specs.Memory.{view_in};
     ghost use Rattle.ick_engine.specs.Saved.{IsKept, IsLoaded, IsSaved, saved_view};
-    ghost use Rattle.ick_engine.specs.Steady.{IsReady};
+    ghost use Rattle.ick_engine.specs.Steady.{IsReady, IsSteady};
     ghost use Rattle.ick_engine.specs.View.{Input, View, state_of};
+    ghost use Rattle.ick_code.specs.declared.code.Code.{Code};
+    ghost use Rattle.ick_lowering.specs.declared.lowered.LoweredParts.{LoweredParts};
 
     /// Returns the state that a memory represents. `NoMemory` is returned only if a growth was
     /// refused.
@@ -128,8 +130,8 @@ impl Saved {
         })
     }
 
-    /// Puts the state into a memory of the same program. The number of steps left and the answer
-    /// stay. If memory runs out, nothing changes.
+    /// Puts the state into a memory of the same program. A run need not be able to go on from the
+    /// memory. The number of steps left and the answer stay. If memory runs out, nothing changes.
     pub fn load(
         &self,
         alloc: Global,
@@ -137,7 +139,7 @@ impl Saved {
         program: &Lowered<'_, '_>,
     ) -> Result<(), NoMemory>
         requires kept { IsKept program.now.code.now program.now.parts self.now }
-        requires ready { IsReady program.now.code.now program.now.parts (view_in memory.old) }
+        requires steady { IsSteady program.now.code.now program.now.parts (view_in memory.old) }
         ensures loaded { OnOk result (IsLoaded program.now.code.now program.now.parts
             (saved_view self.now) (view_in memory.new)) }
         ensures err { OnErr result (memory.new ≡ memory.old) }
@@ -155,7 +157,7 @@ impl Saved {
     /// taken. The number of steps left and the answer stay.
     pub fn restore(self, memory: &mut Memory, program: &Lowered<'_, '_>)
         requires kept { IsKept program.now.code.now program.now.parts self }
-        requires ready { IsReady program.now.code.now program.now.parts (view_in memory.old) }
+        requires steady { IsSteady program.now.code.now program.now.parts (view_in memory.old) }
         ensures { IsLoaded program.now.code.now program.now.parts (saved_view self)
             (view_in memory.new) }
     {
@@ -196,6 +198,45 @@ impl Saved {
             ≡ state_of program.now.code.now program.now.parts input m }
     {
         program.law();
+    }
+
+    /// Returns a copy. `NoMemory` is returned only if a growth was refused.
+    pub fn copy(&self, alloc: Global) -> Result<Saved, NoMemory>
+        ensures kept { IfOk result (λ copy. (code : Code) (lowered : LoweredParts) →
+            IsKept code lowered self.now → IsKept code lowered copy) }
+        ensures states { IfOk result (λ copy. (code : Code) (lowered : LoweredParts)
+            (input : Input) → state_of code lowered input (saved_view copy)
+            ≡ state_of code lowered input (saved_view self.now)) }
+    {
+        Ok(Saved {
+            place: self.place,
+            numbers: copy_numbers(alloc, &self.numbers)?,
+            home: copy_numbers(alloc, &self.home)?,
+            statuses: copy_bytes(alloc, &self.statuses)?,
+            returns: copy_numbers(alloc, &self.returns)?,
+            rest: copy_rest(alloc, &self.rest)?,
+        })
+    }
+
+    /// Returns the number of the statement that is met next.
+    pub fn place(&self) -> u32
+        ensures { result ≡ self.now.place }
+    {
+        self.place
+    }
+
+    /// Returns the statuses of all statements, by their numbers.
+    pub fn statuses(&self) -> &[u8]
+        ensures { result.now ≡ self.now.statuses.items }
+    {
+        &self.statuses
+    }
+
+    /// Returns what the run has written so far.
+    pub fn output(&self) -> &[u8]
+        ensures { result.now ≡ self.now.rest.output.items }
+    {
+        &self.rest.output
     }
 
     /// Returns true only if both states are the same.

@@ -28,9 +28,11 @@ mod steps;
 mod trailed;
 mod whole;
 
+pub use asking::end_of;
 pub use copied::Copied;
 pub use feed::Feed;
 pub use ick_backtrack::{Ask, Asks, Backtrack, End, FeedFault};
 pub use live::Live;
 pub use live_ask::{EndKind, LiveAsk};
+pub use steps::{Came, run_on, step_once};
 pub use trailed::Trailed;

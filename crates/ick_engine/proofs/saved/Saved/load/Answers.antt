@@ -15,14 +15,14 @@ returns-clause-loaded c =
     let old = view_in memory in
     let saved = c.args.self.now in
     let kept = c.requires.kept in
-    let ready = c.requires.ready in
+    let steady = c.requires.steady in
     let is : IsProgram code parts = record { compiled = c.law-2.ensures; lowered_is = c.law.ensures } in
     let put = c.put_lists.ensures in
     let by : (h : (m : View) × IsReady code parts m × IsSaved parts saved m) → IsLoaded code parts h.0 _ =
     λ h.
-    loaded code parts is old h.0 ready h.1 _ (parts_of c.args.self.now.rest)
-    (put_in _ _ (first code parts is old h.0 ready h.1) _ memory.registers.items put.registers h.2.numbers_kept refl)
-    (put_in _ _ (used code parts is old h.0 ready h.1) _ memory.returns.items put.returns h.2.returns_kept refl)
+    loaded code parts is old h.0 steady h.1 _ (parts_of c.args.self.now.rest)
+    (put_in _ _ (first code parts is old h.0 steady h.1) _ memory.registers.items put.registers h.2.numbers_kept refl)
+    (put_in _ _ (used code parts is old h.0 steady h.1) _ memory.returns.items put.returns h.2.returns_kept refl)
     (put.home ∙ h.2.home_kept) (put.statuses ∙ h.2.statuses_kept) (put.place ∙ h.2.place_kept)
     (put.depth ∙ ap length h.2.returns_kept) h.2.parts_kept c.in_ok-rest.ensures in
     record {

@@ -1,0 +1,63 @@
+-- States that are kept, and their copies.
+use Rattle.std.proofs.Common.{◌≡◌, ap, ◌∙◌, length, map, take}
+use Rattle.std.proofs.Props.{props}
+use mathlib.Core.Logic.{∥∥₁_elim}
+use Rattle.ick_code.specs.declared.code.Code.{Code}
+use Rattle.ick_lowering.specs.declared.lowered.LoweredParts.{LoweredParts}
+use Rattle.ick_engine.specs.declared.saved.Saved.{Saved}
+use Rattle.ick_engine.specs.Saved.{AreSame, IsKept, saved_view}
+use Rattle.ick_engine.specs.View.{Input, map_of, parts_of, scalar_names, state_of, used}
+use Rattle.ick_engine.proofs.Restoring.{state_by}
+use Rattle.ick_engine.proofs.Saving.{same_parts_trans}
+
+-- a kept state has the same lists as another one, but for spare places of stashes
+pub record IsCopy (one copy : Saved) : Type 0 where
+  pub place_same : copy.place ≡ one.place
+  pub numbers_same : copy.numbers.items ≡ one.numbers.items
+  pub home_same : copy.home.items ≡ one.home.items
+  pub statuses_same : copy.statuses.items ≡ one.statuses.items
+  pub returns_same : copy.returns.items ≡ one.returns.items
+  pub parts_same : AreSame (parts_of one.rest) (parts_of copy.rest)
+
+pub copy_kept : (code : Code) (lowered : LoweredParts) (one copy : Saved) → IsCopy one copy →
+    IsKept code lowered one → IsKept code lowered copy
+copy_kept code lowered one copy is kept =
+    ∥∥₁_elim kept (hlevel props)
+    (λ k. let was = k.2 in
+    ∣ (
+      k.0,
+      k.1,
+      record {
+        place_kept = is.place_same ∙ was.place_kept;
+        numbers_kept = is.numbers_same ∙ was.numbers_kept;
+        home_kept = is.home_same ∙ was.home_kept;
+        statuses_kept = is.statuses_same ∙ was.statuses_kept;
+        returns_kept = is.returns_same ∙ was.returns_kept;
+        parts_kept = same_parts_trans was.parts_kept is.parts_same;
+      },
+    ) ∣₁)
+
+pub copy_state : (code : Code) (lowered : LoweredParts) (one copy : Saved) → IsCopy one copy → (input : Input) →
+    state_of code lowered input (saved_view copy) ≡ state_of code lowered input (saved_view one)
+copy_state code lowered one copy is input =
+    let by = state_by code lowered input in
+    let names = scalar_names code in
+    let cp = parts_of copy.rest in
+    let op = parts_of one.rest in
+    let cn = map used cp.scalar_stashes in
+    let ca = map used cp.array_stashes in
+    let on = map used op.scalar_stashes in
+    let cr = take (length copy.returns.items) copy.returns.items in
+    let or = take (length one.returns.items) one.returns.items in
+    let cs = map_of names copy.numbers.items 0 in
+    let os = map_of names one.numbers.items 0 in
+    let ch = copy.home.items in
+    let ct = copy.statuses.items in
+    ap (λ n. by n cr cs ch ct cp cn ca) is.place_same
+    ∙ ap (λ l. by one.place (take (length l) l) cs ch ct cp cn ca) is.returns_same
+    ∙ ap (λ l. by one.place or (map_of names l 0) ch ct cp cn ca) is.numbers_same
+    ∙ ap (λ l. by one.place or os l ct cp cn ca) is.home_same
+    ∙ ap (λ l. by one.place or os one.home.items l cp cn ca) is.statuses_same
+    ∙ ap (λ p. by one.place or os one.home.items one.statuses.items p cn ca) is.parts_same.others
+    ∙ ap (λ l. by one.place or os one.home.items one.statuses.items op l ca) is.parts_same.scalars
+    ∙ ap (λ l. by one.place or os one.home.items one.statuses.items op on l) is.parts_same.arrays
