@@ -135,7 +135,8 @@ pub trait Notes: Drop {
         ensures changes { changes self.new ≡ changes self.old }
         ensures keeps { KeepsUndoing Undoes self.old self.new };
 
-    /// Notes how an array changes, with a copy of the old one. If memory runs out, nothing is noted.
+    /// Notes how an array changes, with a copy of the old one. If memory runs out, nothing is
+    /// noted.
     fn note_array(&mut self, change: ArrayChange, slot: u32, array: &Array) -> Result<(), NoMemory>
         requires room { 0 < room self.old }
         ensures room { room self.old ≤ room self.new + 1 }

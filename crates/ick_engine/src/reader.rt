@@ -39,7 +39,8 @@ pub trait Reader: Drop {
     /// Some input may be left.
     ghost some: { (reader : Self) → (input : Input) × Has reader input };
 
-    /// Returns whether the loop waits before a statement of input or output that is sure to be done.
+    /// Returns whether the loop waits before a statement of input or output that is sure to be
+    /// done.
     fn is_waiting(&self) -> bool
         ensures { result ≡ waits (held self.now) };
 
