@@ -346,7 +346,6 @@ fn exchange_stashed<N: Notes>(
 /// Retrieves the array in a slot from its stash, and notes that (Revised Manual, 4.4.6). The newest
 /// array is taken off. It becomes the array in the slot, unless that one is ignored. An empty stash
 /// is a fault. Then, and if memory runs out, nothing changes.
-#[inline(never)]
 pub fn restore_array<N: Notes>(
     arrays: &mut Vec<Array>,
     stashes: &mut Vec<ArrayStash>,
