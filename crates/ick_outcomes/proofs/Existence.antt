@@ -1,15 +1,14 @@
 -- Proves that a program has a summary.
 use Prim.Native.Nat.{zero, suc}
-use Rattle.std.proofs.Common.{◌≡◌, ◌⊎◌, inl, inr, ℕ, ◌+◌, ◌*◌, ◌-◌, ◌^◌, ◌<◌, ◌≤◌, Bool, true, false, List, []}
+use Rattle.std.proofs.Common.{◌≡◌, ◌⊎◌, inl, inr, ℕ, ◌+◌, ◌*◌, ◌-◌, ◌^◌, ◌≤◌, Bool, true, false, List, []}
 use Rattle.std.proofs.Common.{◌∷◌, ◌++◌, Some, refl, ap, sym, ◌∙◌, subst, arith, slice_get, slice_set}
 use Rattle.std.proofs.lemmas.Bool.{false≢true}
 use Rattle.std.specs.List.{Contains}
 use Rattle.ick_code.specs.meaning.State.{State, Ending}
 use Rattle.ick_code.specs.meaning.Move.{Asking, plain, choice, ended, ask, advance}
 use Rattle.ick_backtrack.specs.Machine.{Program}
-use Rattle.ick_backtrack.specs.Asked.{finished, at_limit, IsGoing}
-use Rattle.ick_explorer.specs.Runs.{ends}
-use Rattle.ick_outcomes.specs.Tallies.{Test, Tally, lesser, join, stop_text}
+use Rattle.ick_backtrack.specs.Asked.{IsGoing}
+use Rattle.ick_outcomes.specs.Tallies.{Test, lesser, join}
 use Rattle.ick_outcomes.specs.Weights.{amount}
 use Rattle.ick_outcomes.specs.Summaries.{Row, IsSummary}
 use Rattle.ick_outcomes.specs.Accounts.{Pending, ahead, counted, all_counted, AreApart, AreDistinct, AreOrdered}

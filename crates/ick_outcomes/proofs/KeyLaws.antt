@@ -68,3 +68,8 @@ indexed_set places rs j old new h lt e a b = λ i d lt'.
     (λ u p n. p (subst (λ z. Lacks places (key_of z.output.items z.end.items)) (e ∙ any_default rs j old d lt)
     (subst (λ z. Lacks places (key_of z old.end.items)) a
     (subst (λ z. Lacks places (key_of new.output.items z)) b n))))
+
+-- the lemmas that a function uses together
+pub ruleset indexed = (indexed_push, indexed_set)
+
+pub ruleset mixes = (mix_start, mix_more, mix_end)

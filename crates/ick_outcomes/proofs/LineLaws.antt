@@ -1,14 +1,11 @@
 -- Proves that texts are those of a summary.
 use Prim.Native.Nat.{suc}
 use Rattle.std.proofs.Common.{◌≡◌, ℕ, ◌+◌, ◌<◌, ◌≤◌, length, take, Bool, List, [], ◌∷◌, ◌++◌}
-use Rattle.std.proofs.Common.{refl, ap, sym, ◌∙◌, subst, arith, slice_index_or}
+use Rattle.std.proofs.Common.{ap, sym, ◌∙◌, subst, arith, slice_index_or}
 use Rattle.std.specs.Prelude.{codes}
-use Rattle.ick_bits.specs.Quoted.{quoted}
-use Rattle.ick_explorer.specs.ChoiceTexts.{choices_text}
 use Rattle.ick_outcomes.specs.Lines.{IsLine, AreLines, no_line, one_more, IsSummaryText}
-use Rattle.ick_outcomes.specs.Seen.{natural, row_of, rows_of}
+use Rattle.ick_outcomes.specs.Seen.{natural, rows_of}
 use Rattle.ick_outcomes.specs.Summaries.{count_of}
-use Rattle.ick_outcomes.specs.Texts.{IsNumberText, IsWeightText}
 use Rattle.ick_outcomes.specs.declared.outcome.Outcome.{Outcome}
 use Rattle.ick_outcomes.proofs.Lists.{take-more, take-all}
 
@@ -51,3 +48,6 @@ total_more os i o sum new lt e h k =
 pub total_end : (os : List Outcome) (i sum : ℕ) → length os ≤ i → sum ≡ count_of (rows_of (take i os)) →
     sum ≡ count_of (rows_of os)
 total_end os i sum le h = h ∙ ap (λ z. count_of (rows_of z)) (take-all os i le)
+
+-- the lemmas that a function uses together
+pub ruleset all_lines = (lines_start, lines_more, lines_end)

@@ -321,3 +321,14 @@ pub sound_new : {S : Type 0} (suits : S → Type 0) (ns ns' : List (Node S)) (mo
     suits more.state → AreSound suits ns → AreSound suits ns'
 sound_new suits ns ns' more e one all =
     subst (AreSound suits) (sym e) (λ k d l. at-pushed (λ n. suits n.state) ns more k d l (λ u. all k d u) one)
+
+-- the lemmas that a function uses together
+pub ruleset counts_row = (counts_at, counts_new)
+
+pub ruleset admits = (admits_at, admits_new, sound_at, sound_new)
+
+pub ruleset run_ends = (over_ended, over_limit, going_plain, going_choice)
+
+pub ruleset expands = (choosing, chance_within, is_plain, over_ended, makes_over)
+
+pub ruleset counts = (counts_start, counts_on, counts_end, counts_done)

@@ -17,7 +17,7 @@ fn is_zero_or_point(character: u8) -> bool
 }
 
 /// Returns how many zeros and points are in front of the first other digit.
-#[tactic(auto, using(crate::proofs::CutLaws::lead_start, crate::proofs::CutLaws::lead_found, crate::proofs::CutLaws::lead_step, crate::proofs::CutLaws::lead_all))]
+#[tactic(auto, using(crate::proofs::CutLaws::leads))]
 fn count_leading(text: &[u8]) -> usize
     ensures value { result ≡ leading text.now }
     ensures within { result ≤ length text.now }

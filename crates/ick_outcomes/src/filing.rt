@@ -44,7 +44,7 @@ fn find_outcome(table: &Table, more: &Outcome) -> Option<usize>
 }
 
 /// Adds the runs of an outcome to its row, or appends a row for them.
-#[tactic(auto, using(crate::proofs::Uses::counts_at, crate::proofs::Uses::counts_new, crate::proofs::KeyLaws::indexed_push, crate::proofs::KeyLaws::indexed_set))]
+#[tactic(auto, using(crate::proofs::Uses::counts_row, crate::proofs::KeyLaws::indexed))]
 pub(crate) fn add_outcome(alloc: Global, table: &mut Table, more: Outcome) -> Result<(), NoMemory>
     ensures { OnOk result (Counts (rows_of table.old.rows.items) (row_of more)
         (rows_of table.new.rows.items)) }

@@ -42,7 +42,7 @@ impl Index {
 }
 
 /// Mixes bytes into a key.
-#[tactic(auto, using(crate::proofs::KeyLaws::mix_start, crate::proofs::KeyLaws::mix_more, crate::proofs::KeyLaws::mix_end))]
+#[tactic(auto, using(crate::proofs::KeyLaws::mixes))]
 fn mixed(start: u64, bytes: &[u8]) -> u64
     requires { start < 1000000000039 }
     ensures value { result ≡ mix start bytes.now }

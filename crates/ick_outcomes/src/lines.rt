@@ -36,7 +36,7 @@ fn line_text(outcome: &Outcome, exact: bool, alloc: Global) -> Result<Vec<u8>, N
 /// Returns the text of a summary: a line `COUNT WEIGHT FIRST END OUTPUT` for each outcome, and then
 /// `DONE`. Choices, end and output are as a listing shows them. Weights are exact, or cut. The only
 /// refusal is out of memory.
-#[tactic(auto, using(crate::proofs::LineLaws::lines_start, crate::proofs::LineLaws::lines_more, crate::proofs::LineLaws::lines_end))]
+#[tactic(auto, using(crate::proofs::LineLaws::all_lines))]
 pub fn summary_text(outcomes: &[Outcome], exact: bool, alloc: Global) -> Result<Vec<u8>, NoMemory>
     ensures { IfOk result (λ text. IsSummaryText exact outcomes.now text.items) }
 {

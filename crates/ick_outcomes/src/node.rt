@@ -77,7 +77,7 @@ fn merge<S: Drop>(alloc: Global, one: &mut Node<S>, more: Node<S>) -> Result<(),
 }
 
 /// Adds a node to those that wait, or merges it into one of them.
-#[tactic(auto, using(crate::proofs::Uses::admits_at, crate::proofs::Uses::admits_new, crate::proofs::Uses::sound_at, crate::proofs::Uses::sound_new))]
+#[tactic(auto, using(crate::proofs::Uses::admits))]
 fn admit<'c, P: States<'c>>(
     alloc: Global,
     program: &P,
@@ -108,7 +108,7 @@ fn admit<'c, P: States<'c>>(
 }
 
 /// Returns how the runs that lead to a node end there, or `None` if they go on.
-#[tactic(auto, using(crate::proofs::Uses::over_ended, crate::proofs::Uses::over_limit, crate::proofs::Uses::going_plain, crate::proofs::Uses::going_choice))]
+#[tactic(auto, using(crate::proofs::Uses::run_ends))]
 fn end_of<'c, P: States<'c>>(program: &P, node: &Node<P::State>) -> Option<End<'c>>
     requires { P.suits program.now node.now.state }
     ensures over { IfSome result (λ end.
@@ -392,7 +392,7 @@ fn pass_on<'c, P: States<'c>>(
 
 /// Makes the next step of a node that has steps left, and the steps after it while nothing is
 /// asked.
-#[tactic(auto, using(crate::proofs::Uses::choosing, crate::proofs::Uses::chance_within, crate::proofs::Uses::is_plain, crate::proofs::Uses::over_ended, crate::proofs::Uses::makes_over))]
+#[tactic(auto, using(crate::proofs::Uses::expands))]
 fn expand<'c, P: States<'c>>(
     alloc: Global,
     program: &P,

@@ -48,7 +48,8 @@ pub trait States<'c>: Drop {
     ) -> Result<(), NoMemory>
         requires tools { serves self.now tools.old }
         requires state { suits self.now state.old }
-        requires going { IsGoing (ask (place self.now state.old).program (place self.now state.old).state) }
+        requires going { IsGoing (ask (place self.now state.old).program
+            (place self.now state.old).state) }
         ensures step { OnOk result (place self.now state.new ≡ record (place self.now state.old) {
           state = advance (place self.now state.old).program (place self.now state.old).state done;
         }) }
