@@ -7,25 +7,20 @@ use Rattle.ick_code.specs.meaning.Move.{Asking, plain, choice, ended, ask, advan
 use Rattle.ick_code.proofs.AskLaws.{chance_between}
 use Rattle.ick_backtrack.specs.Machine.{Program}
 use Rattle.ick_outcomes.specs.Weights.{whole, amount}
-use Rattle.ick_outcomes.specs.Tallies.{Passes, Test, Tally, tally, tally_at_limit, tally_on}
+use Rattle.ick_outcomes.specs.Tallies.{Passes, Tally, tally, tally_at_limit, tally_on}
 use Rattle.ick_outcomes.specs.Summaries.{Row, weight_of, count_of, CountsAll}
 use Rattle.ick_explorer.specs.Runs.{IsWhole}
 use Rattle.ick_outcomes.proofs.TallyRuns.{tallied}
-use Rattle.ick_outcomes.specs.Accounts.{all_counted, AreCounted, Sorts}
+use Rattle.ick_outcomes.specs.Accounts.{all_counted, any_outcome, AreCounted, Sorts}
 use Rattle.ick_outcomes.proofs.Amounts.{amount-end}
 
-any_outcome : Test
-any_outcome = λ o e. true
-
 limit-whole : (a : Asking) (s : State) → (tally_at_limit any_outcome a s).weight ≡ 1
-unfolding any_outcome
 limit-whole (ended e) s = refl
 limit-whole plain s = refl
 limit-whole (choice k) s = refl
 
 step-whole : (p : Program) (s : State) (l : ℕ) (a : Asking) → ask p s ≡ a → (rest : Bool → Tally) →
     ((b : Bool) → (rest b).weight ≡ 100 ^ l) → (tally_on any_outcome a s l rest).weight ≡ 100 ^ suc l
-unfolding any_outcome
 step-whole p s l (ended e) h rest f = refl
 step-whole p s l plain h rest f =
     let n : 100 * 100 ^ l ≡ 100 ^ suc l = grind arith in ap (λ x. 100 * x) (f false) ∙ n
@@ -45,7 +40,6 @@ tally-whole p s (suc l) =
     step-whole p s l (ask p s) refl (λ b. tally p (advance p s b) l any_outcome) (λ b. tally-whole p (advance p s b) l)
 
 all-weights : (rs : List Row) → (all_counted any_outcome rs).weight ≡ weight_of rs
-unfolding any_outcome
 all-weights [] = refl
 all-weights (r ∷ rs) = ap (λ n. r.weight + n) (all-weights rs)
 
@@ -60,20 +54,16 @@ whole_of p s limit rs rs' le h k =
     ∙ (amount-end 1 0 limit (omega (arith, le)) ∙ one)))
 
 all-counts : (rs : List Row) → (all_counted any_outcome rs).count ≡ count_of rs
-unfolding any_outcome
 all-counts [] = refl
 all-counts (r ∷ rs) = ap (λ n. r.count + n) (all-counts rs)
 
 any-passes : (p : Program) (s : State) (l : ℕ) (c : List Bool) → IsWhole p s l c → Passes p s l any_outcome c
-unfolding any_outcome
 any-passes p s l c w = record { whole = w; passed = refl }
 
-pub counts_of : (p : Program) (s : State) (limit : ℕ) (rs rs' : List Row) → AreCounted p s limit rs → Sorts rs rs' →
-    CountsAll p s limit (count_of rs')
-counts_of p s limit rs rs' h k =
+-- the tally of all runs has their number
+pub all_runs : (p : Program) (s : State) (limit : ℕ) → CountsAll p s limit (tally p s limit any_outcome).count
+all_runs p s limit =
     let u = tallied p s limit any_outcome in
-    let t = tally p s limit any_outcome in
-    let one : 1 * t.count ≡ t.count = omega arith in
     record {
       listing = u.0;
       is_listing = record {
@@ -81,7 +71,19 @@ counts_of p s limit rs rs' h k =
         sound = λ c m. ((u.1.sound c m).whole, tt);
         complete = λ c w a. u.1.complete c (any-passes p s limit c w);
       };
+      counted = u.1.counted;
+    }
+
+pub counts_of : (p : Program) (s : State) (limit : ℕ) (rs rs' : List Row) → AreCounted p s limit rs → Sorts rs rs' →
+    CountsAll p s limit (count_of rs')
+counts_of p s limit rs rs' h k =
+    let t = tally p s limit any_outcome in
+    let one : 1 * t.count ≡ t.count = omega arith in
+    let all = all_runs p s limit in
+    record {
+      listing = all.listing;
+      is_listing = all.is_listing;
       counted = sym (all-counts rs')
           ∙ (ap (λ z. z.count) (k.same_counted any_outcome ∙ sym (h.counted_all any_outcome))
-          ∙ (one ∙ u.1.counted));
+          ∙ (one ∙ all.counted));
     }

@@ -48,6 +48,14 @@ abbrev pub all_counted : Test → List Row → Tally
 all_counted q [] = none
 all_counted q (r ∷ rs) = join (counted q r) (all_counted q rs)
 
+-- the test that all outcomes pass
+abbrev pub any_outcome : Test
+any_outcome = λ output end. true
+
+-- the number of the runs that go on from these nodes, and of those of these rows
+abbrev pub runs_in : List Pending → List Row → ℕ
+runs_in ns rs = (join (all_ahead any_outcome ns) (all_counted any_outcome rs)).count
+
 -- two rows have different outcomes
 abbrev pub AreApart : Row → Row → Type 0
 AreApart r x = r.output ≡ x.output → r.end ≡ x.end → ⊥

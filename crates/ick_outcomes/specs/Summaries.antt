@@ -1,5 +1,5 @@
 -- Defines the outcomes of a program, and its summary.
-use Rattle.std.specs.Prelude.{◌≡◌, ℕ, ◌+◌, ◌*◌, ◌^◌, suc, Bool, List, [], ◌∷◌, length, map, None}
+use Rattle.std.specs.Prelude.{◌≡◌, ℕ, ◌+◌, ◌*◌, ◌^◌, ◌<◌, suc, Bool, List, [], ◌∷◌, length, map, None}
 use Rattle.std.specs.List.{Contains}
 use Rattle.ick_code.specs.meaning.State.{State}
 use Rattle.ick_backtrack.specs.Machine.{Program}
@@ -58,3 +58,9 @@ pub record CountsAll (p : Program) (s : State) (limit n : ℕ) : Type 0 where
   pub listing : List (List Bool)
   pub is_listing : IsListing p s limit None listing
   pub counted : n ≡ length listing
+
+-- the program has more runs than so many
+pub record HasMoreRuns (p : Program) (s : State) (limit most : ℕ) : Type 0 where
+  pub runs : ℕ
+  pub counted : CountsAll p s limit runs
+  pub more : most < runs

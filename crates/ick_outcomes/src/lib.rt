@@ -7,6 +7,7 @@
 //! | `states` | the trait of programs whose states can be copied and compared |
 //! | `sorting` | the summary: all outcomes in order |
 //! | `search` | the search for all outcomes |
+//! | `errors` | the refusals of a search |
 //! | `pending`, `node`, `hints` | nodes, their steps, and how equal ones are found and merged |
 //! | `outcome`, `table`, `filing`, `index` | outcomes, and how runs are added to them |
 //! | `comparing` | the order of lists of choices |
@@ -17,6 +18,7 @@
 
 mod comparing;
 mod cut;
+mod errors;
 mod filing;
 mod fraction;
 mod hints;
@@ -34,6 +36,7 @@ mod table;
 mod text;
 
 pub use cut::{cut_text, weight_text};
+pub use errors::OutcomesError;
 pub use fraction::Fraction;
 pub use laws::{one_summary, weights_are_products};
 pub use lines::{summary_text, total_text};

@@ -1,6 +1,7 @@
 //! Nodes of the search: states that still have steps to make.
 
-ghost use Rattle.std.specs.Prelude.{◌+◌, ◌≤◌};
+ghost use Rattle.std.specs.Prelude.{◌+◌, ◌<◌, ◌≤◌};
+ghost use Rattle.ick_outcomes.specs.Naturals.{value_of};
 
 use crate::fraction::Fraction;
 use crate::hints::Hints;
@@ -16,6 +17,7 @@ pub(crate) struct Node<S: Drop> {
     pub(crate) weight: Fraction,
     pub(crate) choices: Vec<bool>,
     pub(crate) ghost fits: { left + weight.places ≤ 4294967295 },
+    pub(crate) ghost some: { 0 < value_of count.digits.items },
 }
 
 /// The nodes that wait, and hints where an equal one may be among them.

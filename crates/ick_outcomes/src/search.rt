@@ -1,9 +1,11 @@
 //! Searches all outcomes of a program.
 
-ghost use Rattle.std.specs.Prelude.{◌≡◌, ◌+◌, ◌≤◌, ◌⊎◌, [], true, length, IfOk};
-ghost use Rattle.ick_outcomes.specs.Accounts.{Place, SettlesAll, AreCounted, IsMostLeft};
+ghost use Rattle.std.specs.Prelude.{◌≡◌, ◌+◌, ◌<◌, ◌≤◌, ◌⊎◌, [], true, length, IfOk, Err};
+ghost use Rattle.ick_outcomes.specs.Accounts.{Place, SettlesAll, AreCounted, IsMostLeft, runs_in};
+ghost use Rattle.ick_outcomes.specs.Summaries.{HasMoreRuns};
 ghost use Rattle.ick_outcomes.specs.Seen.{AreSound, pending_of, rows_of, nodes_of};
 
+use crate::errors::OutcomesError;
 use crate::filing::no_rows;
 use crate::fraction::Fraction;
 use crate::hints::Hints;
@@ -13,7 +15,6 @@ use crate::outcome::Outcome;
 use crate::pending::{Node, Waiting};
 use crate::states::States;
 use crate::table::Table;
-use ick_bits::NoMemory;
 use std::alloc::Global;
 
 /// Returns an empty list of nodes.
@@ -57,47 +58,57 @@ fn most_left<S: Drop>(nodes: &[Node<S>]) -> u32
     most
 }
 
-/// Makes steps of the nodes that have `most` steps left, the most of all. So nodes are merged
-/// before they make further steps.
+/// Makes steps of the nodes that have `left` steps left, the most of all. So nodes are merged
+/// before they make further steps. At most `most` nodes are kept for the next round.
 #[tactic(auto, using(crate::proofs::Uses::settles_more, crate::proofs::Uses::settles_nothing))]
 fn round<'c, P: States<'c>>(
     alloc: Global,
     program: &P,
     tools: &mut P::Tools,
     waiting: Waiting<P::State>,
-    most: u32,
+    left: u32,
+    most: usize,
     rows: &mut Table,
-) -> Result<Waiting<P::State>, NoMemory>
+) -> Result<Waiting<P::State>, OutcomesError>
     requires tools { P.serves program.now tools.old }
     requires waiting { AreSound (P.suits program.now) waiting.nodes.items }
-    ensures settles { IfOk result (λ later. SettlesAll most
+    ensures settles { IfOk result (λ later. SettlesAll left
         (nodes_of (P.place program.now) waiting.nodes.items)
         [] (rows_of rows.old.rows.items)
         (nodes_of (P.place program.now) later.nodes.items) (rows_of rows.new.rows.items)) }
     ensures later { IfOk result (λ later. AreSound (P.suits program.now) later.nodes.items) }
+    ensures few { IfOk result (λ later. length later.nodes.items ≤ most) }
+    ensures more { result ≡ Err OutcomesError.TooManyStates → most <
+        runs_in (nodes_of (P.place program.now) waiting.nodes.items) (rows_of rows.old.rows.items) }
     ensures tools { P.serves program.now tools.new }
 {
     let mut later = no_nodes(alloc);
     'nodes: for node in waiting.nodes {
-        make(alloc, program, tools, node, most, &mut later, rows)?;
+        make(alloc, program, tools, node, left, &mut later, rows)?;
+        if later.nodes.len() > most {
+            return Err(OutcomesError::TooManyStates);
+        }
     }
     Ok(later)
 }
 
 /// Returns each outcome of the runs from a state once, with the number of its runs, their weight
-/// and the first of them, in no order.
-#[tactic(auto, using(crate::proofs::Uses::counts_start, crate::proofs::Uses::counts_on, crate::proofs::Uses::counts_end, crate::proofs::Uses::counts_done))]
+/// and the first of them, in no order. At most `most` nodes are kept from one round to the next.
+#[tactic(auto, using(crate::proofs::Uses::counts))]
 pub(crate) fn count_outcomes<'c, P: States<'c>>(
     alloc: Global,
     program: &P,
     tools: &mut P::Tools,
     state: P::State,
     limit: u32,
-) -> Result<Vec<Outcome>, NoMemory>
+    most: usize,
+) -> Result<Vec<Outcome>, OutcomesError>
     requires tools { P.serves program.now tools.old }
     requires state { P.suits program.now state }
-    ensures { IfOk result (λ rows. AreCounted (P.place program.now state).program
+    ensures counted { IfOk result (λ rows. AreCounted (P.place program.now state).program
         (P.place program.now state).state limit (rows_of rows.items)) }
+    ensures more { result ≡ Err OutcomesError.TooManyStates →
+        HasMoreRuns (P.place program.now state).program (P.place program.now state).state limit most }
 {
     let mut rows = no_rows(alloc);
     let mut pending = no_nodes(alloc);
@@ -113,8 +124,8 @@ pub(crate) fn count_outcomes<'c, P: States<'c>>(
         if is_done(&pending) {
             return Ok(rows.rows);
         }
-        let most = most_left(&pending.nodes);
-        pending = round(alloc, program, tools, pending, most, &mut rows)?;
+        let left = most_left(&pending.nodes);
+        pending = round(alloc, program, tools, pending, left, most, &mut rows)?;
     }
     Ok(rows.rows)
 }

@@ -1,11 +1,13 @@
 //! Answers the summary of a program: its outcomes in the order of their first runs.
 
-ghost use Rattle.std.specs.Prelude.{◌≡◌, OnOk, IfOk};
+ghost use Rattle.std.specs.Prelude.{◌≡◌, OnOk, IfOk, Err};
 ghost use Rattle.ick_outcomes.specs.Accounts.{Sorts};
 ghost use Rattle.ick_outcomes.specs.Seen.{rows_of};
-ghost use Rattle.ick_outcomes.specs.Summaries.{CountsAll, IsSummary, count_of, weight_of};
+ghost use Rattle.ick_outcomes.specs.Summaries.{CountsAll, HasMoreRuns, IsSummary};
+ghost use Rattle.ick_outcomes.specs.Summaries.{count_of, weight_of};
 ghost use Rattle.ick_outcomes.specs.Weights.{whole};
 
+use crate::errors::OutcomesError;
 use crate::outcome::Outcome;
 use crate::search::count_outcomes;
 use crate::states::States;
@@ -27,7 +29,12 @@ fn sort_rows(rows: &mut Vec<Outcome>) -> Result<(), NoMemory>
 /// exactly 1. The state must be of the program, and the tools must be for it.
 ///
 /// The weight of a run is the product, over its choices, of n/100 if the statement at chance n was
-/// done, and of (100-n)/100 if it was passed over. `NoMemory` is the only refusal.
+/// done, and of (100-n)/100 if it was passed over.
+///
+/// The search keeps at most `most` states from one round of steps to the next. Otherwise it returns
+/// `TooManyStates`, and then the program has more than `most` runs under the limit. No contract
+/// says that the states differed: states that are equal are merged only if they are found to be.
+/// `NoMemory` means that a request for memory was refused.
 #[tactic(auto, using(crate::proofs::OrderedRows::summary_of, crate::proofs::Wholes::whole_of))]
 pub fn outcomes<'c, P: States<'c>>(
     alloc: Global,
@@ -35,7 +42,8 @@ pub fn outcomes<'c, P: States<'c>>(
     tools: &mut P::Tools,
     state: P::State,
     limit: u32,
-) -> Result<Vec<Outcome>, NoMemory>
+    most: usize,
+) -> Result<Vec<Outcome>, OutcomesError>
     requires tools { P.serves program.now tools.old }
     requires state { P.suits program.now state }
     ensures summary { IfOk result (λ rows.
@@ -45,8 +53,10 @@ pub fn outcomes<'c, P: States<'c>>(
         CountsAll (P.place program.now state).program (P.place program.now state).state limit
         (count_of (rows_of rows.items))) }
     ensures whole { IfOk result (λ rows. weight_of (rows_of rows.items) ≡ whole) }
+    ensures more { result ≡ Err OutcomesError.TooManyStates →
+        HasMoreRuns (P.place program.now state).program (P.place program.now state).state limit most }
 {
-    let mut rows = count_outcomes(alloc, program, tools, state, limit)?;
+    let mut rows = count_outcomes(alloc, program, tools, state, limit, most)?;
     sort_rows(&mut rows)?;
     Ok(rows)
 }
