@@ -1,4 +1,4 @@
-mod AnswerLemmas
+pub mod AnswerLemmas
 mod StepLemmas
 mod Readiness
 mod Propositions
