@@ -1,0 +1,29 @@
+use Rattle.std.proofs.Common.{◌≡◌, None, ap, sym, ◌∙◌}
+use Rattle.ick_code.specs.Compiled.{code_program}
+use Rattle.ick_code.specs.meaning.Move.{advance}
+use Rattle.ick_engine.specs.Memory.{view_in}
+use Rattle.ick_engine.specs.Saved.{saved_view}
+use Rattle.ick_engine.specs.View.{input_of}
+use Rattle.ick_machine.specs.Run.{run_state}
+use Rattle.ick_states.proofs.Keeping.{by_text, going_on, run_same}
+use Rattle.ick_states.proofs.runs.Runs.make_step.Goals as goal
+
+pub returns-clause-step : goal.returns-clause-step
+returns-clause-step c =
+    let code = c.args.self.now.lowered.code.now in
+    let parts = c.args.self.now.lowered.parts in
+    let program = code_program code in
+    let text = c.args.self.now.input.now in
+    let input = input_of text in
+    let old = c.args.state.now in
+    let saved = saved_view old.saved in
+    let memory = view_in c.load.new.memory in
+    let none = going_on code parts input saved old.end c.requires.going in
+    let step = by_text c.new-reader.result c.step_once.new.reader text
+    (λ before after. run_state code parts after (view_in c.step_once.new.memory) c.step_once.new.end
+    ≡ advance program (run_state code parts before memory None) c.args.done)
+    c.new-reader.ensures c.in_ok-step_once.ensures.held c.in_ok-step_once.ensures.steps in
+    c.in_ok-state.ensures.states input ∙ step
+    ∙ ap (λ s. advance program s c.args.done)
+    (run_same code parts input memory saved None (c.in_ok-load.ensures.loaded.states input)
+    ∙ ap (run_state code parts input saved) (sym none))

@@ -1,0 +1,13 @@
+//! Makes a lowered program one whose states can be copied and compared, so that all its outcomes
+//! can be searched.
+//!
+//! | Module | Contents |
+//! |---|---|
+//! | `runs` | a program over its input, its states, and their steps |
+//! | `asking` | what is asked before the next step of a state |
+#![tactic(auto)]
+
+mod asking;
+mod runs;
+
+pub use runs::{KeptRun, Runs};

@@ -1,0 +1,234 @@
+//! A program over an input, whose states can be copied and compared.
+
+ghost use Rattle.std.specs.Prelude.{◌≡◌, IfOk};
+ghost use Rattle.ick_code.specs.meaning.Move.{first_state};
+ghost use Rattle.ick_code.specs.Compiled.{code_program};
+
+use crate::asking::asked_in;
+use ick_backtrack::Ask;
+use ick_bits::NoMemory;
+use ick_code::Code;
+use ick_engine::{Ended, Memory, Nobody, Saved, TextReader, fresh_memory};
+use ick_lowering::{Lowered, lower};
+use ick_machine::{end_of, run_on, step_once};
+use ick_outcomes::States;
+use std::alloc::Global;
+
+/// A state of a run that is kept apart from a memory, and how the run ended.
+#[derive(Drop)]
+pub struct KeptRun {
+    saved: Saved,
+    end: Option<Ended>,
+}
+
+/// A program over an input that is a text. Steps are made in a memory, which is lent for each call.
+/// A call puts a state into the memory, makes its steps there, and keeps the state after them.
+#[derive(Drop)]
+pub struct Runs<'c, 'a> {
+    alloc: Global,
+    lowered: Lowered<'c, 'a>,
+    input: &'c [u8],
+}
+
+impl<'c, 'a> Runs<'c, 'a> {
+    ghost use Rattle.std.specs.Prelude.{◌≡◌, ◌≤◌, IfOk, OnOk};
+    ghost use Rattle.ick_code.specs.meaning.Move.{ask, advance};
+    ghost use Rattle.ick_backtrack.specs.Asked.{IsGoing};
+    ghost use Rattle.ick_backtrack.specs.Steps.{IsPlain, RunsOn};
+    ghost use Rattle.ick_engine.specs.Memory.{view_in};
+    ghost use Rattle.ick_engine.specs.Saved.{IsKept, saved_view};
+    ghost use Rattle.ick_engine.specs.Steady.{IsReady, IsSteady};
+    ghost use Rattle.ick_engine.specs.View.{Input};
+    ghost use Rattle.ick_machine.specs.Run.{run_state};
+    ghost use Rattle.ick_states.specs.Seen.{place_of};
+
+    /// Returns a program over an input. `NoMemory` is the only refusal.
+    pub fn new(alloc: Global, code: &'c Code<'a>, input: &'c [u8]) -> Result<Runs<'c, 'a>, NoMemory>
+        ensures code { IfOk result (λ runs. runs.lowered.code.now ≡ code.now) }
+        ensures input { IfOk result (λ runs. runs.input.now ≡ input.now) }
+    {
+        let lowered = lower(alloc, code)?;
+        Ok(Runs {
+            alloc,
+            lowered,
+            input,
+        })
+    }
+
+    /// Keeps the state that a memory represents.
+    fn keep(&self, memory: &Memory, end: Option<Ended>) -> Result<KeptRun, NoMemory>
+        requires { IsReady self.now.lowered.code.now self.now.lowered.parts (view_in memory.now) }
+        ensures kept { IfOk result (λ state. IsKept self.now.lowered.code.now
+            self.now.lowered.parts state.saved) }
+        ensures states { IfOk result (λ state. (input : Input) →
+            run_state self.now.lowered.code.now self.now.lowered.parts input
+            (saved_view state.saved) state.end
+            ≡ run_state self.now.lowered.code.now self.now.lowered.parts input
+            (view_in memory.now) end) }
+    {
+        let saved = Saved::save(self.alloc, memory, &self.lowered)?;
+        saved.law(&self.lowered);
+        Ok(KeptRun { saved, end })
+    }
+
+    /// Makes one step of a state whose run hasn't ended.
+    fn make_step(
+        &self,
+        memory: &mut Memory,
+        state: &mut KeptRun,
+        done: bool,
+    ) -> Result<(), NoMemory>
+        requires steady { IsSteady self.now.lowered.code.now self.now.lowered.parts
+            (view_in memory.old) }
+        requires kept { IsKept self.now.lowered.code.now self.now.lowered.parts state.old.saved }
+        requires going { IsGoing (ask (code_program self.now.lowered.code.now)
+            (place_of self.now.lowered.code.now self.now.lowered.parts self.now.input.now
+            state.old.saved state.old.end).state) }
+        ensures steady { IsSteady self.now.lowered.code.now self.now.lowered.parts
+            (view_in memory.new) }
+        ensures kept { IsKept self.now.lowered.code.now self.now.lowered.parts state.new.saved }
+        ensures step { OnOk result ((place_of self.now.lowered.code.now self.now.lowered.parts
+            self.now.input.now state.new.saved state.new.end).state
+            ≡ advance (code_program self.now.lowered.code.now)
+            (place_of self.now.lowered.code.now self.now.lowered.parts self.now.input.now
+            state.old.saved state.old.end).state done) }
+    {
+        state.saved.load(self.alloc, memory, &self.lowered)?;
+        // It has a length, so `Nobody` has room for the changes of any statement.
+        let _longest = self.lowered.longest();
+        let mut end = None;
+        let mut reader = TextReader::new(self.input);
+        step_once(
+            &self.lowered,
+            memory,
+            &mut end,
+            &mut Nobody,
+            &mut reader,
+            done,
+        )?;
+        *state = self.keep(memory, end)?;
+        Ok(())
+    }
+
+    /// Makes steps of a state whose run hasn't ended, while nothing is asked, at most as many as
+    /// the limit. Returns their number.
+    fn make_steps(
+        &self,
+        memory: &mut Memory,
+        state: &mut KeptRun,
+        limit: u32,
+    ) -> Result<u32, NoMemory>
+        requires steady { IsSteady self.now.lowered.code.now self.now.lowered.parts
+            (view_in memory.old) }
+        requires kept { IsKept self.now.lowered.code.now self.now.lowered.parts state.old.saved }
+        requires going { IsGoing (ask (code_program self.now.lowered.code.now)
+            (place_of self.now.lowered.code.now self.now.lowered.parts self.now.input.now
+            state.old.saved state.old.end).state) }
+        ensures steady { IsSteady self.now.lowered.code.now self.now.lowered.parts
+            (view_in memory.new) }
+        ensures kept { IsKept self.now.lowered.code.now self.now.lowered.parts state.new.saved }
+        ensures runs { IfOk result (λ made. RunsOn IsPlain
+            (code_program self.now.lowered.code.now)
+            (place_of self.now.lowered.code.now self.now.lowered.parts self.now.input.now
+            state.old.saved state.old.end).state made
+            (place_of self.now.lowered.code.now self.now.lowered.parts self.now.input.now
+            state.new.saved state.new.end).state) }
+        ensures within { IfOk result (λ made. made ≤ limit) }
+    {
+        state.saved.load(self.alloc, memory, &self.lowered)?;
+        let mut end = None;
+        let mut reader = TextReader::new(self.input);
+        let came = run_on(
+            &self.lowered,
+            memory,
+            &mut end,
+            &mut Nobody,
+            &mut reader,
+            limit,
+        )?;
+        *state = self.keep(memory, end)?;
+        Ok(came.made)
+    }
+}
+
+impl<'c, 'a> States<'c> for Runs<'c, 'a> {
+    ghost use Rattle.ick_engine.specs.Memory.{view_in};
+    ghost use Rattle.ick_engine.specs.Saved.{IsKept};
+    ghost use Rattle.ick_engine.specs.Steady.{IsSteady};
+    ghost use Rattle.ick_states.specs.Seen.{place_of};
+
+    type State = KeptRun;
+
+    type Tools = Memory;
+
+    ghost place = { λ runs state. place_of runs.lowered.code.now runs.lowered.parts runs.input.now
+        state.saved state.end };
+
+    ghost suits = { λ runs state. IsKept runs.lowered.code.now runs.lowered.parts state.saved };
+
+    ghost serves = { λ runs memory. IsSteady runs.lowered.code.now runs.lowered.parts
+        (view_in memory) };
+
+    fn output<'s>(&self, state: &'s KeptRun) -> &'s [u8] {
+        state.saved.output()
+    }
+
+    fn asks(&self, state: &KeptRun) -> Ask<'c> {
+        match state.end {
+            Some(ended) => Ask::Ended(end_of(self.lowered.code, self.input, ended)),
+            None => asked_in(&self.lowered, &state.saved),
+        }
+    }
+
+    fn step(&self, tools: &mut Memory, state: &mut KeptRun, done: bool) -> Result<(), NoMemory> {
+        self.make_step(tools, state, done)
+    }
+
+    fn run(&self, tools: &mut Memory, state: &mut KeptRun, limit: u32) -> Result<u32, NoMemory> {
+        match self.asks(state) {
+            Ask::Plain => self.make_steps(tools, state, limit),
+            Ask::Choice(_) | Ask::Ended(_) => Ok(0),
+        }
+    }
+
+    fn copy(&self, state: &KeptRun) -> Result<KeptRun, NoMemory> {
+        Ok(KeptRun {
+            saved: state.saved.copy(self.alloc)?,
+            end: state.end,
+        })
+    }
+
+    fn same(&self, one: &KeptRun, other: &KeptRun) -> bool {
+        match (one.end, other.end) {
+            (None, None) => one.saved.same(&other.saved, &self.lowered),
+            _ => false,
+        }
+    }
+
+    fn hash(&self, state: &KeptRun) -> u64 {
+        state.saved.hash()
+    }
+}
+
+impl<'c, 'a> Runs<'c, 'a> {
+    /// Returns a memory in which steps can be made. `NoMemory` is the only refusal.
+    pub fn tools(&self) -> Result<Memory, NoMemory>
+        ensures { IfOk result (λ memory. ⟦<Runs<'c, 'a> as States<'c>>⟧.serves self.now memory) }
+    {
+        fresh_memory(self.alloc, &self.lowered)
+    }
+
+    /// Returns the state in which runs begin. `NoMemory` is the only refusal.
+    pub fn first(&self) -> Result<KeptRun, NoMemory>
+        ensures state { IfOk result (λ state.
+            ⟦<Runs<'c, 'a> as States<'c>>⟧.suits self.now state) }
+        ensures first { IfOk result (λ state.
+            ⟦<Runs<'c, 'a> as States<'c>>⟧.place self.now state ≡ record {
+              program = code_program self.now.lowered.code.now;
+              state = first_state (code_program self.now.lowered.code.now) self.now.input.now;
+            }) }
+    {
+        let memory = fresh_memory(self.alloc, &self.lowered)?;
+        self.keep(&memory, None)
+    }
+}
