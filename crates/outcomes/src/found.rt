@@ -1,0 +1,62 @@
+//! What is found out of code: the outcomes of its runs over an input.
+
+ghost use Rattle.std.specs.Prelude.{◌≡◌, IfOk};
+ghost use Rattle.ick_code.specs.Compiled.{code_program};
+ghost use Rattle.outcomes.specs.Found.{IsFound, IsText};
+
+use ick_bits::NoMemory;
+use ick_code::Code;
+use ick_outcomes::{Outcome, OutcomesError, outcomes, summary_text, total_text};
+use ick_states::Runs;
+use std::alloc::Global;
+
+/// What is to be found out of a program.
+#[derive(Clone, Copy)]
+pub struct Question {
+    /// The steps after which a run is cut short.
+    pub limit: u32,
+    /// How many states may be kept at a time.
+    pub most: usize,
+    /// Whether weights are written exactly.
+    pub exact: bool,
+    /// Whether only the number of outcomes and that of runs are written.
+    pub total: bool,
+}
+
+/// What was found out: the text of the outcomes, or that more states would have to be kept than the
+/// question allows.
+#[derive(Drop)]
+pub enum Found {
+    Outcomes(Vec<u8>),
+    TooManyStates,
+}
+
+/// Returns the text that a question wants of outcomes.
+fn text_of(alloc: Global, outcomes: &[Outcome], question: Question) -> Result<Vec<u8>, NoMemory>
+    ensures { IfOk result (λ text. IsText question outcomes.now text.items) }
+{
+    if question.total {
+        return total_text(outcomes, alloc);
+    }
+    summary_text(outcomes, question.exact, alloc)
+}
+
+/// Finds the outcomes of code over an input. `NoMemory` is the only refusal.
+pub fn find(
+    alloc: Global,
+    code: &Code<'_>,
+    input: &[u8],
+    question: Question,
+) -> Result<Found, NoMemory>
+    ensures { IfOk result (λ found. IsFound (code_program code.now) input.now question found) }
+{
+    let runs = Runs::new(alloc, code, input)?;
+    let mut tools = runs.tools()?;
+    let first = runs.first()?;
+    let limit = question.limit;
+    match outcomes(alloc, &runs, &mut tools, first, limit, question.most) {
+        Ok(outcomes) => Ok(Found::Outcomes(text_of(alloc, &outcomes, question)?)),
+        Err(OutcomesError::TooManyStates) => Ok(Found::TooManyStates),
+        Err(OutcomesError::NoMemory) => Err(NoMemory),
+    }
+}
