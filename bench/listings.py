@@ -18,12 +18,10 @@ listing of one run.
 And in turns, the least of twenty rounds each: a step of the fourth program's runs, while marks stand, and a step of the
 same loops by `ick run`, where nothing is marked. Nothing is judged.
 """
-import re
 import shutil
-import subprocess
 import tempfile
 
-from measuring import measured, print_heading, print_row, program_to_measure, run, written
+from measuring import counted, measured, print_heading, print_row, program_to_measure, run, written
 from workloads import WORKLOADS, loop, polite
 
 ROUNDS = 5
@@ -66,20 +64,13 @@ def listing(ick, limit, runs, path):
     return [ick, "runs", "--limit", str(limit), "--count", str(runs), path]
 
 
-def instructions(words, folder):
-    """The instructions that callgrind counts for a command that prints to nowhere."""
-    tool = ["valgrind", "--tool=callgrind", f"--callgrind-out-file={folder}/callgrind.out"]
-    ran = subprocess.run(tool + words, stdout=subprocess.DEVNULL, stderr=subprocess.PIPE, check=True)
-    return int(re.search(rb"Collected : (\d+)", ran.stderr)[1])
-
-
 def count_instructions(ick, folder):
     """Prints the instructions that a run takes in a listing."""
     print()
     print_heading("Program", "instructions a run")
     for name, (source, _, _, _, limit, counts) in PROGRAMS.items():
         path, runs = written(folder, "program.i", source), min(counts[-1], 16_384)
-        first, all_runs = (instructions(listing(ick, limit, count, path), folder) for count in (1, runs))
+        first, all_runs = (counted(listing(ick, limit, count, path))[0] for count in (1, runs))
         print_row(name, f"{(all_runs - first) / (runs - 1):,.0f}")
 
 

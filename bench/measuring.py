@@ -1,6 +1,7 @@
 """What the measuring scripts share: the program that is measured, the measure of one command, and tables."""
 import collections
 import os
+import re
 import subprocess
 import sys
 
@@ -41,6 +42,19 @@ def measured_well(words, **streams):
     if used.status:
         stop(f"{' '.join(words)} ended with status {used.status}")
     return used
+
+
+def counted(words, **streams):
+    """Returns the instructions of the processor that callgrind counts for a command, without the system's, and what the
+    command printed if its output is a pipe. Each of its streams leads nowhere unless it is given."""
+    with open(os.devnull, "r+b") as nowhere:
+        ran = subprocess.run(["valgrind", "--tool=callgrind", "--callgrind-out-file=/dev/null", *words],
+                             **{"stdin": nowhere, "stdout": nowhere, **streams}, stderr=subprocess.PIPE,
+                             env={**os.environ, "PYTHONHASHSEED": "0"})
+    found = re.search(rb"Collected : (\d+)", ran.stderr)
+    if ran.returncode or not found:
+        stop(f"{' '.join(words)} ended with status {ran.returncode}:\n{ran.stderr[-300:].decode()}")
+    return int(found[1]), ran.stdout
 
 
 def written(folder, name, text):

@@ -1,16 +1,21 @@
 #!/usr/bin/env python3
 """Measures how fast programs run: those of workloads.py, by the built program's `ick run`.
 
-  speed.py [PROGRAM]
+  speed.py [--instructions] [--program PROGRAM] [NAME..]
 
-It needs the built program (a call of ./ick builds it), Python 3.8 and Linux. Where C-INTERCAL is installed (Debian's
-package `intercal`, whose compiler is called `ick` too), its compiled programs are measured beside, in the same rounds,
-without and with its optimiser (-O), once what they print was seen to be the same.
+PROGRAM is the program `ick`. Without --program the script takes the one that ./ick builds. Each NAME is a program of
+workloads.py. Without a NAME the script measures all. It needs Python 3.8 and Linux, and callgrind (Valgrind) for
+--instructions. If C-INTERCAL is installed (Debian's package `intercal`, whose compiler is called `ick` too), its
+compiled programs are measured beside, in the same rounds, without and with its optimiser (-O). The script first checks
+that all print the same.
 
-The first table is of the run alone: the least processor time of forty-one rounds, without what is done before the first
-step. Of `ick run` this is the time that it takes for the same source with GIVE UP in front, which it reads and compiles
-too; of a compiled program, that of one which ends at once. The second is of the whole job, from the source to the
-program's end: for C-INTERCAL its compiler, gcc, and the compiled program. Nothing is judged.
+The first table is of the run alone: the least processor time of forty-one rounds, less the time before the first step.
+For `ick run` this is the time that it takes for the same source with GIVE UP in front, which it reads and compiles too.
+For a compiled program it is the time of one that ends at once. The second table is of the whole job, from the source to
+the program's end: for C-INTERCAL its compiler, gcc, and the compiled program.
+
+With --instructions there is one table, of the run alone: the millions of instructions that callgrind counts, less those
+before the first step. It doesn't count the system's. Nothing is judged.
 """
 import os
 import shutil
@@ -19,9 +24,11 @@ import sys
 import tempfile
 import time
 
-from measuring import TOP, measured_well, print_heading, print_row, program_to_measure, run, stop
+from measuring import BUILDS, TOP, counted, measured_well, print_heading, print_row, run, stop
 from workloads import NOTHING
 
+PROGRAM = f"{TOP}/crates/ick/out/ick"
+TINY = "tiny"
 COMPILER = "/usr/bin/ick"
 ROUNDS = 41
 JOBS = 9
@@ -57,10 +64,11 @@ def compiled(option, source, folder):
 
 
 def commands(program, source, folder):
-    """The commands that run a source, by their names."""
+    """The commands that run a source, by their names. C-INTERCAL may have a source of its own."""
     found = {"ick run": ours(program, source)}
+    theirs = os.path.join(folder, "c-intercal", os.path.basename(source))
     for option in OPTIONS if os.access(COMPILER, os.X_OK) else ():
-        made = compiled(option, source, os.path.join(folder, option))
+        made = compiled(option, theirs if os.path.exists(theirs) else source, os.path.join(folder, option))
         if made:
             found[option] = [made]
     return found
@@ -75,12 +83,12 @@ def ended(source, folder):
     return place
 
 
-def alone(table, source, folder, compiled, lines):
-    """The least time of each command's steps; `compiled` is that of a compiled program that ends at once."""
-    table = {**table, "start": table["ick run"][:-1] + [ended(source, os.path.join(folder, "ended"))]}
-    best = least(table, ROUNDS, lambda words: seconds(words, lines))
-    starts = {**compiled, "ick run": best.pop("start")}
-    return {it: max(best[it] - starts[it], 1e-6) for it in best}
+def alone(table, source, start, folder, measure):
+    """What the steps of each command take, by a measure of them all; start is what compiled programs take to end."""
+    ends = ended(source, os.path.join(folder, "ended"))
+    found = measure({**table, "start": table["ick run"][:-1] + [ends]})
+    starts = {**start, "ick run": found.pop("start")}
+    return {it: max(found[it] - starts[it], 1e-6) for it in found}
 
 
 def jobs(program, source, folder):
@@ -106,43 +114,83 @@ def least(table, rounds, measure):
     return best
 
 
-def print_times(name, best, digits):
-    """Prints a line of a table: milliseconds, and how many times as long the others take."""
-    mine = best["ick run"]
-    cells = [f"{mine * 1000:.{digits}f}"]
+def print_numbers(name, found, digits):
+    """Prints a line of a table: thousandths or millions, and how many times as much the others take."""
+    mine = found["ick run"]
+    cells = [f"{mine:,.{digits}f}"]
     for option in OPTIONS:
-        cells += [f"{best[option] * 1000:.{digits}f}", f"{best[option] / mine:.2f}"] if option in best else ["", ""]
+        cells += [f"{found[option]:,.{digits}f}", f"{found[option] / mine:.2f}"] if option in found else ["", ""]
     print_row(name, *cells)
 
 
-def print_head(title):
-    print_heading(title, "`ick run`, ms", *[name for it in OPTIONS for name in (f"C-INTERCAL `{it}`, ms", "ratio")])
+def print_head(title, unit):
+    theirs = [name for it in OPTIONS for name in (f"C-INTERCAL `{it}`, {unit}", "ratio")]
+    print_heading(title, f"`ick run`, {unit}", *theirs)
+
+
+def times(table, lines, rounds=ROUNDS):
+    """The least processor time of each command with an input, in milliseconds."""
+    return least(table, rounds, lambda words: 1000 * seconds(words, lines))
+
+
+def instructions(table, lines):
+    """The instructions of each command with an input, in millions."""
+    found = {}
+    for name, words in table.items():
+        with open(lines, "rb") as source:
+            found[name] = counted(words, stdin=source)[0] / 1e6
+    return found
+
+
+def read_words():
+    """Returns whether instructions are counted, the program, and the names of what it runs."""
+    words = sys.argv[1:]
+    counts = words[:1] == ["--instructions"]
+    words = words[counts:]
+    program = PROGRAM
+    if words[:1] == ["--program"] and len(words) > 1:
+        program, words = words[1], words[2:]
+    if any(word.startswith("-") for word in words):
+        sys.exit(__doc__)
+    if not os.access(program, os.X_OK) or os.path.isdir(program):
+        stop(f"{program} is no program that can be run: {BUILDS['ick']}")
+    return counts, os.path.abspath(program), words
+
+
+def input_of(name, folder):
+    lines = os.path.join(folder, f"{name}.in")
+    return lines if os.path.exists(lines) else os.devnull
 
 
 def main():
-    program = program_to_measure(__doc__)
+    counts, program, names = read_words()
     with tempfile.TemporaryDirectory() as folder:
         if subprocess.run([sys.executable, f"{TOP}/bench/workloads.py", folder]).returncode:
             stop("there are no programs to measure")
-        lines = os.path.join(folder, "lines")
-        sources = sorted(it for it in os.listdir(folder) if it.endswith(".i"))
-        table = {it: commands(program, os.path.join(folder, it), folder) for it in sources}
-        for name in sources:
-            found = {printed(words, lines) for words in table[name].values()}
-            if len(found) > 1:
+        known = sorted(it[:-2] for it in os.listdir(folder) if it.endswith(".i"))
+        if not set(names) <= set(known):
+            stop(f"the programs are {' '.join(known)}")
+        names = [it for it in names or known if it != TINY]
+        sources = {it: os.path.join(folder, f"{it}.i") for it in [*names, TINY]}
+        table = {it: commands(program, source, folder) for it, source in sources.items()}
+        for name in names:
+            if len({printed(words, input_of(name, folder)) for words in table[name].values()}) > 1:
                 stop(f"what {name} prints isn't the same")
-        start = least(table["tiny.i"], ROUNDS, lambda words: seconds(words, lines))
-        print_head("Run alone")
-        for name in sources:
-            if name != "tiny.i":
-                best = alone(table[name], os.path.join(folder, name), folder, start, lines)
-                print_times(name[:-2], best, 2)
+        measure = instructions if counts else times
+        start = measure(table[TINY], os.devnull)
+        print_head("Run alone", "millions" if counts else "ms")
+        for name in names:
+            lines = input_of(name, folder)
+            found = alone(table[name], sources[name], start, folder, lambda commands: measure(commands, lines))
+            print_numbers(name, found, 1 if counts else 2)
+        if counts:
+            return
         print()
-        print_head("Whole job")
-        for name in sources:
-            source = os.path.join(folder, name)
-            best = least(jobs(program, source, folder), JOBS, lambda job: seconds(job[0], lines, job[1]))
-            print_times(name[:-2], best, 1)
+        print_head("Whole job", "ms")
+        for name, source in sources.items():
+            lines = input_of(name, folder)
+            found = least(jobs(program, source, folder), JOBS, lambda job: 1000 * seconds(job[0], lines, job[1]))
+            print_numbers(name, found, 1)
 
 
 if __name__ == "__main__":

@@ -16,7 +16,6 @@ or memmove for one statement or both. The script counts such calls from Python, 
 """
 import collections
 import os
-import re
 import subprocess
 import sys
 import tempfile
@@ -83,13 +82,8 @@ def collected(words, source=""):
     with tempfile.TemporaryFile() as text:
         text.write(source.encode())
         text.seek(0)
-        ran = subprocess.run(["valgrind", "--tool=callgrind", "--callgrind-out-file=/dev/null", *words], stdin=text,
-                             stdout=subprocess.PIPE, stderr=subprocess.PIPE, universal_newlines=True,
-                             env={**os.environ, "PYTHONHASHSEED": "0"})
-    found = re.search(r"Collected : (\d+)", ran.stderr)
-    if ran.returncode or not found:
-        stop(f"{' '.join(words)} ended with status {ran.returncode}:\n{ran.stderr[-300:]}")
-    return int(found[1]), ran.stdout
+        count, printed = measuring.counted(words, stdin=text, stdout=subprocess.PIPE)
+    return count, printed.decode()
 
 
 def instructions(program, machine, source, limit):

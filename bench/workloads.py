@@ -1,15 +1,24 @@
 #!/usr/bin/env python3
-"""Writes the programs whose speed is measured, and the lines that one of them reads.
+"""Writes the programs whose speed is measured, and their inputs.
 
   workloads.py FOLDER
 
 Most do one kind of work each, in nested loops of 16 turns, and then print what came of it; each ends by GIVE UP. They
 are programs of C-INTERCAL too; `gerunds` is as large as its compiler takes.
+
+Ten others are programs of examples/. Most are long by their input; `life` and `factorial` go round in loops, and the
+sieve of `primes` is larger. They call the library, which is pasted behind them. C-INTERCAL has a library of its own,
+with the same labels below 1600. For it the script writes them into FOLDER/c-intercal: there the labels of the pasted
+library are higher by 1000, and only its routines for text are called. The input of NAME.i is NAME.in, or empty.
 """
+import collections
 import os
+import random
+import re
+import string
 import sys
 
-from measuring import run, written
+from measuring import TOP, run, written
 
 
 def polite(statements):
@@ -21,13 +30,13 @@ def polite(statements):
     return "\n".join(lines) + "\n"
 
 
-def loop(depth, body):
-    """Loops inside each other, each of 16 turns, around a body. Scalar .k, k from 11, counts by losing a one a turn."""
+def loop(depth, body, first=11):
+    """Loops of 16 turns inside each other, around a body. Scalar .k, k from first, counts by losing a one a turn."""
     if depth == 0:
         return body
-    name, label = f".{10 + depth}", 100 * depth
+    name, label = f".{first - 1 + depth}", 100 * depth
     return [(None, f"{name} <- #65535"), (None, f"({label}) NEXT"), (label, "FORGET #1")] \
-        + loop(depth - 1, body) \
+        + loop(depth - 1, body, first) \
         + [(None, f"{name} <- {name}~#65534"),
            (None, f"({label + 1}) NEXT"),      # one more turn: both returns are taken off here
            (None, f"({label}) NEXT"),
@@ -101,13 +110,106 @@ JOBS = {
 
 LINES = "ONE NINE SEVEN TWO\n" * 16 ** 4
 
+# A program of examples/: what is changed in its text, how many loops are put around the statement DO (10) NEXT, how
+# often this stands in a turn, and the input.
+Example = collections.namedtuple("Example", "changes depth calls input", defaults=[(), 0, 1, ""])
+
+
+def numbers(count, bound):
+    """Numbers below a bound, the same at each call."""
+    drawn = random.Random(1972)
+    return [drawn.randrange(bound) for _ in range(count)]
+
+
+def letters(count, others=""):
+    """As many bytes as that, each a letter or one of the others."""
+    known = string.ascii_letters + others
+    return "".join(known[it] for it in numbers(count, len(known)))
+
+
+def sums(count):
+    """Lines for the calculator, as many of each sign."""
+    drawn = numbers(2 * count, 65535)
+    return "".join(f"{max(pair)} {'+-*/'[at % 4]} {1 + min(pair)}\n"
+                   for at, pair in enumerate(zip(drawn[::2], drawn[1::2])))
+
+
+CELLS = """.*..............
+..*.............
+***.......***...
+................
+................
+...........*....
+..**........*...
+..**......*.....
+"""
+
+# Reads numbers until the input ends, and not one alone.
+ALL_NUMBERS = [
+    ("DO (1640) NEXT\n", """DO (4) NEXT
+(4) DO FORGET #1
+    DO (1640) NEXT
+    DO .5 <- :4
+    PLEASE (5) NEXT
+    DO GIVE UP
+(5) DO (1001) NEXT
+"""),
+    ("DO GIVE UP\n(20)", "DO (4) NEXT\n(20)"),
+]
+
+EXAMPLES = {
+    "brackets": Example(input=letters(100_000, "(. )")),
+    "calculator": Example(input=sums(4096)),
+    "collatz": Example(ALL_NUMBERS, input="27\n" * 128),
+    # C-INTERCAL takes the word for a statement
+    "factorial": Example([("ITS FACTORIAL", "THE PRODUCT")], depth=2, calls=2, input="12\n"),
+    "hanoi": Example(input="ONE SIX\n"),
+    "life": Example(depth=2, input=CELLS),
+    # numerals of numbers from 4000 on are others in C-INTERCAL
+    "primes": Example([("#100", "#30000"), ("#101", "#30001"),
+                       ("DO READ OUT .10", "DO .12 <- .10~#2047\n        DO READ OUT .12")]),
+    "reverse": Example(input=letters(100_000) + "\n"),
+    "rot13": Example(input=letters(100_000, " ,.")),
+    "sort": Example([("#100", "#500")], input="".join(f"{it}\n" for it in numbers(500, 65536))),
+}
+
+
+def of_example(name):
+    """A program of examples/, as long as is measured, without the library; and the library's files that it calls."""
+    example = EXAMPLES[name]
+    with open(f"{TOP}/examples/{name}.i", encoding="ascii") as file:
+        text = file.read()
+    with open(f"{TOP}/examples/{name}.how", encoding="ascii") as file:
+        files = re.search("^with (.*)", file.read(), re.MULTILINE)[1].split()
+    for old, new in example.changes:
+        text = text.replace(old, new)
+    if example.depth:
+        turns = polite(loop(example.depth, [(None, "(10) NEXT")] * example.calls, first=51))
+        text = text.replace("        DO (10) NEXT\n", turns, 1)
+    return text, files
+
+
+def with_library(name):
+    """A program of examples/ with the library behind it, for `ick` and for C-INTERCAL."""
+    text, files = of_example(name)
+    library = ""
+    for part in files:
+        with open(f"{TOP}/library/{part}", encoding="ascii") as file:
+            library += file.read()
+    moved = re.sub(r"\(1(\d{3})\)", r"(2\1)", library) if "text.i" in files else ""
+    return text + library, re.sub(r"\(1([6-9]\d{2})\)", r"(2\1)", text) + moved
+
 
 def main():
     if len(sys.argv) != 2 or sys.argv[1] in ("-h", "--help"):
         sys.exit(__doc__)
-    os.makedirs(sys.argv[1], exist_ok=True)
+    os.makedirs(f"{sys.argv[1]}/c-intercal", exist_ok=True)
     files = {name + ".i": source for name, source in {**WORKLOADS, **JOBS}.items()}
-    for name, text in {**files, "lines": LINES}.items():
+    files["lines.in"] = LINES
+    for name, example in EXAMPLES.items():
+        files[f"{name}.i"], files[f"c-intercal/{name}.i"] = with_library(name)
+        files[f"{name}.in"] = example.input
+    for name, text in files.items():
         written(sys.argv[1], name, text)
 
 
