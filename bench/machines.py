@@ -1,17 +1,22 @@
 #!/usr/bin/env python3
 """Measures how long a step takes on each machine: the programs of workloads.py, by the built program `bench_steps`.
 
-  machines.py [PROGRAM]
+  machines.py [--instructions] [PROGRAM]
 
-It needs that program (`rt run` in crates/bench_steps builds it), Python 3.8 and Linux.
+It needs that program (`rt run` in crates/bench_steps builds it), Python 3.8 and Linux, and callgrind (Valgrind) for
+--instructions.
 
 For each program and machine the nanoseconds a step. The program makes a run once, and so often more that the further
 runs have some twenty million steps; what these take is measured, without what as many runs take of the same source with
 GIVE UP in front, which only make the machine. Each is the least processor time of ten rounds in each of which every
 machine is measured. All runs must make equally many steps. Nothing else is judged.
+
+With --instructions it prints the instructions a step that callgrind counts for a run of half a million steps, less
+those of a run of no step.
 """
 import os
 import subprocess
+import sys
 import tempfile
 
 import measuring
@@ -22,6 +27,7 @@ MACHINES = {"copied": "Copied", "trailed": "Trailed", "live": "Live"}
 # The greatest limit on the steps of a run, which no program of workloads.py comes to.
 LIMIT = str(2**32 - 1)
 STEPS = 20_000_000
+COUNTED = 500_000
 ROUNDS = 10
 
 
@@ -65,12 +71,31 @@ def least(program, source):
             for machine in MACHINES}, steps
 
 
+def instructions(program, source):
+    """Returns the instructions of a step on each machine, and how many steps were counted."""
+    def counted(machine, limit):
+        with tempfile.TemporaryFile() as text:
+            text.write(source.encode())
+            text.seek(0)
+            count, printed = measuring.counted([program, str(limit), machine], stdin=text, stdout=subprocess.PIPE)
+        return count, int(printed.split()[1])
+
+    counts = {machine: (counted(machine, 0)[0], *counted(machine, COUNTED)) for machine in MACHINES}
+    steps = {made for _, _, made in counts.values()}
+    if len(steps) != 1:
+        stop(f"the machines don't make equally many steps: {sorted(steps)}")
+    return {machine: (all_steps - none) / made for machine, (none, all_steps, made) in counts.items()}, steps.pop()
+
+
 def main():
+    counts = sys.argv[1:2] == ["--instructions"]
+    if counts:
+        del sys.argv[1]
     program = program_to_measure(__doc__, "bench_steps")
-    print_heading("Program", "steps", *[f"`{name}`, ns" for name in MACHINES.values()])
+    print_heading("Program", "steps", *[f"`{name}`" if counts else f"`{name}`, ns" for name in MACHINES.values()])
     for name in sorted(WORKLOADS):
-        best, steps = least(program, WORKLOADS[name])
-        row = [f"{best[machine] * 1e9:.1f}" for machine in MACHINES]
+        found, steps = (instructions if counts else least)(program, WORKLOADS[name])
+        row = [f"{found[machine] if counts else found[machine] * 1e9:.1f}" for machine in MACHINES]
         print_row(f"`{name}`", f"{steps:,}", *row)
 
 

@@ -165,7 +165,8 @@ def input_of(name, folder):
 def main():
     counts, program, names = read_words()
     with tempfile.TemporaryDirectory() as folder:
-        if subprocess.run([sys.executable, f"{TOP}/bench/workloads.py", folder]).returncode:
+        length = ["short"] if counts else []
+        if subprocess.run([sys.executable, f"{TOP}/bench/workloads.py", folder, *length]).returncode:
             stop("there are no programs to measure")
         known = sorted(it[:-2] for it in os.listdir(folder) if it.endswith(".i"))
         if not set(names) <= set(known):

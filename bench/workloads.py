@@ -1,10 +1,11 @@
 #!/usr/bin/env python3
 """Writes the programs whose speed is measured, and their inputs.
 
-  workloads.py FOLDER
+  workloads.py FOLDER [short]
 
 Most do one kind of work each, in nested loops of 16 turns, and then print what came of it; each ends by GIVE UP. They
-are programs of C-INTERCAL too; `gerunds` is as large as its compiler takes.
+are programs of C-INTERCAL too; `gerunds` is as large as its compiler takes. With `short` most have a sixteenth of the
+turns, for counting instructions.
 
 Ten others are programs of examples/. Most are long by their input; `life` and `factorial` go round in loops, and the
 sieve of `primes` is larger. They call the library, which is pasted behind them. C-INTERCAL has a library of its own,
@@ -65,48 +66,57 @@ def halves(target, source):
     return f"""{target} <- '"?{even}${odd}"~"#0$#65535"'$'"V{odd}${even}"~"#65535$#0"'"""
 
 
-WORKLOADS = {
-    "loop": program(5, []),
-    "expressions": program(5, [
-        halves(":2", ":1"),
-        halves(":3", ":2"),
-        ':1 <- "?\':3~"#0$#65535"\'$.5"'],
-        [":1 <- #1972$#40961", ".5 <- #65535"],
-        # small numbers alone, whose numerals have the same letters everywhere
-        [".1 <- :1~#2047", "READ OUT .1"]),
-    "masks": program(5, [
-        """.1 <- '"?.2$.3"~"#21845$#4095"'~'"&.4$.5"~"#255$#65280"'""",
-        """:1 <- '"V.1$#3"~"#43690$#0"'$'"?.3$:2"~"#255$#255"'"""],
-        [".2 <- #1972", ".3 <- #40961", ".4 <- #65244", ".5 <- #32767", ":2 <- #51966"],
-        [".1 <- .1~#2047", ".2 <- :1~#2047", "READ OUT .1+.2"]),
-    "logic": program(5, [
-        """.1 <- '"?.2$.3"~"#0$#65535"'~'"&.4$.5"~"#0$#65535"'""",
-        """:1 <- '"V.1$#3"~"#0$#65535"'$'"?.3$.2"~"#0$#65535"'"""],
-        [".2 <- #1972", ".3 <- #40961", ".4 <- #65244", ".5 <- #32767"],
-        [".1 <- .1~#2047", ".2 <- :1~#2047", "READ OUT .1+.2"]),
-    "arrays": program(5, [
-        ",1SUB.1 <- ,1SUB#2", ";1SUB#3.1 <- ;1SUB.1#4", ".2 <- ,1SUB.1"],
-        [",1 <- #8", ";1 <- #8 BY #8", ".1 <- #5", ",1SUB#2 <- #77", ";1SUB#5#4 <- #1066"],
-        ["READ OUT .2+;1SUB#3#5"]),
-    "stashes": program(5, [
-        "STASH .1+.2+:1", ".1 <- .3", "RETRIEVE .1+.2+:1", "STASH ,1", "RETRIEVE ,1"],
-        [",1 <- #16", ".1 <- #3", ".3 <- #7"], ["READ OUT .1"]),
-    "gerunds": program(3, [
-        "ABSTAIN FROM CALCULATING", "REINSTATE CALCULATING"],
-        [f".{k % 7 + 1} <- #{k % 100}" for k in range(4000)]),
-    "numerals": program(4, ["READ OUT .1+.2+.3+.4+.1+.2+.3+.4"],
-                        [".1 <- #1972", ".2 <- #3", ".3 <- #444", ".4 <- #888"]),
-    "read-outs": program(4, ["READ OUT .1"], [".1 <- #1972"]),
-}
+def workloads(fewer=0):
+    """Programs that do one kind of work each, with so many loops fewer than where time is measured."""
+    return {
+        "loop": program(5 - fewer, []),
+        "expressions": program(5 - fewer, [
+            halves(":2", ":1"),
+            halves(":3", ":2"),
+            ':1 <- "?\':3~"#0$#65535"\'$.5"'],
+            [":1 <- #1972$#40961", ".5 <- #65535"],
+            # small numbers alone, whose numerals have the same letters everywhere
+            [".1 <- :1~#2047", "READ OUT .1"]),
+        "masks": program(5 - fewer, [
+            """.1 <- '"?.2$.3"~"#21845$#4095"'~'"&.4$.5"~"#255$#65280"'""",
+            """:1 <- '"V.1$#3"~"#43690$#0"'$'"?.3$:2"~"#255$#255"'"""],
+            [".2 <- #1972", ".3 <- #40961", ".4 <- #65244", ".5 <- #32767", ":2 <- #51966"],
+            [".1 <- .1~#2047", ".2 <- :1~#2047", "READ OUT .1+.2"]),
+        "logic": program(5 - fewer, [
+            """.1 <- '"?.2$.3"~"#0$#65535"'~'"&.4$.5"~"#0$#65535"'""",
+            """:1 <- '"V.1$#3"~"#0$#65535"'$'"?.3$.2"~"#0$#65535"'"""],
+            [".2 <- #1972", ".3 <- #40961", ".4 <- #65244", ".5 <- #32767"],
+            [".1 <- .1~#2047", ".2 <- :1~#2047", "READ OUT .1+.2"]),
+        "arrays": program(5 - fewer, [
+            ",1SUB.1 <- ,1SUB#2", ";1SUB#3.1 <- ;1SUB.1#4", ".2 <- ,1SUB.1"],
+            [",1 <- #8", ";1 <- #8 BY #8", ".1 <- #5", ",1SUB#2 <- #77", ";1SUB#5#4 <- #1066"],
+            ["READ OUT .2+;1SUB#3#5"]),
+        "stashes": program(5 - fewer, [
+            "STASH .1+.2+:1", ".1 <- .3", "RETRIEVE .1+.2+:1", "STASH ,1", "RETRIEVE ,1"],
+            [",1 <- #16", ".1 <- #3", ".3 <- #7"], ["READ OUT .1"]),
+        "gerunds": program(3 - fewer, [
+            "ABSTAIN FROM CALCULATING", "REINSTATE CALCULATING"],
+            [f".{k % 7 + 1} <- #{k % 100}" for k in range(4000)]),
+        "numerals": program(4 - fewer, ["READ OUT .1+.2+.3+.4+.1+.2+.3+.4"],
+                            [".1 <- #1972", ".2 <- #3", ".3 <- #444", ".4 <- #888"]),
+        "read-outs": program(4 - fewer, ["READ OUT .1"], [".1 <- #1972"]),
+    }
+
+
+WORKLOADS = workloads()
 
 NOTHING = "DO GIVE UP\n"
 
-JOBS = {
-    "lines": program(4, ["WRITE IN .1"], after=["READ OUT .1"]),
-    "statements-1000": calculations(1000),
-    "statements-3000": calculations(3000),
-    "tiny": NOTHING,
-}
+
+def jobs(fewer=0):
+    """Programs that are measured beside."""
+    return {
+        "lines": program(4 - fewer, ["WRITE IN .1"], after=["READ OUT .1"]),
+        "statements-1000": calculations(1000),
+        "statements-3000": calculations(3000),
+        "tiny": NOTHING,
+    }
+
 
 LINES = "ONE NINE SEVEN TWO\n" * 16 ** 4
 
@@ -157,26 +167,29 @@ ALL_NUMBERS = [
     ("DO GIVE UP\n(20)", "DO (4) NEXT\n(20)"),
 ]
 
-EXAMPLES = {
-    "brackets": Example(input=letters(100_000, "(. )")),
-    "calculator": Example(input=sums(4096)),
-    "collatz": Example(ALL_NUMBERS, input="27\n" * 128),
-    # C-INTERCAL takes the word for a statement
-    "factorial": Example([("ITS FACTORIAL", "THE PRODUCT")], depth=2, calls=2, input="12\n"),
-    "hanoi": Example(input="ONE SIX\n"),
-    "life": Example(depth=2, input=CELLS),
-    # numerals of numbers from 4000 on are others in C-INTERCAL
-    "primes": Example([("#100", "#30000"), ("#101", "#30001"),
-                       ("DO READ OUT .10", "DO .12 <- .10~#2047\n        DO READ OUT .12")]),
-    "reverse": Example(input=letters(100_000) + "\n"),
-    "rot13": Example(input=letters(100_000, " ,.")),
-    "sort": Example([("#100", "#500")], input="".join(f"{it}\n" for it in numbers(500, 65536))),
-}
+
+def examples(size):
+    """Programs of examples/ that take a second or less at the size 16."""
+    return {
+        "brackets": Example(input=letters(25_000 * size, "(. )")),
+        "calculator": Example(input=sums(1024 * size)),
+        "collatz": Example(ALL_NUMBERS, input="27\n" * 32 * size),
+        # C-INTERCAL takes the word for a statement
+        "factorial": Example([("ITS FACTORIAL", "THE PRODUCT")], depth=1, calls=8 * size, input="12\n"),
+        "hanoi": Example(input="ONE EIGHT\n" if size > 1 else "ONE FOUR\n"),
+        "life": Example(depth=1, calls=4 * size, input=CELLS),
+        # numerals of numbers from 4000 on are others in C-INTERCAL
+        "primes": Example([("#100", "#30000"), ("#101", "#30001"),
+                           ("DO READ OUT .10", "DO .12 <- .10~#2047\n        DO READ OUT .12")]),
+        "reverse": Example(input=letters(25_000 * size) + "\n"),
+        "rot13": Example(input=letters(25_000 * size, " ,.")),
+        "sort": Example([("#100", "#1000")],
+                        input="".join(f"{it}\n" for it in numbers(1000 if size > 1 else 500, 65536))),
+    }
 
 
-def of_example(name):
+def of_example(name, example):
     """A program of examples/, as long as is measured, without the library; and the library's files that it calls."""
-    example = EXAMPLES[name]
     with open(f"{TOP}/examples/{name}.i", encoding="ascii") as file:
         text = file.read()
     with open(f"{TOP}/examples/{name}.how", encoding="ascii") as file:
@@ -189,9 +202,9 @@ def of_example(name):
     return text, files
 
 
-def with_library(name):
+def with_library(name, example):
     """A program of examples/ with the library behind it, for `ick` and for C-INTERCAL."""
-    text, files = of_example(name)
+    text, files = of_example(name, example)
     library = ""
     for part in files:
         with open(f"{TOP}/library/{part}", encoding="ascii") as file:
@@ -201,13 +214,14 @@ def with_library(name):
 
 
 def main():
-    if len(sys.argv) != 2 or sys.argv[1] in ("-h", "--help"):
+    if len(sys.argv) not in (2, 3) or sys.argv[1] in ("-h", "--help") or sys.argv[2:] not in ([], ["short"]):
         sys.exit(__doc__)
     os.makedirs(f"{sys.argv[1]}/c-intercal", exist_ok=True)
-    files = {name + ".i": source for name, source in {**WORKLOADS, **JOBS}.items()}
+    fewer, size = (1, 1) if sys.argv[2:] else (0, 16)
+    files = {name + ".i": source for name, source in {**workloads(fewer), **jobs(fewer)}.items()}
     files["lines.in"] = LINES
-    for name, example in EXAMPLES.items():
-        files[f"{name}.i"], files[f"c-intercal/{name}.i"] = with_library(name)
+    for name, example in examples(size).items():
+        files[f"{name}.i"], files[f"c-intercal/{name}.i"] = with_library(name, example)
         files[f"{name}.in"] = example.input
     for name, text in files.items():
         written(sys.argv[1], name, text)
