@@ -169,7 +169,7 @@ ALL_NUMBERS = [
 
 
 def examples(size):
-    """Programs of examples/ that take a second or less at the size 16."""
+    """Programs of examples/ that take half a second or less at the size 16. `primes` and `sort` have one size."""
     return {
         "brackets": Example(input=letters(25_000 * size, "(. )")),
         "calculator": Example(input=sums(1024 * size)),
@@ -183,8 +183,7 @@ def examples(size):
                            ("DO READ OUT .10", "DO .12 <- .10~#2047\n        DO READ OUT .12")]),
         "reverse": Example(input=letters(25_000 * size) + "\n"),
         "rot13": Example(input=letters(25_000 * size, " ,.")),
-        "sort": Example([("#100", "#1000")],
-                        input="".join(f"{it}\n" for it in numbers(1000 if size > 1 else 500, 65536))),
+        "sort": Example([("#100", "#1000")], input="".join(f"{it}\n" for it in numbers(1000, 65536))),
     }
 
 
