@@ -34,7 +34,7 @@ open_lacks status open_ = grind (arith, nat_tests, open_)
 open_free : (status : ℕ) → is_open status ≡ true → is_abstained status ≡ false
 open_free status open_ = grind (arith, nat_tests, open_)
 
-open_within : (status : ℕ) → is_open status ≡ true → (0 < status) × (status < 100)
+pub open_within : (status : ℕ) → is_open status ≡ true → (0 < status) × (status < 100)
 open_within status open_ = (grind (arith, nat_tests, open_), grind (arith, nat_tests, open_))
 
 -- whether a chance is between 0 and 100, by what it lacks

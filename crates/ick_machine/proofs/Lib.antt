@@ -7,7 +7,8 @@ mod RunLemmas
 mod Marks
 mod TrailMarks
 mod Stack
-mod TrailedLemmas
+mod WholeLemmas
+mod PassedOver
 mod CopyLemmas
 mod FeedLemmas
 mod FedLemmas

@@ -3,6 +3,7 @@ pub mod RunIn
 pub mod Asked
 pub mod Marks
 pub mod Copies
+pub mod Whole
 pub mod Seen
 pub mod Feeds
 pub mod LiveAsk

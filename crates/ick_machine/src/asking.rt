@@ -68,7 +68,7 @@ pub fn end_of<'c, 'a>(code: &'c Code<'a>, text: &'c [u8], ended: Ended) -> End<'
 }
 
 /// Returns whether a choice is asked at a statement with a status.
-fn is_chance(status: u8) -> bool
+pub fn is_chance(status: u8) -> bool
     ensures { result ≡ is_open status }
 {
     status > 0 && status < 100

@@ -1,21 +1,17 @@
 //! A machine with marks that copies what it remembers.
 
-ghost use Rattle.std.specs.Prelude.{◌≡◌, ◌≤◌, [], IfOk};
-ghost use Rattle.std.specs.List.{All};
-ghost use Rattle.std.proofs.Props.{props};
+ghost use Rattle.std.specs.Prelude.{◌≡◌, [], IfOk};
 ghost use Rattle.ick_code.specs.meaning.Move.{first_state};
 ghost use Rattle.ick_code.specs.Compiled.{code_program};
-ghost use Rattle.ick_engine.specs.Memory.{view_in};
-ghost use Rattle.ick_engine.specs.Steady.{IsReady};
 ghost use Rattle.ick_machine.specs.Copies.{AreCopies};
+ghost use Rattle.ick_machine.specs.Whole.{CanRun};
 
 use crate::asking::answer;
-use crate::steps::Came;
-use crate::whole::{whole_run, whole_step};
+use crate::whole::{Running, begin, whole_run, whole_step};
 use ick_backtrack::{Ask, Asks, Backtrack};
 use ick_bits::NoMemory;
 use ick_code::Code;
-use ick_engine::{Ended, Memory, Saved, TextReader, Trail, fresh_memory};
+use ick_engine::{Ended, Saved};
 use ick_lowering::{Lowered, lower};
 use std::alloc::Global;
 
@@ -33,14 +29,9 @@ pub struct Copied<'c, 'a> {
     alloc: Global,
     lowered: Lowered<'c, 'a>,
     input: &'c [u8],
-    memory: Memory,
-    end: Option<Ended>,
-    trail: Trail,
+    running: Running,
     copies: Vec<Copy>,
-    work: u64,
-    ghost ready: { ∥ IsReady lowered.code.now lowered.parts (view_in memory) ∥₁ },
-    ghost low: { trail.low ≡ 0 },
-    ghost base: { trail.base ≡ lowered.parts.layout.base },
+    ghost can: { ∥ CanRun lowered running ∥₁ },
     ghost copied: { ∥ AreCopies lowered.code.now lowered.parts copies.items ∥₁ },
 }
 
@@ -62,68 +53,26 @@ impl<'c, 'a> Copied<'c, 'a> {
             }) }
     {
         let lowered = lower(alloc, code)?;
-        let memory = fresh_memory(alloc, &lowered)?;
-        let trail = Trail::new(alloc, lowered.layout().base);
+        let running = begin(alloc, &lowered, work)?;
         Ok(Copied {
             alloc,
             lowered,
             input,
-            memory,
-            end: None,
-            trail,
+            running,
             copies: Vec::new(alloc),
-            work,
         })
     }
 }
 
 impl<'c, 'a> Copied<'c, 'a> {
-    ghost use Rattle.std.specs.Prelude.{◌≡◌, ◌+◌, ◌<◌, ◌≤◌, ◌^◌, None, true, false, IfOk, OnErr};
-    ghost use Rattle.ick_engine.specs.Memory.{view_in};
-    ghost use Rattle.ick_engine.specs.Steady.{IsReady, IsProgram};
-    ghost use Rattle.ick_machine.specs.Seen.{copied_machine};
-    ghost use Rattle.ick_backtrack.specs.Steps.{IsPlain, HasRun, Rests};
+    ghost use Rattle.ick_machine.specs.RunIn.{CanGoOn};
+    ghost use Rattle.ick_machine.specs.Whole.{CanRun};
 
-    /// States that the instructions are those of the code, and that the run can go on.
+    /// States that the run can go on.
     fn law(&self)
-        ensures program { IsProgram self.now.lowered.code.now self.now.lowered.parts }
-        ensures ready { IsReady self.now.lowered.code.now self.now.lowered.parts
-            (view_in self.now.memory) }
-    {
-        self.lowered.law();
-        let code = self.lowered.code;
-        code.law();
-    }
-
-    /// Makes steps while nothing is asked and the run hasn't ended, at most as many as the limit,
-    /// and as many as the room for their changes allows. After `NoMemory` nothing has changed.
-    fn run_some(&mut self, limit: u32) -> Result<Came, NoMemory>
-        requires going { self.old.end ≡ None }
-        requires room { self.old.work + limit < 2 ^ 64 }
-        ensures ran { IfOk result (λ came.
-            HasRun (copied_machine self.old) came.made (copied_machine self.new)) }
-        ensures err { OnErr result (copied_machine self.new ≡ copied_machine self.old) }
-        ensures within { IfOk result (λ came. came.made ≤ limit) }
-        ensures moves { IfOk result (λ came. came.more ≡ true → 0 < came.made) }
-        ensures going { IfOk result (λ came. came.more ≡ true → self.new.end ≡ None) }
-        ensures rests { IfOk result (λ came. came.more ≡ false → Rests IsPlain
-            (copied_machine self.new).program limit came.made (copied_machine self.new).state) }
-    {
-        self.law();
-        let mut reader = TextReader::new(self.input);
-        let came = whole_run(
-            &self.lowered,
-            &mut self.memory,
-            &mut self.end,
-            &mut self.trail,
-            &mut reader,
-            limit,
-        );
-        self.trail.clear();
-        let came = came?;
-        self.work += u64::from(came.made);
-        Ok(came)
-    }
+        ensures can { CanRun self.now.lowered self.now.running }
+        ensures ready { CanGoOn self.now.lowered self.now.running.memory }
+    {}
 }
 
 impl<'c, 'a> Backtrack for Copied<'c, 'a> {
@@ -132,11 +81,11 @@ impl<'c, 'a> Backtrack for Copied<'c, 'a> {
     ghost seen = { copied_machine };
 
     fn output(&self) -> &[u8] {
-        &self.memory.rest.output
+        &self.running.memory.rest.output
     }
 
     fn work(&self) -> u64 {
-        self.work
+        self.running.work
     }
 
     fn marks(&self) -> usize {
@@ -145,28 +94,16 @@ impl<'c, 'a> Backtrack for Copied<'c, 'a> {
 
     fn step(&mut self, done: bool) -> Result<(), NoMemory> {
         self.law();
-        let mut reader = TextReader::new(self.input);
-        let stepped = whole_step(
-            &self.lowered,
-            &mut self.memory,
-            &mut self.end,
-            &mut self.trail,
-            &mut reader,
-            done,
-        );
-        self.trail.clear();
-        stepped?;
-        self.work += 1;
-        Ok(())
+        whole_step(&self.lowered, self.input, &mut self.running, false, done)
     }
 
     fn mark(&mut self) -> Result<(), NoMemory> {
         self.law();
-        let saved = Saved::save(self.alloc, &self.memory, &self.lowered)?;
+        let saved = Saved::save(self.alloc, &self.running.memory, &self.lowered)?;
         saved.law(&self.lowered);
         self.copies.push(Copy {
             saved,
-            end: self.end,
+            end: self.running.end,
         })?;
         Ok(())
     }
@@ -175,8 +112,9 @@ impl<'c, 'a> Backtrack for Copied<'c, 'a> {
         self.law();
         if let Some(copy) = self.copies.pop() {
             let Copy { saved, end } = copy;
-            saved.restore(&mut self.memory, &self.lowered);
-            self.end = end;
+            self.running.trail.clear();
+            saved.restore(&mut self.running.memory, &self.lowered);
+            self.running.end = end;
         }
     }
 
@@ -188,21 +126,16 @@ impl<'c, 'a> Backtrack for Copied<'c, 'a> {
 impl<'c, 'a> Asks<'c> for Copied<'c, 'a> {
     fn asks(&self) -> Ask<'c> {
         self.law();
-        answer(&self.lowered, &self.memory, self.end, self.input)
+        answer(
+            &self.lowered,
+            &self.running.memory,
+            self.running.end,
+            self.input,
+        )
     }
 
     fn run(&mut self, limit: u32) -> Result<u32, NoMemory> {
-        if self.end.is_some() {
-            return Ok(0);
-        }
-        let mut made = 0;
-        'steps: while made < limit {
-            let came = self.run_some(limit - made)?;
-            made += came.made;
-            if !came.more {
-                return Ok(made);
-            }
-        }
-        Ok(made)
+        self.law();
+        whole_run(&self.lowered, self.input, &mut self.running, false, limit)
     }
 }

@@ -7,6 +7,7 @@ ghost use Rattle.ick_machine.specs.Feeds.{MayBeLeft, feed_failures, reads_failed
 ghost use Rattle.ick_machine.specs.Feeds.{line_with, one_if, waits_by};
 
 use crate::feed::Feed;
+use crate::steps::Came;
 use ick_backtrack::FeedFault;
 use ick_bits::{DigitFault, NoMemory, digits_value};
 use ick_engine::{Line, Reader};
@@ -60,14 +61,17 @@ impl<'f, F: Feed> FeedReader<'f, F> {
     }
 
     /// What a step with this answer has come to: where the feed had an error, it is that one.
-    pub fn outcome(&self, stepped: Result<(), NoMemory>) -> Result<(), FeedFault>
+    pub fn outcome(&self, stepped: Result<Came, NoMemory>) -> Result<(), FeedFault>
         ensures ok { OnOk result (IsOk stepped) }
         ensures count { feed_failures result ≡ reads_failed self.now.fault }
         ensures reads { result ≡ Err FeedFault.Read → self.now.allowed ≡ true }
     {
         match self.fault {
             Some(fault) => Err(fault),
-            None => Ok(stepped?),
+            None => {
+                let _ = stepped?;
+                Ok(())
+            }
         }
     }
 }

@@ -11,7 +11,7 @@ use crate::message::append_end;
 use ick_backtrack::{Ask, FeedFault};
 use ick_bits::NoMemory;
 use ick_code::Code;
-use ick_engine::{Ended, Memory, Trail, fresh_memory};
+use ick_engine::{Ended, Memory, fresh_memory};
 use ick_lowering::{Lowered, lower};
 use std::alloc::Global;
 
@@ -25,14 +25,10 @@ pub struct Live<'c, 'a> {
     lowered: Lowered<'c, 'a>,
     memory: Memory,
     end: Option<Ended>,
-    /// The changes of one step. Between two calls there are none.
-    trail: Trail,
     /// The last line that was read.
     line: Vec<u8>,
     failed: bool,
     ghost ready: { ∥ (failed ≡ false → CanGoOn lowered memory) ∥₁ },
-    ghost low: { trail.low ≡ 0 },
-    ghost base: { trail.base ≡ lowered.parts.layout.base },
 }
 
 impl<'c, 'a> Live<'c, 'a> {
@@ -58,12 +54,10 @@ impl<'c, 'a> Live<'c, 'a> {
     {
         let lowered = lower(alloc, code)?;
         let memory = fresh_memory(alloc, &lowered)?;
-        let trail = Trail::new(alloc, lowered.layout().base);
         Ok(Live {
             lowered,
             memory,
             end: None,
-            trail,
             line: Vec::new(alloc),
             failed: false,
         })
@@ -113,7 +107,6 @@ impl<'c, 'a> Live<'c, 'a> {
             &self.lowered,
             &mut self.memory,
             &mut self.end,
-            &mut self.trail,
             &mut self.line,
             feed,
             done,
@@ -155,7 +148,6 @@ impl<'c, 'a> Live<'c, 'a> {
             &self.lowered,
             &mut self.memory,
             &mut self.end,
-            &mut self.trail,
             &mut self.line,
             feed,
             limit,

@@ -1,4 +1,4 @@
-use Rattle.std.proofs.Common.{◌∷◌, [], ◌++◌, ap, sym, ◌∙◌}
+use Rattle.std.proofs.Common.{◌∷◌, [], ◌++◌, ap, sym, ◌∙◌, arith}
 use Rattle.std.specs.Prelude.{map}
 use mathlib.Core.Logic.{∥∥₁_map, ∥∥₁_elim}
 use Rattle.ick_engine.specs.Memory.{view_in}
@@ -6,7 +6,7 @@ use Rattle.ick_engine.specs.View.{input_of}
 use Rattle.ick_machine.specs.Copies.{copied_state}
 use Rattle.ick_machine.specs.Run.{run_state}
 use Rattle.ick_machine.proofs.CopyLemmas.{one_less, states_pushed}
-use Rattle.ick_machine.proofs.TrailedLemmas.{seen_at}
+use Rattle.ick_machine.proofs.WholeLemmas.{seen_at}
 use Rattle.ick_machine.proofs.copied.CopiedBacktrack.back.Goals as goal
 
 pub restore-requires-clause-kept : goal.restore-requires-clause-kept
@@ -20,9 +20,11 @@ pub invariant_of-self : goal.invariant_of-self
 invariant_of-self c =
     let m = c.args.self.now in
     record {
-      ready = ∣ c.restore.ensures.ready ∣₁;
-      low = m.low;
-      base = m.base;
+      can = ∣ record {
+        ready = c.restore.ensures.ready;
+        low = omega (arith, c.clear.ensures.low);
+        base = c.clear.ensures.base ∙ c.law.ensures.can.base;
+      } ∣₁;
       copied =
           ∥∥₁_map m.copied (λ are.
           (one_less m.lowered.code.now m.lowered.parts c.pop.new.self.items m.copies.items c.in-Some.copy
@@ -37,8 +39,8 @@ returns-in-Some c =
     let input = input_of m.input.now in
     let f = copied_state code lowered input in
     let copy = c.in-Some.copy in
-    let s = run_state code lowered input (view_in m.memory) m.end in
+    let s = run_state code lowered input (view_in m.running.memory) m.running.end in
     let older = c.pop.new.self.items in
-    ap (λ marks. seen_at code s marks m.work)
+    ap (λ marks. seen_at code s marks m.running.work)
     (ap (map f) c.in-Some.ensures.items ∙ states_pushed f older copy
     ∙ ap (λ t. map f older ++ (record t { end = (f copy).end }) ∷ []) (sym (c.restore.ensures.states input)))

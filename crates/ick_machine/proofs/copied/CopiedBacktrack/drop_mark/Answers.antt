@@ -6,9 +6,7 @@ pub invariant_of-self : goal.invariant_of-self
 invariant_of-self c =
     let m = c.args.self.now in
     record {
-      ready = m.ready;
-      low = m.low;
-      base = m.base;
+      can = m.can;
       copied =
           ∥∥₁_map m.copied
           (less m.lowered.code.now m.lowered.parts c.pop.new.self.items m.copies.items c.pop.result c.pop.ensures.items);

@@ -8,6 +8,4 @@ invariant_of-self c =
     record {
       ready = unless_with live.lowered.code.now live.lowered.parts (view_in live.memory) live.failed
           c.clear.new.self.items live.ready;
-      low = live.low;
-      base = live.base;
     }

@@ -1,0 +1,85 @@
+use Rattle.std.proofs.Common.{◌∙◌, ◌+◌, Some}
+use Rattle.ick_engine.specs.Memory.{view_in}
+use Rattle.ick_machine.proofs.StepLemmas.{has_made, has_rested, has_stepped, if_room, if_waits, moves_by, never_short}
+use Rattle.ick_machine.proofs.StepLemmas.{at_rest, on_the_way, at_end}
+use Rattle.ick_machine.proofs.steps.make_steps.Goals as goal
+
+pub returns-in-Limit-clause-runs : goal.returns-in-Limit-clause-runs
+returns-in-Limit-clause-runs g c =
+    let told = at_rest c.run_steps-exit.result c.in-Limit.is in
+    let call = c.run_steps-exit in
+    has_made c.args.lowered.now.code.now c.args.lowered.now.parts g.R.Reader.Has c.args.reader.now call.new.reader c.args.limit
+    call.new.self.cursor.left c.args.answer call.new.self.cursor.answer (view_in c.args.memory.now)
+    (view_in call.new.self) call.result told.0 c.args.end.now (c.requires.going ∙ told.3)
+    call.ensures.comes
+
+pub returns-in-Limit-clause-rests : goal.returns-in-Limit-clause-rests
+returns-in-Limit-clause-rests g c =
+    let told = at_rest c.run_steps-exit.result c.in-Limit.is in
+    let call = c.run_steps-exit in
+    λ none _. has_rested c.args.lowered.now.code.now c.args.lowered.now.parts g.R.Reader.Has c.args.reader.now call.new.reader c.args.limit
+    call.new.self.cursor.left c.args.answer call.new.self.cursor.answer (view_in c.args.memory.now)
+    (view_in call.new.self) call.result told.0 c.args.end.now (c.requires.going ∙ told.3)
+    call.ensures.comes (g.R.Reader.some call.new.reader) call.ensures.left told.1 told.2 none
+
+pub returns-in-Limit-clause-steps : goal.returns-in-Limit-clause-steps
+returns-in-Limit-clause-steps g c =
+    let told = at_rest c.run_steps-exit.result c.in-Limit.is in
+    let call = c.run_steps-exit in
+    λ done same one _ _. has_stepped c.args.lowered.now.code.now c.args.lowered.now.parts g.R.Reader.Has c.args.reader.now call.new.reader c.args.limit
+    call.new.self.cursor.left c.args.answer call.new.self.cursor.answer (view_in c.args.memory.now)
+    (view_in call.new.self) call.result told.0 c.args.end.now (c.requires.going ∙ told.3)
+    call.ensures.comes call.ensures.left told.1 told.2 done same one
+
+pub returns-in-Room-clause-runs : goal.returns-in-Room-clause-runs
+returns-in-Room-clause-runs g c =
+    let told = on_the_way c.run_steps-exit.result c.in-Room.is in
+    let call = c.run_steps-exit in
+    has_made c.args.lowered.now.code.now c.args.lowered.now.parts g.R.Reader.Has c.args.reader.now call.new.reader c.args.limit
+    call.new.self.cursor.left c.args.answer call.new.self.cursor.answer (view_in c.args.memory.now)
+    (view_in call.new.self) call.result told.0 c.args.end.now (c.requires.going ∙ told.1)
+    call.ensures.comes
+
+pub returns-in-Room-clause-moves : goal.returns-in-Room-clause-moves
+returns-in-Room-clause-moves g c = λ _.
+    let call = c.run_steps-exit in
+    moves_by call.result (g.R.Reader.waits (g.R.Reader.held c.args.reader.now)) (c.args.lowered.now.parts.longest + 79)
+    (g.N.Notes.room c.args.notes.now) c.args.limit call.new.self.cursor.left c.in-Room.is
+    (λ is. (if_room call.result is call.ensures.room).begun) (λ is. if_waits call.result is call.ensures.waits)
+    call.ensures.left
+
+pub returns-in-Room-clause-steps : goal.returns-in-Room-clause-steps
+returns-in-Room-clause-steps g c = λ done same one goes enough.
+    let call = c.run_steps-exit in
+    absurd (never_short call.result (g.R.Reader.waits (g.R.Reader.held c.args.reader.now))
+    (c.args.lowered.now.parts.longest + 79) (g.N.Notes.room c.args.notes.now) c.args.limit call.new.self.cursor.left
+    c.in-Room.is (λ is. (if_room call.result is call.ensures.room).some)
+    (λ is. (if_room call.result is call.ensures.room).begun) (λ is. if_waits call.result is call.ensures.waits) goes
+    enough call.ensures.left one)
+
+pub returns-in-Stopped-clause-runs : goal.returns-in-Stopped-clause-runs
+returns-in-Stopped-clause-runs g c =
+    let told = at_end c.run_steps-exit.result c.in-Stopped.ended c.in-Stopped.is in
+    let call = c.run_steps-exit in
+    has_made c.args.lowered.now.code.now c.args.lowered.now.parts g.R.Reader.Has c.args.reader.now call.new.reader c.args.limit
+    call.new.self.cursor.left c.args.answer call.new.self.cursor.answer (view_in c.args.memory.now)
+    (view_in call.new.self) call.result told.0 (Some c.in-Stopped.ended) told.3
+    call.ensures.comes
+
+pub returns-in-Stopped-clause-rests : goal.returns-in-Stopped-clause-rests
+returns-in-Stopped-clause-rests g c =
+    let told = at_end c.run_steps-exit.result c.in-Stopped.ended c.in-Stopped.is in
+    let call = c.run_steps-exit in
+    λ none _. has_rested c.args.lowered.now.code.now c.args.lowered.now.parts g.R.Reader.Has c.args.reader.now call.new.reader c.args.limit
+    call.new.self.cursor.left c.args.answer call.new.self.cursor.answer (view_in c.args.memory.now)
+    (view_in call.new.self) call.result told.0 (Some c.in-Stopped.ended) told.3
+    call.ensures.comes (g.R.Reader.some call.new.reader) call.ensures.left told.1 told.2 none
+
+pub returns-in-Stopped-clause-steps : goal.returns-in-Stopped-clause-steps
+returns-in-Stopped-clause-steps g c =
+    let told = at_end c.run_steps-exit.result c.in-Stopped.ended c.in-Stopped.is in
+    let call = c.run_steps-exit in
+    λ done same one _ _. has_stepped c.args.lowered.now.code.now c.args.lowered.now.parts g.R.Reader.Has c.args.reader.now call.new.reader c.args.limit
+    call.new.self.cursor.left c.args.answer call.new.self.cursor.answer (view_in c.args.memory.now)
+    (view_in call.new.self) call.result told.0 (Some c.in-Stopped.ended) told.3
+    call.ensures.comes call.ensures.left told.1 told.2 done same one
