@@ -1,5 +1,5 @@
 -- What a machine asks, by the status of the statement that is met.
-use Rattle.std.proofs.Common.{◌≡◌, ℕ, zero, suc, ◌+◌, ◌-◌, ◌<◌, ◌≤◌, Bool, true, false, List, [], length, get_or}
+use Rattle.std.proofs.Common.{◌≡◌, ℕ, suc, ◌+◌, ◌-◌, ◌<◌, ◌≤◌, Bool, true, false, List, [], length, get_or}
 use Rattle.std.proofs.Common.{Option, Some, None, refl, sym, ap, ◌∙◌, inl, inr, arith}
 use Rattle.std.specs.Prelude.{◌⊎◌, nat_lt, nat_le, ◌&&◌, option_map, if◌then◌else◌, is_some, not}
 use Rattle.std.proofs.lemmas.Bool.{cases_lt, not-true, not-false}
