@@ -19,7 +19,7 @@ use ick_code::Code;
 use ick_engine::{Ended, Memory};
 use ick_lowering::Lowered;
 
-/// The bytes of a text between two positions, as far as it goes.
+/// Returns the bytes of a text between two positions. It stops at the end of the text.
 fn word<'c>(text: &'c [u8], from: usize, to: usize) -> &'c [u8]
     ensures { result.now ≡ slice_range text.now from to }
 {
@@ -28,7 +28,7 @@ fn word<'c>(text: &'c [u8], from: usize, to: usize) -> &'c [u8]
     &text[begin..end]
 }
 
-/// The text of statement `n`, none where there is no such statement.
+/// Returns the text of statement `n`, or an empty text if there is no such statement.
 fn text_of<'c, 'a>(code: &'c Code<'a>, n: u32) -> &'c [u8]
     ensures { result.now ≡ text_in (statement_at (code_program code.now) n) }
 {
@@ -41,8 +41,8 @@ fn text_of<'c, 'a>(code: &'c Code<'a>, n: u32) -> &'c [u8]
     code.text(n)
 }
 
-/// How a run has ended, with the subject of its fault: the statement's text, or the word of the
-/// input (Revised Manual, 9.2).
+/// Returns how a run has ended, with the subject of its fault: the statement's text, or the word of
+/// the input (Revised Manual, 9.2).
 pub fn end_of<'c, 'a>(code: &'c Code<'a>, text: &'c [u8], ended: Ended) -> End<'c>
     ensures { Some (finish_of result) ≡ option_map finished (ending_of code.now
         (input_of text.now) (Some ended)) }

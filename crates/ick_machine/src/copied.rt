@@ -1,4 +1,4 @@
-//! A machine with marks that copies what it remembers.
+//! A machine with marks that copies its state.
 
 ghost use Rattle.std.specs.Prelude.{◌≡◌, [], IfOk};
 ghost use Rattle.ick_code.specs.meaning.Move.{first_state};
@@ -36,8 +36,9 @@ pub struct Copied<'c, 'a> {
 }
 
 impl<'c, 'a> Copied<'c, 'a> {
-    /// A machine at the start of a run over an input, without marks, whose count of work begins at
-    /// `work`. `NoMemory` is answered where memory is refused.
+    /// Returns a machine at the start of a run over an input. It has no marks, and its count of
+    /// work begins at `work`. `NoMemory` is returned if a growth was refused, or if `lower` finds
+    /// the program too large.
     pub fn new(
         alloc: Global,
         code: &'c Code<'a>,

@@ -31,8 +31,8 @@ pub struct FeedReader<'f, F: Feed> {
 }
 
 impl<'f, F: Feed> FeedReader<'f, F> {
-    /// A reader of a feed, whose lines go to `line`. The feed isn't asked unless `allowed` is true.
-    /// Its count of failures must be below its greatest value. `waits` says whether a run waits
+    /// Returns a reader of a feed, whose lines go to `line`. The feed isn't asked unless `allowed`
+    /// is true. Its count of failures must be below its greatest value. `waits` says whether a run waits
     /// before statements of input and output.
     pub fn new(
         feed: &'f mut F,
@@ -60,7 +60,7 @@ impl<'f, F: Feed> FeedReader<'f, F> {
         }
     }
 
-    /// What a step with this answer has come to: where the feed had an error, it is that one.
+    /// Returns what a step with this answer has come to. If the feed had an error, it is this error.
     pub fn outcome(&self, stepped: Result<Came, NoMemory>) -> Result<(), FeedFault>
         ensures ok { OnOk result (IsOk stepped) }
         ensures count { feed_failures result ≡ reads_failed self.now.fault }
@@ -144,7 +144,7 @@ impl<F: Feed> Reader for FeedReader<'_, F> {
     }
 }
 
-/// What a line says that was taken, where the input goes on at a place.
+/// Returns what a line says that was taken. `to` is the place at which the input goes on.
 fn taken(line: &[u8], to: usize) -> Line
     ensures { result ≡ line_with (line_answer line.now) to }
 {

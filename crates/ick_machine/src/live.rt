@@ -42,8 +42,8 @@ impl<'c, 'a> Live<'c, 'a> {
     ghost use Rattle.ick_machine.specs.Feeds.{feed_failures, MeetsInput, LeadsToInput};
     ghost use Rattle.ick_machine.specs.Live.{seen, fed, cleared, live_ask, fault_message};
 
-    /// A machine at the start of a program (Revised Manual, 3.1, 3.3). `NoMemory` is answered where
-    /// memory is refused.
+    /// Returns a machine at the start of a program (Revised Manual, 3.1, 3.3). `NoMemory` is
+    /// returned if a growth was refused, or if `lower` finds the program too large.
     #[tactic(auto, unfolding(crate::specs::Live::seen))]
     pub fn new(alloc: Global, code: &'c Code<'a>) -> Result<Live<'c, 'a>, NoMemory>
         ensures { IfOk result (λ live. seen live ≡ record {
@@ -156,7 +156,7 @@ impl<'c, 'a> Live<'c, 'a> {
         ran
     }
 
-    /// What was written since the output was last cleared.
+    /// Returns what was written since the output was last cleared.
     #[tactic(auto, unfolding(crate::specs::Live::seen))]
     pub fn output(&self) -> &[u8]
         ensures { result.now ≡ (seen self.now).state.output }
@@ -164,7 +164,7 @@ impl<'c, 'a> Live<'c, 'a> {
         &self.memory.rest.output
     }
 
-    /// The output becomes empty, and all else stays. It takes no memory.
+    /// Clears the output, and changes nothing else. It takes no memory.
     #[tactic(auto, unfolding(crate::specs::Live::seen))]
     pub fn clear_output(&mut self)
         ensures { seen self.new
@@ -176,8 +176,8 @@ impl<'c, 'a> Live<'c, 'a> {
     /// Appends the message of the fault that the run has ended by, or nothing without a fault
     /// (Revised Manual, 9.1).
     ///
-    /// The answer is `NoMemory` only where `out` had no room for the whole message and could not
-    /// grow; `out` is then unchanged.
+    /// The answer is `NoMemory` only if `out` had no room for the whole message and couldn't grow.
+    /// `out` is then unchanged.
     #[tactic(auto, unfolding(crate::specs::Live::seen))]
     pub fn append_fault(&self, out: &mut Vec<u8>) -> Result<(), NoMemory>
         ensures ok { OnOk result

@@ -39,7 +39,7 @@ pub enum LiveAsk {
 }
 
 impl LiveAsk {
-    /// What an answer asks, without the subject of a fault.
+    /// Returns what an answer asks, without the subject of a fault.
     pub(crate) fn of(ask: Ask<'_>) -> LiveAsk
         ensures { (asked : Asking) → asked_of ask.entry ≡ Some asked
             → result ≡ live_asked asked }

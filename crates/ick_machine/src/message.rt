@@ -9,8 +9,8 @@ ghost use Rattle.ick_machine.specs.Message.{asked_message};
 use ick_backtrack::{Ask, End};
 use ick_bits::{NoMemory, append_message};
 
-/// Appends the message of the fault that a run has ended by, or nothing where there is none
-/// (Revised Manual, 9.1).
+/// Appends the message of the fault that a run has ended by, or nothing if it hasn't ended by a
+/// fault (Revised Manual, 9.1).
 pub fn append_end(out: &mut Vec<u8>, ask: Ask<'_>) -> Result<(), NoMemory>
     ensures ok { (asked : Asking) → asked_of ask.entry ≡ Some asked →
         OnOk result (out.new.items ≡ out.old.items ++ asked_message asked) }
