@@ -1,5 +1,6 @@
 -- Copies that marks are kept by: one more, and one less.
-use Rattle.std.proofs.Common.{◌≡◌, ℕ, zero, suc, ◌<◌, List, [], ◌∷◌, ◌++◌, length, Bool, true, false, Option, Some, None}
+use Rattle.std.proofs.Common.{◌≡◌, ℕ, zero, suc, ◌<◌, List, [], ◌∷◌}
+use Rattle.std.proofs.Common.{◌++◌, length, Bool, true, false, Option, Some, None}
 use Rattle.std.proofs.Common.{refl, ap, sym, ◌∙◌, subst, arith, append-nil}
 use Rattle.std.specs.Prelude.{map, slice_index_or, if◌then◌else◌}
 use Rattle.std.specs.List.{All}
@@ -43,7 +44,8 @@ module _ (code : Code) (lowered : LoweredParts) where
   pub one_less : (copies all : List Copy) (copy : Copy) → all ≡ copies ++ copy ∷ [] → AreCopies code lowered all →
       AreCopies code lowered copies × IsKept code lowered copy.saved
   one_less copies all copy is given =
-      all_but_one (λ (copy : Copy). IsKept code lowered copy.saved) copies copy (subst (AreCopies code lowered) is given)
+      all_but_one (λ (copy : Copy). IsKept code lowered copy.saved) copies copy
+      (subst (AreCopies code lowered) is given)
 
   pub less : (copies all : List Copy) (o : Option Copy) → all ≡ copies ++ option_to_list o →
       AreCopies code lowered all → AreCopies code lowered copies

@@ -1,5 +1,4 @@
--- That a run can go on comes out of a truncated ghost field, unless the machine has failed. The output doesn't matter for
--- it.
+-- A truncated ghost field says that a run can go on, unless the machine has failed. The output doesn't matter for this.
 use Rattle.std.proofs.Common.{◌≡◌, ℕ, Bool, false, List}
 use mathlib.Core.Logic.{∥∥₁_elim, ∥∥₁_map}
 use mathlib.Core.Path.{fun_ext}

@@ -32,8 +32,8 @@ pub struct FeedReader<'f, F: Feed> {
 
 impl<'f, F: Feed> FeedReader<'f, F> {
     /// Returns a reader of a feed, whose lines go to `line`. The feed isn't asked unless `allowed`
-    /// is true. Its count of failures must be below its greatest value. `waits` says whether a run waits
-    /// before statements of input and output.
+    /// is true. Its count of failures must be below its greatest value. `waits` says whether a run
+    /// waits before statements of input and output.
     pub fn new(
         feed: &'f mut F,
         line: &'f mut Vec<u8>,
@@ -60,7 +60,8 @@ impl<'f, F: Feed> FeedReader<'f, F> {
         }
     }
 
-    /// Returns what a step with this answer has come to. If the feed had an error, it is this error.
+    /// Returns what a step with this answer has come to. If the feed had an error, it is this
+    /// error.
     pub fn outcome(&self, stepped: Result<Came, NoMemory>) -> Result<(), FeedFault>
         ensures ok { OnOk result (IsOk stepped) }
         ensures count { feed_failures result ≡ reads_failed self.now.fault }

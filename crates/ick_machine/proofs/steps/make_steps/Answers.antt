@@ -8,7 +8,8 @@ pub returns-in-Limit-clause-runs : goal.returns-in-Limit-clause-runs
 returns-in-Limit-clause-runs g c =
     let told = at_rest c.run_steps-exit.result c.in-Limit.is in
     let call = c.run_steps-exit in
-    has_made c.args.lowered.now.code.now c.args.lowered.now.parts g.R.Reader.Has c.args.reader.now call.new.reader c.args.limit
+    has_made c.args.lowered.now.code.now c.args.lowered.now.parts g.R.Reader.Has c.args.reader.now call.new.reader
+    c.args.limit
     call.new.self.cursor.left c.args.answer call.new.self.cursor.answer (view_in c.args.memory.now)
     (view_in call.new.self) call.result told.0 c.args.end.now (c.requires.going ∙ told.3)
     call.ensures.comes
@@ -17,7 +18,8 @@ pub returns-in-Limit-clause-rests : goal.returns-in-Limit-clause-rests
 returns-in-Limit-clause-rests g c =
     let told = at_rest c.run_steps-exit.result c.in-Limit.is in
     let call = c.run_steps-exit in
-    λ none _. has_rested c.args.lowered.now.code.now c.args.lowered.now.parts g.R.Reader.Has c.args.reader.now call.new.reader c.args.limit
+    λ none _. has_rested c.args.lowered.now.code.now c.args.lowered.now.parts g.R.Reader.Has c.args.reader.now
+    call.new.reader c.args.limit
     call.new.self.cursor.left c.args.answer call.new.self.cursor.answer (view_in c.args.memory.now)
     (view_in call.new.self) call.result told.0 c.args.end.now (c.requires.going ∙ told.3)
     call.ensures.comes (g.R.Reader.some call.new.reader) call.ensures.left told.1 told.2 none
@@ -26,7 +28,8 @@ pub returns-in-Limit-clause-steps : goal.returns-in-Limit-clause-steps
 returns-in-Limit-clause-steps g c =
     let told = at_rest c.run_steps-exit.result c.in-Limit.is in
     let call = c.run_steps-exit in
-    λ done same one _ _. has_stepped c.args.lowered.now.code.now c.args.lowered.now.parts g.R.Reader.Has c.args.reader.now call.new.reader c.args.limit
+    λ done same one _ _. has_stepped c.args.lowered.now.code.now c.args.lowered.now.parts g.R.Reader.Has
+    c.args.reader.now call.new.reader c.args.limit
     call.new.self.cursor.left c.args.answer call.new.self.cursor.answer (view_in c.args.memory.now)
     (view_in call.new.self) call.result told.0 c.args.end.now (c.requires.going ∙ told.3)
     call.ensures.comes call.ensures.left told.1 told.2 done same one
@@ -35,7 +38,8 @@ pub returns-in-Room-clause-runs : goal.returns-in-Room-clause-runs
 returns-in-Room-clause-runs g c =
     let told = on_the_way c.run_steps-exit.result c.in-Room.is in
     let call = c.run_steps-exit in
-    has_made c.args.lowered.now.code.now c.args.lowered.now.parts g.R.Reader.Has c.args.reader.now call.new.reader c.args.limit
+    has_made c.args.lowered.now.code.now c.args.lowered.now.parts g.R.Reader.Has c.args.reader.now call.new.reader
+    c.args.limit
     call.new.self.cursor.left c.args.answer call.new.self.cursor.answer (view_in c.args.memory.now)
     (view_in call.new.self) call.result told.0 c.args.end.now (c.requires.going ∙ told.1)
     call.ensures.comes
@@ -61,7 +65,8 @@ pub returns-in-Stopped-clause-runs : goal.returns-in-Stopped-clause-runs
 returns-in-Stopped-clause-runs g c =
     let told = at_end c.run_steps-exit.result c.in-Stopped.ended c.in-Stopped.is in
     let call = c.run_steps-exit in
-    has_made c.args.lowered.now.code.now c.args.lowered.now.parts g.R.Reader.Has c.args.reader.now call.new.reader c.args.limit
+    has_made c.args.lowered.now.code.now c.args.lowered.now.parts g.R.Reader.Has c.args.reader.now call.new.reader
+    c.args.limit
     call.new.self.cursor.left c.args.answer call.new.self.cursor.answer (view_in c.args.memory.now)
     (view_in call.new.self) call.result told.0 (Some c.in-Stopped.ended) told.3
     call.ensures.comes
@@ -70,7 +75,8 @@ pub returns-in-Stopped-clause-rests : goal.returns-in-Stopped-clause-rests
 returns-in-Stopped-clause-rests g c =
     let told = at_end c.run_steps-exit.result c.in-Stopped.ended c.in-Stopped.is in
     let call = c.run_steps-exit in
-    λ none _. has_rested c.args.lowered.now.code.now c.args.lowered.now.parts g.R.Reader.Has c.args.reader.now call.new.reader c.args.limit
+    λ none _. has_rested c.args.lowered.now.code.now c.args.lowered.now.parts g.R.Reader.Has c.args.reader.now
+    call.new.reader c.args.limit
     call.new.self.cursor.left c.args.answer call.new.self.cursor.answer (view_in c.args.memory.now)
     (view_in call.new.self) call.result told.0 (Some c.in-Stopped.ended) told.3
     call.ensures.comes (g.R.Reader.some call.new.reader) call.ensures.left told.1 told.2 none
@@ -79,7 +85,8 @@ pub returns-in-Stopped-clause-steps : goal.returns-in-Stopped-clause-steps
 returns-in-Stopped-clause-steps g c =
     let told = at_end c.run_steps-exit.result c.in-Stopped.ended c.in-Stopped.is in
     let call = c.run_steps-exit in
-    λ done same one _ _. has_stepped c.args.lowered.now.code.now c.args.lowered.now.parts g.R.Reader.Has c.args.reader.now call.new.reader c.args.limit
+    λ done same one _ _. has_stepped c.args.lowered.now.code.now c.args.lowered.now.parts g.R.Reader.Has
+    c.args.reader.now call.new.reader c.args.limit
     call.new.self.cursor.left c.args.answer call.new.self.cursor.answer (view_in c.args.memory.now)
     (view_in call.new.self) call.result told.0 (Some c.in-Stopped.ended) told.3
     call.ensures.comes call.ensures.left told.1 told.2 done same one

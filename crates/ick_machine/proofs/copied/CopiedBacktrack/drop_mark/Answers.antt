@@ -9,5 +9,6 @@ invariant_of-self c =
       can = m.can;
       copied =
           ∥∥₁_map m.copied
-          (less m.lowered.code.now m.lowered.parts c.pop.new.self.items m.copies.items c.pop.result c.pop.ensures.items);
+          (less m.lowered.code.now m.lowered.parts c.pop.new.self.items m.copies.items c.pop.result
+          c.pop.ensures.items);
     }
