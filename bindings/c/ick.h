@@ -1,10 +1,10 @@
-/* ick, the proved INTERCAL-72 compiler and explorer, as one call over memory.
+/* ick, the proved INTERCAL-72 compiler and explorer, as two calls over memory.
  *
  *     cc program.c libick.a        bindings/build makes libick.a, and libick.so
  *
- * The call opens no file, and reads and writes no stream. It keeps nothing from one call to the next, so threads may
- * call it at the same time. It takes memory by malloc, realloc and free, and gives all of it back. It must not be
- * called from a signal handler, or from the forked child of a process with threads. */
+ * A call opens no file, and reads and writes no stream. It keeps nothing from one call to the next, so threads may
+ * call at the same time. It takes memory by malloc, realloc and free, and gives all of it back. No call may be made
+ * from a signal handler, or from the forked child of a process with threads. */
 #ifndef ICK_H
 #define ICK_H
 
@@ -41,6 +41,16 @@ struct ick_lengths {
 uint8_t ick_serve(const uint8_t *arguments, size_t arguments_length, const uint8_t *file, size_t file_length,
                   const uint8_t *input, size_t input_length, uint8_t *output, size_t output_room, uint8_t *errors,
                   size_t errors_room, struct ick_lengths *lengths);
+
+/* Does what the program ick-outcomes does with these arguments, and returns the exit status: 0, 2, 4 or 64.
+ *
+ * listing     The bytes of every listing: an argument --asked LISTING opens it, whatever its name.
+ *
+ * All else is as for ick_serve. If memory runs out, or too many states would be kept, there is no output. */
+uint8_t ick_outcomes_serve(const uint8_t *arguments, size_t arguments_length, const uint8_t *file, size_t file_length,
+                           const uint8_t *listing, size_t listing_length, const uint8_t *input, size_t input_length,
+                           uint8_t *output, size_t output_room, uint8_t *errors, size_t errors_room,
+                           struct ick_lengths *lengths);
 
 #ifdef __cplusplus
 }

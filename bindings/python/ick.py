@@ -5,6 +5,8 @@
     print(ick.run("DO READ OUT #1972 PLEASE GIVE UP").output.decode())
     for run in ick.runs("DO %50 READ OUT #5\\nPLEASE GIVE UP"):
         print(run.choices, run.end, run.output)
+    for outcome in ick.outcomes("DO %30 READ OUT #5\\nPLEASE GIVE UP"):
+        print(outcome.count, outcome.weight, outcome.output)
 
 A source and an input are bytes, or a text that is written in UTF-8. An option that isn't given is the program's own.
 Each call but `serve` raises Refused if ick doesn't do what was asked: the source is refused (status 2), memory runs out
@@ -18,6 +20,7 @@ The module loads libick.so, which bindings/build makes: the one that the environ
 that beside this file, or that in ../out, or else the system's.
 """
 import ctypes
+import fractions
 import functools
 import os
 import re
@@ -25,10 +28,12 @@ import sys
 import threading
 from typing import NamedTuple
 
-__all__ = ["Answer", "Refused", "Run", "Statement", "Summary", "check", "list", "run", "runs", "serve"]
+__all__ = ["Answer", "Asker", "Outcome", "Refused", "Run", "Statement", "Summary", "asked", "check", "list", "outcomes",
+           "run", "runs", "serve", "serve_outcomes"]
 
 ROOM = 1 << 16
 RUN = re.compile(rb'(\S+) (\S+) "(.*)"')
+OUTCOME = re.compile(rb'(\d+) (\S+) (\S+) (\S+) "(.*)"')
 STATEMENT = re.compile(rb'(\d+) (\S+) (\S+) (\S+) (\d+) (\S+) "(.*)"')
 SUMMARY = re.compile(rb"(\d+) STATEMENTS, (\d+) POLITE\n")
 CODE = re.compile(rb'\\(?:x(..)|(.))')
@@ -48,6 +53,23 @@ class Run(NamedTuple):
     choices: str
     end: str
     output: bytes
+
+
+class Outcome(NamedTuple):
+    """An outcome: the number of its runs, their weight, the choices of the first of them, their end and their output."""
+
+    count: int
+    weight: fractions.Fraction
+    first: str
+    end: str
+    output: bytes
+
+
+class Asker(NamedTuple):
+    """What a choice was asked by: the number of a statement, and its chance in hundredths."""
+
+    statement: int
+    chance: int
 
 
 class Statement(NamedTuple):
@@ -83,31 +105,42 @@ class Lengths(ctypes.Structure):
 
 @functools.lru_cache(maxsize=None)
 def library():
-    """Returns the library's one function. Raises OSError if there is no library."""
+    """Returns the library's functions `serve` and `serve_outcomes`. Raises OSError if there is no library."""
     here = os.path.dirname(os.path.realpath(__file__))
     places = [os.path.join(here, "libick.so"), os.path.join(here, "..", "out", "libick.so")]
     named = os.environ.get("ICK_LIBRARY") or next(filter(os.path.exists, places), "libick.so")
-    function = ctypes.CDLL(named).ick_serve
+    loaded = ctypes.CDLL(named)
     text = [ctypes.c_char_p, ctypes.c_size_t]
     room = [ctypes.c_void_p, ctypes.c_size_t]
-    function.argtypes = text * 3 + room * 2 + [ctypes.POINTER(Lengths)]
-    function.restype = ctypes.c_uint8
-    return function
+    for function, texts in ((loaded.ick_serve, 3), (loaded.ick_outcomes_serve, 4)):
+        function.argtypes = text * texts + room * 2 + [ctypes.POINTER(Lengths)]
+        function.restype = ctypes.c_uint8
+    return loaded
 
 
 def serve(arguments, file=b"", input=b""):
     """Returns what `ick ARGUMENT..` leaves if each file has these bytes, and standard input has this input."""
+    return served(library().ick_serve, arguments, file, input)
+
+
+def serve_outcomes(arguments, file=b"", listing=b"", input=b""):
+    """Returns what `ick-outcomes ARGUMENT..` leaves if each FILE and each LISTING has these bytes."""
+    return served(library().ick_outcomes_serve, arguments, file, listing, input)
+
+
+def served(function, arguments, *contents):
+    """Returns what a function of the library leaves, over rooms that its texts fit in."""
     words = [bytes_of(argument) for argument in arguments]
     if any(b"\0" in word for word in words):
         raise ValueError("an argument has a byte 0")
-    given = [b"".join(word + b"\0" for word in words), bytes_of(file), bytes_of(input)]
+    given = [b"".join(word + b"\0" for word in words), *map(bytes_of, contents)]
     texts = [part for content in given for part in (content, len(content))]
     lengths = Lengths(ROOM, ROOM)
     sizes = (0, 0)
     while lengths.output > sizes[0] or lengths.errors > sizes[1]:
         sizes = max(lengths.output, sizes[0]), max(lengths.errors, sizes[1])
         output, errors = map(ctypes.create_string_buffer, sizes)
-        status = called(library(), *texts, output, sizes[0], errors, sizes[1], ctypes.byref(lengths))
+        status = called(function, *texts, output, sizes[0], errors, sizes[1], ctypes.byref(lengths))
     return Answer(status, ctypes.string_at(output, lengths.output), ctypes.string_at(errors, lengths.errors))
 
 
@@ -144,6 +177,24 @@ def runs(source, input=b"", after=None, limit=None, count=1000):
         more = last == b"MORE"
 
 
+def outcomes(source, input=b"", limit=None, most=None):
+    """Returns every outcome of a program once, in the order of their first runs, with exact weights.
+
+    Raises Refused if ick refuses the source or the input, if more states would be kept than `most`, or if memory runs
+    out.
+    """
+    given = ["--exact", *options(limit=limit, most=most), "program"]
+    *lines, _ = answered(serve_outcomes(given, source, input=input)).output.splitlines()
+    return [outcome_of(line) for line in lines]
+
+
+def asked(source, listing, input=b"", limit=None):
+    """Returns what the choices of each run of a listing were asked by, for the first 10,000 choices of a run."""
+    given = [*options(limit=limit, asked="listing"), "program"]
+    lines = answered(serve_outcomes(given, source, listing, input)).output.splitlines()
+    return [[Asker(*map(int, asker.split(b":"))) for asker in line.split()] for line in lines]
+
+
 def check(source):
     """Returns how many statements a program has, and how many are polite. Raises Refused if ick refuses it."""
     return Summary(*map(int, SUMMARY.fullmatch(done(["check", "program"], source).output).groups()))
@@ -156,7 +207,11 @@ def list(source):
 
 def done(arguments, source, input=b"", statuses=(0,)):
     """Returns the answer of a call with one of the statuses."""
-    answer = serve(arguments, source, input)
+    return answered(serve(arguments, source, input), statuses)
+
+
+def answered(answer, statuses=(0,)):
+    """Returns an answer with one of the statuses."""
     if answer.status not in statuses:
         raise Refused(answer)
     return answer
@@ -165,6 +220,11 @@ def done(arguments, source, input=b"", statuses=(0,)):
 def options(**given):
     """Returns the arguments for the options that are given."""
     return [f"--{name}={value}" for name, value in given.items() if value is not None]
+
+
+def outcome_of(line):
+    count, weight, first, end, output = OUTCOME.fullmatch(line).groups()
+    return Outcome(int(count), fractions.Fraction(weight.decode()), first.decode(), end.decode(), unquoted(output))
 
 
 def statement_of(line):

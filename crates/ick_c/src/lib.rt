@@ -1,9 +1,10 @@
-//! The command line for programs in C. One call takes arguments, a file and an input in memory, and
-//! gives output, error text and exit status.
+//! The command lines of `ick` and `ick-outcomes` for programs in C. One call takes arguments, files
+//! and an input in memory, and gives output, error text and exit status.
 //!
 //! - `arguments`: the arguments that bytes hold
 //! - `one_file`: a file in memory
-//! - `call`: the answer to arguments
+//! - `call`: the answer of `ick` to arguments
+//! - `outcomes_call`: the answer of `ick-outcomes`
 //! - `room`: the front of a text, in a caller's memory
 //! - `laws`: bytes hold at most one list of arguments
 #![tactic(auto)]
@@ -18,11 +19,13 @@ mod arguments;
 mod call;
 mod laws;
 mod one_file;
+mod outcomes_call;
 mod room;
 
 use call::answer;
 use ick_runs::VecSink;
 pub use laws::one_list;
+use outcomes_call::answer_outcomes;
 use room::fill;
 use std::alloc::Global;
 
@@ -63,6 +66,42 @@ pub extern "C" fn ick_serve(
     let mut writer = VecSink::new(alloc);
     let mut said = VecSink::new(alloc);
     let status = answer(alloc, arguments, file, input, &mut writer, &mut said);
+    let output_length = fill(output, writer.bytes());
+    let errors_length = fill(errors, said.bytes());
+    *lengths = Lengths {
+        output: output_length,
+        errors: errors_length,
+    };
+    status.code()
+}
+
+/// Does what the program `ick-outcomes` does with these arguments, and returns the exit status. Each
+/// FILE has the bytes `file`, each LISTING has the bytes `listing`, and standard input has the bytes
+/// `input`. The rest is as for `ick_serve`.
+#[unsafe(no_mangle)]
+pub extern "C" fn ick_outcomes_serve(
+    alloc: Global,
+    arguments: &[u8],
+    file: &[u8],
+    listing: &[u8],
+    input: &[u8],
+    output: &mut [u8],
+    errors: &mut [u8],
+    lengths: &mut Lengths,
+) -> u8
+    ensures status { IsStatus result }
+{
+    let mut writer = VecSink::new(alloc);
+    let mut said = VecSink::new(alloc);
+    let status = answer_outcomes(
+        alloc,
+        arguments,
+        file,
+        listing,
+        input,
+        &mut writer,
+        &mut said,
+    );
     let output_length = fill(output, writer.bytes());
     let errors_length = fill(errors, said.bytes());
     *lengths = Lengths {

@@ -1,25 +1,21 @@
 //! From a job to its command: the source is read, then compiled, then the command answers.
-ghost use Rattle.std.specs.Prelude.{◌+◌, ◌<◌, ◌^◌, []};
-ghost use Rattle.ick_bits.specs.Faults.{message_of};
+ghost use Rattle.std.specs.Prelude.{◌+◌, ◌<◌, ◌^◌};
 ghost use Rattle.ick_code.specs.Compiled.{code_program};
 ghost use Rattle.ick_cli.specs.Dispatch.{AnswersCode, AnswersSource, Performs};
-ghost use Rattle.ick_cli.specs.Ending.{EndsBy};
 ghost use Rattle.ick_cli.specs.Job.{asked};
 ghost use Rattle.ick_cli.specs.Serve.{counts};
-ghost use Rattle.ick_cli.specs.Stopped.{EndsRefused};
 
 use crate::commands::{answer_check, answer_list, answer_runs, choices_in, ended};
 use crate::ending::Ending;
 use crate::files::Files;
 use crate::input::{read_file, read_front};
-use crate::notice::{Message, Notice};
 use crate::plan::{Plan, Runs, plan_of};
-use crate::stopped::fault_message;
+use crate::refusing::refused;
 use crate::words::Job;
-use ick_bits::{Fault, FaultKind, NoMemory};
+use ick_bits::NoMemory;
 use ick_code::{Code, compile};
 use ick_runs::{ByteSink, ByteSource, Chooser, SliceSource, run_stream};
-use ick_source::{Refusal, read_source};
+use ick_source::read_source;
 use std::alloc::Global;
 
 /// Does a job up to its error text: plans it, reads its source, and answers that. The source is in
@@ -123,34 +119,5 @@ fn answer_code<R: ByteSource, W: ByteSink>(
         Runs::Listed { from, count, limit } => {
             answer_runs(alloc, code, from, *count, *limit, reader, writer)
         }
-    }
-}
-
-/// Returns how work ends whose source is refused.
-fn refused(alloc: Global, refusal: Refusal) -> Ending
-    ensures { EndsRefused refusal result }
-{
-    match refusal {
-        Refusal::Fault(kind, statement) => faulty(alloc, kind, statement),
-        Refusal::TooLong => Ending::Answered {
-            status: 2,
-            message: Message::Notice(Notice::SourceTooLong),
-        },
-        Refusal::NoMemory => Ending::NoMemory,
-    }
-}
-
-/// Returns how work ends whose source has a fault.
-fn faulty(alloc: Global, kind: FaultKind, statement: u32) -> Ending
-    ensures { EndsBy 2 (message_of kind statement []) result }
-{
-    let fault = Fault {
-        kind,
-        statement,
-        subject: &[],
-    };
-    match fault_message(alloc, &fault) {
-        Ok(message) => Ending::Answered { status: 2, message },
-        Err(NoMemory) => Ending::NoMemory,
     }
 }

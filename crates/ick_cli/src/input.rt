@@ -25,10 +25,30 @@ pub fn read_file<F: Files>(alloc: Global, name: &str, files: &mut F) -> Result<V
         Leaves ending (F.failed files.old) (F.failed files.new) 0 0 0 0) }
     ensures unopened { IfErr result EndsUnopened }
 {
+    read_named(alloc, name, LONGEST + 1, files)
+}
+
+/// Reads the first `most` bytes of a file, or all its bytes if it has fewer. Without them it
+/// returns the ending of the work.
+pub fn read_named<F: Files>(
+    alloc: Global,
+    name: &str,
+    most: usize,
+    files: &mut F,
+) -> Result<Vec<u8>, Ending>
+    requires { F.failed files.old + 1 < 2 ^ 64 }
+    ensures count { IfOk result (λ _. F.failed files.new ≡ F.failed files.old) }
+    ensures fits { IfOk result (λ text. length text.items ≤ most) }
+    ensures front { F.told ≡ true → IfOk result (λ text.
+        text.items ≡ take most (F.named files.old name.now)) }
+    ensures leaves { IfErr result (λ ending.
+        Leaves ending (F.failed files.old) (F.failed files.new) 0 0 0 0) }
+    ensures unopened { IfErr result EndsUnopened }
+{
     if files.open_named(name).is_err() {
         return Err(Ending::FileNotRead);
     }
-    match read_first(alloc, files, LONGEST + 1) {
+    match read_first(alloc, files, most) {
         Ok(text) => Ok(text),
         Err(ReadFault::NoMemory) => Err(Ending::NoMemory),
         Err(ReadFault::Failed) => Err(Ending::FileNotRead),

@@ -8,6 +8,7 @@
 //! - `output`: the output of an answer
 //! - `input`: what a job reads
 //! - `stopped`: the status and the error text of a run that has stopped
+//! - `refusing`: how work ends whose source is refused
 //! - `commands`: what each command does with a program
 //! - `dispatch`: from a job to its command, by its source and its program
 //! - `status`: the exit status
@@ -27,6 +28,7 @@ mod laws;
 mod notice;
 mod output;
 mod plan;
+mod refusing;
 mod report;
 mod status;
 mod stopped;
@@ -34,6 +36,14 @@ mod usage;
 mod words;
 
 pub use driver::{WordsFault, refuse_words, serve};
+pub use ending::Ending;
 pub use files::Files;
+pub use input::{read_file, read_front, read_input, read_named};
 pub use laws::one_answer;
+pub use notice::{Message, Notice};
+pub use output::send;
+pub use refusing::refused;
+pub use report::finish;
 pub use status::Status;
+pub use usage::answer_words;
+pub use words::{bug_argument, file_argument, limit_argument};

@@ -9,3 +9,4 @@ pub mod Texts
 pub mod Keys
 pub mod Laws
 pub mod Lines
+pub mod Askers

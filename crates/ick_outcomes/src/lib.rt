@@ -11,6 +11,7 @@
 //! | `pending`, `node`, `hints` | nodes, their steps, and how equal ones are found and merged |
 //! | `outcome`, `table`, `filing`, `index` | outcomes, and how runs are added to them |
 //! | `comparing` | the order of lists of choices |
+//! | `following` | one run, and what its choices were asked by |
 //! | `natural`, `fraction`, `text`, `cut` | counts and weights of any length, and their texts |
 //! | `lines` | the text of a summary |
 //! | `laws` | laws of all summaries |
@@ -20,6 +21,7 @@ mod comparing;
 mod cut;
 mod errors;
 mod filing;
+mod following;
 mod fraction;
 mod hints;
 mod index;
@@ -37,6 +39,7 @@ mod text;
 
 pub use cut::{cut_text, weight_text};
 pub use errors::OutcomesError;
+pub use following::{AskedBy, Followed, asked_text, follow, run_line};
 pub use fraction::Fraction;
 pub use laws::{one_summary, weights_are_products};
 pub use lines::{summary_text, total_text};

@@ -37,6 +37,10 @@ pub trait States<'c>: Drop {
         ensures { asked_of result
             ≡ Some (ask (place self.now state.now).program (place self.now state.now).state) };
 
+    /// Returns the number of the statement that is met next, or one more than there are.
+    fn statement(&self, state: &Self::State) -> u32
+        ensures { result ≡ (place self.now state.now).state.place };
+
     /// Makes one step. `done` says whether a statement with a chance is done, if the state asks
     /// that, and else it changes nothing. The run must not have ended. After `NoMemory` nothing is
     /// known of the state.

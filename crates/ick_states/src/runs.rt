@@ -180,6 +180,10 @@ impl<'c, 'a> States<'c> for Runs<'c, 'a> {
         }
     }
 
+    fn statement(&self, state: &KeptRun) -> u32 {
+        state.saved.place()
+    }
+
     fn step(&self, tools: &mut Memory, state: &mut KeptRun, done: bool) -> Result<(), NoMemory> {
         self.make_step(tools, state, done)
     }

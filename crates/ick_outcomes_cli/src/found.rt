@@ -1,27 +1,11 @@
-//! What is found out of code: the outcomes of its runs over an input.
+//! The outcomes of code over an input.
 
-ghost use Rattle.std.specs.Prelude.{◌≡◌, IfOk};
-ghost use Rattle.ick_code.specs.Compiled.{code_program};
-ghost use Rattle.outcomes.specs.Found.{IsFound, IsText};
-
+use crate::words::Question;
 use ick_bits::NoMemory;
 use ick_code::Code;
 use ick_outcomes::{Outcome, OutcomesError, outcomes, summary_text, total_text};
 use ick_states::Runs;
 use std::alloc::Global;
-
-/// What is to be found out of a program.
-#[derive(Clone, Copy)]
-pub struct Question {
-    /// The steps after which a run is cut short.
-    pub limit: u32,
-    /// How many states may be kept at a time.
-    pub most: usize,
-    /// Whether weights are written exactly.
-    pub exact: bool,
-    /// Whether only the number of outcomes and that of runs are written.
-    pub total: bool,
-}
 
 /// What was found out: the text of the outcomes, or that more states would have to be kept than the
 /// question allows.
@@ -32,9 +16,7 @@ pub enum Found {
 }
 
 /// Returns the text that a question wants of outcomes.
-fn text_of(alloc: Global, outcomes: &[Outcome], question: Question) -> Result<Vec<u8>, NoMemory>
-    ensures { IfOk result (λ text. IsText question outcomes.now text.items) }
-{
+fn text_of(alloc: Global, outcomes: &[Outcome], question: Question) -> Result<Vec<u8>, NoMemory> {
     if question.total {
         return total_text(outcomes, alloc);
     }
@@ -46,15 +28,14 @@ pub fn find(
     alloc: Global,
     code: &Code<'_>,
     input: &[u8],
+    limit: u32,
     question: Question,
-) -> Result<Found, NoMemory>
-    ensures { IfOk result (λ found. IsFound (code_program code.now) input.now question found) }
-{
+) -> Result<Found, NoMemory> {
     let runs = Runs::new(alloc, code, input)?;
     let mut tools = runs.tools()?;
     let first = runs.first()?;
-    let limit = question.limit;
-    match outcomes(alloc, &runs, &mut tools, first, limit, question.most) {
+    let most = question.most as usize;
+    match outcomes(alloc, &runs, &mut tools, first, limit, most) {
         Ok(outcomes) => Ok(Found::Outcomes(text_of(alloc, &outcomes, question)?)),
         Err(OutcomesError::TooManyStates) => Ok(Found::TooManyStates),
         Err(OutcomesError::NoMemory) => Err(NoMemory),

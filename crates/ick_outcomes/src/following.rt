@@ -1,0 +1,153 @@
+//! Follows one run, and says what its choices were asked by.
+
+ghost use Rattle.std.specs.Prelude.{◌≡◌, ◌++◌, ◌<◌, ◌≤◌, length, IfOk, IfSome, None, Ok, OnOk};
+ghost use Rattle.ick_backtrack.specs.Asked.{finish_of};
+ghost use Rattle.ick_explorer.specs.Lines.{line_of};
+ghost use Rattle.ick_explorer.specs.Runs.{IsWhole};
+ghost use Rattle.ick_outcomes.specs.Askers.{AsksWithin, IsFollowed, asked_line, asker_text};
+
+use crate::outcome::end_word;
+use crate::states::States;
+use ick_backtrack::{Ask, End};
+use ick_bits::{NoMemory, append_decimal, append_quoted};
+use ick_explorer::append_choices;
+use std::alloc::Global;
+
+/// Limits the choices of a line that says what they were asked by.
+const MOST_ASKED: usize = 10_000;
+
+/// What a choice was asked by: the number of a statement, and its chance in hundredths.
+#[derive(Clone, Copy)]
+pub struct AskedBy {
+    pub statement: u32,
+    pub chance: u8,
+}
+
+/// A run that was followed to its end: its last state, its end, and what its choices were asked by.
+#[derive(Drop)]
+pub struct Followed<'c, S: Drop> {
+    pub state: S,
+    pub end: End<'c>,
+    pub asked: Vec<AskedBy>,
+}
+
+/// Returns what is asked before the next step, or the end `Limit` if a run that goes on has no step
+/// left.
+fn asks_within<'c, P: States<'c>>(program: &P, state: &P::State, left: u32) -> Ask<'c>
+    requires { P.suits program.now state.now }
+    ensures { AsksWithin (P.place program.now state.now).program
+        (P.place program.now state.now).state left result }
+{
+    match program.asks(state) {
+        Ask::Ended(end) => Ask::Ended(end),
+        _ if left == 0 => Ask::Ended(End::Limit),
+        asked => asked,
+    }
+}
+
+/// Follows the run with these choices from a state, under a limit on steps. Returns `None` if the
+/// choices aren't whole: the run wants more of them, or leaves some over. The state must be of the
+/// program, and the tools must be for it. The only refusal is out of memory.
+pub fn follow<'c, P: States<'c>>(
+    alloc: Global,
+    program: &P,
+    tools: &mut P::Tools,
+    state: P::State,
+    limit: u32,
+    choices: &[bool],
+) -> Result<Option<Followed<'c, P::State>>, NoMemory>
+    requires tools { P.serves program.now tools.old }
+    requires state { P.suits program.now state }
+    ensures followed { IfOk result (λ found. IfSome found (λ run.
+        IsFollowed (P.place program.now state).program (P.place program.now state).state limit
+        choices.now (P.place program.now run.state).state (finish_of run.end) run.asked.items)) }
+    ensures none { result ≡ Ok None → ¬ IsWhole (P.place program.now state).program
+        (P.place program.now state).state limit choices.now }
+    ensures tools { P.serves program.now tools.new }
+{
+    let mut state = state;
+    let mut asked = Vec::new(alloc);
+    let mut left = limit;
+    'steps: loop {
+        left -= program.run(tools, &mut state, left)?;
+        match asks_within(program, &state, left) {
+            Ask::Ended(end) => return Ok(whole(state, end, asked, choices)),
+            Ask::Plain => program.step(tools, &mut state, false)?,
+            Ask::Choice(chance) => {
+                let at = asked.len();
+                if at == choices.len() {
+                    return Ok(None);
+                }
+                let statement = program.statement(&state);
+                asked.push(AskedBy { statement, chance })?;
+                program.step(tools, &mut state, choices[at])?;
+            }
+        }
+        left -= 1;
+    }
+}
+
+/// Returns a run that has ended, or `None` if it leaves choices over.
+fn whole<'c, S: Drop>(
+    state: S,
+    end: End<'c>,
+    asked: Vec<AskedBy>,
+    choices: &[bool],
+) -> Option<Followed<'c, S>>
+    ensures some { IfSome result (λ run. (run.state ≡ state) × (run.end ≡ end.entry)
+        × (run.asked.items ≡ asked.items) × (length choices.now ≤ length asked.items)) }
+    ensures none { result ≡ None → length asked.items < length choices.now }
+{
+    if asked.len() < choices.len() {
+        return None;
+    }
+    Some(Followed { state, end, asked })
+}
+
+/// Returns the line of a run that was followed, as a listing shows it. The only refusal is out of
+/// memory.
+pub fn run_line<'c, P: States<'c>>(
+    alloc: Global,
+    program: &P,
+    followed: &Followed<'c, P::State>,
+    choices: &[bool],
+) -> Result<Vec<u8>, NoMemory>
+    ensures { IfOk result (λ line. line.items ≡ line_of choices.now
+        (finish_of followed.now.end)
+        (P.place program.now followed.now.state).state.output) }
+{
+    let end = end_word(alloc, followed.end)?;
+    let mut line = Vec::new(alloc);
+    append_choices(&mut line, choices)?;
+    line.push(b' ')?;
+    line.extend_from_slice(&end)?;
+    line.push(b' ')?;
+    append_quoted(&mut line, program.output(&followed.state))?;
+    line.push(b'\n')?;
+    Ok(line)
+}
+
+/// Appends `STATEMENT:CHANCE`.
+fn append_asker(out: &mut Vec<u8>, asker: AskedBy) -> Result<(), NoMemory>
+    ensures { OnOk result (out.new.items ≡ out.old.items ++ asker_text asker) }
+{
+    append_decimal(out, u64::from(asker.statement))?;
+    out.push(b':')?;
+    append_decimal(out, u64::from(asker.chance))
+}
+
+/// Returns the line of what choices were asked by: `STATEMENT:CHANCE` for each of the first 10,000,
+/// with a blank between two. The only refusal is out of memory.
+pub fn asked_text(alloc: Global, asked: &[AskedBy]) -> Result<Vec<u8>, NoMemory>
+    ensures { IfOk result (λ text. text.items ≡ asked_line asked.now) }
+{
+    let mut text = Vec::new(alloc);
+    'askers: for at in 0..asked.len().min(MOST_ASKED) {
+        if at > 0 {
+            text.push(b' ')?;
+        }
+        append_asker(&mut text, asked[at])?;
+    }
+    text.push(b'\n')?;
+    Ok(text)
+}

@@ -1,0 +1,40 @@
+//! The whole of the program over its devices.
+
+ghost use Rattle.std.specs.Prelude.{◌+◌, ◌<◌, ◌^◌};
+
+use crate::dispatch::perform;
+use crate::words::read_job;
+use ick_cli::{Files, Status, answer_words};
+use ick_runs::{ByteSink, ByteSource};
+use std::alloc::Global;
+
+/// Does the job that the arguments ask for, and returns the exit status.
+///
+/// The arguments are without the program's own name. If they name a file, `files` opens it, its
+/// bytes are the source, and `reader` has the input, which is read whole if the source compiles.
+/// Without a file the source comes from `reader`, and the input is empty. If they name a listing,
+/// `listings` opens it, after the input is read. The output goes to `writer`, and nothing is written
+/// before all of it is found. The text of a refusal or a failure goes to `errors`, after the output.
+/// The arguments, the statuses and the texts are this profile's.
+///
+/// The counts of failures of all devices must be below their greatest values.
+pub fn serve_outcomes<F: Files, L: Files, R: ByteSource, W: ByteSink, E: ByteSink>(
+    alloc: Global,
+    words: &[&str],
+    files: &mut F,
+    listings: &mut L,
+    reader: &mut R,
+    writer: &mut W,
+    errors: &mut E,
+) -> Status
+    requires files_sound { F.failed files.old + 1 < 2 ^ 64 }
+    requires listings_sound { L.failed listings.old + 1 < 2 ^ 64 }
+    requires reader_sound { R.failed reader.old + 1 < 2 ^ 64 }
+    requires writer_sound { W.failed writer.old + 1 < 2 ^ 64 }
+    requires errors_sound { E.failed errors.old + 1 < 2 ^ 64 }
+{
+    match read_job(alloc, words) {
+        Ok(job) => perform(alloc, &job, files, listings, reader, writer).report(errors),
+        Err(error) => answer_words(alloc, &error, writer, errors),
+    }
+}

@@ -1,0 +1,21 @@
+//! The command line of the program that lists outcomes. `serve_outcomes` does the job that
+//! arguments ask for, over devices of the caller.
+//!
+//! - `words`: the options, and the job that arguments ask for
+//! - `ended`: how the work of a job ends
+//! - `found`: the outcomes of code
+//! - `lines`: the lines of a listing
+//! - `asked`: what the choices of a listing were asked by
+//! - `dispatch`: from a job to its answer, by its source, its input and its listing
+//! - `driver`: the whole, from the arguments to the status
+#![tactic(auto)]
+
+mod asked;
+mod dispatch;
+mod driver;
+mod ended;
+mod found;
+mod lines;
+mod words;
+
+pub use driver::serve_outcomes;

@@ -1,0 +1,8 @@
+//! The command line: its options, and the job that arguments ask for.
+
+mod arguments;
+mod command;
+mod help;
+mod job;
+
+pub use job::{Job, Question, read_job};

@@ -1,0 +1,59 @@
+//! The job that arguments ask for.
+
+use crate::words::command::outcomes_command;
+use clap::{ArgMatches, Error};
+use std::alloc::Global;
+
+/// What is to be found out of the outcomes of a program.
+#[derive(Clone, Copy)]
+pub struct Question {
+    /// How many states are kept at a time.
+    pub most: u32,
+    /// Whether weights are printed exactly.
+    pub exact: bool,
+    /// Whether only the numbers of outcomes and of runs are printed.
+    pub total: bool,
+}
+
+/// What the arguments ask for: the outcomes of the source, or what the choices of a listing were
+/// asked by. The source is in a file, or the reader has it if no file is named.
+#[derive(Clone, Copy)]
+pub struct Job<'a> {
+    pub question: Question,
+    pub limit: u32,
+    pub listing: Option<&'a str>,
+    pub file: Option<&'a str>,
+}
+
+/// Reads the arguments. If they ask for a job, only running out of memory can refuse it.
+pub fn read_job<'a>(alloc: Global, words: &'a [&'a str]) -> Result<Job<'a>, Error> {
+    let command = outcomes_command(alloc)?;
+    match command.try_get_matches_from(words) {
+        Ok(matches) => Ok(job_in(&matches)),
+        Err(error) => Err(error),
+    }
+}
+
+/// Returns the job of matches.
+fn job_in<'a>(matches: &ArgMatches<'a>) -> Job<'a> {
+    Job {
+        question: Question {
+            most: number(matches, "most").unwrap_or(1_000_000),
+            exact: matches.get_flag("exact"),
+            total: matches.get_flag("total"),
+        },
+        limit: number(matches, "limit").unwrap_or(10_000),
+        listing: text(matches, "asked"),
+        file: text(matches, "file"),
+    }
+}
+
+/// Returns the text that an option was given.
+fn text<'a>(matches: &ArgMatches<'a>, id: &str) -> Option<&'a str> {
+    matches.get_str(id)
+}
+
+/// Returns the number that an option was given.
+fn number(matches: &ArgMatches<'_>, id: &str) -> Option<u32> {
+    matches.get_one::<u32>(id)
+}
