@@ -37,6 +37,28 @@ pub struct Lengths {
     pub errors: usize,
 }
 
+/// Copies the fronts of the texts that a call wrote into a caller's memory, as much as there is
+/// room, and says how long the texts are.
+fn hand_over(
+    writer: &VecSink,
+    said: &VecSink,
+    output: &mut [u8],
+    errors: &mut [u8],
+    lengths: &mut Lengths,
+)
+    ensures output { output.new ≡ filled writer.now.bytes output.old }
+    ensures output_length { lengths.new.output ≡ length writer.now.bytes }
+    ensures errors { errors.new ≡ filled said.now.bytes errors.old }
+    ensures errors_length { lengths.new.errors ≡ length said.now.bytes }
+{
+    let output_length = fill(output, writer.bytes());
+    let errors_length = fill(errors, said.bytes());
+    *lengths = Lengths {
+        output: output_length,
+        errors: errors_length,
+    };
+}
+
 /// Does what the program `ick` does with these arguments, and returns the exit status. Each file
 /// has the bytes `file`, and standard input has the bytes `input`.
 ///
@@ -66,12 +88,7 @@ pub extern "C" fn ick_serve(
     let mut writer = VecSink::new(alloc);
     let mut said = VecSink::new(alloc);
     let status = answer(alloc, arguments, file, input, &mut writer, &mut said);
-    let output_length = fill(output, writer.bytes());
-    let errors_length = fill(errors, said.bytes());
-    *lengths = Lengths {
-        output: output_length,
-        errors: errors_length,
-    };
+    hand_over(&writer, &said, output, errors, lengths);
     status.code()
 }
 
@@ -102,11 +119,6 @@ pub extern "C" fn ick_outcomes_serve(
         &mut writer,
         &mut said,
     );
-    let output_length = fill(output, writer.bytes());
-    let errors_length = fill(errors, said.bytes());
-    *lengths = Lengths {
-        output: output_length,
-        errors: errors_length,
-    };
+    hand_over(&writer, &said, output, errors, lengths);
     status.code()
 }

@@ -88,6 +88,12 @@ Sends output _ before after = (n : ℕ) × (after ≡ before ++ take n output)
 abbrev pub Answers : Answer → Ending → List ℕ → List ℕ → Type 0
 Answers answer ending before after = HasAnswer answer ending × Sends answer.output ending before after
 
+-- the output was sent, or the writer failed
+abbrev pub EndsSent : Ending → Type 0
+EndsSent (Answered status message) = Unit {0}
+EndsSent WriteFailed = Unit {0}
+EndsSent _ = ⊥
+
 -- a fact that holds if the work ended with an answer
 abbrev pub WhereAnswered : Ending → Type 0 → Type 0
 WhereAnswered (Answered status message) Fact = Fact

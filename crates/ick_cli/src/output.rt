@@ -1,6 +1,6 @@
 //! The output of an answer.
 ghost use Rattle.std.specs.Prelude.{◌≡◌, ◌+◌, ◌<◌, ◌≤◌, ◌^◌, true};
-ghost use Rattle.ick_cli.specs.Ending.{Answers, LeavesWriter, message_text};
+ghost use Rattle.ick_cli.specs.Ending.{Answers, EndsSent, LeavesWriter, message_text};
 
 use crate::ending::Ending;
 use crate::notice::Message;
@@ -11,6 +11,7 @@ pub fn send<W: ByteSink>(output: &[u8], status: u8, message: Message, writer: &m
     requires sound { W.failed writer.old + 1 < 2 ^ 64 }
     requires known { status ≤ 3 }
     ensures leaves { LeavesWriter result (W.failed writer.old) (W.failed writer.new) }
+    ensures sent { EndsSent result }
     ensures answer { W.told ≡ true →
         Answers (record { output = output.now; errors = message_text message; status = status })
         result (W.written writer.old) (W.written writer.new) }

@@ -106,6 +106,7 @@ fn whole<'c, S: Drop>(
 
 /// Returns the line of a run that was followed, as a listing shows it. The only refusal is out of
 /// memory.
+#[tactic(auto, unfolding(ick_explorer::specs::Lines::line_of))]
 pub fn run_line<'c, P: States<'c>>(
     alloc: Global,
     program: &P,

@@ -1,15 +1,23 @@
 //! What the choices of a listing were asked by.
 
+ghost use Rattle.std.specs.Prelude.{◌≡◌, ℕ, List, Bool, IfOk, IfSome, None, Ok};
+ghost use Rattle.ick_code.specs.Compiled.{code_program};
+ghost use Rattle.ick_code.specs.meaning.Move.{first_state};
+ghost use Rattle.ick_outcomes.specs.Askers.{asked, asked_line};
+ghost use Rattle.ick_outcomes_cli.specs.Asked.{IsAskedBy};
+ghost use Rattle.ick_outcomes_cli.specs.Lines.{IsLineOf, IsRunLine};
+
 use crate::lines::{first_line, first_word, is_last};
 use ick_bits::NoMemory;
 use ick_code::Code;
+use ick_explorer::{one_reading, runs_are_limited};
 use ick_outcomes::{asked_text, follow, run_line};
 use ick_runs::{Cursor, RunsError};
 use ick_states::Runs;
 use std::alloc::Global;
 
-/// A text with a line for each run of a listing, or the number of the first line that is none of
-/// the program's and the input's.
+/// A text with a line for each run of a listing, or the number of the first line that no listing of
+/// the program over the input has.
 #[derive(Drop)]
 pub enum Asked {
     Text(Vec<u8>),
@@ -24,8 +32,10 @@ pub fn asked_by(
     input: &[u8],
     limit: u32,
     listing: &[u8],
-) -> Result<Asked, NoMemory> {
-    let runs = Runs::new(alloc, code, input)?;
+) -> Result<Asked, NoMemory>
+    ensures { IfOk result (λ asked. IsAskedBy (code_program code.now)
+        (first_state (code_program code.now) input.now) limit listing.now asked) }
+{
     let mut text = Vec::new(alloc);
     let mut rest = listing;
     let mut number = 0;
@@ -35,7 +45,7 @@ pub fn asked_by(
             return Ok(Asked::Foreign(number));
         };
         if !is_last(line) {
-            match line_asked(alloc, &runs, limit, line)? {
+            match line_asked(alloc, code, input, limit, line)? {
                 Some(asked) => text.extend_from_slice(&asked)?,
                 None => return Ok(Asked::Foreign(number)),
             }
@@ -45,16 +55,30 @@ pub fn asked_by(
     Ok(Asked::Text(text))
 }
 
-/// Returns what the choices of a line of a listing were asked by, or `None` if the line is of no
-/// run.
+/// Returns what the choices of a line of a listing were asked by, or `None` if the line is that of
+/// no run.
 fn line_asked(
     alloc: Global,
-    runs: &Runs<'_, '_>,
+    code: &Code<'_>,
+    input: &[u8],
     limit: u32,
     line: &[u8],
-) -> Result<Option<Vec<u8>>, NoMemory> {
-    match Cursor::from_text(alloc, first_word(line), limit) {
-        Ok(cursor) => run_asked(alloc, runs, limit, line, cursor.choices()),
+) -> Result<Option<Vec<u8>>, NoMemory>
+    ensures some { IfOk result (λ found. IfSome found (λ text. (c : List Bool)
+        × IsRunLine (code_program code.now) (first_state (code_program code.now) input.now) limit
+        line.now c
+        × (text.items ≡ asked_line (asked (code_program code.now)
+        (first_state (code_program code.now) input.now) limit c)))) }
+    ensures none { result ≡ Ok None → (c : List Bool) → ¬ IsRunLine (code_program code.now)
+        (first_state (code_program code.now) input.now) limit line.now c }
+{
+    one_reading();
+    runs_are_limited();
+    let Some(word) = first_word(line) else {
+        return Ok(None);
+    };
+    match Cursor::from_text(alloc, word, limit) {
+        Ok(cursor) => run_asked(alloc, code, input, limit, line, cursor.choices()),
         Err(RunsError::NoMemory) => Err(NoMemory),
         Err(_) => Ok(None),
     }
@@ -64,17 +88,27 @@ fn line_asked(
 /// choices.
 fn run_asked(
     alloc: Global,
-    runs: &Runs<'_, '_>,
+    code: &Code<'_>,
+    input: &[u8],
     limit: u32,
     line: &[u8],
     choices: &[bool],
-) -> Result<Option<Vec<u8>>, NoMemory> {
+) -> Result<Option<Vec<u8>>, NoMemory>
+    ensures some { IfOk result (λ found. IfSome found (λ text.
+        IsLineOf (code_program code.now) (first_state (code_program code.now) input.now) limit
+        line.now choices.now
+        × (text.items ≡ asked_line (asked (code_program code.now)
+        (first_state (code_program code.now) input.now) limit choices.now)))) }
+    ensures none { result ≡ Ok None → ¬ IsLineOf (code_program code.now)
+        (first_state (code_program code.now) input.now) limit line.now choices.now }
+{
+    let runs = Runs::new(alloc, code, input)?;
     let mut tools = runs.tools()?;
     let first = runs.first()?;
-    let Some(followed) = follow(alloc, runs, &mut tools, first, limit, choices)? else {
+    let Some(followed) = follow(alloc, &runs, &mut tools, first, limit, choices)? else {
         return Ok(None);
     };
-    let wanted = run_line(alloc, runs, &followed, choices)?;
+    let wanted = run_line(alloc, &runs, &followed, choices)?;
     if wanted.as_slice() != line {
         return Ok(None);
     }

@@ -1,12 +1,20 @@
 //! From a job to its answer: the source is read, then compiled, then the input is read, then the
 //! code answers.
 
-ghost use Rattle.std.specs.Prelude.{◌+◌, ◌<◌, ◌^◌};
+ghost use Rattle.std.specs.Prelude.{◌≡◌, ◌+◌, ◌<◌, ◌^◌, IfOk, None, Some, true};
+ghost use Rattle.ick_code.specs.Compiled.{code_program};
+ghost use Rattle.ick_cli.specs.Ending.{EndsBy, input_of, source_of};
+ghost use Rattle.ick_outcomes_cli.specs.Asked.{foreign_text};
+ghost use Rattle.ick_outcomes_cli.specs.Ended.{Gives, LeavesAll, listing_of};
+ghost use Rattle.ick_outcomes_cli.specs.Job.{wanted};
+ghost use Rattle.ick_outcomes_cli.specs.Tool.{HasMoreStates, HasTooMany, IsExplained, IsStopped};
+ghost use Rattle.ick_outcomes_cli.specs.Tool.{IsOutcomesAnswer, IsProgramAnswer, IsSourceAnswer};
+ghost use Rattle.ick_outcomes_cli.specs.Tool.{IsSummed, IsTextFound, IsToldOf, MayStop};
 
 use crate::asked::{Asked, asked_by};
 use crate::ended::Ended;
 use crate::found::{Found, find};
-use crate::words::Job;
+use crate::words::{Job, Question};
 use ick_bits::{NoMemory, append_decimal};
 use ick_cli::{
     Ending, Files, Message, Notice, read_file, read_front, read_input, read_named, refused, send,
@@ -33,18 +41,36 @@ pub fn perform<F: Files, L: Files, R: ByteSource, W: ByteSink>(
     requires listings_sound { L.failed listings.old + 1 < 2 ^ 64 }
     requires reader_sound { R.failed reader.old + 1 < 2 ^ 64 }
     requires writer_sound { W.failed writer.old + 1 < 2 ^ 64 }
+    ensures leaves { LeavesAll result (F.failed files.old + L.failed listings.old)
+        (F.failed files.new + L.failed listings.new) (R.failed reader.old) (R.failed reader.new)
+        (W.failed writer.old) (W.failed writer.new) }
+    ensures gives { F.told ≡ true → L.told ≡ true → R.told ≡ true → W.told ≡ true
+        → let job = wanted job.now in
+        let input = input_of job.file (R.left reader.old) in
+        let source = source_of job.file (F.named files.old) (F.failed files.old)
+        (F.failed files.new) (R.left reader.old) in
+        Gives (IsOutcomesAnswer job input (listing_of job.listing (L.named listings.old)
+        (L.failed listings.old) (L.failed listings.new)) source) (MayStop job input source)
+        result (W.written writer.old) (W.written writer.new) }
 {
     match job.file {
         Some(name) => match read_file(alloc, name, files) {
-            Ok(source) => answer_source(alloc, job, &source, listings, reader, writer),
-            Err(ending) => Ended::Ending(ending),
+            Ok(source) => answer_source(alloc, job, source.as_slice(), listings, reader, writer),
+            Err(ending) => Ended::By(ending),
         },
         None => match read_front(alloc, reader) {
             Ok(source) => {
                 let mut nothing = SliceSource::new(&[]);
-                answer_source(alloc, job, &source, listings, &mut nothing, writer)
+                answer_source(
+                    alloc,
+                    job,
+                    source.as_slice(),
+                    listings,
+                    &mut nothing,
+                    writer,
+                )
             }
-            Err(ending) => Ended::Ending(ending),
+            Err(ending) => Ended::By(ending),
         },
     }
 }
@@ -61,14 +87,22 @@ fn answer_source<L: Files, R: ByteSource, W: ByteSink>(
     requires listings_sound { L.failed listings.old + 1 < 2 ^ 64 }
     requires reader_sound { R.failed reader.old + 1 < 2 ^ 64 }
     requires writer_sound { W.failed writer.old + 1 < 2 ^ 64 }
+    ensures leaves { LeavesAll result (L.failed listings.old) (L.failed listings.new)
+        (R.failed reader.old) (R.failed reader.new) (W.failed writer.old) (W.failed writer.new) }
+    ensures gives { L.told ≡ true → R.told ≡ true → W.told ≡ true → let job = wanted job.now in
+        Gives (IsSourceAnswer job source.now (R.left reader.old)
+        (listing_of job.listing (L.named listings.old)
+        (L.failed listings.old) (L.failed listings.new)))
+        (HasMoreStates job source.now (R.left reader.old))
+        result (W.written writer.old) (W.written writer.new) }
 {
     let program = match read_source(alloc, source) {
         Ok(program) => program,
-        Err(refusal) => return Ended::Ending(refused(alloc, refusal)),
+        Err(refusal) => return Ended::By(refused(alloc, refusal)),
     };
     match compile(alloc, &program) {
         Ok(code) => answer_code(alloc, job, &code, listings, reader, writer),
-        Err(NoMemory) => Ended::Ending(Ending::NoMemory),
+        Err(NoMemory) => Ended::By(Ending::NoMemory),
     }
 }
 
@@ -84,85 +118,155 @@ fn answer_code<L: Files, R: ByteSource, W: ByteSink>(
     requires listings_sound { L.failed listings.old + 1 < 2 ^ 64 }
     requires reader_sound { R.failed reader.old + 1 < 2 ^ 64 }
     requires writer_sound { W.failed writer.old + 1 < 2 ^ 64 }
+    ensures leaves { LeavesAll result (L.failed listings.old) (L.failed listings.new)
+        (R.failed reader.old) (R.failed reader.new) (W.failed writer.old) (W.failed writer.new) }
+    ensures gives { L.told ≡ true → R.told ≡ true → W.told ≡ true → let job = wanted job.now in
+        Gives (IsProgramAnswer (code_program code.now) (R.left reader.old) job.limit job.question
+        (listing_of job.listing (L.named listings.old)
+        (L.failed listings.old) (L.failed listings.new)) job.listing)
+        ((job.listing ≡ None)
+        × HasTooMany (code_program code.now) (R.left reader.old) job.limit job.question)
+        result (W.written writer.old) (W.written writer.new) }
 {
     match read_input(alloc, reader) {
         Ok(input) => match job.listing {
-            None => answer_outcomes(alloc, job, code, &input, writer),
-            Some(name) => answer_listing(alloc, job.limit, code, &input, name, listings, writer),
+            None => answer_outcomes(
+                alloc,
+                code,
+                input.as_slice(),
+                job.limit,
+                job.question,
+                writer,
+            ),
+            Some(name) => answer_listing(
+                alloc,
+                code,
+                input.as_slice(),
+                job.limit,
+                name,
+                listings,
+                writer,
+            ),
         },
-        Err(ending) => Ended::Ending(ending),
+        Err(ending) => Ended::By(ending),
     }
 }
 
 /// Answers code by its outcomes over an input. Nothing is written before all are found.
 fn answer_outcomes<W: ByteSink>(
     alloc: Global,
-    job: &Job<'_>,
     code: &Code<'_>,
     input: &[u8],
+    limit: u32,
+    question: Question,
     writer: &mut W,
 ) -> Ended
     requires { W.failed writer.old + 1 < 2 ^ 64 }
+    ensures leaves { LeavesAll result 0 0 0 0 (W.failed writer.old) (W.failed writer.new) }
+    ensures gives { W.told ≡ true → Gives
+        (IsSummed (code_program code.now) input.now limit question)
+        (HasTooMany (code_program code.now) input.now limit question)
+        result (W.written writer.old) (W.written writer.new) }
 {
-    match find(alloc, code, input, job.limit, job.question) {
-        Ok(Found::Outcomes(text)) => Ended::Ending(send(&text, 0, Message::Nothing, writer)),
-        Ok(Found::TooManyStates) => Ended::Refused(Notice::TooManyStates),
-        Err(NoMemory) => Ended::Ending(Ending::NoMemory),
+    match find(alloc, code, input, limit, question) {
+        Ok(found) => show(&found, writer),
+        Err(NoMemory) => Ended::By(Ending::NoMemory),
     }
 }
 
-/// Answers code by what the choices of a listing were asked by.
+/// Writes what was found out.
+fn show<W: ByteSink>(found: &Found, writer: &mut W) -> Ended
+    requires { W.failed writer.old + 1 < 2 ^ 64 }
+    ensures leaves { LeavesAll result 0 0 0 0 (W.failed writer.old) (W.failed writer.new) }
+    ensures gives { W.told ≡ true → Gives (IsTextFound found.now) (IsStopped found.now)
+        result (W.written writer.old) (W.written writer.new) }
+{
+    match found {
+        Found::Outcomes(text) => { Ended::By(send(text.as_slice(), 0, Message::Nothing, writer)) }
+        Found::TooManyStates => Ended::Refused(Notice::TooManyStates),
+    }
+}
+
+/// Answers code by what the choices of a listing were asked by. The listing is in a file.
 fn answer_listing<L: Files, W: ByteSink>(
     alloc: Global,
-    limit: u32,
     code: &Code<'_>,
     input: &[u8],
+    limit: u32,
     name: &str,
     listings: &mut L,
     writer: &mut W,
 ) -> Ended
     requires listings_sound { L.failed listings.old + 1 < 2 ^ 64 }
     requires writer_sound { W.failed writer.old + 1 < 2 ^ 64 }
+    ensures leaves { LeavesAll result (L.failed listings.old) (L.failed listings.new) 0 0
+        (W.failed writer.old) (W.failed writer.new) }
+    ensures gives { L.told ≡ true → W.told ≡ true → Gives
+        (IsExplained (code_program code.now) input.now limit (listing_of (Some name.now)
+        (L.named listings.old) (L.failed listings.old) (L.failed listings.new))) ⊥
+        result (W.written writer.old) (W.written writer.new) }
 {
     match read_named(alloc, name, LONGEST_LISTING + 1, listings) {
-        Ok(listing) if listing.len() > LONGEST_LISTING => Ended::Refused(Notice::ListingTooLong),
-        Ok(listing) => answer_asked(alloc, limit, code, input, &listing, writer),
-        Err(ending) => Ended::Ending(ending),
+        Ok(listing) => answer_lines(alloc, code, input, limit, listing.as_slice(), writer),
+        Err(ending) => Ended::By(ending),
     }
 }
 
-/// Answers code by what the choices of a listing were asked by, or by the first line that is of no
-/// run. Nothing is written before all lines are read.
-fn answer_asked<W: ByteSink>(
+/// Answers code by what the choices of a listing were asked by, unless the listing is too long.
+fn answer_lines<W: ByteSink>(
     alloc: Global,
-    limit: u32,
     code: &Code<'_>,
     input: &[u8],
+    limit: u32,
     listing: &[u8],
     writer: &mut W,
 ) -> Ended
     requires { W.failed writer.old + 1 < 2 ^ 64 }
+    ensures leaves { LeavesAll result 0 0 0 0 (W.failed writer.old) (W.failed writer.new) }
+    ensures gives { W.told ≡ true → Gives
+        (IsExplained (code_program code.now) input.now limit (Some listing.now)) ⊥
+        result (W.written writer.old) (W.written writer.new) }
 {
+    if listing.len() > LONGEST_LISTING {
+        return Ended::Refused(Notice::ListingTooLong);
+    }
     match asked_by(alloc, code, input, limit, listing) {
-        Ok(Asked::Text(text)) => Ended::Ending(send(&text, 0, Message::Nothing, writer)),
-        Ok(Asked::Foreign(number)) => foreign(alloc, number),
-        Err(NoMemory) => Ended::Ending(Ending::NoMemory),
+        Ok(asked) => Ended::By(tell(alloc, &asked, writer)),
+        Err(NoMemory) => Ended::By(Ending::NoMemory),
+    }
+}
+
+/// Writes what choices were asked by, or says which line is of no run.
+fn tell<W: ByteSink>(alloc: Global, asked: &Asked, writer: &mut W) -> Ending
+    requires { W.failed writer.old + 1 < 2 ^ 64 }
+    ensures leaves { LeavesAll (Ended.By result) 0 0 0 0
+        (W.failed writer.old) (W.failed writer.new) }
+    ensures gives { W.told ≡ true → Gives (IsToldOf asked.now) ⊥ (Ended.By result)
+        (W.written writer.old) (W.written writer.new) }
+{
+    match asked {
+        Asked::Text(text) => send(text.as_slice(), 0, Message::Nothing, writer),
+        Asked::Foreign(number) => foreign(alloc, *number),
     }
 }
 
 /// Returns how work ends at a line that is of no run.
-fn foreign(alloc: Global, number: u64) -> Ended {
-    match foreign_text(alloc, number) {
-        Ok(text) => Ended::Ending(Ending::Answered {
+fn foreign(alloc: Global, number: u64) -> Ending
+    ensures { EndsBy 64 (foreign_text number) result }
+{
+    match foreign_line(alloc, number) {
+        Ok(text) => Ending::Answered {
             status: 64,
             message: Message::Text(text),
-        }),
-        Err(NoMemory) => Ended::Ending(Ending::NoMemory),
+        },
+        Err(NoMemory) => Ending::NoMemory,
     }
 }
 
 /// Returns the line that names a line of no run.
-fn foreign_text(alloc: Global, number: u64) -> Result<Vec<u8>, NoMemory> {
+fn foreign_line(alloc: Global, number: u64) -> Result<Vec<u8>, NoMemory>
+    ensures { IfOk result (λ text. text.items ≡ foreign_text number) }
+{
     let mut text = Vec::new(alloc);
     text.extend_from_slice(b"LINE ")?;
     append_decimal(&mut text, number)?;

@@ -1,5 +1,9 @@
 //! The outcomes of code over an input.
 
+ghost use Rattle.std.specs.Prelude.{◌≡◌, IfOk};
+ghost use Rattle.ick_code.specs.Compiled.{code_program};
+ghost use Rattle.ick_outcomes_cli.specs.Tool.{IsFound, IsTextOf};
+
 use crate::words::Question;
 use ick_bits::NoMemory;
 use ick_code::Code;
@@ -16,7 +20,9 @@ pub enum Found {
 }
 
 /// Returns the text that a question wants of outcomes.
-fn text_of(alloc: Global, outcomes: &[Outcome], question: Question) -> Result<Vec<u8>, NoMemory> {
+fn text_of(alloc: Global, outcomes: &[Outcome], question: Question) -> Result<Vec<u8>, NoMemory>
+    ensures { IfOk result (λ text. IsTextOf question.exact question.total outcomes.now text.items) }
+{
     if question.total {
         return total_text(outcomes, alloc);
     }
@@ -30,7 +36,10 @@ pub fn find(
     input: &[u8],
     limit: u32,
     question: Question,
-) -> Result<Found, NoMemory> {
+) -> Result<Found, NoMemory>
+    ensures { IfOk result (λ found.
+        IsFound (code_program code.now) input.now limit question found) }
+{
     let runs = Runs::new(alloc, code, input)?;
     let mut tools = runs.tools()?;
     let first = runs.first()?;

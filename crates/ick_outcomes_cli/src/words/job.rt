@@ -1,5 +1,13 @@
 //! The job that arguments ask for.
 
+ghost use Rattle.std.specs.Prelude.{◌≡◌, IfOk, option_map};
+ghost use Rattle.clap.specs.Kinds.{FailsBy};
+ghost use Rattle.clap.specs.Walk.{texts};
+ghost use Rattle.clap.specs.Words.{fault_of, found_of, rows_of};
+ghost use Rattle.ick_cli.specs.Job.{number_in, text_in};
+ghost use Rattle.ick_outcomes_cli.specs.Job.{flag_in, job_of, wanted, wanted_in};
+ghost use Rattle.ick_outcomes_cli.specs.Words.{outcomes_app};
+
 use crate::words::command::outcomes_command;
 use clap::{ArgMatches, Error};
 use std::alloc::Global;
@@ -26,7 +34,10 @@ pub struct Job<'a> {
 }
 
 /// Reads the arguments. If they ask for a job, only running out of memory can refuse it.
-pub fn read_job<'a>(alloc: Global, words: &'a [&'a str]) -> Result<Job<'a>, Error> {
+pub fn read_job<'a>(alloc: Global, words: &'a [&'a str]) -> Result<Job<'a>, Error>
+    ensures job { IfOk result (λ job. wanted job ≡ job_of (texts words.entry.now)) }
+    ensures law { FailsBy (fault_of outcomes_app (texts words.entry.now)) result }
+{
     let command = outcomes_command(alloc)?;
     match command.try_get_matches_from(words) {
         Ok(matches) => Ok(job_in(&matches)),
@@ -35,12 +46,14 @@ pub fn read_job<'a>(alloc: Global, words: &'a [&'a str]) -> Result<Job<'a>, Erro
 }
 
 /// Returns the job of matches.
-fn job_in<'a>(matches: &ArgMatches<'a>) -> Job<'a> {
+fn job_in<'a>(matches: &ArgMatches<'a>) -> Job<'a>
+    ensures { wanted result ≡ wanted_in (rows_of (found_of matches.now)) }
+{
     Job {
         question: Question {
             most: number(matches, "most").unwrap_or(1_000_000),
-            exact: matches.get_flag("exact"),
-            total: matches.get_flag("total"),
+            exact: flag(matches, "exact"),
+            total: flag(matches, "total"),
         },
         limit: number(matches, "limit").unwrap_or(10_000),
         listing: text(matches, "asked"),
@@ -49,11 +62,25 @@ fn job_in<'a>(matches: &ArgMatches<'a>) -> Job<'a> {
 }
 
 /// Returns the text that an option was given.
-fn text<'a>(matches: &ArgMatches<'a>, id: &str) -> Option<&'a str> {
+fn text<'a>(matches: &ArgMatches<'a>, id: &str) -> Option<&'a str>
+    ensures { option_map (λ s. s.now) result ≡ text_in id.now (rows_of (found_of matches.now)) }
+{
     matches.get_str(id)
 }
 
+/// Returns whether a flag was given.
+fn flag(matches: &ArgMatches<'_>, id: &str) -> bool
+    ensures { result ≡ flag_in id.now (rows_of (found_of matches.now)) }
+{
+    match text(matches, id) {
+        Some(given) => given == "true",
+        None => false,
+    }
+}
+
 /// Returns the number that an option was given.
-fn number(matches: &ArgMatches<'_>, id: &str) -> Option<u32> {
+fn number(matches: &ArgMatches<'_>, id: &str) -> Option<u32>
+    ensures { result ≡ number_in 32 id.now (rows_of (found_of matches.now)) }
+{
     matches.get_one::<u32>(id)
 }

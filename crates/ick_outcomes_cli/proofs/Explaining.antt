@@ -1,0 +1,135 @@
+-- The lines of a listing: the first one, and what their choices were asked by.
+use Rattle.std.proofs.Common.{◌≡◌, ◌≢◌, ◌++◌, ◌∷◌, ◌∙◌, ◌+◌, ◌<◌, ◌≤◌, ◌⊎◌, inl, inr, ℕ, Bool, List, [], length}
+use Rattle.std.proofs.Common.{ap, append_assoc, arith, refl, subst, suc, sym}
+use Rattle.std.proofs.lemmas.List.{append-nil}
+use Rattle.std.specs.Str.Iter.{LacksByte}
+use Rattle.ick_code.specs.meaning.State.{State}
+use Rattle.ick_backtrack.specs.Machine.{Program}
+use Rattle.ick_explorer.specs.ChoiceTexts.{IsTextOf}
+use Rattle.ick_explorer.specs.Laws.{AreLimited, ReadsBack}
+use Rattle.ick_outcomes.specs.Askers.{asked, asked_line}
+use Rattle.ick_outcomes_cli.specs.Asked.{Explains, ForeignAt, foreign_here, foreign_later, last_line, no_line, run_line}
+use Rattle.ick_outcomes_cli.specs.Lines.{IsFirstWord, IsLast, IsLine, IsLineOf, IsListed, IsRunLine}
+
+lacks_first : (byte b : ℕ) (text : List ℕ) → LacksByte byte (b ∷ text) → b ≢ byte
+lacks_first byte b text none = none 0 (omega arith)
+
+lacks_rest : (byte b : ℕ) (text : List ℕ) → LacksByte byte (b ∷ text) → LacksByte byte text
+lacks_rest byte b text none = λ k less. none (suc k) (omega arith)
+
+-- two texts without a byte, each in front of this byte of the same bytes
+pub first_same : (byte : ℕ) (one rest other rest' : List ℕ) → LacksByte byte one → LacksByte byte other
+    → one ++ (byte ∷ rest) ≡ other ++ (byte ∷ rest') → one ≡ other
+first_same byte [] rest [] rest' none none' e = refl
+first_same byte [] rest (b ∷ other) rest' none none' e =
+    let first : b ≡ byte = cc in absurd (lacks_first byte b other none' first)
+first_same byte (a ∷ one) rest [] rest' none none' e =
+    let first : a ≡ byte = cc in absurd (lacks_first byte a one none first)
+first_same byte (a ∷ one) rest (b ∷ other) rest' none none' e =
+    let tail : one ++ (byte ∷ rest) ≡ other ++ (byte ∷ rest') = cc in
+    let same = first_same byte one rest other rest' (lacks_rest byte a one none) (lacks_rest byte b other none') tail in
+    cc
+
+none_at : (byte : ℕ) (text rest : List ℕ) → LacksByte byte (text ++ (byte ∷ rest)) → ⊥
+none_at byte [] rest none = lacks_first byte byte rest none refl
+none_at byte (b ∷ text) rest none = none_at byte text rest (lacks_rest byte b (text ++ (byte ∷ rest)) none)
+
+-- a line has one first word, and none without a blank
+word_same : (line one other : List ℕ) → IsFirstWord line one → IsFirstWord line other → one ≡ other
+word_same line one other h k = first_same 32 one h.rest other k.rest h.first k.first (sym h.whole ∙ k.whole)
+
+pub no_word : (line : List ℕ) → LacksByte 32 line → (word : List ℕ) → ¬ IsFirstWord line word
+no_word line none word h = none_at 32 word h.rest (subst (LacksByte 32) h.whole none)
+
+-- a line with what is behind it, and a text that has no line
+line_behind : (line rest : List ℕ) (h : IsLine line) → line ++ rest ≡ h.front ++ (10 ∷ rest)
+line_behind line rest h = ap (λ l. l ++ rest) h.ends ∙ append_assoc h.front (10 ∷ []) rest
+
+pub no_first_line : (listing : List ℕ) → LacksByte 10 listing → (line rest : List ℕ) → IsLine line
+    → listing ≡ line ++ rest → ⊥
+no_first_line listing none line rest h is =
+    none_at 10 h.front rest (subst (LacksByte 10) (is ∙ line_behind line rest h) none)
+
+line_same : (one rest other rest' : List ℕ) → IsLine one → IsLine other → one ++ rest ≡ other ++ rest' → one ≡ other
+line_same one rest other rest' h k e =
+    let fronts = first_same 10 h.front rest k.front rest' h.one k.one
+    (sym (line_behind one rest h) ∙ (e ∙ line_behind other rest' k)) in
+    h.ends ∙ (ap (λ l. l ++ 10 ∷ []) fronts ∙ sym k.ends)
+
+-- the listing has no line at its front, or a foreign one
+pub foreign_rest : (p : Program) (s : State) (limit : ℕ) (rest : List ℕ) → rest ≢ [] → LacksByte 10 rest
+    → ForeignAt p s limit rest 1
+foreign_rest p s limit rest some none =
+    foreign_here rest some (λ line behind is same listed. no_first_line rest none line behind is same)
+
+pub foreign_line : (p : Program) (s : State) (limit : ℕ) (rest line behind : List ℕ) → rest ≢ [] → IsLine line
+    → line ++ behind ≡ rest → (IsLast line → ⊥) → ((c : List Bool) → ¬ IsRunLine p s limit line c)
+    → ForeignAt p s limit rest 1
+foreign_line p s limit rest line behind some is whole other none =
+    foreign_here rest some (λ found after is' same listed.
+    let one : found ≡ line = line_same found after line behind is' is (sym same ∙ sym whole) in
+    not_listed (subst (IsListed p s limit) one listed))
+  where
+    not_listed : IsListed p s limit line → ⊥
+    not_listed (inl last) = other last
+    not_listed (inr run) = none run.0 run.1
+
+-- what was explained so far: the rest of a listing goes on from a text and a number of lines
+abbrev pub GoesOn : Program → State → ℕ → (listing rest text : List ℕ) → Type 0
+GoesOn p s limit listing rest text = (more : List ℕ) → Explains p s limit rest more
+    → Explains p s limit listing (text ++ more)
+
+abbrev pub CountsOn : Program → State → ℕ → (listing rest : List ℕ) → ℕ → Type 0
+CountsOn p s limit listing rest number = (n : ℕ) → ForeignAt p s limit rest n → ForeignAt p s limit listing (number + n)
+
+pub goes_on_last : (p : Program) (s : State) (limit : ℕ) (listing rest line behind text : List ℕ)
+    → GoesOn p s limit listing rest text → IsLine line → line ++ behind ≡ rest → IsLast line
+    → GoesOn p s limit listing behind text
+goes_on_last p s limit listing rest line behind text h is whole last = λ more e.
+    h more (subst (λ l. Explains p s limit l more) whole (last_line line behind more is last e))
+
+pub goes_on_run : (p : Program) (s : State) (limit : ℕ) (listing rest line behind text : List ℕ) (c : List Bool)
+    → GoesOn p s limit listing rest text → IsLine line → line ++ behind ≡ rest → (IsLast line → ⊥)
+    → IsRunLine p s limit line c → GoesOn p s limit listing behind (text ++ asked_line (asked p s limit c))
+goes_on_run p s limit listing rest line behind text c h is whole other run = λ more e.
+    let new = asked_line (asked p s limit c) in
+    subst (Explains p s limit listing) (sym (append_assoc text new more))
+    (h (new ++ more) (subst (λ l. Explains p s limit l (new ++ more)) whole (run_line line behind more c is other run e)))
+
+pub counts_on : (p : Program) (s : State) (limit : ℕ) (listing rest line behind : List ℕ) (number : ℕ)
+    → CountsOn p s limit listing rest number → IsLine line → line ++ behind ≡ rest → IsListed p s limit line
+    → CountsOn p s limit listing behind (number + 1)
+counts_on p s limit listing rest line behind number h is whole listed = λ n f.
+    let e : number + suc n ≡ number + 1 + n = omega arith in
+    subst (ForeignAt p s limit listing) e
+    (h (suc n) (subst (λ l. ForeignAt p s limit l (suc n)) whole (foreign_later line behind n is listed f)))
+
+pub explains_all : (p : Program) (s : State) (limit : ℕ) (listing rest text : List ℕ) → rest ≡ []
+    → GoesOn p s limit listing rest text → Explains p s limit listing text
+explains_all p s limit listing rest text none h =
+    subst (Explains p s limit listing) (append-nil text)
+    (h [] (subst (λ l. Explains p s limit l []) (sym none) no_line))
+
+-- the line of a word that reads as no list, as too long a list, and as the list of no run
+pub no_list : (p : Program) (s : State) (limit : ℕ) (line word : List ℕ) → IsFirstWord line word
+    → ((c : List Bool) → ¬ IsTextOf word c) → (c : List Bool) → ¬ IsRunLine p s limit line c
+no_list p s limit line word is none c h =
+    none c (subst (λ w. IsTextOf w c) (word_same line h.word word h.is_word is) h.reads)
+
+same_list : (p : Program) (s : State) (limit : ℕ) (line word : List ℕ) (c d : List Bool) → ReadsBack
+    → IsFirstWord line word → IsTextOf word d → IsRunLine p s limit line c → c ≡ d
+same_list p s limit line word c d back is reads h =
+    back.unique word c d (subst (λ w. IsTextOf w c) (word_same line h.word word h.is_word is) h.reads) reads
+
+pub long_list : (p : Program) (s : State) (limit : ℕ) (line word : List ℕ) (d : List Bool) → ReadsBack
+    → AreLimited p s limit → IsFirstWord line word → IsTextOf word d → limit < length d
+    → (c : List Bool) → ¬ IsRunLine p s limit line c
+long_list p s limit line word d back limited is reads long c h =
+    let same = ap (λ (l : List Bool). length l) (same_list p s limit line word c d back is reads h) in
+    let few = limited.choices c h.line_of.whole in omega (arith, long, same, few)
+
+pub other_list : (p : Program) (s : State) (limit : ℕ) (line word : List ℕ) (d : List Bool) → ReadsBack
+    → IsFirstWord line word → IsTextOf word d → ¬ IsLineOf p s limit line d
+    → (c : List Bool) → ¬ IsRunLine p s limit line c
+other_list p s limit line word d back is reads none c h =
+    none (subst (IsLineOf p s limit line) (same_list p s limit line word c d back is reads h) h.line_of)

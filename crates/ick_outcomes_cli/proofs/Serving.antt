@@ -1,0 +1,82 @@
+-- From the ending of the work to what the whole call leaves.
+use Rattle.std.proofs.Common.{◌≡◌, ◌∙◌, ◌++◌, inl, inr, ℕ, Bool, List, ap, refl, sym, subst, arith}
+use Rattle.std.proofs.lemmas.List.{append-nil}
+use Rattle.ick_cli.specs.Serve.{Failures, counts}
+use Rattle.ick_cli.specs.Tool.{Answer}
+use Rattle.ick_cli.specs.declared.ending.Ending.TheVariants.{Answered, NoMemory, InputTooLong, FileNotRead, ReadFailed}
+use Rattle.ick_cli.specs.declared.ending.Ending.TheVariants.{WriteFailed}
+use Rattle.ick_cli.specs.declared.notice.Notice.TheVariants as notice
+use Rattle.ick_cli.proofs.Served.{due}
+use Rattle.ick_outcomes_cli.specs.Ended.{Gives, LeavesAll, ended_status, ended_text}
+use Rattle.ick_outcomes_cli.specs.Serve.{IsOutcomesDue, IsOutcomesServed, answered, as_ick, cut_by_write, long_listing}
+use Rattle.ick_outcomes_cli.specs.Serve.{many_states, too_many, unread, without_memory}
+use Rattle.ick_outcomes_cli.specs.declared.ended.Ended.{Ended}
+use Rattle.ick_outcomes_cli.specs.declared.ended.Ended.TheVariants.{By, Refused}
+
+same : (f f' r r' w w' : ℕ) → f' ≡ f → r' ≡ r → w' ≡ w → counts f' r' w' ≡ counts f r w
+same f f' r r' w w' a b c = cc
+
+-- what is due to an ending over any devices
+pub outcomes_due : (ended : Ended) (f f' r r' w w' : ℕ) → LeavesAll ended f f' r r' w w'
+    → IsOutcomesDue (counts f r w) (counts f' r' w') (ended_text ended) (ended_status ended)
+outcomes_due (By ending) f f' r r' w w' x = as_ick _ _ (due ending f f' r r' w w' x)
+outcomes_due (Refused notice.TooManyStates) f f' r r' w w' x = many_states (same _ _ _ _ _ _ x.1 x.2 x.3)
+outcomes_due (Refused notice.ListingTooLong) f f' r r' w w' x = long_listing (same _ _ _ _ _ _ x.1 x.2 x.3)
+outcomes_due (Refused notice.ChoicesAndSeed) f f' r r' w w' x = absurd x.0
+outcomes_due (Refused notice.BadCursor) f f' r r' w w' x = absurd x.0
+outcomes_due (Refused notice.NoSuchRun) f f' r r' w w' x = absurd x.0
+outcomes_due (Refused notice.SourceTooLong) f f' r r' w w' x = absurd x.0
+outcomes_due (Refused notice.InputTooLong) f f' r r' w w' x = absurd x.0
+outcomes_due (Refused notice.FileNotRead) f f' r r' w w' x = absurd x.0
+outcomes_due (Refused notice.ReadFailed) f f' r r' w w' x = absurd x.0
+outcomes_due (Refused notice.WriteFailed) f f' r r' w w' x = absurd x.0
+outcomes_due (Refused notice.OutOfMemory) f f' r r' w w' x = absurd x.0
+outcomes_due (Refused notice.WordsNotRead) f f' r r' w w' x = absurd x.0
+
+-- an answer, by its error text and its status
+by_answer : {A : Answer → Type 0} {M : Type 0} (old new : Failures) (out out' : List ℕ) (answer : Answer)
+    (text : List ℕ) (status : ℕ) → A answer → status ≡ answer.status → text ≡ answer.errors
+    → new.reads ≡ old.reads → new.writes ≡ old.writes → out' ≡ out ++ answer.output
+    → IsOutcomesServed A M old new out out' text status
+by_answer {A} {M} old new out out' answer text status is has_status has_text reads writes sends =
+    subst (λ (t : List ℕ). IsOutcomesServed A M old new out out' t status) (sym has_text)
+    (subst (λ (s : ℕ). IsOutcomesServed A M old new out out' answer.errors s) (sym has_status)
+    (answered answer is reads writes sends))
+
+-- how a job is served by an ending
+pub outcomes_served : {A : Answer → Type 0} {M : Type 0} (ended : Ended) (f f' r r' w w' : ℕ) (out out' : List ℕ)
+    → LeavesAll ended f f' r r' w w' → Gives A M ended out out'
+    → IsOutcomesServed A M (counts f r w) (counts f' r' w') out out' (ended_text ended) (ended_status ended)
+outcomes_served (By (Answered status said)) f f' r r' w w' out out' x h =
+    let has = h.2 in
+    by_answer _ _ out out' h.0 _ _ h.1 has.0.0 has.0.1 (omega (arith, x.read)) (omega (arith, x.wrote)) has.1
+outcomes_served (By InputTooLong) f f' r r' w w' out out' x h =
+    let has = h.2 in
+    by_answer _ _ out out' h.0 _ _ h.1 has.0.0 has.0.1 (omega (arith, x.read)) (omega (arith, x.wrote)) has.1
+outcomes_served (By FileNotRead) f f' r r' w w' out out' x h =
+    let has = h.2 in
+    by_answer _ _ out out' h.0 _ _ h.1 has.0.0 has.0.1 (omega (arith, x.read)) (omega (arith, x.wrote)) has.1
+outcomes_served (By WriteFailed) f f' r r' w w' out out' x h =
+    let has = h.2 in
+    cut_by_write h.0 h.1 has.1.0
+    (same _ _ _ _ _ _ (omega (arith, x.opened)) (omega (arith, x.read)) (omega (arith, x.wrote))) has.1.1
+outcomes_served (By ReadFailed) f f' r r' w w' out out' x h =
+    unread (same _ _ _ _ _ _ (omega (arith, x.opened)) (omega (arith, x.read)) (omega (arith, x.wrote))) h
+outcomes_served (By NoMemory) f f' r r' w w' out out' x h =
+    without_memory (same _ _ _ _ _ _ (omega (arith, x.opened)) (omega (arith, x.read)) (omega (arith, x.wrote))) h
+outcomes_served (Refused notice.TooManyStates) f f' r r' w w' out out' x h =
+    too_many h.0 (same _ _ _ _ _ _ x.1 x.2 x.3) h.1
+outcomes_served (Refused notice.ListingTooLong) f f' r r' w w' out out' x h =
+    let is = h.2.0 in
+    by_answer _ _ out out' h.0 _ _ h.1 (sym (ap (λ (a : Answer). a.status) is)) (sym (ap (λ (a : Answer). a.errors) is))
+    x.2 x.3 (h.2.1 ∙ (sym (append-nil out) ∙ ap (λ l. out ++ l) (sym (ap (λ (a : Answer). a.output) is))))
+outcomes_served (Refused notice.ChoicesAndSeed) f f' r r' w w' out out' x h = absurd h
+outcomes_served (Refused notice.BadCursor) f f' r r' w w' out out' x h = absurd h
+outcomes_served (Refused notice.NoSuchRun) f f' r r' w w' out out' x h = absurd h
+outcomes_served (Refused notice.SourceTooLong) f f' r r' w w' out out' x h = absurd h
+outcomes_served (Refused notice.InputTooLong) f f' r r' w w' out out' x h = absurd h
+outcomes_served (Refused notice.FileNotRead) f f' r r' w w' out out' x h = absurd h
+outcomes_served (Refused notice.ReadFailed) f f' r r' w w' out out' x h = absurd h
+outcomes_served (Refused notice.WriteFailed) f f' r r' w w' out out' x h = absurd h
+outcomes_served (Refused notice.OutOfMemory) f f' r r' w w' out out' x h = absurd h
+outcomes_served (Refused notice.WordsNotRead) f f' r r' w w' out out' x h = absurd h

@@ -1,0 +1,55 @@
+-- The job that arguments ask for, by the matches that clap defines.
+use Rattle.std.specs.Prelude.{◌≡◌, ℕ, Bool, false, List, [], Option, Some, None, codes, is_some, option_map}
+use Rattle.std.specs.Option.{option_map_or}
+use Rattle.std.specs.Str.{bytes_eq}
+use Rattle.clap.specs.Words.{Row, Text, fault_of, matches_of}
+use Rattle.ick_cli.specs.Job.{number_or, text_in}
+use Rattle.ick_outcomes_cli.specs.Words.{outcomes_app}
+use Rattle.ick_outcomes_cli.specs.declared.words.job.Job.{Job}
+use Rattle.ick_outcomes_cli.specs.declared.words.job.Question.{Question}
+
+-- what a job is, whatever memory its texts are in
+pub record Wanted : Type 0 where
+  pub question : Question
+  pub limit : ℕ
+  pub listing : Option Text
+  pub file : Option Text
+
+abbrev pub wanted : Job → Wanted
+wanted j = record {
+  question = j.question;
+  limit = j.limit;
+  listing = option_map (λ s. s.now) j.listing;
+  file = option_map (λ s. s.now) j.file;
+}
+
+-- whether a flag is given
+abbrev pub flag_in : Text → List Row → Bool
+flag_in id rows = option_map_or (λ t. bytes_eq t (codes "true")) (text_in id rows) false
+
+-- what the matches have, with what is usual where a number isn't given
+abbrev pub question_in : List Row → Question
+question_in rows = record {
+  most = number_or (codes "most") rows 1000000;
+  exact = flag_in (codes "exact") rows;
+  total = flag_in (codes "total") rows;
+}
+
+abbrev pub wanted_in : List Row → Wanted
+wanted_in rows = record {
+  question = question_in rows;
+  limit = number_or (codes "limit") rows 10000;
+  listing = text_in (codes "asked") rows;
+  file = text_in (codes "file") rows;
+}
+
+-- the arguments ask for a job: by the law of clap their parse fails for want of memory alone
+abbrev pub HasJob : List Text → Type 0
+HasJob words = fault_of outcomes_app words ≡ []
+
+abbrev pub job_of : List Text → Wanted
+job_of words = wanted_in (matches_of outcomes_app words)
+
+-- it names a file
+abbrev pub has_file : Wanted → Bool
+has_file w = is_some w.file

@@ -1,0 +1,32 @@
+-- What a whole call leaves.
+use Rattle.std.specs.Prelude.{◌≡◌, ◌+◌, ◌++◌, ℕ, List, take}
+use Rattle.ick_cli.specs.Notice.{notice_text}
+use Rattle.ick_cli.specs.Serve.{Failures, IsDue}
+use Rattle.ick_cli.specs.Tool.{Answer}
+use Rattle.ick_cli.specs.declared.notice.Notice.TheVariants.{ListingTooLong, OutOfMemory, ReadFailed, TooManyStates}
+use Rattle.ick_cli.specs.declared.notice.Notice.TheVariants.{WriteFailed}
+
+-- the error text and the status that are due over any devices: those of `ick`, or a line with status 4 although nothing
+-- failed
+pub data IsOutcomesDue (old new : Failures) : List ℕ → ℕ → Type 0 where
+  as_ick : (text : List ℕ) (status : ℕ) → IsDue old new text status → IsOutcomesDue old new text status
+  many_states : new ≡ old → IsOutcomesDue old new (notice_text TooManyStates) 4
+  long_listing : new ≡ old → IsOutcomesDue old new (notice_text ListingTooLong) 4
+
+-- The error text and the status that are due to a job, behind what was written. They are those of an answer that the
+-- job has, and all of its output is written, or the writer failed and a prefix of it is. Or nothing is written: the
+-- reader or memory failed, or more states would be kept than may be, and there are more runs than that.
+pub data IsOutcomesServed (IsAnswer : Answer → Type 0) (More : Type 0) (old new : Failures) (before after : List ℕ) :
+    List ℕ → ℕ → Type 0 where
+  answered : (answer : Answer) → IsAnswer answer → new.reads ≡ old.reads → new.writes ≡ old.writes
+      → after ≡ before ++ answer.output
+      → IsOutcomesServed IsAnswer More old new before after answer.errors answer.status
+  cut_by_write : (answer : Answer) → IsAnswer answer → (n : ℕ) → new ≡ record old { writes = old.writes + 1 }
+      → after ≡ before ++ take n answer.output
+      → IsOutcomesServed IsAnswer More old new before after (notice_text WriteFailed) 4
+  unread : new ≡ record old { reads = old.reads + 1 } → after ≡ before
+      → IsOutcomesServed IsAnswer More old new before after (notice_text ReadFailed) 4
+  without_memory : new ≡ old → after ≡ before
+      → IsOutcomesServed IsAnswer More old new before after (notice_text OutOfMemory) 4
+  too_many : More → new ≡ old → after ≡ before
+      → IsOutcomesServed IsAnswer More old new before after (notice_text TooManyStates) 4

@@ -1,0 +1,114 @@
+-- What is answered to a job, by its source, its input and its listing.
+use Rattle.std.specs.Prelude.{◌≡◌, ◌<◌, ◌≤◌, ℕ, Bool, true, false, List, [], Option, Some, None, length}
+use Rattle.ick_bits.specs.Faults.{message_of}
+use Rattle.ick_bits.specs.declared.faults.FaultKind.{FaultKind}
+use Rattle.ick_source.specs.Refusals.{Compiles, IsRefused, longest}
+use Rattle.ick_source.specs.StatementTree.{StatementTree}
+use Rattle.ick_code.specs.meaning.Move.{first_state}
+use Rattle.ick_backtrack.specs.Machine.{Program}
+use Rattle.ick_outcomes.specs.Lines.{IsSummaryText, IsTotal}
+use Rattle.ick_outcomes.specs.Seen.{rows_of}
+use Rattle.ick_outcomes.specs.Summaries.{HasMoreRuns, IsSummary}
+use Rattle.ick_outcomes.specs.declared.outcome.Outcome.{Outcome}
+use Rattle.clap.specs.Words.{Text}
+use Rattle.ick_cli.specs.Notice.{notice_text}
+use Rattle.ick_cli.specs.Tool.{Answer, longest_input, refusal, shown}
+use Rattle.ick_cli.specs.declared.notice.Notice.TheVariants as notice
+use Rattle.ick_outcomes_cli.specs.Asked.{Explains, ForeignAt, foreign_text}
+use Rattle.ick_outcomes_cli.specs.Job.{Wanted}
+use Rattle.ick_outcomes_cli.specs.declared.asked.Asked.{Asked}
+use Rattle.ick_outcomes_cli.specs.declared.asked.Asked.TheVariants.{Foreign, Text as Told}
+use Rattle.ick_outcomes_cli.specs.declared.found.Found.{Found}
+use Rattle.ick_outcomes_cli.specs.declared.found.Found.TheVariants.{Outcomes, TooManyStates}
+use Rattle.ick_outcomes_cli.specs.declared.words.job.Question.{Question}
+
+-- the text of outcomes, or only how many there are
+abbrev pub IsTextOf : (exact total : Bool) → List Outcome → List ℕ → Type 0
+IsTextOf exact true outcomes text = IsTotal outcomes text
+IsTextOf exact false outcomes text = IsSummaryText exact outcomes text
+
+-- the text is that of the summary of all runs of a program over an input
+pub record IsOutcomes (program : Program) (input : List ℕ) (limit : ℕ) (q : Question) (text : List ℕ) : Type 0 where
+  pub outcomes : List Outcome
+  pub summary : IsSummary program (first_state program input) limit (rows_of outcomes)
+  pub text_is : IsTextOf q.exact q.total outcomes text
+
+-- the program has more runs than states may be kept
+abbrev pub HasTooMany : Program → List ℕ → ℕ → Question → Type 0
+HasTooMany program input limit q = HasMoreRuns program (first_state program input) limit q.most
+
+abbrev pub IsFound : Program → List ℕ → ℕ → Question → Found → Type 0
+IsFound program input limit q (Outcomes text) = IsOutcomes program input limit q text.items
+IsFound program input limit q TooManyStates = HasTooMany program input limit q
+
+-- the bytes of the longest listing
+unfoldable pub longest_listing : ℕ
+longest_listing = 1073741824
+
+-- the answer by a program's outcomes
+pub data IsSummed (program : Program) (input : List ℕ) (limit : ℕ) (q : Question) : Answer → Type 0 where
+  summed : (text : List ℕ) → IsOutcomes program input limit q text → IsSummed program input limit q (shown text)
+
+-- the answer by what the choices of a listing were asked by; there is no listing where it was not read
+pub data IsExplained (program : Program) (input : List ℕ) (limit : ℕ) : Option (List ℕ) → Answer → Type 0 where
+  listing_not_read : IsExplained program input limit None (refusal 4 (notice_text notice.FileNotRead))
+  listing_too_long : (listing : List ℕ) → longest_listing < length listing
+      → IsExplained program input limit (Some listing) (refusal 4 (notice_text notice.ListingTooLong))
+  explained : (listing text : List ℕ) → length listing ≤ longest_listing
+      → Explains program (first_state program input) limit listing text
+      → IsExplained program input limit (Some listing) (shown text)
+  foreign : (listing : List ℕ) (n : ℕ) → length listing ≤ longest_listing
+      → ForeignAt program (first_state program input) limit listing n
+      → IsExplained program input limit (Some listing) (refusal 64 (foreign_text n))
+
+-- the answer to a program over an input, by whether a listing is named
+pub data IsProgramAnswer (program : Program) (input : List ℕ) (limit : ℕ) (q : Question) (listing : Option (List ℕ)) :
+    Option Text → Answer → Type 0 where
+  input_too_long : (named : Option Text) → longest_input < length input
+      → IsProgramAnswer program input limit q listing named (refusal 4 (notice_text notice.InputTooLong))
+  by_outcomes : (answer : Answer) → length input ≤ longest_input → IsSummed program input limit q answer
+      → IsProgramAnswer program input limit q listing None answer
+  by_listing : (name : Text) (answer : Answer) → length input ≤ longest_input
+      → IsExplained program input limit listing answer
+      → IsProgramAnswer program input limit q listing (Some name) answer
+
+-- the answer to a source: it is too long, or it is refused, or it compiles to a program
+pub data IsSourceAnswer (w : Wanted) (source input : List ℕ) (listing : Option (List ℕ)) : Answer → Type 0 where
+  too_long : longest < length source
+      → IsSourceAnswer w source input listing (refusal 2 (notice_text notice.SourceTooLong))
+  refused : (kind : FaultKind) (n : ℕ) → IsRefused source kind n
+      → IsSourceAnswer w source input listing (refusal 2 (message_of kind n []))
+  compiled : (trees : List StatementTree) (answer : Answer) → Compiles source trees
+      → IsProgramAnswer trees input w.limit w.question listing w.listing answer
+      → IsSourceAnswer w source input listing answer
+
+-- the answer to a job whose source is none where the file did not open or a read of it failed
+pub data IsOutcomesAnswer (w : Wanted) (input : List ℕ) (listing : Option (List ℕ)) : Option (List ℕ) → Answer →
+    Type 0 where
+  not_read : IsOutcomesAnswer w input listing None (refusal 4 (notice_text notice.FileNotRead))
+  read : (source : List ℕ) (answer : Answer) → IsSourceAnswer w source input listing answer
+      → IsOutcomesAnswer w input listing (Some source) answer
+
+-- a source compiles to a program that has more runs than states may be kept
+pub record HasMoreStates (w : Wanted) (source input : List ℕ) : Type 0 where
+  pub trees : List StatementTree
+  pub compiles : Compiles source trees
+  pub unlisted : w.listing ≡ None
+  pub more : HasTooMany trees input w.limit w.question
+
+-- the same of the source of a job
+pub data MayStop (w : Wanted) (input : List ℕ) : Option (List ℕ) → Type 0 where
+  may_stop : (source : List ℕ) → HasMoreStates w source input → MayStop w input (Some source)
+
+-- the answer by what was found out, and by what was told of a listing
+abbrev pub IsTextFound : Found → Answer → Type 0
+IsTextFound (Outcomes text) answer = answer ≡ shown text.items
+IsTextFound TooManyStates answer = ⊥
+
+abbrev pub IsStopped : Found → Type 0
+IsStopped (Outcomes text) = ⊥
+IsStopped TooManyStates = Unit {0}
+
+abbrev pub IsToldOf : Asked → Answer → Type 0
+IsToldOf (Told text) answer = answer ≡ shown text.items
+IsToldOf (Foreign number) answer = answer ≡ refusal 64 (foreign_text number)
