@@ -177,7 +177,7 @@ answered_by FileNotRead Fact other h = absurd (other refl)
 answered_by ReadFailed Fact other h = absurd (other refl)
 answered_by WriteFailed Fact other h = absurd (other refl)
 
-four_by : (told : Bool) (status : ℕ) (text : List ℕ) (e e' : ℕ) (errs errs' : List ℕ) (code : ℕ)
+pub four_by : (told : Bool) (status : ℕ) (text : List ℕ) (e e' : ℕ) (errs errs' : List ℕ) (code : ℕ)
     → Finishes told status text e e' errs errs' code → status ≡ 4 → code ≡ 4
 four_by told status text e e' errs errs' code done four = elim (cases_order e' e) [
   | inl same ↦ let given = (done.whole same).0 in omega arith

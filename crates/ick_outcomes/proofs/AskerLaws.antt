@@ -1,18 +1,23 @@
 -- Laws of what the choices of a run were asked by.
 use Prim.Native.Nat.{zero, suc}
 use Rattle.std.proofs.Common.{◌≡◌, ℕ, ◌+◌, ◌-◌, ◌<◌, ◌≤◌, Bool, false, List, [], ◌∷◌, ◌++◌, length, take, drop}
-use Rattle.std.proofs.Common.{refl, ap, sym, ◌∙◌, subst, arith, append_assoc, get_or}
-use Rattle.std.proofs.lemmas.List.{append-nil, length-drop, take-append-drop, take_all}
+use Rattle.std.proofs.Common.{refl, ap, sym, ◌∙◌, subst, arith, append_assoc, get_or, Option, Some, None, min, ◌⊎◌, inl, inr}
+use Rattle.std.specs.List.{flat_map}
+use Rattle.std.proofs.lemmas.List.{append-nil, length-drop, length-take-le, take-append-drop, take_all}
+use Rattle.std.proofs.lemmas.Bool.{cases_lt}
 use Rattle.std.proofs.Math.Seq.{take-suc}
 use Rattle.ick_code.specs.meaning.State.{State, Ending}
 use Rattle.ick_code.specs.meaning.Move.{Asking, plain, choice, ended, ask, advance}
-use Rattle.ick_backtrack.specs.Asked.{Finish}
-use Rattle.ick_backtrack.specs.Machine.{Program}
+use Rattle.ick_backtrack.specs.Asked.{Finish, IsGoing, asked_at_end, at_limit, finish_of, finished}
+use Rattle.ick_backtrack.specs.declared.asking.End.{End}
+use Rattle.ick_backtrack.specs.Machine.{Machine, Program}
 use Rattle.ick_backtrack.specs.Steps.{after_steps, IsPlain, RunsOn}
 use Rattle.ick_explorer.specs.Paths.{Leads, later}
 use Rattle.ick_explorer.specs.Runs.{Execution, IsEnd, IsWhole, ends, run, stays}
-use Rattle.ick_explorer.proofs.RunLaws.{Leads-choice, Leads-on, Leads-plain, Leads-start, Leads-wants, run-plain}
-use Rattle.ick_outcomes.specs.Askers.{IsFollowed, asked, asked_on}
+use Rattle.ick_explorer.proofs.RunLaws.{Leads-choice, Leads-on, Leads-plain, Leads-start, Leads-wants, ends_limit}
+use Rattle.ick_explorer.proofs.RunLaws.{run-ended, run-plain}
+use Rattle.ick_outcomes.specs.Accounts.{Place}
+use Rattle.ick_outcomes.specs.Askers.{IsFollowed, asked, asked_on, asker_text, askers_text}
 use Rattle.ick_outcomes.specs.declared.following.AskedBy.{AskedBy}
 
 asked-ended : (p : Program) (s : State) (l : ℕ) (c : List Bool) (e : Ending) → ask p s ≡ ended e → asked p s l c ≡ []
@@ -195,3 +200,126 @@ wants-more p s limit c t left k at askers h a some all = λ w.
     let within = all_of.within in
     let wanted = Leads-wants p s limit c t (limit - left) k all_of.leads a (omega (arith, some, within)) in
     subst IsEnd (ap (λ (x : Execution). x.stop) wanted) w.at_end
+
+-- where a run ends, whatever choices are left
+abbrev pub EndsAt : Program → State → ℕ → Finish → Type 0
+EndsAt p t left f = (d : List Bool) → run p t left d ≡ stays t (ends f) d
+
+pub ended_at : (p : Program) (t : State) (left : ℕ) (f : Finish) → asked_at_end f ≡ Some (ask p t) → EndsAt p t left f
+ended_at p t left (finished e) h = λ d. let is : ended e ≡ ask p t = cc in run-ended p t left d e (sym is)
+ended_at p t left at_limit h = let bad : None ≡ Some (ask p t) = h in cc
+
+machine_at : Program → State → Machine
+machine_at p t = record { program = p; state = t; marks = []; work = 0 }
+
+limit_at : (p : Program) (t : State) (a : Asking) → ask p t ≡ a → (going : (e : Ending) → a ≡ ended e → ⊥)
+    → EndsAt p t 0 at_limit
+limit_at p t plain is going = λ d. (ends_limit 0 (machine_at p t) 0 refl (subst IsGoing (sym is) tt)).stays_here d
+limit_at p t (choice k) is going = λ d. (ends_limit 0 (machine_at p t) 0 refl (subst IsGoing (sym is) tt)).stays_here d
+limit_at p t (ended e) is going = absurd (going e refl)
+
+pub plain_at_limit : (p : Program) (t : State) (left : ℕ) → left ≡ 0 → ask p t ≡ plain → EndsAt p t left at_limit
+plain_at_limit p t left none is =
+    subst (λ l. EndsAt p t l at_limit) (sym none) (limit_at p t plain is (λ e bad. cc))
+
+pub choice_at_limit : (p : Program) (t : State) (left k : ℕ) → left ≡ 0 → ask p t ≡ choice k
+    → EndsAt p t left at_limit
+choice_at_limit p t left k none is =
+    subst (λ l. EndsAt p t l at_limit) (sym none) (limit_at p t (choice k) is (λ e bad. cc))
+
+-- the forms in which functions use these laws: the state is that of a place
+pub went_on : (p q : Program) (s : State) (limit : ℕ) (c : List Bool) (t u : State) (left k : ℕ)
+    (askers : List AskedBy) → q ≡ p → Follows p s limit c t left askers → RunsOn IsPlain q t k u → k ≤ left →
+    Follows p s limit c u (left - k) askers
+went_on p q s limit c t u left k askers same h runs le =
+    follows-on p s limit c t u left k askers h (subst (λ x. RunsOn IsPlain x t k u) same runs) le
+
+pub followed_by : {S : Type 0} (state_of : S → State) (p : Program) (s : State) (limit : ℕ) (c : List Bool)
+    (mine theirs : S) (left at : ℕ) (end end' : End) (askers askers' : List AskedBy) →
+    Follows p s limit (take at c) (state_of mine) left askers → EndsAt p (state_of mine) left (finish_of end) →
+    theirs ≡ mine → end' ≡ end → askers' ≡ askers → length c ≤ at →
+    IsFollowed p s limit c (state_of theirs) (finish_of end') askers'
+followed_by state_of p s limit c mine theirs left at end end' askers askers' h here is ends_so asks_so all =
+    subst (λ x. IsFollowed p s limit c (state_of x) (finish_of end') askers') (sym is)
+    (subst (λ e. IsFollowed p s limit c (state_of mine) (finish_of e) askers') (sym ends_so)
+    (subst (λ l. IsFollowed p s limit c (state_of mine) (finish_of end) l) (sym asks_so)
+    (followed-all p s limit c (state_of mine) left at (finish_of end) askers h here all)))
+
+pub stepped_plain : {S : Type 0} (place : S → Place) (p : Program) (s : State) (limit : ℕ) (c : List Bool)
+    (old new now : S) (left : ℕ) (askers askers' : List AskedBy) →
+    Follows p s limit (take (length askers) c) (place old).state left askers → (place old).program ≡ p →
+    ask (place old).program (place old).state ≡ plain → 0 < left →
+    (place new).state ≡ advance (place old).program (place old).state false → now ≡ new → askers' ≡ askers →
+    Follows p s limit (take (length askers') c) (place now).state (left - 1) askers'
+stepped_plain place p s limit c old new now left askers askers' h same plainly some step is asks_so =
+    subst (λ l. Follows p s limit (take (length l) c) (place now).state (left - 1) l) (sym asks_so)
+    (subst (λ x. Follows p s limit (take (length askers) c) (place x).state (left - 1) askers) (sym is)
+    (subst (λ t. Follows p s limit (take (length askers) c) t (left - 1) askers)
+    (sym (step ∙ ap (λ q. advance q (place old).state false) same))
+    (follows-step p s limit (take (length askers) c) (place old).state left askers h
+    (subst (λ q. ask q (place old).state ≡ plain) same plainly) some)))
+
+pub length-push : (l : List AskedBy) (x : AskedBy) → length (l ++ x ∷ []) ≡ suc (length l)
+length-push [] x = refl
+length-push (y ∷ l) x = ap suc (length-push l x)
+
+pub stepped_chosen : {S : Type 0} (place : S → Place) (p : Program) (s : State) (limit : ℕ) (c : List Bool)
+    (old new now : S) (left k statement : ℕ) (b d : Bool) (askers askers' : List AskedBy) →
+    Follows p s limit (take (length askers) c) (place old).state left askers → (place old).program ≡ p →
+    ask (place old).program (place old).state ≡ choice k → 0 < left → length askers < length c →
+    statement ≡ (place old).state.place → b ≡ get_or c (length askers) d →
+    (place new).state ≡ advance (place old).program (place old).state b → now ≡ new →
+    askers' ≡ askers ++ record { statement = statement; chance = k } ∷ [] →
+    Follows p s limit (take (length askers') c) (place now).state (left - 1) askers'
+stepped_chosen place p s limit c old new now left k statement b d askers askers' h same asks some within at_place chosen
+    step is asks_so =
+    let pushed : askers' ≡ askers ++ asker (place old).state k ∷ [] =
+    asks_so ∙ ap (λ (n : ℕ). askers ++ record { statement = n; chance = k } ∷ []) at_place in
+    let longer : length askers' ≡ suc (length askers) =
+    ap (λ (l : List AskedBy). length l) pushed ∙ length-push askers (asker (place old).state k) in
+    subst (λ n. Follows p s limit (take n c) (place now).state (left - 1) askers') (sym longer)
+    (subst (λ l. Follows p s limit (take (suc (length askers)) c) (place now).state (left - 1) l) (sym pushed)
+    (subst (λ x. Follows p s limit (take (suc (length askers)) c) (place x).state (left - 1)
+    (askers ++ asker (place old).state k ∷ [])) (sym is)
+    (subst (λ t. Follows p s limit (take (suc (length askers)) c) t (left - 1) (askers ++ asker (place old).state k ∷ []))
+    (sym (step ∙ (ap (λ q. advance q (place old).state b) same ∙ ap (advance p (place old).state) chosen)))
+    (follows-chosen p s limit c (place old).state left k (length askers) d askers h
+    (subst (λ q. ask q (place old).state ≡ choice k) same asks) some within))))
+
+-- the texts of askers, one after another
+abbrev later : AskedBy → List ℕ
+later x = 32 ∷ asker_text x
+
+later_more : (l : List AskedBy) (x : AskedBy) → flat_map later (l ++ x ∷ []) ≡ flat_map later l ++ later x
+later_more [] x = append-nil (later x)
+later_more (y ∷ l) x =
+    ap (λ t. later y ++ t) (later_more l x) ∙ sym (append_assoc (later y) (flat_map later l) (later x))
+
+more_askers : (l : List AskedBy) (x : AskedBy) → 0 < length l → askers_text (l ++ x ∷ []) ≡ askers_text l ++ later x
+more_askers [] x some = absurd (omega (arith, some))
+more_askers (y ∷ l) x some =
+    ap (λ t. asker_text y ++ t) (later_more l x) ∙ sym (append_assoc (asker_text y) (flat_map later l) (later x))
+
+pub first_asker : (askers : List AskedBy) (at : ℕ) (d : AskedBy) → at ≡ 0 → at < length askers →
+    askers_text (take (suc at) askers) ≡ askers_text (take at askers) ++ asker_text (get_or askers at d)
+first_asker askers at d none within =
+    ap askers_text (take-suc askers at d within)
+    ∙ subst (λ n. askers_text (take n askers ++ get_or askers n d ∷ []) ≡ askers_text (take n askers)
+    ++ asker_text (get_or askers n d)) (sym none) (append-nil (asker_text (get_or askers 0 d)))
+
+pub next_asker : (askers : List AskedBy) (at : ℕ) (d : AskedBy) → 0 < at → at < length askers →
+    askers_text (take (suc at) askers) ≡ askers_text (take at askers) ++ later (get_or askers at d)
+next_asker askers at d some within =
+    let size = length-take-le at askers (omega (arith, within)) in
+    ap askers_text (take-suc askers at d within)
+    ∙ more_askers (take at askers) (get_or askers at d) (omega (arith, some, size))
+
+pub all_askers : (askers : List AskedBy) (most at : ℕ) → at ≡ min (length askers) most →
+    askers_text (take at askers) ≡ askers_text (take most askers)
+all_askers askers most at is = ap askers_text (fronts (cases_lt most (length askers)))
+  where
+    fronts : (most < length askers) ⊎ (length askers ≤ most) → take at askers ≡ take most askers
+    fronts (inl more) = let same : at ≡ most = omega (arith, is, more) in ap (λ n. take n askers) same
+    fronts (inr few) =
+        let same : length askers ≤ at = omega (arith, is, few) in
+        take_all at askers same ∙ sym (take_all most askers few)

@@ -1,7 +1,10 @@
 //! Follows one run, and says what its choices were asked by.
 
-ghost use Rattle.std.specs.Prelude.{◌≡◌, ◌++◌, ◌<◌, ◌≤◌, length, IfOk, IfSome, None, Ok, OnOk};
+ghost use Rattle.std.specs.Prelude.{◌≡◌, ◌++◌, ◌<◌, ◌≤◌, codes, length, IfOk, IfSome, None, Ok, OnOk};
+ghost use Rattle.ick_code.specs.meaning.State.{State};
+ghost use Rattle.ick_code.specs.meaning.Move.{ask, choice, plain};
 ghost use Rattle.ick_backtrack.specs.Asked.{finish_of};
+ghost use Rattle.ick_backtrack.specs.Machine.{Program};
 ghost use Rattle.ick_explorer.specs.Lines.{line_of};
 ghost use Rattle.ick_explorer.specs.Runs.{IsWhole};
 ghost use Rattle.ick_outcomes.specs.Askers.{AsksWithin, IsFollowed, asked_line, asker_text};
@@ -31,6 +34,26 @@ pub struct Followed<'c, S: Drop> {
     pub asked: Vec<AskedBy>,
 }
 
+/// Returns that nothing is asked, or the end `Limit` if no step is left.
+fn plain_within<'c>(left: u32) -> Ask<'c>
+    ensures { (p : Program) (s : State) → ask p s ≡ plain → AsksWithin p s left result }
+{
+    if left == 0 {
+        return Ask::Ended(End::Limit);
+    }
+    Ask::Plain
+}
+
+/// Returns that a choice is asked, or the end `Limit` if no step is left.
+fn choice_within<'c>(chance: u8, left: u32) -> Ask<'c>
+    ensures { (p : Program) (s : State) → ask p s ≡ choice chance → AsksWithin p s left result }
+{
+    if left == 0 {
+        return Ask::Ended(End::Limit);
+    }
+    Ask::Choice(chance)
+}
+
 /// Returns what is asked before the next step, or the end `Limit` if a run that goes on has no step
 /// left.
 fn asks_within<'c, P: States<'c>>(program: &P, state: &P::State, left: u32) -> Ask<'c>
@@ -40,8 +63,8 @@ fn asks_within<'c, P: States<'c>>(program: &P, state: &P::State, left: u32) -> A
 {
     match program.asks(state) {
         Ask::Ended(end) => Ask::Ended(end),
-        _ if left == 0 => Ask::Ended(End::Limit),
-        asked => asked,
+        Ask::Plain => plain_within(left),
+        Ask::Choice(chance) => choice_within(chance, left),
     }
 }
 
@@ -104,8 +127,8 @@ fn whole<'c, S: Drop>(
     Some(Followed { state, end, asked })
 }
 
-/// Returns the line of a run that was followed, as a listing shows it. The only refusal is out of
-/// memory.
+/// Returns the line of a run that was followed, as a listing shows it, without its line end. The
+/// only refusal is out of memory.
 #[tactic(auto, unfolding(ick_explorer::specs::Lines::line_of))]
 pub fn run_line<'c, P: States<'c>>(
     alloc: Global,
@@ -113,7 +136,7 @@ pub fn run_line<'c, P: States<'c>>(
     followed: &Followed<'c, P::State>,
     choices: &[bool],
 ) -> Result<Vec<u8>, NoMemory>
-    ensures { IfOk result (λ line. line.items ≡ line_of choices.now
+    ensures { IfOk result (λ line. line.items ++ codes "\n" ≡ line_of choices.now
         (finish_of followed.now.end)
         (P.place program.now followed.now.state).state.output) }
 {
@@ -124,7 +147,6 @@ pub fn run_line<'c, P: States<'c>>(
     line.extend_from_slice(&end)?;
     line.push(b' ')?;
     append_quoted(&mut line, program.output(&followed.state))?;
-    line.push(b'\n')?;
     Ok(line)
 }
 

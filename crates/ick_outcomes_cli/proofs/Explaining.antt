@@ -9,7 +9,7 @@ use Rattle.ick_explorer.specs.ChoiceTexts.{IsTextOf}
 use Rattle.ick_explorer.specs.Laws.{AreLimited, ReadsBack}
 use Rattle.ick_outcomes.specs.Askers.{asked, asked_line}
 use Rattle.ick_outcomes_cli.specs.Asked.{Explains, ForeignAt, foreign_here, foreign_later, last_line, no_line, run_line}
-use Rattle.ick_outcomes_cli.specs.Lines.{IsFirstWord, IsLast, IsLine, IsLineOf, IsListed, IsRunLine}
+use Rattle.ick_outcomes_cli.specs.Lines.{IsFirstWord, IsLast, IsLineOf, IsListed, IsRunLine}
 
 lacks_first : (byte b : ℕ) (text : List ℕ) → LacksByte byte (b ∷ text) → b ≢ byte
 lacks_first byte b text none = none 0 (omega arith)
@@ -41,33 +41,22 @@ word_same line one other h k = first_same 32 one h.rest other k.rest h.first k.f
 pub no_word : (line : List ℕ) → LacksByte 32 line → (word : List ℕ) → ¬ IsFirstWord line word
 no_word line none word h = none_at 32 word h.rest (subst (LacksByte 32) h.whole none)
 
--- a line with what is behind it, and a text that has no line
-line_behind : (line rest : List ℕ) (h : IsLine line) → line ++ rest ≡ h.front ++ (10 ∷ rest)
-line_behind line rest h = ap (λ l. l ++ rest) h.ends ∙ append_assoc h.front (10 ∷ []) rest
-
-pub no_first_line : (listing : List ℕ) → LacksByte 10 listing → (line rest : List ℕ) → IsLine line
-    → listing ≡ line ++ rest → ⊥
-no_first_line listing none line rest h is =
-    none_at 10 h.front rest (subst (LacksByte 10) (is ∙ line_behind line rest h) none)
-
-line_same : (one rest other rest' : List ℕ) → IsLine one → IsLine other → one ++ rest ≡ other ++ rest' → one ≡ other
-line_same one rest other rest' h k e =
-    let fronts = first_same 10 h.front rest k.front rest' h.one k.one
-    (sym (line_behind one rest h) ∙ (e ∙ line_behind other rest' k)) in
-    h.ends ∙ (ap (λ l. l ++ 10 ∷ []) fronts ∙ sym k.ends)
+-- a text without a line end has no line
+pub no_first_line : (listing : List ℕ) → LacksByte 10 listing → (line rest : List ℕ) → listing ≡ line ++ 10 ∷ rest → ⊥
+no_first_line listing none line rest is = none_at 10 line rest (subst (LacksByte 10) is none)
 
 -- the listing has no line at its front, or a foreign one
 pub foreign_rest : (p : Program) (s : State) (limit : ℕ) (rest : List ℕ) → rest ≢ [] → LacksByte 10 rest
     → ForeignAt p s limit rest 1
 foreign_rest p s limit rest some none =
-    foreign_here rest some (λ line behind is same listed. no_first_line rest none line behind is same)
+    foreign_here rest some (λ line behind lacks same listed. no_first_line rest none line behind same)
 
-pub foreign_line : (p : Program) (s : State) (limit : ℕ) (rest line behind : List ℕ) → rest ≢ [] → IsLine line
-    → line ++ behind ≡ rest → (IsLast line → ⊥) → ((c : List Bool) → ¬ IsRunLine p s limit line c)
+pub foreign_line : (p : Program) (s : State) (limit : ℕ) (rest line behind : List ℕ) → rest ≢ [] → LacksByte 10 line
+    → line ++ (10 ∷ behind) ≡ rest → (IsLast line → ⊥) → ((c : List Bool) → ¬ IsRunLine p s limit line c)
     → ForeignAt p s limit rest 1
-foreign_line p s limit rest line behind some is whole other none =
-    foreign_here rest some (λ found after is' same listed.
-    let one : found ≡ line = line_same found after line behind is' is (sym same ∙ sym whole) in
+foreign_line p s limit rest line behind some lacks whole other none =
+    foreign_here rest some (λ found after lacks' same listed.
+    let one : found ≡ line = first_same 10 found after line behind lacks' lacks (sym same ∙ sym whole) in
     not_listed (subst (IsListed p s limit) one listed))
   where
     not_listed : IsListed p s limit line → ⊥
@@ -83,13 +72,13 @@ abbrev pub CountsOn : Program → State → ℕ → (listing rest : List ℕ) �
 CountsOn p s limit listing rest number = (n : ℕ) → ForeignAt p s limit rest n → ForeignAt p s limit listing (number + n)
 
 pub goes_on_last : (p : Program) (s : State) (limit : ℕ) (listing rest line behind text : List ℕ)
-    → GoesOn p s limit listing rest text → IsLine line → line ++ behind ≡ rest → IsLast line
+    → GoesOn p s limit listing rest text → LacksByte 10 line → line ++ (10 ∷ behind) ≡ rest → IsLast line
     → GoesOn p s limit listing behind text
 goes_on_last p s limit listing rest line behind text h is whole last = λ more e.
     h more (subst (λ l. Explains p s limit l more) whole (last_line line behind more is last e))
 
 pub goes_on_run : (p : Program) (s : State) (limit : ℕ) (listing rest line behind text : List ℕ) (c : List Bool)
-    → GoesOn p s limit listing rest text → IsLine line → line ++ behind ≡ rest → (IsLast line → ⊥)
+    → GoesOn p s limit listing rest text → LacksByte 10 line → line ++ (10 ∷ behind) ≡ rest → (IsLast line → ⊥)
     → IsRunLine p s limit line c → GoesOn p s limit listing behind (text ++ asked_line (asked p s limit c))
 goes_on_run p s limit listing rest line behind text c h is whole other run = λ more e.
     let new = asked_line (asked p s limit c) in
@@ -97,7 +86,7 @@ goes_on_run p s limit listing rest line behind text c h is whole other run = λ 
     (h (new ++ more) (subst (λ l. Explains p s limit l (new ++ more)) whole (run_line line behind more c is other run e)))
 
 pub counts_on : (p : Program) (s : State) (limit : ℕ) (listing rest line behind : List ℕ) (number : ℕ)
-    → CountsOn p s limit listing rest number → IsLine line → line ++ behind ≡ rest → IsListed p s limit line
+    → CountsOn p s limit listing rest number → LacksByte 10 line → line ++ (10 ∷ behind) ≡ rest → IsListed p s limit line
     → CountsOn p s limit listing behind (number + 1)
 counts_on p s limit listing rest line behind number h is whole listed = λ n f.
     let e : number + suc n ≡ number + 1 + n = omega arith in

@@ -1,6 +1,6 @@
 -- What an ending gives, and the counts that it leaves.
 use Rattle.std.proofs.Common.{◌≡◌, ◌∙◌, ◌+◌, ◌++◌, ◌<◌, ◌≤◌, ◌==◌, if◌then◌else◌, ℕ, Bool, true, false, List, []}
-use Rattle.std.proofs.Common.{Option, Some, None, ap, arith, refl, subst, sym, inl, length, take, ne_eqb, eq-eqb}
+use Rattle.std.proofs.Common.{Option, Some, None, ap, arith, refl, subst, sym, inl, inr, length, take, ne_eqb, eq-eqb}
 use Rattle.std.proofs.lemmas.List.{append-nil, length-take, take_all}
 use Rattle.ick_bits.specs.Faults.{message_of}
 use Rattle.ick_source.specs.RefusalAnswers.{Refuses}
@@ -8,24 +8,34 @@ use Rattle.ick_source.specs.Refusals.{Compiles, IsRefused, longest}
 use Rattle.ick_source.specs.StatementTree.{StatementTree}
 use Rattle.ick_source.specs.declared.refusals.Refusal.{Refusal}
 use Rattle.ick_source.specs.declared.refusals.Refusal.TheVariants as refusal
-use Rattle.ick_cli.specs.Ending.{Answers, EndsBy, EndsSent, failed_files}
+use Rattle.ick_code.specs.meaning.Move.{first_state}
+use Rattle.ick_backtrack.specs.Machine.{Program}
+use Rattle.ick_cli.specs.Ending.{Answers, EndsBy, EndsSent, Leaves, failed_files, input_of, source_of}
 use Rattle.ick_cli.specs.Input.{EndsCut, EndsUnopened, EndsUnread}
 use Rattle.ick_cli.specs.Notice.{notice_text}
 use Rattle.ick_cli.specs.Stopped.{EndsRefused}
-use Rattle.ick_cli.specs.Tool.{Answer, longest_input}
+use Rattle.ick_cli.specs.Tool.{Answer, longest_input, shown}
 use Rattle.ick_cli.specs.Tool.{refusal as refused_by}
 use Rattle.ick_cli.specs.declared.ending.Ending.{Ending}
 use Rattle.ick_cli.specs.declared.ending.Ending.TheVariants.{Answered, NoMemory, InputTooLong, FileNotRead, ReadFailed}
 use Rattle.ick_cli.specs.declared.ending.Ending.TheVariants.{WriteFailed}
-use Rattle.ick_cli.specs.declared.notice.Message.TheVariants as message
+use Rattle.ick_cli.specs.declared.notice.Notice.{Notice}
 use Rattle.ick_cli.specs.declared.notice.Notice.TheVariants as notice
-use Rattle.ick_cli.proofs.Answered.{leaves_as}
-use Rattle.ick_outcomes_cli.specs.Ended.{Gives, LeavesAll}
+use Rattle.ick_cli.proofs.Answered.{leaves_as, leaves_by}
+use Rattle.ick_outcomes_cli.specs.Asked.{IsAskedBy, foreign_text}
+use Rattle.ick_outcomes_cli.specs.Ended.{Gives, IsRefusal, LeavesAll, listing_of}
 use Rattle.ick_outcomes_cli.specs.Job.{Wanted}
-use Rattle.ick_outcomes_cli.specs.Tool.{HasMoreStates, IsOutcomesAnswer, IsSourceAnswer, MayStop, compiled, may_stop}
-use Rattle.ick_outcomes_cli.specs.Tool.{not_read, read, refused, too_long}
+use Rattle.ick_outcomes_cli.specs.Tool.{HasMoreStates, HasTooMany, IsExplained, IsFound, IsOutcomesAnswer}
+use Rattle.ick_outcomes_cli.specs.Tool.{IsProgramAnswer, IsSourceAnswer, IsStopped, IsSummed, IsTextFound, IsToldOf}
+use Rattle.ick_outcomes_cli.specs.Tool.{MayStop, by_listing, by_outcomes, compiled, explained, foreign, listing_too_long}
+use Rattle.ick_outcomes_cli.specs.Tool.{longest_listing, may_stop, not_read, read, refused, summed, too_long}
+use Rattle.ick_outcomes_cli.specs.declared.asked.Asked.{Asked}
+use Rattle.ick_outcomes_cli.specs.declared.asked.Asked.TheVariants.{Foreign, Text as Told}
 use Rattle.ick_outcomes_cli.specs.declared.ended.Ended.{Ended}
 use Rattle.ick_outcomes_cli.specs.declared.ended.Ended.TheVariants.{By, Refused}
+use Rattle.ick_outcomes_cli.specs.declared.found.Found.{Found}
+use Rattle.ick_outcomes_cli.specs.declared.found.Found.TheVariants.{Outcomes, TooManyStates}
+use Rattle.ick_outcomes_cli.specs.declared.words.job.Question.{Question}
 
 -- other answers, and other reasons to stop
 pub gives_so : {A B : Answer → Type 0} {M N : Type 0} (ended : Ended) (before after : List ℕ)
@@ -161,3 +171,171 @@ leaves_all_as (By ending) f f' r r' w w' g g' s s' x x' leaves files reads write
 leaves_all_as (Refused line) f f' r r' w w' g g' s s' x x' leaves files reads writes =
     let none = leaves.1 in let unread = leaves.2 in let unwritten = leaves.3 in
     (leaves.0, omega (arith, none), omega (arith, unread), omega (arith, unwritten))
+
+-- an ending that leaves everything as it was
+pub leaves_nothing : (f r w : ℕ) → LeavesAll (By NoMemory) f f r r w w
+leaves_nothing f r w = record { proper = tt; opened = omega arith; read = omega arith; wrote = omega arith }
+
+pub leaves_line : (line : Notice) (f r w : ℕ) → IsRefusal line → LeavesAll (Refused line) f f r r w w
+leaves_line line f r w is = (is, refl, refl, refl)
+
+pub leaves_refused : (why : Refusal) (ending : Ending) (f r w : ℕ) → EndsRefused why ending
+    → LeavesAll (By ending) f f r r w w
+leaves_refused (refusal.Fault kind n) ending f r w ends =
+    leaves_as ending 0 0 0 0 0 0 f f r r w w (leaves_by 2 (message_of kind n []) ending 0 0 0 0 (omega arith) ends refl refl)
+    (omega arith) (omega arith) (omega arith)
+leaves_refused refusal.TooLong ending f r w ends =
+    subst (λ (e : Ending). Leaves e f f r r w w) (sym ends)
+    (record { proper = inl (omega arith); opened = omega arith; read = omega arith; wrote = omega arith })
+leaves_refused refusal.NoMemory ending f r w ends =
+    subst (λ (e : Ending). Leaves e f f r r w w) (sym ends) (leaves_nothing f r w)
+
+-- an ending by status 64 or want of memory
+pub leaves_usage : (text : List ℕ) (ending : Ending) (f r w : ℕ) → EndsBy 64 text ending
+    → LeavesAll (By ending) f f r r w w
+leaves_usage text (Answered status said) f r w h = record {
+  proper = inr h.0;
+  opened = omega arith;
+  read = omega arith;
+  wrote = omega arith;
+}
+leaves_usage text NoMemory f r w h = leaves_nothing f r w
+leaves_usage text InputTooLong f r w h = absurd h
+leaves_usage text FileNotRead f r w h = absurd h
+leaves_usage text ReadFailed f r w h = absurd h
+leaves_usage text WriteFailed f r w h = absurd h
+
+-- the answer to a job that names a file, and to one that names none
+pub read_with_file : (w : Wanted) (file : Option (List ℕ)) (name : List ℕ) (named : List ℕ → List ℕ)
+    (failed failed' : ℕ) (left front : List ℕ) (listing : Option (List ℕ)) (answer : Answer) → file ≡ Some name
+    → failed' ≡ failed → front ≡ take (longest + 1) (named name) → IsSourceAnswer w front left listing answer
+    → IsOutcomesAnswer w (input_of file left) listing (source_of file named failed failed' left) answer
+read_with_file w file name named failed failed' left front listing answer is same fronts h =
+    subst (λ (f : Option (List ℕ)).
+    IsOutcomesAnswer w (input_of f left) listing (source_of f named failed failed' left) answer) (sym is)
+    (subst (λ (s : Option (List ℕ)). IsOutcomesAnswer w left listing s answer)
+    (was_read failed failed' (named name) same)
+    (read (named name) answer (source_of_front w (longest + 1) (named name) left listing (omega arith) answer
+    (subst (λ (s : List ℕ). IsSourceAnswer w s left listing answer) fronts h))))
+
+pub stop_with_file : (w : Wanted) (file : Option (List ℕ)) (name : List ℕ) (named : List ℕ → List ℕ)
+    (failed failed' : ℕ) (left front : List ℕ) → file ≡ Some name → failed' ≡ failed
+    → front ≡ take (longest + 1) (named name) → HasMoreStates w front left
+    → MayStop w (input_of file left) (source_of file named failed failed' left)
+stop_with_file w file name named failed failed' left front is same fronts h =
+    subst (λ (f : Option (List ℕ)). MayStop w (input_of f left) (source_of f named failed failed' left)) (sym is)
+    (subst (λ (s : Option (List ℕ)). MayStop w left s) (was_read failed failed' (named name) same)
+    (may_stop (named name) (stop_of_front w (longest + 1) (named name) left (omega arith)
+    (subst (λ (s : List ℕ). HasMoreStates w s left) fronts h))))
+
+pub unread_with_file : (w : Wanted) (file : Option (List ℕ)) (name : List ℕ) (named : List ℕ → List ℕ)
+    (failed failed' : ℕ) (left : List ℕ) (listing : Option (List ℕ)) (ending : Ending) (before : List ℕ)
+    → file ≡ Some name → EndsUnopened ending → failed' ≡ failed + failed_files ending
+    → Gives (IsOutcomesAnswer w (input_of file left) listing (source_of file named failed failed' left))
+    (MayStop w (input_of file left) (source_of file named failed failed' left)) (By ending) before before
+unread_with_file w file name named failed failed' left listing ending before is h count =
+    subst (λ (f : Option (List ℕ)).
+    Gives (IsOutcomesAnswer w (input_of f left) listing (source_of f named failed failed' left))
+    (MayStop w (input_of f left) (source_of f named failed failed' left)) (By ending) before before) (sym is)
+    (gives_unopened {A = IsOutcomesAnswer w left listing} (named name) failed failed' ending before h count not_read)
+
+pub read_without_file : (w : Wanted) (file : Option (List ℕ)) (named : List ℕ → List ℕ) (failed failed' : ℕ)
+    (left front input : List ℕ) (listing : Option (List ℕ)) (answer : Answer) → file ≡ None → input ≡ []
+    → front ≡ take (longest + 1) left → IsSourceAnswer w front input listing answer
+    → IsOutcomesAnswer w (input_of file left) listing (source_of file named failed failed' left) answer
+read_without_file w file named failed failed' left front input listing answer is none fronts h =
+    subst (λ (f : Option (List ℕ)).
+    IsOutcomesAnswer w (input_of f left) listing (source_of f named failed failed' left) answer) (sym is)
+    (read left answer (source_of_front w (longest + 1) left [] listing (omega arith) answer
+    (subst (λ (s : List ℕ). IsSourceAnswer w s [] listing answer) fronts
+    (subst (λ (i : List ℕ). IsSourceAnswer w front i listing answer) none h))))
+
+pub stop_without_file : (w : Wanted) (file : Option (List ℕ)) (named : List ℕ → List ℕ) (failed failed' : ℕ)
+    (left front input : List ℕ) → file ≡ None → input ≡ [] → front ≡ take (longest + 1) left
+    → HasMoreStates w front input → MayStop w (input_of file left) (source_of file named failed failed' left)
+stop_without_file w file named failed failed' left front input is none fronts h =
+    subst (λ (f : Option (List ℕ)). MayStop w (input_of f left) (source_of f named failed failed' left)) (sym is)
+    (may_stop left (stop_of_front w (longest + 1) left [] (omega arith)
+    (subst (λ (s : List ℕ). HasMoreStates w s []) fronts (subst (λ (i : List ℕ). HasMoreStates w front i) none h))))
+
+-- the answer to a source that compiles
+pub source_compiled : (w : Wanted) (source input : List ℕ) (listing : Option (List ℕ))
+    (trees program : List StatementTree) (answer : Answer) → Compiles source trees → program ≡ trees
+    → IsProgramAnswer program input w.limit w.question listing w.listing answer
+    → IsSourceAnswer w source input listing answer
+source_compiled w source input listing trees program answer compiles is h =
+    compiled trees answer compiles
+    (subst (λ (p : List StatementTree). IsProgramAnswer p input w.limit w.question listing w.listing answer) is h)
+
+pub stop_compiled : (w : Wanted) (source input : List ℕ) (trees program : List StatementTree) → Compiles source trees
+    → program ≡ trees → (w.listing ≡ None) × HasTooMany program input w.limit w.question
+    → HasMoreStates w source input
+stop_compiled w source input trees program compiles is h = record {
+  trees = trees;
+  compiles = compiles;
+  unlisted = h.0;
+  more = subst (λ (p : List StatementTree). HasTooMany p input w.limit w.question) is h.1;
+}
+
+-- the answer to a program over an input that was read
+pub program_outcomes : (p : Program) (input given : List ℕ) (limit : ℕ) (q : Question) (listing : Option (List ℕ))
+    (named : Option (List ℕ)) (answer : Answer) → named ≡ None → given ≡ input → length input ≤ longest_input
+    → IsSummed p given limit q answer → IsProgramAnswer p input limit q listing named answer
+program_outcomes p input given limit q listing named answer none same fits h =
+    subst (λ (n : Option (List ℕ)). IsProgramAnswer p input limit q listing n answer) (sym none)
+    (by_outcomes answer fits (subst (λ (i : List ℕ). IsSummed p i limit q answer) same h))
+
+pub program_listing : (p : Program) (input given : List ℕ) (limit : ℕ) (q : Question) (name : List ℕ)
+    (names : List ℕ → List ℕ) (failed failed' : ℕ) (named : Option (List ℕ)) (answer : Answer) → named ≡ Some name
+    → given ≡ input → length input ≤ longest_input
+    → IsExplained p given limit (listing_of (Some name) names failed failed') answer
+    → IsProgramAnswer p input limit q (listing_of named names failed failed') named answer
+program_listing p input given limit q name names failed failed' named answer is same fits h =
+    subst (λ (n : Option (List ℕ)). IsProgramAnswer p input limit q (listing_of n names failed failed') n answer) (sym is)
+    (by_listing name answer fits
+    (subst (λ (i : List ℕ). IsExplained p i limit (listing_of (Some name) names failed failed') answer) same h))
+
+-- the answer by a text that was found, and by what was told of a listing
+pub text_found : (p : Program) (input : List ℕ) (limit : ℕ) (q : Question) (found : Found) (answer : Answer)
+    → IsFound p input limit q found → IsTextFound found answer → IsSummed p input limit q answer
+text_found p input limit q (Outcomes text) answer is h = subst (IsSummed p input limit q) (sym h) (summed text.items is)
+text_found p input limit q TooManyStates answer is h = absurd h
+
+pub stopped_found : (p : Program) (input : List ℕ) (limit : ℕ) (q : Question) (found : Found)
+    → IsFound p input limit q found → IsStopped found → HasTooMany p input limit q
+stopped_found p input limit q (Outcomes text) is h = absurd h
+stopped_found p input limit q TooManyStates is h = is
+
+pub listing_told : (p : Program) (input : List ℕ) (limit : ℕ) (listing : List ℕ) (told : Asked) (answer : Answer)
+    → length listing ≤ longest_listing → IsAskedBy p (first_state p input) limit listing told → IsToldOf told answer
+    → IsExplained p input limit (Some listing) answer
+listing_told p input limit listing (Told text) answer fits is h =
+    subst (IsExplained p input limit (Some listing)) (sym h) (explained listing text.items fits is)
+listing_told p input limit listing (Foreign n) answer fits is h =
+    subst (IsExplained p input limit (Some listing)) (sym h) (foreign listing n fits is)
+
+-- the answer to a listing that was read, at most one byte more than the longest
+pub read_listing : (p : Program) (input : List ℕ) (limit : ℕ) (name front : List ℕ) (names : List ℕ → List ℕ)
+    (failed failed' : ℕ) (answer : Answer) → failed' ≡ failed → front ≡ take (longest_listing + 1) (names name)
+    → IsExplained p input limit (Some front) answer
+    → IsExplained p input limit (listing_of (Some name) names failed failed') answer
+read_listing p input limit name front names failed failed' answer same is h =
+    subst (λ (l : Option (List ℕ)). IsExplained p input limit l answer) (was_read failed failed' (names name) same)
+    (of_front h)
+  where
+    whole : length front ≤ longest_listing → front ≡ names name
+    whole fits =
+        let size = length-take (longest_listing + 1) (names name) in
+        let long = ap (λ (l : List ℕ). length l) is in
+        is ∙ take_all (longest_listing + 1) (names name) (omega arith)
+
+    of_front : IsExplained p input limit (Some front) answer → IsExplained p input limit (Some (names name)) answer
+    of_front (listing_too_long l long) =
+        listing_too_long (names name)
+        (let size = length-take (longest_listing + 1) (names name) in
+        let same = ap (λ (l : List ℕ). length l) is in omega arith)
+    of_front (explained l text fits e) =
+        subst (λ (x : List ℕ). IsExplained p input limit (Some x) (shown text)) (whole fits) (explained l text fits e)
+    of_front (foreign l n fits e) =
+        subst (λ (x : List ℕ). IsExplained p input limit (Some x) (refused_by 64 (foreign_text n))) (whole fits)
+        (foreign l n fits e)

@@ -1,12 +1,13 @@
 -- From the ending of the work to what the whole call leaves.
 use Rattle.std.proofs.Common.{◌≡◌, ◌∙◌, ◌++◌, inl, inr, ℕ, Bool, List, ap, refl, sym, subst, arith}
 use Rattle.std.proofs.lemmas.List.{append-nil}
-use Rattle.ick_cli.specs.Serve.{Failures, counts}
+use Rattle.ick_cli.specs.Serve.{Failures, Finishes, IsStatus, counts}
 use Rattle.ick_cli.specs.Tool.{Answer}
 use Rattle.ick_cli.specs.declared.ending.Ending.TheVariants.{Answered, NoMemory, InputTooLong, FileNotRead, ReadFailed}
 use Rattle.ick_cli.specs.declared.ending.Ending.TheVariants.{WriteFailed}
 use Rattle.ick_cli.specs.declared.notice.Notice.TheVariants as notice
-use Rattle.ick_cli.proofs.Served.{due}
+use Rattle.ick_cli.proofs.Left.{four_by}
+use Rattle.ick_cli.proofs.Served.{due, finished_status}
 use Rattle.ick_outcomes_cli.specs.Ended.{Gives, LeavesAll, ended_status, ended_text}
 use Rattle.ick_outcomes_cli.specs.Serve.{IsOutcomesDue, IsOutcomesServed, answered, as_ick, cut_by_write, long_listing}
 use Rattle.ick_outcomes_cli.specs.Serve.{many_states, too_many, unread, without_memory}
@@ -32,6 +33,16 @@ outcomes_due (Refused notice.ReadFailed) f f' r r' w w' x = absurd x.0
 outcomes_due (Refused notice.WriteFailed) f f' r r' w w' x = absurd x.0
 outcomes_due (Refused notice.OutOfMemory) f f' r r' w w' x = absurd x.0
 outcomes_due (Refused notice.WordsNotRead) f f' r r' w w' x = absurd x.0
+
+-- the status is one of the program's
+pub outcomes_status : (old new : Failures) (told : Bool) (e e' : ℕ) (errs errs' : List ℕ) (code : ℕ) (text : List ℕ)
+    (status : ℕ) → IsOutcomesDue old new text status → Finishes told status text e e' errs errs' code → IsStatus code
+outcomes_status old new told e e' errs errs' code text status (as_ick t s owed) done =
+    finished_status old new told e e' errs errs' code (t, s, owed, done)
+outcomes_status old new told e e' errs errs' code text status (many_states same) done =
+    let four = four_by told 4 _ e e' errs errs' code done refl in inl (omega (arith, four))
+outcomes_status old new told e e' errs errs' code text status (long_listing same) done =
+    let four = four_by told 4 _ e e' errs errs' code done refl in inl (omega (arith, four))
 
 -- an answer, by its error text and its status
 by_answer : {A : Answer → Type 0} {M : Type 0} (old new : Failures) (out out' : List ℕ) (answer : Answer)

@@ -74,7 +74,7 @@ fn line_asked(
 {
     one_reading();
     runs_are_limited();
-    let Some(word) = first_word(line) else {
+    let Some((word, _)) = first_word(line) else {
         return Ok(None);
     };
     match Cursor::from_text(alloc, word, limit) {

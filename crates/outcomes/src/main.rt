@@ -4,8 +4,11 @@
 //! - `serving`: the arguments served over any devices
 #![tactic(auto)]
 
-ghost use Rattle.std.specs.Prelude.{◌≡◌, ◌+◌, ◌<◌, ◌^◌};
+ghost use Rattle.std.specs.Prelude.{◌≡◌, ◌+◌, ◌<◌, ◌^◌, IfErr};
 ghost use Rattle.std.specs.Process.{exit_status};
+ghost use Rattle.ick_cli.specs.Notice.{notice_text};
+ghost use Rattle.ick_cli.specs.Serve.{Finishes};
+ghost use Rattle.ick_cli.specs.Usage.{words_notice, words_status};
 
 mod serving;
 
@@ -29,6 +32,9 @@ fn answer<E: ByteSink>(
     errors: &mut E,
 ) -> Status
     requires { E.failed errors.old + 1 < 2 ^ 64 }
+    ensures refused { IfErr arguments (λ fault. Finishes E.told (words_status fault)
+        (notice_text (words_notice fault)) (E.failed errors.old) (E.failed errors.new)
+        (E.written errors.old) (E.written errors.new) result) }
 {
     match arguments {
         Ok(arguments) => {

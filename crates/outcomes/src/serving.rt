@@ -1,5 +1,15 @@
 //! The arguments served over any devices.
-ghost use Rattle.std.specs.Prelude.{◌+◌, ◌<◌, ◌^◌};
+ghost use Rattle.std.specs.Prelude.{◌≡◌, ◌≢◌, ◌+◌, ◌<◌, ◌^◌, [], true};
+ghost use Rattle.clap.specs.Words.{fault_of};
+ghost use Rattle.ick_cli.specs.Ending.{input_of, source_of};
+ghost use Rattle.ick_cli.specs.Serve.{FinishesDue, IsStatus, counts};
+ghost use Rattle.ick_cli.specs.Usage.{AreMistakes, AreRequests, IsHelped, IsRefused};
+ghost use Rattle.ick_outcomes_cli.specs.Ended.{listing_of};
+ghost use Rattle.ick_outcomes_cli.specs.Job.{HasJob, job_of};
+ghost use Rattle.ick_outcomes_cli.specs.Serve.{IsOutcomesDue, IsOutcomesServed};
+ghost use Rattle.ick_outcomes_cli.specs.Tool.{IsOutcomesAnswer, MayStop};
+ghost use Rattle.ick_outcomes_cli.specs.Words.{outcomes_app};
+ghost use Rattle.ick_system.specs.Arguments.{after_name};
 
 use ick_cli::{Files, Status, WordsFault, refuse_words};
 use ick_outcomes_cli::serve_outcomes;
@@ -7,8 +17,9 @@ use ick_runs::{ByteSink, ByteSource};
 use ick_system::words_of;
 use std::alloc::Global;
 
-/// Serves all arguments after the program's own name, and returns the exit status. If memory runs
-/// out for the arguments, files, listings, reader and writer are unchanged.
+/// Serves all arguments after the program's own name, and returns the exit status. The clauses are
+/// those of `serve_outcomes`. If memory runs out for the arguments, files, listings, reader and writer
+/// are unchanged.
 pub fn serve_arguments<F: Files, L: Files, R: ByteSource, W: ByteSink, E: ByteSink>(
     alloc: Global,
     arguments: &[String],
@@ -23,9 +34,57 @@ pub fn serve_arguments<F: Files, L: Files, R: ByteSource, W: ByteSink, E: ByteSi
     requires reader_sound { R.failed reader.old + 1 < 2 ^ 64 }
     requires writer_sound { W.failed writer.old + 1 < 2 ^ 64 }
     requires errors_sound { E.failed errors.old + 1 < 2 ^ 64 }
+
+    // Arguments that ask for a job.
+    ensures job { HasJob (after_name arguments.now) → F.told ≡ true → L.told ≡ true → R.told ≡ true
+        → W.told ≡ true → let job = job_of (after_name arguments.now) in
+        let input = input_of job.file (R.left reader.old) in
+        let source = source_of job.file (F.named files.old) (F.failed files.old)
+        (F.failed files.new) (R.left reader.old) in
+        FinishesDue (IsOutcomesServed (IsOutcomesAnswer job input
+        (listing_of job.listing (L.named listings.old)
+        (L.failed listings.old) (L.failed listings.new)) source) (MayStop job input source)
+        (counts (F.failed files.old + L.failed listings.old)
+        (R.failed reader.old) (W.failed writer.old))
+        (counts (F.failed files.new + L.failed listings.new)
+        (R.failed reader.new) (W.failed writer.new))
+        (W.written writer.old) (W.written writer.new))
+        E.told (E.failed errors.old) (E.failed errors.new)
+        (E.written errors.old) (E.written errors.new) result }
+
+    // Other arguments.
+    ensures usage { AreMistakes (fault_of outcomes_app (after_name arguments.now))
+        → (writer.new ≡ writer.old) × FinishesDue IsRefused
+        E.told (E.failed errors.old) (E.failed errors.new)
+        (E.written errors.old) (E.written errors.new) result }
+    ensures help { AreRequests (fault_of outcomes_app (after_name arguments.now)) → FinishesDue
+        (IsHelped W.told (W.failed writer.old) (W.failed writer.new)
+        (W.written writer.old) (W.written writer.new))
+        E.told (E.failed errors.old) (E.failed errors.new)
+        (E.written errors.old) (E.written errors.new) result }
+    ensures untouched { (fault_of outcomes_app (after_name arguments.now) ≢ [])
+        → (files.new ≡ files.old) × (listings.new ≡ listings.old) × (reader.new ≡ reader.old) }
+
+    // Any arguments.
+    ensures said { FinishesDue (IsOutcomesDue
+        (counts (F.failed files.old + L.failed listings.old)
+        (R.failed reader.old) (W.failed writer.old))
+        (counts (F.failed files.new + L.failed listings.new)
+        (R.failed reader.new) (W.failed writer.new)))
+        E.told (E.failed errors.old) (E.failed errors.new)
+        (E.written errors.old) (E.written errors.new) result }
+    ensures status { IsStatus result }
 {
     match words_of(alloc, arguments) {
-        Ok(words) => serve_outcomes(alloc, &words, files, listings, reader, writer, errors),
+        Ok(words) => serve_outcomes(
+            alloc,
+            words.as_slice(),
+            files,
+            listings,
+            reader,
+            writer,
+            errors,
+        ),
         Err(_) => refuse_words(WordsFault::NoMemory, errors),
     }
 }

@@ -1,36 +1,18 @@
-use Rattle.std.proofs.Common.{◌≡◌, ◌∙◌, inl, inr, [], ◌∷◌, ap, arith, false, refl, subst, sym}
-use Rattle.clap.specs.Kinds.{HasKind, IsAmong}
-use Rattle.clap.specs.Words.{Kinds, kind_of}
-use Rattle.clap.specs.declared.error.ErrorKind.{ErrorKind}
-use Rattle.clap.specs.declared.error.ErrorKind.TheVariants as kind
-use Rattle.clap.specs.declared.error.Error.{Error}
+use Rattle.std.proofs.Common.{◌≡◌, ◌∙◌, inl, inr, ap, arith, false, refl, subst, sym}
+use Rattle.clap.specs.Words.{kind_of}
 use Rattle.ick_cli.specs.Ending.{input_of, source_of}
 use Rattle.ick_cli.specs.Job.{Asked, asked, has_file}
 use Rattle.std.proofs.lemmas.List.{append-nil}
 use Rattle.ick_cli.specs.Serve.{counts, cut_by_memory, line_without_memory}
 use Rattle.ick_cli.specs.Tool.{IsToolAnswer}
-use Rattle.ick_cli.specs.Usage.{EachIs, IsMistake, IsRequest, help_without_memory}
+use Rattle.ick_cli.specs.Usage.{IsMistake, IsRequest, help_without_memory}
 use Rattle.ick_cli.specs.Left.{IsLeft}
 use Rattle.ick_cli.specs.Plan.{IsUnplanned}
+use Rattle.ick_cli.proofs.ErrorKinds.{among, memory_is_mistake, memory_ran_out}
 use Rattle.ick_cli.proofs.Left.{was_answered, without_memory}
 use Rattle.ick_cli.proofs.OneAnswer.{tool_answer}
 use Rattle.ick_cli.proofs.Served.{due, failed_due, finished_status, line_finished, served}
 use Rattle.ick_cli.proofs.driver.serve.Goals as goal
-
--- what holds of each of several kinds holds of one among them
-among : (P : ErrorKind → Type 0) (k : ErrorKind) (kinds : Kinds) → EachIs P kinds → IsAmong k kinds → P k
-among P k [] each h = absurd h
-among P k (x ∷ xs) each (inl e) = subst P (sym e) each.0
-among P k (x ∷ xs) each (inr h) = among P k xs each.1 h
-
-memory_is_mistake : (k : ErrorKind) → k ≡ kind.OutOfMemory → IsMistake k
-memory_is_mistake k e = (λ h. cc, λ h. cc)
-
--- where the words ask for a job, an error is want of memory
-memory_ran_out : (error : Error) (kinds : Kinds) → kinds ≡ [] → HasKind kinds error →
-    kind_of error ≡ kind.OutOfMemory
-memory_ran_out error kinds none (inl e) = e
-memory_ran_out error kinds none (inr h) = absurd (subst (λ (ks : Kinds). IsAmong (kind_of error) ks) none h)
 
 pub returns-in-Ok-clause-job : goal.returns-in-Ok-clause-job
 returns-in-Ok-clause-job g c = λ has_job files_told reader_told writer_told.

@@ -1,0 +1,23 @@
+-- The kinds of an error of clap.
+use Rattle.std.proofs.Common.{◌≡◌, inl, inr, [], ◌∷◌, subst, sym}
+use Rattle.clap.specs.Kinds.{HasKind, IsAmong}
+use Rattle.clap.specs.Words.{Kinds, kind_of}
+use Rattle.clap.specs.declared.error.ErrorKind.{ErrorKind}
+use Rattle.clap.specs.declared.error.ErrorKind.TheVariants as kind
+use Rattle.clap.specs.declared.error.Error.{Error}
+use Rattle.ick_cli.specs.Usage.{EachIs, IsMistake}
+
+-- what holds of each of several kinds holds of one among them
+pub among : (P : ErrorKind → Type 0) (k : ErrorKind) (kinds : Kinds) → EachIs P kinds → IsAmong k kinds → P k
+among P k [] each h = absurd h
+among P k (x ∷ xs) each (inl e) = subst P (sym e) each.0
+among P k (x ∷ xs) each (inr h) = among P k xs each.1 h
+
+pub memory_is_mistake : (k : ErrorKind) → k ≡ kind.OutOfMemory → IsMistake k
+memory_is_mistake k e = (λ h. cc, λ h. cc)
+
+-- where the words ask for a job, an error is want of memory
+pub memory_ran_out : (error : Error) (kinds : Kinds) → kinds ≡ [] → HasKind kinds error →
+    kind_of error ≡ kind.OutOfMemory
+memory_ran_out error kinds none (inl e) = e
+memory_ran_out error kinds none (inr h) = absurd (subst (λ (ks : Kinds). IsAmong (kind_of error) ks) none h)

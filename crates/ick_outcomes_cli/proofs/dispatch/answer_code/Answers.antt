@@ -1,0 +1,48 @@
+use Rattle.std.proofs.Common.{◌≤◌, ◌∙◌, ℕ, List, arith, length, subst}
+use Rattle.ick_code.specs.Compiled.{code_program}
+use Rattle.ick_cli.specs.Tool.{longest_input}
+use Rattle.ick_cli.proofs.Planned.{given_none, given_some}
+use Rattle.ick_outcomes_cli.specs.Tool.{HasTooMany, input_too_long}
+use Rattle.ick_outcomes_cli.proofs.Giving.{gives_so, gives_unread, leaves_all_as, program_listing, program_outcomes}
+use Rattle.ick_outcomes_cli.proofs.dispatch.answer_code.Goals as goal
+
+pub returns-in-None-clause-leaves : goal.returns-in-None-clause-leaves
+returns-in-None-clause-leaves g c =
+    leaves_all_as c.answer_outcomes.result 0 0 0 0 _ _ _ _ _ _ _ _ c.answer_outcomes.ensures.leaves (omega arith)
+    (omega (arith, c.in-Ok.ensures.count)) (omega arith)
+
+pub returns-in-None-clause-gives : goal.returns-in-None-clause-gives
+returns-in-None-clause-gives g c = λ listings_told reader_told writer_told.
+    let program = code_program c.args.code.now in
+    let read = c.in-Ok.ensures.whole reader_told in
+    let whole = c.as_slice.ensures.value ∙ read in
+    let fits = subst (λ (l : List ℕ). length l ≤ longest_input) read c.in-Ok.ensures.fits in
+    let none = given_none _ _ c.in-None.is in
+    gives_so c.answer_outcomes.result _ _
+    (λ answer h. program_outcomes program _ _ _ _ _ _ answer none whole fits h)
+    (λ h. (none, subst (λ (i : List ℕ). HasTooMany program i c.args.job.now.limit c.args.job.now.question) whole h))
+    (c.answer_outcomes.ensures.gives writer_told)
+
+pub returns-in-Ok-clause-leaves : goal.returns-in-Ok-clause-leaves
+returns-in-Ok-clause-leaves g c =
+    leaves_all_as c.answer_listing.result _ _ 0 0 _ _ _ _ _ _ _ _ c.answer_listing.ensures.leaves (omega arith)
+    (omega (arith, c.in-Ok.ensures.count)) (omega arith)
+
+pub returns-in-Ok-clause-gives : goal.returns-in-Ok-clause-gives
+returns-in-Ok-clause-gives g c = λ listings_told reader_told writer_told.
+    let program = code_program c.args.code.now in
+    let read = c.in-Ok.ensures.whole reader_told in
+    let whole = c.as_slice-in-Some.ensures.value ∙ read in
+    let fits = subst (λ (l : List ℕ). length l ≤ longest_input) read c.in-Ok.ensures.fits in
+    gives_so c.answer_listing.result _ _
+    (λ answer h. program_listing program _ _ _ c.args.job.now.question _ _ _ _ _ answer
+    (given_some _ _ _ c.in-Some.is) whole fits h)
+    (λ h. absurd h) (c.answer_listing.ensures.gives listings_told writer_told)
+
+pub returns-clause-leaves : goal.returns-clause-leaves
+returns-clause-leaves g c =
+    leaves_all_as c.result 0 0 _ _ 0 0 _ _ _ _ _ _ c.in-Err.ensures.leaves (omega arith) (omega arith) (omega arith)
+
+pub returns-clause-gives : goal.returns-clause-gives
+returns-clause-gives g c = λ listings_told reader_told writer_told.
+    gives_unread _ c.in-Err.ending _ (c.in-Err.ensures.unread reader_told) (λ long. input_too_long _ long)

@@ -1,0 +1,28 @@
+use Rattle.ick_source.specs.Programs.{trees_of}
+use Rattle.ick_code.specs.Compiled.{code_program}
+use Rattle.ick_outcomes_cli.specs.Job.{wanted}
+use Rattle.ick_outcomes_cli.proofs.Giving.{gives_refused, gives_so, leaves_nothing, leaves_refused, source_compiled}
+use Rattle.ick_outcomes_cli.proofs.Giving.{stop_compiled}
+use Rattle.ick_outcomes_cli.proofs.dispatch.answer_source.Goals as goal
+
+pub returns-in-Err-clause-leaves : goal.returns-in-Err-clause-leaves
+returns-in-Err-clause-leaves g c = leaves_refused c.in-Err.refusal c.refused.result _ _ _ c.refused.ensures
+
+pub returns-in-Err-clause-gives : goal.returns-in-Err-clause-gives
+returns-in-Err-clause-gives g c = λ listings_told reader_told writer_told.
+    gives_refused (wanted c.args.job.now) _ _ _ c.in-Err.refusal c.refused.result _ c.in-Err.ensures.refused
+    c.refused.ensures
+
+pub returns-in-Ok-compile-clause-gives : goal.returns-in-Ok-compile-clause-gives
+returns-in-Ok-compile-clause-gives g c = λ listings_told reader_told writer_told.
+    let job = wanted c.args.job.now in
+    let trees = trees_of c.in-Ok.program in
+    let program = code_program c.in-Ok-compile.code in
+    gives_so c.answer_code.result _ _
+    (λ answer h. source_compiled job _ _ _ trees program answer c.in-Ok.ensures.compiles
+    c.in-Ok-compile.ensures.program_is h)
+    (λ h. stop_compiled job _ _ trees program c.in-Ok.ensures.compiles c.in-Ok-compile.ensures.program_is h)
+    (c.answer_code.ensures.gives listings_told reader_told writer_told)
+
+pub returns-clause-leaves : goal.returns-clause-leaves
+returns-clause-leaves g c = leaves_nothing _ _ _
