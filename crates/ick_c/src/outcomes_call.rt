@@ -1,5 +1,6 @@
 //! The answer of `ick-outcomes` to arguments, over a file, a listing and an input in memory.
 ghost use Rattle.std.specs.Prelude.{◌+◌, ◌<◌, ◌^◌};
+ghost use Rattle.ick_cli.specs.Serve.{IsStatus};
 
 use crate::arguments::arguments_in;
 use crate::one_file::OneFile;
@@ -20,6 +21,7 @@ pub fn answer_outcomes(
 ) -> Status
     requires writer_sound { writer.old.failures + 1 < 2 ^ 64 }
     requires errors_sound { errors.old.failures + 1 < 2 ^ 64 }
+    ensures status { IsStatus result }
 {
     match arguments_in(alloc, bytes) {
         Ok(arguments) => serve_outcomes(

@@ -209,7 +209,7 @@ pub ended_at : (p : Program) (t : State) (left : ℕ) (f : Finish) → asked_at_
 ended_at p t left (finished e) h = λ d. let is : ended e ≡ ask p t = cc in run-ended p t left d e (sym is)
 ended_at p t left at_limit h = let bad : None ≡ Some (ask p t) = h in cc
 
-machine_at : Program → State → Machine
+abbrev machine_at : Program → State → Machine
 machine_at p t = record { program = p; state = t; marks = []; work = 0 }
 
 limit_at : (p : Program) (t : State) (a : Asking) → ask p t ≡ a → (going : (e : Ending) → a ≡ ended e → ⊥)
@@ -287,18 +287,18 @@ stepped_chosen place p s limit c old new now left k statement b d askers askers'
     (subst (λ q. ask q (place old).state ≡ choice k) same asks) some within))))
 
 -- the texts of askers, one after another
-abbrev later : AskedBy → List ℕ
-later x = 32 ∷ asker_text x
+abbrev behind : AskedBy → List ℕ
+behind x = 32 ∷ asker_text x
 
-later_more : (l : List AskedBy) (x : AskedBy) → flat_map later (l ++ x ∷ []) ≡ flat_map later l ++ later x
-later_more [] x = append-nil (later x)
-later_more (y ∷ l) x =
-    ap (λ t. later y ++ t) (later_more l x) ∙ sym (append_assoc (later y) (flat_map later l) (later x))
+behind_more : (l : List AskedBy) (x : AskedBy) → flat_map behind (l ++ x ∷ []) ≡ flat_map behind l ++ behind x
+behind_more [] x = append-nil (behind x)
+behind_more (y ∷ l) x =
+    ap (λ t. behind y ++ t) (behind_more l x) ∙ sym (append_assoc (behind y) (flat_map behind l) (behind x))
 
-more_askers : (l : List AskedBy) (x : AskedBy) → 0 < length l → askers_text (l ++ x ∷ []) ≡ askers_text l ++ later x
+more_askers : (l : List AskedBy) (x : AskedBy) → 0 < length l → askers_text (l ++ x ∷ []) ≡ askers_text l ++ behind x
 more_askers [] x some = absurd (omega (arith, some))
 more_askers (y ∷ l) x some =
-    ap (λ t. asker_text y ++ t) (later_more l x) ∙ sym (append_assoc (asker_text y) (flat_map later l) (later x))
+    ap (λ t. asker_text y ++ t) (behind_more l x) ∙ sym (append_assoc (asker_text y) (flat_map behind l) (behind x))
 
 pub first_asker : (askers : List AskedBy) (at : ℕ) (d : AskedBy) → at ≡ 0 → at < length askers →
     askers_text (take (suc at) askers) ≡ askers_text (take at askers) ++ asker_text (get_or askers at d)
@@ -308,7 +308,7 @@ first_asker askers at d none within =
     ++ asker_text (get_or askers n d)) (sym none) (append-nil (asker_text (get_or askers 0 d)))
 
 pub next_asker : (askers : List AskedBy) (at : ℕ) (d : AskedBy) → 0 < at → at < length askers →
-    askers_text (take (suc at) askers) ≡ askers_text (take at askers) ++ later (get_or askers at d)
+    askers_text (take (suc at) askers) ≡ askers_text (take at askers) ++ behind (get_or askers at d)
 next_asker askers at d some within =
     let size = length-take-le at askers (omega (arith, within)) in
     ap askers_text (take-suc askers at d within)

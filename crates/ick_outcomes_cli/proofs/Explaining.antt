@@ -41,6 +41,9 @@ word_same line one other h k = first_same 32 one h.rest other k.rest h.first k.f
 pub no_word : (line : List ℕ) → LacksByte 32 line → (word : List ℕ) → ¬ IsFirstWord line word
 no_word line none word h = none_at 32 word h.rest (subst (LacksByte 32) h.whole none)
 
+pub is_first : (line word rest : List ℕ) → word ++ (32 ∷ rest) ≡ line → LacksByte 32 word → IsFirstWord line word
+is_first line word rest whole first = record { rest = rest; whole = sym whole; first = first }
+
 -- a text without a line end has no line
 pub no_first_line : (listing : List ℕ) → LacksByte 10 listing → (line rest : List ℕ) → listing ≡ line ++ 10 ∷ rest → ⊥
 no_first_line listing none line rest is = none_at 10 line rest (subst (LacksByte 10) is none)

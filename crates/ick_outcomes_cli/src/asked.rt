@@ -1,6 +1,6 @@
 //! What the choices of a listing were asked by.
 
-ghost use Rattle.std.specs.Prelude.{◌≡◌, ℕ, List, Bool, IfOk, IfSome, None, Ok};
+ghost use Rattle.std.specs.Prelude.{◌≡◌, ◌≢◌, List, Bool, IfOk, IfSome, None, Ok};
 ghost use Rattle.ick_code.specs.Compiled.{code_program};
 ghost use Rattle.ick_code.specs.meaning.Move.{first_state};
 ghost use Rattle.ick_outcomes.specs.Askers.{asked, asked_line};
@@ -79,8 +79,17 @@ fn line_asked(
     };
     match Cursor::from_text(alloc, word, limit) {
         Ok(cursor) => run_asked(alloc, code, input, limit, line, cursor.choices()),
-        Err(RunsError::NoMemory) => Err(NoMemory),
-        Err(_) => Ok(None),
+        Err(error) => refused_word(error),
+    }
+}
+
+/// Returns the answer to a word that is refused: memory ran out, or the line is that of no run.
+fn refused_word(error: RunsError) -> Result<Option<Vec<u8>>, NoMemory>
+    ensures { IfOk result (λ found. (found ≡ None) × (error ≢ RunsError.NoMemory)) }
+{
+    match error {
+        RunsError::NoMemory => Err(NoMemory),
+        _ => Ok(None),
     }
 }
 

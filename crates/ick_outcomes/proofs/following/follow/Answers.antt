@@ -1,4 +1,4 @@
-use Rattle.std.proofs.Common.{◌≡◌, ◌<◌, ◌-◌, ◌∙◌, List, Bool, ap, arith, false, length, refl, subst, sym}
+use Rattle.std.proofs.Common.{◌≡◌, ◌<◌, ◌-◌, ◌∙◌, ap, arith, false, get_or, length, subst, sym}
 use Rattle.std.proofs.lemmas.Option.{IfSome_then}
 use Rattle.ick_code.specs.meaning.Move.{ask, choice}
 use Rattle.ick_backtrack.specs.Asked.{finish_of}
@@ -88,7 +88,8 @@ steps-preserved g c =
             follows = stepped_chosen place start.program start.state c.args.limit c.args.choices.now c.run.new.state
                 w.step-in-Choice.new.state c.match-asks_within.state _ w.in-Choice.chance w.statement-statement.result _
                 false c.steps.asked.items c.match-asks_within.asked.items on same w.in-Choice.ensures.0
-                w.in-Choice.ensures.1 less w.statement-statement.ensures refl
+                w.in-Choice.ensures.1 less w.statement-statement.ensures
+                (ap (λ n. get_or c.args.choices.now n false) w.len-at.ensures)
                 (ap (λ (x : Place). x.state) step.step) w.state-is pushed;
             program = ap (λ x. (place x).program) w.state-is
                 ∙ (ap (λ (x : Place). x.program) step.step ∙ same);
