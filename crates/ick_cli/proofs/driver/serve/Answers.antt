@@ -14,6 +14,7 @@ use Rattle.ick_cli.proofs.OneAnswer.{tool_answer}
 use Rattle.ick_cli.proofs.Served.{due, failed_due, finished_status, line_finished, served}
 use Rattle.ick_cli.proofs.driver.serve.Goals as goal
 
+-- words that ask for a job, and others
 pub returns-in-Ok-clause-job : goal.returns-in-Ok-clause-job
 returns-in-Ok-clause-job g c = λ has_job files_told reader_told writer_told.
     let left = g.R.ByteSource.left c.args.reader.now in
