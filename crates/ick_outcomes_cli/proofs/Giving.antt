@@ -11,7 +11,7 @@ use Rattle.ick_source.specs.declared.refusals.Refusal.TheVariants as refusal
 use Rattle.ick_code.specs.meaning.Move.{first_state}
 use Rattle.ick_backtrack.specs.Machine.{Program}
 use Rattle.ick_cli.specs.Ending.{Answers, EndsBy, EndsSent, Leaves, failed_files, input_of, source_of}
-use Rattle.ick_cli.specs.Input.{EndsCut, EndsUnopened, EndsUnread}
+use Rattle.ick_cli.specs.Input.{EndsUnopened, EndsUnread}
 use Rattle.ick_cli.specs.Notice.{notice_text}
 use Rattle.ick_cli.specs.Stopped.{EndsRefused}
 use Rattle.ick_cli.specs.Tool.{Answer, longest_input, shown}
@@ -60,77 +60,68 @@ gives_so (Refused notice.OutOfMemory) before after so stops h = absurd h
 gives_so (Refused notice.WordsNotRead) before after so stops h = absurd h
 
 -- an output that was sent
-pub gives_sent : {A : Answer → Type 0} {M : Type 0} (ending : Ending) (before after : List ℕ) (answer : Answer)
-    → EndsSent ending → A answer → Answers answer ending before after → Gives A M (By ending) before after
-gives_sent (Answered status text) before after answer sent is h = (answer, is, h)
-gives_sent WriteFailed before after answer sent is h = (answer, is, h)
-gives_sent InputTooLong before after answer sent is h = absurd sent
-gives_sent FileNotRead before after answer sent is h = absurd sent
-gives_sent NoMemory before after answer sent is h = absurd sent
-gives_sent ReadFailed before after answer sent is h = absurd sent
+pub gives_sent : (A : Answer → Type 0) (ending : Ending) (before after : List ℕ) (answer : Answer)
+    → EndsSent ending → A answer → Answers answer ending before after → Gives A ⊥ (By ending) before after
+gives_sent A (Answered status text) before after answer sent is h = (answer, is, h)
+gives_sent A WriteFailed before after answer sent is h = (answer, is, h)
+gives_sent A InputTooLong before after answer sent is h = absurd sent
+gives_sent A FileNotRead before after answer sent is h = absurd sent
+gives_sent A NoMemory before after answer sent is h = absurd sent
+gives_sent A ReadFailed before after answer sent is h = absurd sent
 
 -- an answer without output
-pub gives_refusal : {A : Answer → Type 0} {M : Type 0} (status : ℕ) (text : List ℕ) (ending : Ending)
-    (before : List ℕ) → EndsBy status text ending → A (refused_by status text) → Gives A M (By ending) before before
-gives_refusal status text (Answered given said) before h is = (refused_by status text, is, (h, sym (append-nil before)))
-gives_refusal status text NoMemory before h is = refl
-gives_refusal status text InputTooLong before h is = absurd h
-gives_refusal status text FileNotRead before h is = absurd h
-gives_refusal status text ReadFailed before h is = absurd h
-gives_refusal status text WriteFailed before h is = absurd h
+pub gives_refusal : (A : Answer → Type 0) (status : ℕ) (text : List ℕ) (ending : Ending)
+    (before : List ℕ) → EndsBy status text ending → A (refused_by status text) → Gives A ⊥ (By ending) before before
+gives_refusal A status text (Answered given said) before h is = (refused_by status text, is, (h, sym (append-nil before)))
+gives_refusal A status text NoMemory before h is = refl
+gives_refusal A status text InputTooLong before h is = absurd h
+gives_refusal A status text FileNotRead before h is = absurd h
+gives_refusal A status text ReadFailed before h is = absurd h
+gives_refusal A status text WriteFailed before h is = absurd h
 
 -- a source that is refused
-pub gives_refused : {M : Type 0} (w : Wanted) (source input : List ℕ) (listing : Option (List ℕ)) (why : Refusal)
+pub gives_refused : (w : Wanted) (source input : List ℕ) (listing : Option (List ℕ)) (why : Refusal)
     (ending : Ending) (before : List ℕ) → Refuses source why → EndsRefused why ending
-    → Gives (IsSourceAnswer w source input listing) M (By ending) before before
+    → Gives (IsSourceAnswer w source input listing) ⊥ (By ending) before before
 gives_refused w source input listing (refusal.Fault kind n) ending before is ends =
-    gives_refusal 2 (message_of kind n []) ending before ends (refused kind n is.refused)
-gives_refused {M} w source input listing refusal.TooLong ending before long ends =
-    subst (λ (e : Ending). Gives (IsSourceAnswer w source input listing) M (By e) before before) (sym ends)
+    gives_refusal (IsSourceAnswer w source input listing) 2 (message_of kind n []) ending before ends (refused kind n is.refused)
+gives_refused w source input listing refusal.TooLong ending before long ends =
+    subst (λ (e : Ending). Gives (IsSourceAnswer w source input listing) ⊥ (By e) before before) (sym ends)
     (_, too_long long, ((refl, refl), sym (append-nil before)))
-gives_refused {M} w source input listing refusal.NoMemory ending before is ends =
-    subst (λ (e : Ending). Gives (IsSourceAnswer w source input listing) M (By e) before before) (sym ends) refl
+gives_refused w source input listing refusal.NoMemory ending before is ends =
+    subst (λ (e : Ending). Gives (IsSourceAnswer w source input listing) ⊥ (By e) before before) (sym ends) refl
 
 -- an input that was not read
-pub gives_unread : {A : Answer → Type 0} {M : Type 0} (input : List ℕ) (ending : Ending) (before : List ℕ)
+pub gives_unread : (A : Answer → Type 0) (input : List ℕ) (ending : Ending) (before : List ℕ)
     → EndsUnread input ending → (longest_input < length input → A (refused_by 4 (notice_text notice.InputTooLong)))
-    → Gives A M (By ending) before before
-gives_unread input InputTooLong before h long = (_, long h, ((refl, refl), sym (append-nil before)))
-gives_unread input ReadFailed before h long = refl
-gives_unread input NoMemory before h long = refl
-gives_unread input (Answered status text) before h long = absurd h
-gives_unread input FileNotRead before h long = absurd h
-gives_unread input WriteFailed before h long = absurd h
-
-pub gives_cut : {A : Answer → Type 0} {M : Type 0} (ending : Ending) (before : List ℕ) → EndsCut ending
-    → Gives A M (By ending) before before
-gives_cut ReadFailed before h = refl
-gives_cut NoMemory before h = refl
-gives_cut InputTooLong before h = absurd h
-gives_cut (Answered status text) before h = absurd h
-gives_cut FileNotRead before h = absurd h
-gives_cut WriteFailed before h = absurd h
+    → Gives A ⊥ (By ending) before before
+gives_unread A input InputTooLong before h long = (_, long h, ((refl, refl), sym (append-nil before)))
+gives_unread A input ReadFailed before h long = refl
+gives_unread A input NoMemory before h long = refl
+gives_unread A input (Answered status text) before h long = absurd h
+gives_unread A input FileNotRead before h long = absurd h
+gives_unread A input WriteFailed before h long = absurd h
 
 -- a file that was not read
 abbrev pub read_if : ℕ → ℕ → List ℕ → Option (List ℕ)
 read_if failed failed' bytes = if failed == failed' then Some bytes else None
 
-pub gives_unopened : {A : Option (List ℕ) → Answer → Type 0} {M : Type 0} (bytes : List ℕ) (failed failed' : ℕ)
+pub gives_unopened : (A : Option (List ℕ) → Answer → Type 0) (bytes : List ℕ) (failed failed' : ℕ)
     (ending : Ending) (before : List ℕ) → EndsUnopened ending → failed' ≡ failed + failed_files ending
     → A None (refused_by 4 (notice_text notice.FileNotRead))
-    → Gives (A (read_if failed failed' bytes)) M (By ending) before before
-gives_unopened {A} bytes failed failed' FileNotRead before h count is =
+    → Gives (A (read_if failed failed' bytes)) ⊥ (By ending) before before
+gives_unopened A bytes failed failed' FileNotRead before h count is =
     let other : (failed == failed') ≡ false = ne_eqb failed failed' (λ e. omega arith) in (
       _,
       subst (λ (b : Bool). A (if b then Some bytes else None) (refused_by 4 (notice_text notice.FileNotRead)))
           (sym other) is,
       ((refl, refl), sym (append-nil before)),
     )
-gives_unopened bytes failed failed' NoMemory before h count is = refl
-gives_unopened bytes failed failed' InputTooLong before h count is = absurd h
-gives_unopened bytes failed failed' (Answered status text) before h count is = absurd h
-gives_unopened bytes failed failed' ReadFailed before h count is = absurd h
-gives_unopened bytes failed failed' WriteFailed before h count is = absurd h
+gives_unopened A bytes failed failed' NoMemory before h count is = refl
+gives_unopened A bytes failed failed' InputTooLong before h count is = absurd h
+gives_unopened A bytes failed failed' (Answered status text) before h count is = absurd h
+gives_unopened A bytes failed failed' ReadFailed before h count is = absurd h
+gives_unopened A bytes failed failed' WriteFailed before h count is = absurd h
 
 -- .. and one that was read
 pub was_read : (failed failed' : ℕ) (bytes : List ℕ) → failed' ≡ failed → Some bytes ≡ read_if failed failed' bytes
@@ -237,7 +228,7 @@ unread_with_file w file name named failed failed' left listing ending before is 
     subst (λ (f : Option (List ℕ)).
     Gives (IsOutcomesAnswer w (input_of f left) listing (source_of f named failed failed' left))
     (MayStop w (input_of f left) (source_of f named failed failed' left)) (By ending) before before) (sym is)
-    (gives_unopened {A = IsOutcomesAnswer w left listing} (named name) failed failed' ending before h count not_read)
+    (gives_unopened (IsOutcomesAnswer w left listing) (named name) failed failed' ending before h count not_read)
 
 pub read_without_file : (w : Wanted) (file : Option (List ℕ)) (named : List ℕ → List ℕ) (failed failed' : ℕ)
     (left front input : List ℕ) (listing : Option (List ℕ)) (answer : Answer) → file ≡ None → input ≡ []
@@ -315,27 +306,31 @@ listing_told p input limit listing (Foreign n) answer fits is h =
     subst (IsExplained p input limit (Some listing)) (sym h) (foreign listing n fits is)
 
 -- the answer to a listing that was read, at most one byte more than the longest
+all_read : (whole front : List ℕ) → front ≡ take (longest_listing + 1) whole → length front ≤ longest_listing
+    → front ≡ whole
+all_read whole front is fits =
+    let size = length-take (longest_listing + 1) whole in
+    let same = ap (λ (x : List ℕ). length x) is in
+    is ∙ take_all (longest_listing + 1) whole (omega (arith, fits, size, same))
+
+listing_of_front : (p : Program) (input : List ℕ) (limit : ℕ) (whole front : List ℕ) (answer : Answer)
+    → front ≡ take (longest_listing + 1) whole → IsExplained p input limit (Some front) answer
+    → IsExplained p input limit (Some whole) answer
+listing_of_front p input limit whole front answer is (listing_too_long l long) =
+    listing_too_long whole
+    (let size = length-take (longest_listing + 1) whole in
+    let same = ap (λ (x : List ℕ). length x) is in omega (arith, long, size, same))
+listing_of_front p input limit whole front answer is (explained l text fits e) =
+    subst (λ (x : List ℕ). IsExplained p input limit (Some x) (shown text)) (all_read whole front is fits)
+    (explained front text fits e)
+listing_of_front p input limit whole front answer is (foreign l n fits e) =
+    subst (λ (x : List ℕ). IsExplained p input limit (Some x) (refused_by 64 (foreign_text n)))
+    (all_read whole front is fits) (foreign front n fits e)
+
 pub read_listing : (p : Program) (input : List ℕ) (limit : ℕ) (name front : List ℕ) (names : List ℕ → List ℕ)
     (failed failed' : ℕ) (answer : Answer) → failed' ≡ failed → front ≡ take (longest_listing + 1) (names name)
     → IsExplained p input limit (Some front) answer
     → IsExplained p input limit (listing_of (Some name) names failed failed') answer
 read_listing p input limit name front names failed failed' answer same is h =
     subst (λ (l : Option (List ℕ)). IsExplained p input limit l answer) (was_read failed failed' (names name) same)
-    (of_front h)
-  where
-    whole : length front ≤ longest_listing → front ≡ names name
-    whole fits =
-        let size = length-take (longest_listing + 1) (names name) in
-        let long = ap (λ (l : List ℕ). length l) is in
-        is ∙ take_all (longest_listing + 1) (names name) (omega arith)
-
-    of_front : IsExplained p input limit (Some front) answer → IsExplained p input limit (Some (names name)) answer
-    of_front (listing_too_long l long) =
-        listing_too_long (names name)
-        (let size = length-take (longest_listing + 1) (names name) in
-        let same = ap (λ (l : List ℕ). length l) is in omega arith)
-    of_front (explained l text fits e) =
-        subst (λ (x : List ℕ). IsExplained p input limit (Some x) (shown text)) (whole fits) (explained l text fits e)
-    of_front (foreign l n fits e) =
-        subst (λ (x : List ℕ). IsExplained p input limit (Some x) (refused_by 64 (foreign_text n))) (whole fits)
-        (foreign l n fits e)
+    (listing_of_front p input limit (names name) front answer is h)

@@ -1,5 +1,6 @@
-use Rattle.std.proofs.Common.{◌≡◌, ◌<◌, ◌∙◌, ◌+◌, ◌++◌, ◌∷◌, [], ap, append_assoc, arith, length, subst, suc, sym, take}
+use Rattle.std.proofs.Common.{◌≡◌, ◌<◌, ◌∙◌, ◌+◌, ◌++◌, ◌∷◌, [], ap, append_assoc, arith, get_or, length, subst, suc, sym, take}
 use Rattle.ick_outcomes.specs.Askers.{asker_text, askers_text}
+use Rattle.ick_outcomes.specs.declared.following.AskedBy.{AskedBy}
 use Rattle.ick_outcomes.proofs.AskerLaws.{all_askers, first_asker, next_asker}
 use Rattle.ick_outcomes.proofs.following.asked_text.Goals as goal
 use Rattle.ick_outcomes.proofs.following.asked_text.Goals.{then-at-gt0+in_ok-push, else-at-gt0}
@@ -12,18 +13,20 @@ askers-preserved c =
     let more = c.askers-test.true in
     let within : at < length asked = omega (arith, end, more) in
     let next : suc at ≡ at + 1 = omega arith in
+    let d : AskedBy = record { statement = 0; chance = 0 } in
+    let a = get_or asked at d in
     subst (λ n. c.append_asker.new.out.items ≡ askers_text (take n asked)) next (elim c.if-at-gt0.branch [
       | then-at-gt0+in_ok-push w ↦
           let texts = ap (λ v. v.items) w.text-is
           ∙ (w.in_ok-push.ensures.items ∙ ap (λ t. t ++ 32 ∷ []) c.askers.invariant) in
-          c.in_ok-append_asker.ensures ∙ (ap (λ t. t ++ asker_text _) texts
-          ∙ (append_assoc (askers_text (take at asked)) (32 ∷ []) _
-          ∙ sym (next_asker asked at _ w.if-at-gt0.true within)))
+          c.in_ok-append_asker.ensures ∙ (ap (λ t. t ++ asker_text a) texts
+          ∙ (append_assoc (askers_text (take at asked)) (32 ∷ []) (asker_text a)
+          ∙ sym (next_asker asked at d w.if-at-gt0.true within)))
       | else-at-gt0 w ↦
           let none = w.if-at-gt0.false in
           c.in_ok-append_asker.ensures
-          ∙ (ap (λ t. t ++ asker_text _) (ap (λ v. v.items) w.text-is ∙ c.askers.invariant)
-          ∙ sym (first_asker asked at _ (omega (arith, none)) within))
+          ∙ (ap (λ t. t ++ asker_text a) (ap (λ v. v.items) w.text-is ∙ c.askers.invariant)
+          ∙ sym (first_asker asked at d (omega (arith, none)) within))
     ])
 
 pub returns : goal.returns

@@ -1,4 +1,4 @@
-use Rattle.std.proofs.Common.{◌≡◌, ◌<◌, ◌-◌, ◌∙◌, ap, arith, false, get_or, length, subst, sym}
+use Rattle.std.proofs.Common.{◌≡◌, ◌<◌, ◌-◌, ◌∙◌, ap, arith, false, get_or, length, subst, sym, vec_len}
 use Rattle.std.proofs.lemmas.Option.{IfSome_then}
 use Rattle.ick_code.specs.meaning.Move.{ask, choice}
 use Rattle.ick_backtrack.specs.Asked.{finish_of}
@@ -81,6 +81,7 @@ steps-preserved g c =
       | in-Choice+else-at-choices+in_ok-push-in-Choice+in_ok-step-in-Choice w ↦
           let step = w.in_ok-step-in-Choice.ensures in
           let size_at = w.len-at.ensures in
+          let length_is : vec_len c.steps.asked ≡ length c.steps.asked.items = omega (arith, c.steps.asked.ok.0) in
           let other = w.if-at-choices.false in
           let less : length c.steps.asked.items < length c.args.choices.now = omega (arith, few, size_at, other) in
           let pushed = ap (λ v. v.items) w.asked-is ∙ w.in_ok-push-in-Choice.ensures.items in
@@ -89,7 +90,7 @@ steps-preserved g c =
                 w.step-in-Choice.new.state c.match-asks_within.state _ w.in-Choice.chance w.statement-statement.result _
                 false c.steps.asked.items c.match-asks_within.asked.items on same w.in-Choice.ensures.0
                 w.in-Choice.ensures.1 less w.statement-statement.ensures
-                (ap (λ n. get_or c.args.choices.now n false) w.len-at.ensures)
+                (ap (λ n. get_or c.args.choices.now n false) (w.len-at.ensures ∙ length_is))
                 (ap (λ (x : Place). x.state) step.step) w.state-is pushed;
             program = ap (λ x. (place x).program) w.state-is
                 ∙ (ap (λ (x : Place). x.program) step.step ∙ same);

@@ -1,7 +1,7 @@
 use Rattle.std.proofs.Common.{◌∙◌, arith}
 use Rattle.ick_cli.proofs.Planned.{given_none, given_some}
 use Rattle.ick_outcomes_cli.specs.Job.{wanted}
-use Rattle.ick_outcomes_cli.proofs.Giving.{gives_cut, gives_so, leaves_all_as, read_with_file, read_without_file}
+use Rattle.ick_outcomes_cli.proofs.Giving.{gives_so, leaves_all_as, read_with_file, read_without_file}
 use Rattle.ick_outcomes_cli.proofs.Giving.{stop_with_file, stop_without_file, unread_with_file}
 use Rattle.ick_outcomes_cli.proofs.dispatch.perform.Goals as goal
 use Rattle.std.proofs.Common.{refl}
@@ -23,12 +23,8 @@ returns-in-Ok-clause-gives g c = λ files_told listings_told reader_told writer_
     (λ h. stop_with_file job _ c.in-Some.name.now named _ _ _ _ file c.in-Ok.ensures.count front h)
     (c.answer_source.ensures.gives listings_told reader_told writer_told)
 
-pub returns-in-Some-clause-leaves : goal.returns-in-Some-clause-leaves
-returns-in-Some-clause-leaves g c =
-    leaves_all_as c.result _ _ 0 0 0 0 _ _ _ _ _ _ c.in-Err.ensures.leaves (omega arith) (omega arith) (omega arith)
-
-pub returns-in-Some-clause-gives : goal.returns-in-Some-clause-gives
-returns-in-Some-clause-gives g c = λ files_told listings_told reader_told writer_told.
+pub returns-in-Err-clause-gives : goal.returns-in-Err-clause-gives
+returns-in-Err-clause-gives g c = λ files_told listings_told reader_told writer_told.
     unread_with_file (wanted c.args.job.now) _ c.in-Some.name.now (g.F.Files.named c.args.files.now) _ _ _ _
     c.in-Err.ending _ (given_some _ _ _ c.in-Some.is) c.in-Err.ensures.unopened c.in-Err.ensures.leaves.opened
 
@@ -49,12 +45,3 @@ returns-in-Ok-read_front-clause-gives g c = λ files_told listings_told reader_t
     (λ answer h. read_without_file job _ named _ _ _ _ _ _ answer file c.new-nothing.ensures front h)
     (λ h. stop_without_file job _ named _ _ _ _ _ file c.new-nothing.ensures front h)
     (c.answer_source-in-Ok-read_front.ensures.gives listings_told refl writer_told)
-
-pub returns-clause-leaves : goal.returns-clause-leaves
-returns-clause-leaves g c =
-    leaves_all_as c.result 0 0 _ _ 0 0 _ _ _ _ _ _ c.in-Err-read_front.ensures.leaves (omega arith) (omega arith)
-    (omega arith)
-
-pub returns-clause-gives : goal.returns-clause-gives
-returns-clause-gives g c = λ files_told listings_told reader_told writer_told.
-    gives_cut c.in-Err-read_front.ending _ c.in-Err-read_front.ensures.cut

@@ -1,20 +1,13 @@
 use Rattle.std.proofs.Common.{refl, subst, sym}
 use Rattle.ick_cli.specs.Ending.{Answers}
 use Rattle.ick_cli.specs.Tool.{shown}
-use Rattle.ick_cli.specs.declared.notice.Notice.TheVariants as notice
-use Rattle.ick_outcomes_cli.specs.Tool.{IsStopped, IsTextFound}
-use Rattle.ick_outcomes_cli.proofs.Giving.{gives_sent, leaves_line}
+use Rattle.ick_outcomes_cli.specs.Tool.{IsTextFound}
+use Rattle.ick_outcomes_cli.proofs.Giving.{gives_sent}
 use Rattle.ick_outcomes_cli.proofs.dispatch.show.Goals as goal
 
 pub returns-in-Outcomes-clause-gives : goal.returns-in-Outcomes-clause-gives
 returns-in-Outcomes-clause-gives g c = λ told.
-    gives_sent c.send.result _ _ (shown c.in-Outcomes.text.items) c.send.ensures.sent
+    gives_sent (IsTextFound c.args.found.now) c.send.result _ _ (shown c.in-Outcomes.text.items) c.send.ensures.sent
     (subst (λ f. IsTextFound f (shown c.in-Outcomes.text.items)) (sym c.in-Outcomes.is) refl)
     (subst (λ l. Answers (shown l) c.send.result (g.W.ByteSink.written c.args.writer.now)
     (g.W.ByteSink.written c.send.new.writer)) c.as_slice.ensures.value (c.send.ensures.answer told))
-
-pub returns-clause-leaves : goal.returns-clause-leaves
-returns-clause-leaves g c = leaves_line notice.TooManyStates _ _ _ tt
-
-pub returns-clause-gives : goal.returns-clause-gives
-returns-clause-gives g c = λ told. (subst IsStopped (sym c.in-TooManyStates.is) tt, refl)

@@ -3,21 +3,18 @@ use Rattle.ick_cli.specs.Ending.{Answers}
 use Rattle.ick_cli.specs.Tool.{refusal, shown}
 use Rattle.ick_outcomes_cli.specs.Asked.{foreign_text}
 use Rattle.ick_outcomes_cli.specs.Tool.{IsToldOf}
-use Rattle.ick_outcomes_cli.proofs.Giving.{gives_refusal, gives_sent, leaves_usage}
+use Rattle.ick_outcomes_cli.proofs.Giving.{gives_refusal, gives_sent}
 use Rattle.ick_outcomes_cli.proofs.dispatch.tell.Goals as goal
 
 pub returns-in-Text-clause-gives : goal.returns-in-Text-clause-gives
 returns-in-Text-clause-gives g c = λ told.
-    gives_sent c.send.result _ _ (shown c.in-Text.text.items) c.send.ensures.sent
+    gives_sent (IsToldOf c.args.asked.now) c.send.result _ _ (shown c.in-Text.text.items) c.send.ensures.sent
     (subst (λ f. IsToldOf f (shown c.in-Text.text.items)) (sym c.in-Text.is) refl)
     (subst (λ l. Answers (shown l) c.send.result (g.W.ByteSink.written c.args.writer.now)
     (g.W.ByteSink.written c.send.new.writer)) c.as_slice.ensures.value (c.send.ensures.answer told))
 
-pub returns-clause-leaves : goal.returns-clause-leaves
-returns-clause-leaves g c = leaves_usage _ c.foreign.result _ _ _ c.foreign.ensures
-
-pub returns-clause-gives : goal.returns-clause-gives
-returns-clause-gives g c = λ told.
+pub returns-in-Foreign-clause-gives : goal.returns-in-Foreign-clause-gives
+returns-in-Foreign-clause-gives g c = λ told.
     let n = c.in-Foreign.number in
-    gives_refusal 64 (foreign_text n) c.foreign.result _ c.foreign.ensures
+    gives_refusal (IsToldOf c.args.asked.now) 64 (foreign_text n) c.foreign.result _ c.foreign.ensures
     (subst (λ f. IsToldOf f (refusal 64 (foreign_text n))) (sym c.in-Foreign.is) refl)
