@@ -9,13 +9,13 @@ pub returns-then-listing-gt-LONGEST_LISTING-clause-gives : goal.returns-then-lis
 unfolding longest_listing
 returns-then-listing-gt-LONGEST_LISTING-clause-gives g c = λ told.
     let long = c.if-listing-gt-LONGEST_LISTING.true in
-    (_, listing_too_long c.args.listing.now (omega (arith, long)), refl, refl)
+    (_, listing_too_long c.args.listing.now (omega (arith, long)), (refl, refl))
 
 pub returns-in-Ok-clause-gives : goal.returns-in-Ok-clause-gives
 unfolding longest_listing
 returns-in-Ok-clause-gives g c = λ told.
     let few = c.if-listing-gt-LONGEST_LISTING.false in
-    gives_so (By c.tell.result) _ _
+    gives_so {M = ⊥} {N = ⊥} (By c.tell.result) _ _
     (λ answer h. listing_told (code_program c.args.code.now) c.args.input.now c.args.limit c.args.listing.now
     c.in-Ok.asked answer (omega (arith, few)) c.in-Ok.ensures h)
     (λ h. h) (c.tell.ensures.gives told)
