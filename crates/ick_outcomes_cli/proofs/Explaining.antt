@@ -1,13 +1,28 @@
 -- The lines of a listing: the first one, and what their choices were asked by.
-use Rattle.std.proofs.Common.{◌≡◌, ◌≢◌, ◌++◌, ◌∷◌, ◌∙◌, ◌+◌, ◌<◌, ◌≤◌, ◌⊎◌, inl, inr, ℕ, Bool, List, [], length}
-use Rattle.std.proofs.Common.{ap, append_assoc, arith, refl, subst, suc, sym}
-use Rattle.std.proofs.lemmas.List.{append-nil}
+use Rattle.std.specs.Prelude.{codes}
+use Rattle.std.specs.Str.{bytes_eq}
+use Rattle.std.proofs.Common.{◌≡◌, ◌≢◌, ◌++◌, ◌∷◌, ◌∙◌, ◌+◌, ◌<◌, ◌==◌, inl, inr, ℕ, Bool, true, false}
+use Rattle.std.proofs.Common.{List, [], length, ne_eqb, not}
+use Rattle.std.proofs.Common.{IfOk, IfSome, None, Ok, Option, Result, ap, append_assoc, arith, refl, subst, suc, sym}
+use Rattle.std.proofs.lemmas.Bool.{not-false, not-true}
+use Rattle.std.proofs.lemmas.List.{append-nil, append_cancel_right}
+use Rattle.std.proofs.lemmas.Result.{IfOk-at_ok}
+use Rattle.std.proofs.lemmas.Slice.Eq.{bytes_eq-Decides}
 use Rattle.std.specs.Str.Iter.{LacksByte}
+use Rattle.ick_code.specs.Compiled.{code_program}
+use Rattle.ick_code.specs.declared.code.Code.{Code}
+use Rattle.ick_code.specs.meaning.Move.{first_state}
 use Rattle.ick_code.specs.meaning.State.{State}
+use Rattle.ick_backtrack.specs.Asked.{Finish}
 use Rattle.ick_backtrack.specs.Machine.{Program}
 use Rattle.ick_explorer.specs.ChoiceTexts.{IsTextOf}
 use Rattle.ick_explorer.specs.Laws.{AreLimited, ReadsBack}
-use Rattle.ick_outcomes.specs.Askers.{asked, asked_line}
+use Rattle.ick_explorer.specs.Lines.{compiled_at, line_of}
+use Rattle.ick_explorer.specs.Lines.{run_line as line_of_run}
+use Rattle.ick_explorer.specs.Runs.{IsWhole, Stop, run}
+use Rattle.ick_outcomes.specs.Accounts.{Place}
+use Rattle.ick_outcomes.specs.Askers.{IsFollowed, asked, asked_line}
+use Rattle.ick_outcomes.specs.declared.following.AskedBy.{AskedBy}
 use Rattle.ick_outcomes_cli.specs.Asked.{Explains, ForeignAt, foreign_here, foreign_later, last_line, no_line, run_line}
 use Rattle.ick_outcomes_cli.specs.Lines.{IsFirstWord, IsLast, IsLineOf, IsListed, IsRunLine}
 
@@ -48,6 +63,26 @@ is_first line word rest whole first = record { rest = rest; whole = sym whole; f
 pub no_first_line : (listing : List ℕ) → LacksByte 10 listing → (line rest : List ℕ) → listing ≡ line ++ 10 ∷ rest → ⊥
 no_first_line listing none line rest is = none_at 10 line rest (subst (LacksByte 10) is none)
 
+-- what the tests of a loop over a listing and of two texts say
+pub none_left : (rest : List ℕ) (r : Bool) → r ≡ (length rest == 0) → r ≡ true → rest ≡ []
+none_left [] r h is = refl
+none_left (b ∷ rest) r h is =
+    let some : (length (b ∷ rest) == 0) ≡ false = ne_eqb (length (b ∷ rest)) 0 (λ e. omega arith) in
+    let no : false ≡ true = sym some ∙ (sym h ∙ is) in cc
+
+pub some_left : (rest : List ℕ) (r : Bool) → r ≡ (length rest == 0) → r ≡ false → rest ≢ []
+some_left [] r h is = λ e. let no : true ≡ false = sym h ∙ is in cc
+some_left (b ∷ rest) r h is = λ e. cc
+
+pub texts_same : (one other : List ℕ) (r : Bool) → r ≡ not (bytes_eq one other) → r ≡ false → one ≡ other
+texts_same one other r h is = (bytes_eq-Decides one other).0 (not-false (bytes_eq one other) (sym h ∙ is))
+
+pub texts_differ : (one other : List ℕ) (r : Bool) → r ≡ not (bytes_eq one other) → r ≡ true → one ≢ other
+texts_differ one other r h is = λ e.
+    let same = (bytes_eq-Decides one other).1 e in
+    let differ = not-true (bytes_eq one other) (sym h ∙ is) in
+    let no : true ≡ false = sym same ∙ differ in cc
+
 -- the listing has no line at its front, or a foreign one
 pub foreign_rest : (p : Program) (s : State) (limit : ℕ) (rest : List ℕ) → rest ≢ [] → LacksByte 10 rest
     → ForeignAt p s limit rest 1
@@ -74,6 +109,15 @@ GoesOn p s limit listing rest text = (more : List ℕ) → Explains p s limit re
 abbrev pub CountsOn : Program → State → ℕ → (listing rest : List ℕ) → ℕ → Type 0
 CountsOn p s limit listing rest number = (n : ℕ) → ForeignAt p s limit rest n → ForeignAt p s limit listing (number + n)
 
+pub goes_on_first : (p : Program) (s : State) (limit : ℕ) (listing text : List ℕ) → text ≡ []
+    → GoesOn p s limit listing listing text
+goes_on_first p s limit listing text none = λ more e.
+    subst (λ (t : List ℕ). Explains p s limit listing (t ++ more)) (sym none) e
+
+pub counts_on_first : (p : Program) (s : State) (limit : ℕ) (listing : List ℕ) → CountsOn p s limit listing listing 0
+counts_on_first p s limit listing = λ n f.
+    let e : n ≡ 0 + n = omega arith in subst (ForeignAt p s limit listing) e f
+
 pub goes_on_last : (p : Program) (s : State) (limit : ℕ) (listing rest line behind text : List ℕ)
     → GoesOn p s limit listing rest text → LacksByte 10 line → line ++ (10 ∷ behind) ≡ rest → IsLast line
     → GoesOn p s limit listing behind text
@@ -86,11 +130,12 @@ pub goes_on_run : (p : Program) (s : State) (limit : ℕ) (listing rest line beh
 goes_on_run p s limit listing rest line behind text c h is whole other run = λ more e.
     let new = asked_line (asked p s limit c) in
     subst (Explains p s limit listing) (sym (append_assoc text new more))
-    (h (new ++ more) (subst (λ l. Explains p s limit l (new ++ more)) whole (run_line line behind more c is other run e)))
+    (h (new ++ more)
+    (subst (λ l. Explains p s limit l (new ++ more)) whole (run_line line behind more c is other run e)))
 
 pub counts_on : (p : Program) (s : State) (limit : ℕ) (listing rest line behind : List ℕ) (number : ℕ)
-    → CountsOn p s limit listing rest number → LacksByte 10 line → line ++ (10 ∷ behind) ≡ rest → IsListed p s limit line
-    → CountsOn p s limit listing behind (number + 1)
+    → CountsOn p s limit listing rest number → LacksByte 10 line → line ++ (10 ∷ behind) ≡ rest
+    → IsListed p s limit line → CountsOn p s limit listing behind (number + 1)
 counts_on p s limit listing rest line behind number h is whole listed = λ n f.
     let e : number + suc n ≡ number + 1 + n = omega arith in
     subst (ForeignAt p s limit listing) e
@@ -125,3 +170,59 @@ pub other_list : (p : Program) (s : State) (limit : ℕ) (line word : List ℕ) 
     → (c : List Bool) → ¬ IsRunLine p s limit line c
 other_list p s limit line word d back is reads none c h =
     none (subst (IsLineOf p s limit line) (same_list p s limit line word c d back is reads h) h.line_of)
+
+-- the answer to a word that is refused
+pub no_text : {T : Type 0} (found : Option T) (P : T → Type 0) → found ≡ None → IfSome found P
+no_text found P is = subst (λ (o : Option _). IfSome o P) (sym is) tt
+
+pub refused_so : {T E : Type 0} (r : Result (Option T) E) (P : Type 0) → IfOk r (λ found. (found ≡ None) × P)
+    → r ≡ Ok None → P
+refused_so {T} {E} r P h e =
+    let both : (◌≡◌ {A = Option T} None None) × P = IfOk-at_ok (λ (found : Option T). (found ≡ None) × P) e h in
+    both.1
+
+-- a run that was followed from a place, and its line
+abbrev pub place_at : Program → State → Place
+place_at p s = record { program = p; state = s }
+
+pub place_is : (code code' : Code) (input input' : List ℕ) (q : Place)
+    → q ≡ place_at (code_program code) (first_state (code_program code) input) → code ≡ code' → input ≡ input'
+    → q ≡ place_at (code_program code') (first_state (code_program code') input')
+place_is code code' input input' q is same same' =
+    is ∙ (ap (λ (x : Code). place_at (code_program x) (first_state (code_program x) input)) same
+    ∙ ap (λ (t : List ℕ). place_at (code_program code') (first_state (code_program code') t)) same')
+
+pub followed_at : (p : Program) (s : State) (limit : ℕ) (c : List Bool) (last : State) (finish : Finish)
+    (askers : List AskedBy) (q : Place) → q ≡ place_at p s
+    → IsFollowed q.program q.state limit c last finish askers → IsFollowed p s limit c last finish askers
+followed_at p s limit c last finish askers q is h =
+    subst (λ (x : Place). IsFollowed x.program x.state limit c last finish askers) is h
+
+followed_line : (p : Program) (s : State) (limit : ℕ) (c : List Bool) (last : State) (finish : Finish)
+    (askers : List AskedBy) → IsFollowed p s limit c last finish askers
+    → line_of_run p s limit c ≡ line_of c finish last.output
+followed_line p s limit c last finish askers h =
+    ap (λ (stop : Stop). compiled_at c stop (run p s limit c).last.output) h.stop_is
+    ∙ ap (λ (x : State). line_of c finish x.output) h.last_is
+
+pub line_same : (p : Program) (s : State) (limit : ℕ) (c : List Bool) (last : State) (finish : Finish)
+    (askers : List AskedBy) (line wanted : List ℕ) → IsFollowed p s limit c last finish askers
+    → wanted ++ codes "\n" ≡ line_of c finish last.output → wanted ≡ line → IsLineOf p s limit line c
+line_same p s limit c last finish askers line wanted h shown is = record {
+  whole = h.whole;
+  same = ap (λ (l : List ℕ). l ++ codes "\n") (sym is)
+      ∙ (shown ∙ sym (followed_line p s limit c last finish askers h));
+}
+
+pub line_other : (p : Program) (s : State) (limit : ℕ) (c : List Bool) (last : State) (finish : Finish)
+    (askers : List AskedBy) (line wanted : List ℕ) → IsFollowed p s limit c last finish askers
+    → wanted ++ codes "\n" ≡ line_of c finish last.output → wanted ≢ line → ¬ IsLineOf p s limit line c
+line_other p s limit c last finish askers line wanted h shown other k =
+    other (append_cancel_right wanted line (codes "\n")
+    (shown ∙ (sym (followed_line p s limit c last finish askers h) ∙ sym k.same)))
+
+-- choices that aren't whole have no line
+pub line_of_none : (p : Program) (s : State) (limit : ℕ) (c : List Bool) (line : List ℕ) (q : Place)
+    → q ≡ place_at p s → ¬ IsWhole q.program q.state limit c → ¬ IsLineOf p s limit line c
+line_of_none p s limit c line q is none k =
+    none (subst (λ (x : Place). IsWhole x.program x.state limit c) (sym is) k.whole)
