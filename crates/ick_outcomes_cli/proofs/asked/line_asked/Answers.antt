@@ -1,8 +1,8 @@
-use Rattle.std.proofs.Common.{◌≡◌, ◌∙◌, Err, IfOk, IfSome, None, ap, inl, inr, refl, subst, sym}
+use Rattle.std.proofs.Common.{◌∙◌, Err, ap, inl, inr, refl, subst, sym}
 use Rattle.std.proofs.lemmas.Option.{IfSome_then}
 use Rattle.std.proofs.lemmas.Result.{IfOk-weaker}
 use Rattle.ick_explorer.specs.ChoiceTexts.{IsTextOf}
-use Rattle.ick_outcomes_cli.proofs.Explaining.{is_first, long_list, no_list, no_word, other_list}
+use Rattle.ick_outcomes_cli.proofs.Explaining.{is_first, long_list, no_list, no_text, no_word, other_list, refused_so}
 use Rattle.ick_outcomes_cli.proofs.asked.line_asked.Goals as goal
 
 pub returns-in_default-clause-none : goal.returns-in_default-clause-none
@@ -23,14 +23,14 @@ returns-in-Ok-clause-none c = λ e.
 
 pub returns-in-Err-clause-some : goal.returns-in-Err-clause-some
 returns-in-Err-clause-some c =
-    IfOk-weaker c.refused_word.result _ _ (λ found h. subst (λ f. IfSome f _) (sym h.0) tt) c.refused_word.ensures
+    IfOk-weaker c.refused_word.result _ _ (λ found h. no_text found _ h.0) c.refused_word.ensures
 
 pub returns-in-Err-clause-none : goal.returns-in-Err-clause-none
 returns-in-Err-clause-none c = λ e.
     let is = is_first _ _ _ c.in-Some.ensures.whole c.in-Some.ensures.first in
-    let other = subst (λ r. IfOk r _) e c.refused_word.ensures in
+    let other = refused_so _ _ c.refused_word.ensures e in
     elim c.in-Err.ensures.errors [
-      | inl memory ↦ absurd (other.1 memory)
+      | inl memory ↦ absurd (other memory)
       | inr (inl long) ↦
           let found = c.from_text.ensures.no_such_run (c.in-Err.is ∙ ap (λ x. Err x) long) in
           long_list _ _ _ _ _ found.0 c.one_reading.ensures (c.runs_are_limited.ensures _ _ _) is found.1 found.2
