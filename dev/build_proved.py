@@ -59,17 +59,17 @@ def count_jobs():
 
 
 class Progress:
-    """Prints the checker's lines, and says at most once in a few seconds how far it is."""
+    """Prints the checker's lines, and says at most once in a few seconds how far it is, under the program's name."""
 
-    def __init__(self, crates):
-        self.crates, self.built, self.said = crates, 0, -SECONDS_BETWEEN_LINES
+    def __init__(self, program, crates):
+        self.program, self.crates, self.built, self.said = program, crates, 0, -SECONDS_BETWEEN_LINES
         self.lock = threading.Lock()
 
     def say(self, text, is_due=False):
         now = time.monotonic()
         if is_due or now - self.said >= SECONDS_BETWEEN_LINES:
             self.said = now
-            print(f"ick: {text}", file=sys.stderr, flush=True)
+            print(f"{self.program}: {text}", file=sys.stderr, flush=True)
 
     def read(self, crate, line):
         with self.lock:
@@ -131,14 +131,15 @@ def build(top, name):
         return False
     levels = in_levels(uses, name)
     jobs = count_jobs()
-    progress = Progress(sum(map(len, levels)))
-    print(f"ick: proving {progress.crates} crates with {jobs} jobs. The first time takes about half an hour on four "
-          "processors", file=sys.stderr, flush=True)
+    program = "ick" if name == "ick" else f"ick-{name}"
+    progress = Progress(program, sum(map(len, levels)))
+    print(f"{program}: proving {progress.crates} crates with {jobs} jobs. The first time takes about half an hour on "
+          "four processors", file=sys.stderr, flush=True)
     building = Building(top, progress, jobs)
     for level in levels[:-1]:
         if not building.level(level):
             return False
-    return building.run(name, "rt", "run", "--jobs", str(jobs), "--", "check")
+    return building.run(name, "rt", "run", "--jobs", str(jobs), "--", "--help")
 
 
 def build_beside(top, name, jobs):
