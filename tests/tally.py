@@ -10,6 +10,8 @@ import tempfile
 TOP = os.path.dirname(os.path.dirname(os.path.realpath(__file__)))
 SECONDS = 600
 SHOWN = 1000
+# The environment variable that names a crate's program.
+VARIABLES = {"ick": "ICK", "outcomes": "ICK_OUTCOMES"}
 
 
 class Tally:
@@ -70,13 +72,18 @@ def program_named(usage):
 
 
 def programs(named, crate="ick"):
-    """Returns the programs to try: the named one, or that of the environment variable ICK, or the two that `rt ci`
-    leaves, as the two compilers built them. The variable names no program of another crate than ick.
+    """Returns the programs to try: the named one, or that of the crate's environment variable, or the two that `rt ci`
+    leaves, as the two compilers built them.
     """
-    named = named or (os.environ.get("ICK") if crate == "ick" else None)
+    named = named or os.environ.get(VARIABLES.get(crate, ""))
     if named:
         return [os.path.abspath(named)]
     return [f"{TOP}/crates/{crate}/out/{crate}{ending}" for ending in ("", ".by-rattle")]
+
+
+def installed_programs(named):
+    """Returns the first of the programs to try under each name by which it is installed."""
+    return {"ick": programs(named)[0], "ick-outcomes": programs(None, "outcomes")[0]}
 
 
 def try_programs(part, named, crate="ick"):

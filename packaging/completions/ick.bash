@@ -1,4 +1,5 @@
-# Completes ick's commands, options and files in bash, and the options of the tools ick-NAME as their --help lists them.
+# Completes in bash the commands, options and files of ick and ick-outcomes, and the options of the tools ick-NAME as their
+# --help lists them.
 
 _ick_words() { mapfile -t COMPREPLY < <(compgen -W "$1" -- "$2"); }
 
@@ -37,6 +38,17 @@ _ick() {
     esac
 }
 
+_ick_outcomes() {
+    local word=${COMP_WORDS[COMP_CWORD]} before=${COMP_WORDS[COMP_CWORD - 1]}
+    case $before in
+        --limit | --most) return ;;
+    esac
+    case $word in
+        -*) _ick_words '-b --limit --most --exact --total --asked --help' "$word" ;;
+        *) _ick_files "$word" ;;
+    esac
+}
+
 _ick_tool() {
     local word=${COMP_WORDS[COMP_CWORD]} commands='' command=''
     case ${1##*/} in
@@ -54,3 +66,4 @@ _ick_tool() {
 complete -F _ick ick ick72
 for _ick_name in $(compgen -c ick-); do complete -F _ick_tool "$_ick_name"; done
 unset _ick_name
+complete -F _ick_outcomes ick-outcomes
