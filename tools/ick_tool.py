@@ -11,7 +11,12 @@ import signal
 import subprocess
 import sys
 
-BUILT = "../crates/ick/out/ick"  # what ./ick built in this repository
+# What is known of each program: the variable that names it, where its script in this repository builds it, and what it
+# answers to an argument over an empty source.
+PROGRAMS = {
+    "ick": ("ICK", "../crates/ick/out/ick", "check", b"0 STATEMENTS, 0 POLITE\n"),
+    "ick-outcomes": ("ICK_OUTCOMES", "../crates/outcomes/out/outcomes", "--total", b"1 OUTCOMES, 1 RUNS\n"),
+}
 HERE = os.path.dirname(os.path.realpath(__file__))
 NAME = os.path.basename(sys.argv[0])
 
@@ -90,19 +95,21 @@ def content(path):
             end(f"{path or 'standard input'}: {error.strerror}")
 
 
-def find_ick():
-    """Returns the path of ick: beside the tool, or else in this repository, or else on the PATH; or what ICK names.
+def find_program(name):
+    """Returns the path of a program: beside the tool, or in this repository, or on the PATH; or what its variable names.
 
     The tool's own folder comes before that of a link to it: there `ick` can be C-INTERCAL's.
-    Raises FileNotFoundError if there is none, or if it is another program, as C-INTERCAL's is.
+    Raises FileNotFoundError if there is none, or if it is another program, as C-INTERCAL's ick is.
     """
-    named = os.environ.get("ICK")
-    beside = [os.path.join(folder, "ick") for folder in (HERE, os.path.dirname(sys.argv[0]))]
-    places = [named] if named else [*beside, os.path.join(HERE, BUILT), "ick"]
+    variable, built, argument, answer = PROGRAMS[name]
+    named = os.environ.get(variable)
+    beside = [os.path.join(folder, name) for folder in (HERE, os.path.dirname(sys.argv[0]))]
+    places = [named] if named else [*beside, os.path.join(HERE, built), name]
     found = next(filter(None, map(shutil.which, places)), None)
     if not found:
-        raise FileNotFoundError(f"there is no {named or 'ick on the PATH; the environment variable ICK can name it'}")
-    asked = subprocess.run([found, "check"], stdin=subprocess.DEVNULL, capture_output=True, check=False)
-    if asked.stdout != b"0 STATEMENTS, 0 POLITE\n":
-        raise FileNotFoundError(f"{found} is another program; the environment variable ICK can name ick")
+        raise FileNotFoundError(
+            f"there is no {named or f'{name} on the PATH; the environment variable {variable} can name it'}")
+    asked = subprocess.run([found, argument], stdin=subprocess.DEVNULL, capture_output=True, check=False)
+    if asked.stdout != answer:
+        raise FileNotFoundError(f"{found} is another program; the environment variable {variable} can name {name}")
     return found

@@ -5,7 +5,7 @@ import subprocess
 import sys
 
 sys.path.insert(0, os.path.join(os.path.dirname(os.path.realpath(__file__)), ".."))
-from tally import SECONDS, TOP, Tally, called, content, text_of  # noqa: E402
+from tally import SECONDS, TOP, Tally, called, content, text_of, write  # noqa: E402
 
 TOOLS = os.path.join(TOP, "tools")
 EXAMPLES = sorted(glob.glob(os.path.join(TOP, "examples", "*.i")))
@@ -15,17 +15,17 @@ sys.path.insert(0, TOOLS)
 
 
 class ToolTally(Tally):
-    """A tally of the tests of tools, with a program `ick`."""
+    """A tally of the tests of tools, with the programs `ick` and `ick-outcomes`."""
 
-    def __init__(self, program):
+    def __init__(self, program, outcomes):
         super().__init__()
-        self.program = os.path.realpath(program)
+        self.program, self.outcomes = os.path.realpath(program), os.path.realpath(outcomes)
 
     def ick(self, *arguments, given=b""):
         return called([self.program, *arguments], given)
 
     def tool(self, name, *arguments, given=b"", path=None):
-        environment = dict(os.environ, **({"PATH": path} if path is not None else {}))
+        environment = dict(os.environ, ICK_OUTCOMES=self.outcomes, **({"PATH": path} if path is not None else {}))
         return called([sys.executable, "-W", "error", os.path.join(TOOLS, name), *arguments], given, environment)
 
 

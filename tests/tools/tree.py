@@ -2,7 +2,7 @@
 import re
 import resource
 
-from common import TOP, closed_pipe, full_disk, help_and_mistakes
+from common import TOP, closed_pipe, content, full_disk, help_and_mistakes, write
 
 # a listing, options, the labels of the parts that are drawn, and the edges as pairs of a choice and a label
 ROWS = (
@@ -43,6 +43,22 @@ ROWS = (
 )
 
 
+# a program, options of `ick runs`, labels and edges with --program: each branch has its statement and its chance
+PROGRAMS = (
+    (b"DO %20 READ OUT #1\nDO %30 FORGET #0\nPLEASE GIVE UP\n", [],
+     ["1 %20 4 runs", "2 %30 2 runs", "I 2 %30 2 runs", "GIVE-UP 4 runs"],
+     [("0", "2 %30 2 runs"), ("1", "I 2 %30 2 runs"), ("0 1", "GIVE-UP 4 runs"), ("0 1", "GIVE-UP 4 runs")]),
+    # parts that are equal but for the statements that ask are drawn apart
+    (b"DO %50 (10) NEXT\nDO %20 FORGET #0\nPLEASE GIVE UP\n(10) DO %30 FORGET #0\nDO GIVE UP\n", [],
+     ["1 %50 4 runs", "2 %20 2 runs", "4 %30 2 runs", "GIVE-UP 4 runs"],
+     [("0", "2 %20 2 runs"), ("1", "4 %30 2 runs"), ("0 1", "GIVE-UP 4 runs"), ("0 1", "GIVE-UP 4 runs")]),
+    # statement 1 asks again and again, up to the limit
+    (b"(1) DO %50 (1) NEXT\nPLEASE GIVE UP\n", ["--limit", "2"],
+     ["1 %50 3 runs", "1 %50 2 runs", "LIMIT 2 runs", "GIVE-UP"],
+     [("0", "GIVE-UP"), ("1", "1 %50 2 runs"), ("0 1", "LIMIT 2 runs")]),
+)
+
+
 def plain(label):
     return " ".join(re.sub(r"</?(BR/|B|FONT[^>]*)>", " ", label).split())
 
@@ -59,6 +75,29 @@ def try_rows(tally):
         status, out, err = tally.tool("ick-tree", "--format", "dot", *options, given=listing)
         tally.equal(f"ick-tree {options} of {listing!r}", (status, err, *drawn(out.decode())),
                     (0, b"", sorted(parts), sorted(edges)))
+
+
+def try_programs(tally):
+    path = f"{tally.folder}/asks.i"
+    for program, options, parts, edges in PROGRAMS:
+        write(path, program)
+        _, listing, _ = tally.ick("runs", *options, path)
+        status, out, err = tally.tool("ick-tree", "--format", "dot", "--program", path, *options, given=listing)
+        tally.equal(f"ick-tree --program of {program!r}", (status, err, *drawn(out.decode())),
+                    (0, b"", sorted(parts), sorted(edges)))
+    second = f"{TOP}/examples/second"
+    given = content(f"{second}.runs")
+    status, out, err = tally.tool("ick-tree", "--format", "dot", "--program", f"{second}.i", "--input", f"{second}.in",
+                                  f"{second}.runs")
+    tally.equal("ick-tree --input", (status, err, *drawn(out.decode())),
+                (0, b"", sorted(["1 %50 2 runs", "I GIVE-UP", "II GIVE-UP"]), [("0", "I GIVE-UP"), ("1", "II GIVE-UP")]))
+    for options, wanted in (([f"{second}.i"], b"LINE 1 IS NOT OF THIS PROGRAM"), (["/no/such.i"], b"FILE NOT READ"),
+                            ([f"{second}.i", "--input", "/no/such"], b"/no/such")):
+        status, out, err = tally.tool("ick-tree", "--format", "dot", "--program", *options, given=given)
+        tally.check(status in (1, 2) and not out and wanted in err, f"ick-tree --program {options}: {status} {err!r}")
+    for options in (["--input", path], ["--limit", "3"], ["--program", path, "--limit", "x"]):
+        status, out, err = tally.tool("ick-tree", *options, given=given)
+        tally.check(status == 2 and not out and b"usage" in err, f"ick-tree {options}: {status} {err!r}")
 
 
 def try_refusals(tally):
@@ -123,6 +162,7 @@ def try_all(tally):
     closed_pipe(tally, "ick-tree", ["--format", "dot"], ROWS[0][0])
     full_disk(tally, "ick-tree", ["--format", "dot"], ROWS[0][0])
     try_rows(tally)
+    try_programs(tally)
     try_refusals(tally)
     try_large(tally)
     try_pictures(tally)

@@ -7,7 +7,7 @@ import sys
 
 from ick_parts import Refused
 from ick_parts.cursors import read_place, show_place
-from ick_tool import content, end, find_ick
+from ick_tool import content, end, find_program
 
 FORM = "ick-parts-1"
 PIECE = r"\S+ \S+( [0-9a-f]+)?"  # a line of a plan: two places, and about how many runs are between them
@@ -29,7 +29,7 @@ class Job:
 
     def compared(self):
         """Returns the job if program, input and ick are those that it began with."""
-        self.ick = find_ick()
+        self.ick = find_program("ick")
         for name in ("program.i", "input"):
             if not os.path.exists(self.path(name)):
                 raise Refused(f"{self.path(name)} is missing: put the same file there, or begin another job")
@@ -72,7 +72,7 @@ def name_of(limit, *paths):
 
 
 def begin(folder, source, limit):
-    program, ick = content(source), find_ick()
+    program, ick = content(source), find_program("ick")
     given = b"" if sys.stdin.isatty() else sys.stdin.buffer.read()
     try:
         os.makedirs(os.path.join(folder, "parts"))
