@@ -56,9 +56,15 @@ function spoken(pieces) {
 
 const counted = (count, noun) => `${count.toLocaleString('en')} ${noun}${count === 1 ? '' : 's'}`;
 
-// Returns the spans of a part's label. A branch that writes nothing has none.
+// Returns the spans of what a part writes and then asks.
+function spansOfPart({ since, asker }) {
+  const spans = spansOf(since);
+  return asker ? [...spans, span(`${spans.length ? '  ' : ''}${asker}`, 'asker')] : spans;
+}
+
+// Returns the spans of a part's label. A branch that writes nothing has none, unless it is known what asks there.
 function labelOf(part) {
-  const spans = spansOf(part.since);
+  const spans = spansOfPart(part);
   if (part.end) {
     const end = [span(part.end, 'end'), ...(spans.length ? [span('  '), ...spans] : [])];
     return part.count > 1 ? [...end, span(`  ${counted(part.count, 'run')}`, 'many')] : end;

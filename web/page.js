@@ -14,7 +14,8 @@ const LIMIT_OF_RUNS = '10000'; // the default of `ick runs`, which is another on
 const FIRST = 'quiet'; // the example that the page begins with
 const FIELDS = ['source', 'input', 'choices', 'seed', 'limit', 'count'];
 const STORE = 'ick.form'; // where the tab keeps the form
-const PARTS = ['drawn', 'written', 'said', 'question', 'listed'];
+const PARTS = ['drawn', 'written', 'said', 'question', 'weighed', 'listed'];
+const ASKED = 2000; // runs in a listing whose tree says what asks
 const HEADLINES = {
   0: ['ok', 'Done'], 1: ['bad', 'The run ends by a fault'], 2: ['bad', 'The program is refused'],
   3: ['wait', 'The run reaches its limit'], 4: ['bad', 'Something ran out or failed'],
@@ -29,6 +30,7 @@ const advice = new Advice(tables);
 const editor = new Editor($('source'), $('numbers'), $('shown'));
 let engine = null; // null if this browser can't run the module
 let listing = null; // the runs that are shown, and what was asked for them
+let weighed = null; // what was asked for the outcomes that are shown
 let isBusy = false;
 let filled = ''; // the form as it was last filled, as text: what differs was typed
 let kept = null; // the form that was typed before an example or a file took its place
@@ -202,7 +204,7 @@ function say([kind, text], more = '') {
 function clear() {
   for (const id of PARTS) $(id).hidden = true;
   $('status').replaceChildren();
-  listing = null;
+  [listing, weighed] = [null, null];
 }
 
 // Shows a text, or hides its part if there is none.
@@ -235,8 +237,9 @@ function showRun(answer, request, output, errors) {
   }
 }
 
-function showListing(answer, request, output, errors) {
+function showListing(answer, request, output, errors, askers) {
   const { runs, isWhole } = readListing(output);
+  runs.forEach((run, at) => Object.assign(run, { askers: askers[at] }));
   const { runs: before, tree } = request.from === undefined ? { runs: [], tree: new Joining() } : listing;
   addRuns(tree, runs);
   listing = { request, runs: before.concat(runs), isWhole, tree };
@@ -252,6 +255,25 @@ function showListing(answer, request, output, errors) {
   if (request.file === sourceOf(form())) markFailing(request.file, errors);
   $('more').hidden = isWhole || found === 0;
   drawTree();
+}
+
+// Says how much of the program lies behind the limit.
+function beyondLimit(outcomes) {
+  const weights = outcomes.filter(({ end }) => end === 'LIMIT').map(({ weight }) => Number.parseFloat(weight));
+  return weights.length ? `${percentOf(weights.reduce((sum, weight) => sum + weight))} lies behind the limit, ` : '';
+}
+
+function showOutcomes(answer, request, output, errors) {
+  const { outcomes, isWhole } = readOutcomes(output), shown = outcomes.slice(0, BARS);
+  weighed = request;
+  const headline = counted(outcomes.length, 'outcome') + (isWhole ? ', and no other' : ' and more');
+  const more = `${beyondLimit(outcomes)}status ${answer.status}, ${took(answer.milliseconds)}`;
+  say(answer.status === 0 ? ['ok', headline] : HEADLINES[answer.status], more);
+  $('weighed').hidden = shown.length === 0;
+  $('bars').replaceChildren(...shown.map(outcomeItem));
+  $('further').textContent = shown.length < outcomes.length || !isWhole ? `The first ${counted(shown.length, 'outcome')}.` : '';
+  put('said', 'errors', errors);
+  if (request.file === sourceOf(form())) markFailing(request.file, errors);
 }
 
 function drawTree() {
@@ -287,11 +309,12 @@ function keepFocus() {
   if (focused === document.body || !focused.checkVisibility()) $('status').focus();
 }
 
-function show(answer, request) {
+function show(answer, request, askers) {
   const [output, errors] = [answer.output, answer.errors].map((bytes) => new TextDecoder().decode(bytes));
   const isOfTree = request.job === 'run' && request.isOfTree;
   if (!isOfTree && request.from === undefined) clear();
-  if (request.job === 'runs') showListing(answer, request, output, errors);
+  if (request.job === 'runs') showListing(answer, request, output, errors, askers);
+  else if (request.job === 'outcomes') showOutcomes(answer, request, output, errors);
   else showRun(answer, request, output, errors);
   if (isOfTree) $(output ? 'written' : 'said').scrollIntoView({ block: 'nearest' });
   else if (request.from === undefined) reveal($('status'));
@@ -301,9 +324,32 @@ function show(answer, request) {
 /* Jobs */
 
 function argumentsOf({ job, choices, seed, limit, count, from }) {
-  const options = { run: { choices, seed, limit }, runs: { from, count, limit } }[job] ?? {};
-  const given = Object.entries(options).filter(([, value]) => value);
-  return [job, ...given.map(([name, value]) => `--${name}=${value}`), 'program.i'];
+  const options = { run: { choices, seed, limit }, runs: { from, count, limit }, outcomes: { limit },
+    asked: { limit, asked: 'listing' } }[job] ?? {};
+  const given = Object.entries(options).filter(([, value]) => value).map(([name, value]) => `--${name}=${value}`);
+  return [...(isOfOutcomes(job) ? [] : [job]), ...given, 'program.i'];
+}
+
+// Tells whether a job is one of `ick-outcomes`.
+const isOfOutcomes = (job) => job === 'outcomes' || job === 'asked';
+
+// Makes the call of a job, with the bytes of a listing.
+function callFor(request, lines = new Uint8Array()) {
+  return engine.call({
+    argv: argvOf(argumentsOf(request)), file: bytesOf(request.file), input: bytesOf(request.input), most: MOST,
+    listing: isOfOutcomes(request.job) ? lines : null,
+  });
+}
+
+// Returns what the choices of listed runs were asked by: nothing if the runs are too many or the call fails, and null if
+// it is stopped.
+async function askersOf(answer, request) {
+  if (request.job !== 'runs' || answer?.status !== 0) return [];
+  const { runs } = readListing(new TextDecoder().decode(answer.output));
+  if (runs.length + (request.from === undefined ? 0 : listing.runs.length) > ASKED) return [];
+  const asked = await callFor({ ...request, job: 'asked' }, bytesOf(runs.map(({ line }) => `${line}\n`).join('')));
+  if (asked === null) return null;
+  return asked.status === 0 ? readAskers(new TextDecoder().decode(asked.output)) : [];
 }
 
 function setBusy(busy) {
@@ -320,16 +366,15 @@ async function ask(request) {
   if (isBusy || engine === null) return;
   setBusy(true);
   const late = setTimeout(() => say(['wait', 'Running …'], 'Stop or Escape ends it'), 150);
-  const answer = await engine.call({
-    argv: argvOf(argumentsOf(request)), file: bytesOf(request.file), input: bytesOf(request.input), most: MOST,
-  });
+  const answer = await callFor(request);
+  const askers = await askersOf(answer, request);
   clearTimeout(late);
   setBusy(false);
   if (answer?.failed) {
     clear();
     say(['bad', 'The module stopped'], answer.failed);
-  } else if (answer) {
-    show(answer, request);
+  } else if (answer && askers) {
+    show(answer, request, askers);
   }
 }
 
@@ -344,11 +389,11 @@ function goOn(choices) {
   return askForm('run');
 }
 
-// Runs an end of the tree again: the listed program, with the limit of the listing.
-function runLeaf(leaf) {
-  const { choices } = leaf.dataset, { request } = listing;
-  for (const other of $('tree').querySelectorAll('[aria-current]')) other.removeAttribute('aria-current');
-  leaf.setAttribute('aria-current', 'true');
+// Runs an end of the tree again, or the first run of an outcome: the listed program, with the limit of the listing.
+function runAgain(place, request) {
+  const { choices } = place.dataset;
+  for (const other of $('answer').querySelectorAll('[aria-current]')) other.removeAttribute('aria-current');
+  place.setAttribute('aria-current', 'true');
   $('choices').value = choices;
   $('seed').value = '';
   return ask({ ...request, job: 'run', choices, seed: '', limit: request.limit || LIMIT_OF_RUNS, isOfTree: true });
@@ -392,7 +437,7 @@ function moveInTree(event) {
   const leaves = [...$('tree').querySelectorAll('.leaf')], at = leaves.indexOf(document.activeElement);
   if (event.key === 'Enter' || event.key === ' ') {
     event.preventDefault();
-    if (at >= 0) runLeaf(leaves[at]);
+    if (at >= 0) runAgain(leaves[at], listing.request);
     return;
   }
   const steps = { ArrowDown: 1, ArrowRight: 1, ArrowUp: -1, ArrowLeft: -1, Home: -at, End: leaves.length - 1 - at };
@@ -442,7 +487,11 @@ function listen() {
   $('tree').onkeydown = moveInTree;
   $('tree').onclick = ({ target }) => {
     const leaf = target.closest('.leaf');
-    if (leaf) runLeaf(leaf);
+    if (leaf) runAgain(leaf, listing.request);
+  };
+  $('bars').onclick = ({ target }) => {
+    const outcome = target.closest('.outcome');
+    if (outcome) runAgain(outcome, weighed);
   };
   document.querySelector('.skip').onclick = (event) => {
     event.preventDefault();

@@ -2,8 +2,8 @@
 'use strict';
 
 // A part of the tree: an end of a run, or a branch with two sides, of which one is null if no run of it is listed.
-// `since` has the pieces that all its runs wrote first behind the branch before, and `ends` has the count of its runs
-// for each end, and parts with the same id are equal.
+// `since` has the pieces that all its runs wrote first behind the branch before, `asker` says what asks at the branch, if
+// it is known, and `ends` has the count of its runs for each end. Parts with the same id are equal.
 
 // Returns how many pieces both lists begin with.
 function commonLength(one, other) {
@@ -33,33 +33,33 @@ class Joining {
       this.waiting.push({ depth: fork, grown: this.joined(fork + 1) });
     }
     this.last = run;
-    this.grown = { wrote: run.pieces, end: run.end, sides: [], ends: new Map([[run.end, 1]]) };
+    this.grown = { wrote: run.pieces, end: run.end, asker: null, sides: [], ends: new Map([[run.end, 1]]) };
   }
 
   // Returns what is read behind the first choices of the last run, as many as `to`.
   joined(to) {
-    const { digits } = this.last;
+    const { digits, askers } = this.last;
     let grown = this.grown;
     for (let depth = digits.length - 1; depth >= to; depth -= 1) {
       const isLeft = this.waiting.at(-1)?.depth === depth && digits[depth] === '1';
       const before = isLeft ? this.waiting.pop().grown : null;
-      grown = this.branch(digits[depth] === '1' ? [before, grown] : [grown, null]);
+      grown = this.branch(digits[depth] === '1' ? [before, grown] : [grown, null], askers[depth] ?? null);
     }
     return grown;
   }
 
-  branch(sides) {
+  branch(sides, asker) {
     const there = sides.filter(Boolean), [{ wrote }] = there;
     const common = wrote.slice(0, commonLength(wrote, there.at(-1).wrote));
-    return { wrote: common, end: null, sides: sides.map((side) => side && this.part(side, common.length)),
+    return { wrote: common, end: null, asker, sides: sides.map((side) => side && this.part(side, common.length)),
       ends: sumOf(there) };
   }
 
   // Returns the one part for what is read, behind a branch where so many pieces were written.
   part(grown, written) {
-    const since = grown.wrote.slice(written), { end, sides, ends } = grown;
-    const key = sides.includes(null) ? null : JSON.stringify([since, end, sides.map(({ id }) => id)]);
-    const made = this.known.get(key) ?? { id: this.ids++, since, end, sides, ends };
+    const since = grown.wrote.slice(written), { end, asker, sides, ends } = grown;
+    const key = sides.includes(null) ? null : JSON.stringify([since, end, asker, sides.map(({ id }) => id)]);
+    const made = this.known.get(key) ?? { id: this.ids++, since, end, asker, sides, ends };
     if (key !== null) this.known.set(key, made);
     return made;
   }
@@ -127,7 +127,7 @@ function countedParts(parts) {
 
 // Adds runs of a listing to a tree.
 function addRuns(tree, runs) {
-  for (const { choices, end, quoted } of runs) {
-    tree.add({ choices, end, digits: choicesOf(choices, DEEPEST), pieces: piecesOf(unquoted(quoted)) });
+  for (const { choices, end, quoted, askers = [] } of runs) {
+    tree.add({ choices, end, askers, digits: choicesOf(choices, DEEPEST), pieces: piecesOf(unquoted(quoted)) });
   }
 }

@@ -23,8 +23,9 @@ MOST = 1 << 26
 LACKING = {"no-such-file", "."}
 SERVED = """
 globalThis.served = async (...given) => {
-  const [argv, file, input] = given.map((text) => Uint8Array.from(atob(text), (letter) => letter.charCodeAt(0)));
-  const { status, failed, ...found } = await engine.call({ argv, file, input, most: MOST_BYTES });
+  const bytes = given.map((text) => Uint8Array.from(atob(text), (letter) => letter.charCodeAt(0)));
+  const [argv, file, input, listing] = bytes;
+  const { status, failed, ...found } = await engine.call({ argv, file, input, listing, most: MOST_BYTES });
   const packed = await Promise.all([found.output, found.errors].map((bytes) => new Promise((done) => {
     const reader = new FileReader();
     reader.onload = () => done(reader.result.split(',')[1]);
@@ -42,10 +43,10 @@ class Module:
         self.chromium = chromium
         chromium.evaluate(SERVED)
 
-    def answer(self, words, file, given):
-        """Returns the status, the output and the error text of `ick` with these arguments."""
+    def answer(self, words, file, given, listing=None):
+        """Returns the status, the output and the error text of `ick`, or of `ick-outcomes` if there is a listing."""
         words = b"".join((word.encode() if isinstance(word, str) else word) + b"\0" for word in words)
-        parts = [words, file, given]
+        parts = [words, file, given, *([] if listing is None else [listing])]
         texts = ", ".join(f"'{base64.b64encode(part).decode()}'" for part in parts)
         found = self.chromium.evaluate(f"served({texts})")
         return found["status"], base64.b64decode(found["output"]), base64.b64decode(found["errors"])
@@ -79,8 +80,8 @@ def read(path, default=b""):
         return file.read()
 
 
-def compare_examples(tally, module, program):
-    """Each example by each command, with its own options."""
+def compare_examples(tally, module, program, outcomes):
+    """Each example by each command and by ick-outcomes, with its own options."""
     for path in sorted(glob.glob(f"{TOP}/examples/*.i")):
         name = os.path.basename(path)[:-2]
         pasted, options = example_words(name)
@@ -94,6 +95,23 @@ def compare_examples(tally, module, program):
                 done = subprocess.run([program, *words, file.name], input=given, capture_output=True, check=False)
                 tally.equal(f"ick {' '.join(words)} {name}.i", module.answer([*words, "FILE"], source, given),
                             (done.returncode, done.stdout, done.stderr))
+                if command == "runs":
+                    compare_asked(tally, module, outcomes, file.name, given, done.stdout, words[1:])
+            words = options.get("outcomes", options.get("runs", []))
+            done = subprocess.run([outcomes, *words, file.name], input=given, capture_output=True, check=False)
+            tally.equal(f"ick-outcomes {' '.join(words)} {name}.i", module.answer([*words, "FILE"], source, given, b""),
+                        (done.returncode, done.stdout, done.stderr))
+
+
+def compare_asked(tally, module, outcomes, path, given, listing, options):
+    """What the choices of a listing were asked by, by ick-outcomes and by the module."""
+    with tempfile.NamedTemporaryFile() as file:
+        file.write(listing)
+        file.flush()
+        words = [outcomes, *options, "--asked", file.name, path]
+        done = subprocess.run(words, input=given, capture_output=True, check=False)
+    found = module.answer([*options, "--asked", "LISTING", "FILE"], read(path), given, listing)
+    tally.equal(f"what asked in {path} {options}", found, (done.returncode, done.stdout, done.stderr))
 
 
 class Held(Fuzzed):

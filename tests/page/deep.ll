@@ -1,5 +1,5 @@
-; A library whose one call calls itself again and again: the page is built with it to see its stack run out. The page
-; hands over arguments, which WebAssembly drops.
+; A library whose call ick_serve calls itself again and again: the page is built with it to see its stack run out. The
+; page hands over arguments, which WebAssembly drops. The other call isn't made.
 @deeper = global i64 1
 
 define i8 @ick_serve() {
@@ -14,5 +14,9 @@ deeper:
   %sum = add i8 %below, %one
   ret i8 %sum
 end:
+  ret i8 0
+}
+
+define i8 @ick_outcomes_serve() {
   ret i8 0
 }

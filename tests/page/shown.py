@@ -159,6 +159,41 @@ def tree(tally, page):
     tally.equal("the rest of a listing", page.browser.evaluate("document.querySelectorAll('.rest').length"), 1)
 
 
+def outcomes(tally, page):
+    """Each outcome has a bar by its weight, and leads to its first run. A branch of the tree says what asks there."""
+    page.choose("die")
+    page.job("outcomes")
+    for said in ("7 outcomes, and no other", "6.25 % lies behind the limit"):
+        tally.check(said in page.status(), f"the status {page.status()!r} of outcomes")
+    texts = "[...document.querySelectorAll('#bars .{}')].map((it) => it.textContent).join()"
+    tally.equal("the weights of a die", page.browser.evaluate(texts.format("weight")), "6.25 %" + ",15.6 %" * 6)
+    tally.equal("the ends of a die", page.browser.evaluate(texts.format("end")), "LIMIT" + ",GIVE-UP" * 6)
+    tally.equal("the outputs of a die", page.browser.evaluate(texts.format("wrote")), ",I,II,III,IV,V,VI")
+    tally.equal("the numbers of runs of a die", page.browser.evaluate(texts.format("many")), "8 runs" + ",3 runs" * 6)
+    widths = page.browser.evaluate("[...document.querySelectorAll('#bars .fill')].map((it) => it.style.width).join()")
+    tally.equal("the bars of a die", widths, "6.25%" + ",15.625%" * 6)
+    page.press("#bars li:nth-child(3) button")
+    tally.equal("the first run of an outcome", (page.value("choices"), page.text("output")), ("000010", "\nII\n"))
+    bars = page.browser.evaluate("document.querySelectorAll('#bars li').length")
+    tally.equal("the outcomes behind a run of one", bars, 7)
+    page.choose("doors")
+    page.job("runs")
+    tally.equal("the outcomes behind a listing", page.text("weighed-name"), None)
+    asked = "[...document.querySelectorAll('#tree .asker')].map((it) => it.textContent.trim()).join()"
+    found = set(page.browser.evaluate(asked).split(","))
+    tally.equal("what asks in doors.i", found, {"3 %50", "4 %33", "8 %50", "14 %50"})
+    page.set(source=COUNTED, limit="", seed="", choices="")
+    page.job("outcomes")
+    many = page.browser.evaluate(texts.format("many"))
+    tally.equal("a number of runs of many digits", many, "1 run,about 10^90 runs")
+    page.set(source=REFUSED)
+    page.job("outcomes")
+    tally.check("is refused" in page.status() and page.text("weighed-name") is None, "a refusal has outcomes")
+
+
+# One of 300 parts fails, by 1 in 100 for each: the counts are 2^300 - 1 and 1.
+COUNTED = "".join(f"{'DO' if at % 4 else 'PLEASE'} %1 .1 <- #1\n" for at in range(300)) + "DO READ OUT .1\nDO GIVE UP\n"
+REFUSED = "DO READ OUT #70000\n"
 CUT = "".join(f"{'DO' if at % 4 else 'PLEASE'} %50 READ OUT #3888\n" for at in range(16)) + "DO GIVE UP\n"
 COINS = "".join(f"{'DO' if at % 4 else 'PLEASE'} %50 FORGET #0\n" for at in range(14)) + "DO GIVE UP\n"
 ROOT_IS_SEEN = """(() => {
@@ -191,14 +226,26 @@ def large_trees(tally, page):
     tally.check("…" in rests, f"a listing that goes on has no rest: {rests!r}")
 
 
+def drawn_by_tool(path):
+    """Returns what ick-tree draws of the listing of an example, with what asks for its choices."""
+    pasted, options = example_words(os.path.basename(path)[:-5])
+    given = f"{path[:-5]}.in"
+    with tempfile.NamedTemporaryFile() as file:
+        file.write(read(f"{path[:-5]}.i") + b"".join(read(f"{TOP}/library/{name}") for name in pasted))
+        file.flush()
+        words = [f"{TOP}/tools/ick-tree", "--format", "dot", "--depth", "200", "--width", "10000"]
+        words += ["--program", file.name, *options.get("runs", []), path]
+        words += ["--input", given] if os.path.isfile(given) else []
+        return subprocess.run(words, capture_output=True, check=True).stdout.decode()
+
+
 def equal_parts(tally, page):
     """The tree has as many parts as ick-tree draws of the same listing. Numerals have their bars."""
     for path in sorted(glob.glob(f"{TOP}/examples/*.runs")):
         page.choose(os.path.basename(path)[:-5])
         page.job("runs")
         found = page.browser.evaluate("document.querySelectorAll('#tree :is(.dot, .branch, .leaf)').length")
-        words = [f"{TOP}/tools/ick-tree", "--format", "dot", "--depth", "200", "--width", "10000", path]
-        dot = subprocess.run(words, capture_output=True, check=True).stdout.decode()
+        dot = drawn_by_tool(path)
         wanted = 0 if page.text("tree-name") is None else len(re.findall(r"^  n\d+ \[", dot, re.MULTILINE))
         if wanted > 200:
             tally.check(found <= 200, f"the tree of {path} has {found} parts")
@@ -206,7 +253,7 @@ def equal_parts(tally, page):
         tally.equal(f"the parts of the tree of {path}", found if wanted else 0, wanted)
     page.set(source="DO READ OUT #3999 + #4000\nDO %50 READ OUT #0\nPLEASE GIVE UP\n", limit="", seed="", choices="")
     page.job("runs")
-    for kind, wanted in (("branch", "MMMCMXCIX, MV"), ("bar", "V,\u2007\u2007"),
+    for kind, wanted in (("branch", "MMMCMXCIX, MV  2 %50"), ("bar", "V,\u2007\u2007"),
                          ("leaf title", "Run 0: GIVE-UP, output 3999, 4000,Run 1: GIVE-UP, output 3999, 4000, 0")):
         texts = f"[...document.querySelectorAll('#tree .{kind}')].map((it) => it.textContent).join()"
         tally.equal(f"the texts of .{kind} in the tree", page.browser.evaluate(texts), wanted)
@@ -376,7 +423,7 @@ def alone(tally, page):
     for width in (320, 375, 1280):
         page.browser.resize(width, 800)
         page.choose("guess")
-        for job in ("run", "runs", "list"):
+        for job in ("run", "runs", "outcomes", "list"):
             page.job(job)
             tally.check(page.browser.evaluate("document.documentElement.scrollWidth <= innerWidth"),
                         f"the page is wider than {width} pixels after {job}")
@@ -408,6 +455,11 @@ CONTRAST = """(() => {
 })()"""
 
 
+def check_contrast(tally, page, scheme):
+    lowest, text = page.browser.evaluate(CONTRAST)
+    tally.check(lowest >= 4.5, f"the contrast of {text!r} is {lowest:.2f} by {scheme} colours")
+
+
 def contrast(tally, page):
     """Each text has a contrast of 4.5 with what is behind it, in both schemes of colours."""
     for scheme in ("dark", "light"):
@@ -415,8 +467,11 @@ def contrast(tally, page):
         page.choose("doors")
         page.job("runs")
         page.press_leaf(0)
-        lowest, text = page.browser.evaluate(CONTRAST)
-        tally.check(lowest >= 4.5, f"the contrast of {text!r} is {lowest:.2f} by {scheme} colours")
+        check_contrast(tally, page, scheme)
+        page.choose("die")
+        page.job("outcomes")
+        page.press("#bars button")
+        check_contrast(tally, page, scheme)
 
 
 def unable(tally, page):
