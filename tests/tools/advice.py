@@ -187,9 +187,14 @@ def try_explained(tally):
         tally.check(status == 0 and out.startswith(f"ICL{number:03}I: ".encode()), f"--explain {number}: {out!r}")
     for name in ("E017", "ICL017I"):
         tally.equal(name, tally.tool("ick-advice", "--explain", name), tally.tool("ick-advice", "--explain", "17"))
-    manual = content(f"{TOP}/docs/MANUAL.md").decode().split("\n## 16 ")[1].split("\n## ")[0]
-    told = set(re.findall(r"^\| \d+ \| `([A-Z ]+)(?: AFTER n STEPS)?` \|", manual, re.MULTILINE)) | {"SOURCE TOO LONG"}
+    manual, told = content(f"{TOP}/docs/MANUAL.md").decode(), {"SOURCE TOO LONG"}
+    for chapter in ("16", "20"):
+        text = manual.split(f"\n## {chapter} ")[1].split("\n## ")[0]
+        found = re.findall(r"^\| \d+ \| `([A-Zn ]+?)(?: AFTER n STEPS)?` \|", text, re.MULTILINE)
+        told |= {name.replace("n", "N") for name in found}
     tally.equal("the messages of the manual", told, set(ick_faults.MESSAGES))
+    tally.equal("a line by its number", *(tally.tool("ick-advice", "--explain", *f"LINE {number} IS NOT OF THIS PROGRAM".split())
+                                          for number in ("n", 17)))
     for name in ick_faults.MESSAGES:
         for words in ([name.lower()], [*name.split(), "AFTER", "3", "STEPS"]):
             status, out, err = tally.tool("ick-advice", "--explain", *words)
