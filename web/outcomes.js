@@ -23,10 +23,20 @@ function readAskers(text) {
   return lines.map((line) => line.split(' ').filter(Boolean).map((asker) => asker.replace(':', ' %')));
 }
 
-// Returns a weight in percent, with three digits that count.
+// Returns a weight in percent, with three digits that count. A small one has two, since its number could be 0.
 function percentOf(weight) {
   const share = 100 * Number.parseFloat(weight);
-  return share >= 1e-3 || share === 0 ? `${Number(share.toPrecision(3))} %` : `${share.toExponential(1)} %`;
+  if (share >= 1e-3) return `${Number(share.toPrecision(3))} %`;
+  const [, zeros, first, second] = /^0\.(0*)(.)(\d?)/.exec(weight);
+  return `${first}.${second || 0}e-${zeros.length - 1} %`;
+}
+
+// Says how much of the program lies behind the limit.
+function beyondLimit(outcomes) {
+  const weights = outcomes.filter(({ end }) => end === 'LIMIT').map(({ weight }) => weight);
+  if (weights.length < 2) return weights.map(percentOf).join();
+  const sum = weights.reduce((all, weight) => all + Number.parseFloat(weight), 0);
+  return sum >= 1e-5 ? percentOf(String(sum)) : 'Less than 0.001 %';
 }
 
 // Returns the number of an outcome's runs in words. A number of many digits is shortened.

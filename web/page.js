@@ -257,17 +257,12 @@ function showListing(answer, request, output, errors, askers) {
   drawTree();
 }
 
-// Says how much of the program lies behind the limit.
-function beyondLimit(outcomes) {
-  const weights = outcomes.filter(({ end }) => end === 'LIMIT').map(({ weight }) => Number.parseFloat(weight));
-  return weights.length ? `${percentOf(weights.reduce((sum, weight) => sum + weight))} lies behind the limit, ` : '';
-}
-
 function showOutcomes(answer, request, output, errors) {
   const { outcomes, isWhole } = readOutcomes(output), shown = outcomes.slice(0, BARS);
   weighed = request;
   const headline = counted(outcomes.length, 'outcome') + (isWhole ? ', and no other' : ' and more');
-  const more = `${beyondLimit(outcomes)}status ${answer.status}, ${took(answer.milliseconds)}`;
+  const beyond = beyondLimit(outcomes);
+  const more = `${beyond && `${beyond} lies behind the limit, `}status ${answer.status}, ${took(answer.milliseconds)}`;
   say(answer.status === 0 ? ['ok', headline] : HEADLINES[answer.status], more);
   $('weighed').hidden = shown.length === 0;
   $('bars').replaceChildren(...shown.map(outcomeItem));

@@ -186,7 +186,15 @@ def outcomes(tally, page):
     page.job("outcomes")
     many = page.browser.evaluate(texts.format("many"))
     tally.equal("a number of runs of many digits", many, "1 run,about 10^90 runs")
-    page.set(source=REFUSED)
+    page.choose("die")
+    page.set(limit="")
+    page.job("outcomes")
+    found = re.search(r"no other(.*) lies behind the limit", page.status())[1]
+    tally.check(re.fullmatch(r"\d\.\de-\d{3} %", found), f"{found!r} lies behind 10,000 steps of a die")
+    for weight, wanted in (("1", "100 %"), ("0.333333333333333..", "33.3 %"), ("0.000000152", "1.5e-5 %"),
+                           ("0.000001", "1.0e-4 %")):
+        tally.equal(f"{weight} in percent", page.browser.evaluate(f"percentOf('{weight}')"), wanted)
+    page.set(source=REFUSED, limit="")
     page.job("outcomes")
     tally.check("is refused" in page.status() and page.text("weighed-name") is None, "a refusal has outcomes")
 
