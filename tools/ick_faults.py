@@ -69,8 +69,9 @@ MESSAGES = {
     "READ FAILED": (4, "the system couldn't read standard input, or a signal interrupted the read.",
                     "Give the input as a file: ick run FILE <input. A terminal can be non-blocking: open it anew by "
                     "</dev/tty."),
-    "INPUT TOO LONG": (4, "`ick runs` reads its whole input first, and that has more than 1,048,576 bytes.",
-                       "Give it less input. `ick run` takes any length."),
+    "INPUT TOO LONG": (4, "`ick runs` and `ick-outcomes` read their whole input first, and that has more than 1,048,576 "
+                          "bytes.",
+                       "Give less input. `ick run` takes any length."),
     "WRITE FAILED": (4, "standard output couldn't be written. What was written before is right.",
                      "Look for a full disk, or for a reader that ended, as `head` does. `ick runs --count N` lists fewer "
                      "runs."),
