@@ -1,0 +1,5 @@
+mod HistoryLaws
+mod MarkLaws
+mod Results
+mod AskLaws
+mod CursorLaws

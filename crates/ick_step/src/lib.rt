@@ -1,0 +1,19 @@
+//! Steps through a run, forwards and backwards, over any machine with marks.
+//!
+//! | Module | Contents |
+//! |---|---|
+//! | `marks` | a mark before each thousandth step |
+//! | `forward` | steps at which nothing is asked |
+//! | `backward` | steps that are taken back, from the nearest mark on |
+//! | `session` | a run that is stepped through |
+//! | `choosing` | a step at which a choice is asked, and the list of choices |
+#![tactic(auto)]
+
+mod backward;
+mod choosing;
+mod forward;
+mod marks;
+mod session;
+
+pub use ick_explorer::RunsError;
+pub use session::Session;
