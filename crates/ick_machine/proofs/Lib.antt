@@ -13,3 +13,4 @@ mod CopyLemmas
 mod FeedLemmas
 mod FedLemmas
 mod LiveLemmas
+mod NamedLemmas

@@ -27,9 +27,9 @@ pub struct Copy {
 #[derive(Drop)]
 pub struct Copied<'c, 'a> {
     alloc: Global,
-    lowered: Lowered<'c, 'a>,
-    input: &'c [u8],
-    running: Running,
+    pub(crate) lowered: Lowered<'c, 'a>,
+    pub(crate) input: &'c [u8],
+    pub(crate) running: Running,
     copies: Vec<Copy>,
     ghost can: { ∥ CanRun lowered running ∥₁ },
     ghost copied: { ∥ AreCopies lowered.code.now lowered.parts copies.items ∥₁ },
@@ -70,7 +70,7 @@ impl<'c, 'a> Copied<'c, 'a> {
     ghost use Rattle.ick_machine.specs.Whole.{CanRun};
 
     /// States that the run can go on.
-    fn law(&self)
+    pub(crate) fn law(&self)
         ensures can { CanRun self.now.lowered self.now.running }
         ensures ready { CanGoOn self.now.lowered self.now.running.memory }
     {}
