@@ -3,3 +3,4 @@ mod MarkLaws
 mod Results
 mod AskLaws
 mod CursorLaws
+mod ArrivalLaws

@@ -1,3 +1,4 @@
 pub mod History
 pub mod Session
 pub mod Sessions
+pub mod Arrival

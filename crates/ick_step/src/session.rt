@@ -16,8 +16,8 @@ use std::alloc::Global;
 /// back, one by one or many at once.
 ///
 /// The session keeps a byte or two for each step, and marks the state before each thousandth step.
-/// Marks are no closer, because a mark takes more memory than a step. They aren't thinned out as
-/// they get older, so going back makes at most 1,000 steps again, wherever it leads.
+/// Closer marks would take more memory. Marks aren't thinned out as they get older, so going back
+/// makes at most 1,000 steps again, wherever it leads.
 #[derive(Drop)]
 pub struct Session<M: Backtrack> {
     machine: M,

@@ -1,0 +1,17 @@
+use Rattle.std.proofs.Common.{◌≡◌, ◌≤◌, ◌-◌}
+use Rattle.ick_step.specs.Arrival.{has_come}
+use Rattle.ick_step.specs.Session.{seen_at, later}
+use Rattle.ick_step.proofs.ArrivalLaws.{NotYet}
+use Rattle.ick_step.proofs.session.Session.step_to.Given as goal
+
+abbrev pub invariant-on : goal.invariant-on
+invariant-on g l = record {
+  within : l.made ≤ l.limit;
+  made : seen_at (g.M.Backtrack.seen l.self.machine) l.self.answers.items
+      ≡ later l.made (seen_at (g.M.Backtrack.seen l.initial.self.machine) l.initial.self.answers.items);
+  before : NotYet (has_come l.target)
+      (seen_at (g.M.Backtrack.seen l.initial.self.machine) l.initial.self.answers.items) l.made;
+}
+
+abbrev pub decreases-on : goal.decreases-on
+decreases-on g l = l.limit - l.made
