@@ -5,7 +5,7 @@ use Rattle.std.specs.Global.{Vec}
 use Rattle.std.proofs.lemmas.List.{reverse-append, length-reverse, length-take-le, map-append, take-append-le}
 use Rattle.std.proofs.Math.Seq.{take-suc}
 use Rattle.ick_code.specs.meaning.State.{Array as ArrayValue}
-use Rattle.ick_lowering.specs.Extends.{Extends}
+use Rattle.ick_instructions.specs.Extends.{Extends}
 use Rattle.ick_engine.specs.declared.change.ArrayChange.{ArrayChange}
 use Rattle.ick_engine.specs.declared.change.Entry.{Entry}
 use Rattle.ick_engine.specs.declared.change.Entry.TheVariants as entry

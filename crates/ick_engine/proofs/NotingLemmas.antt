@@ -3,7 +3,7 @@ use Rattle.std.proofs.Common.{◌≡◌, ℕ, Bool, List, ◌++◌, refl, sym, a
 use Rattle.std.specs.Prelude.{slice_set}
 use Rattle.std.proofs.lemmas.List.{append_assoc}
 use Rattle.ick_code.specs.meaning.State.{Array}
-use Rattle.ick_lowering.specs.Extends.{Extends}
+use Rattle.ick_instructions.specs.Extends.{Extends}
 use Rattle.ick_engine.specs.declared.change.ArrayChange.TheVariants.{Replaced}
 use Rattle.ick_engine.specs.Noting.{NotesParts, NotesBefore}
 use Rattle.ick_engine.specs.Undo.{Change, Fixed, NotesChange, array_was, with_arrays}

@@ -7,8 +7,8 @@ use mathlib.Core.Path.{fun_ext}
 use Rattle.ick_source.specs.declared.tree.Name.{Name}
 use Rattle.ick_code.specs.declared.code.Code.{Code}
 use Rattle.ick_code.specs.meaning.State.{State, Ending}
-use Rattle.ick_lowering.specs.declared.lowered.LoweredParts.{LoweredParts}
-use Rattle.ick_lowering.specs.Registers.{AllBelow, Fits}
+use Rattle.ick_instructions.specs.declared.lowered.LoweredParts.{LoweredParts}
+use Rattle.ick_instructions.specs.Registers.{AllBelow, Fits}
 use Rattle.ick_engine.specs.Run.{Stands}
 use Rattle.ick_engine.specs.Steady.{AreStatuses, IsHome, IsSteady, IsReady}
 use Rattle.ick_engine.specs.View.{View, Input, file_of, state_of}

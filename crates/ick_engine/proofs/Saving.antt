@@ -7,7 +7,7 @@ use Rattle.std.proofs.lemmas.List.{get_or-take, length-take-le, get_or-map, leng
 use Rattle.std.proofs.Math.Seq.{take-suc}
 use Rattle.ick_code.specs.meaning.State.{Array, State, same_name}
 use Rattle.ick_code.specs.declared.code.Code.{Code}
-use Rattle.ick_lowering.specs.declared.lowered.LoweredParts.{LoweredParts}
+use Rattle.ick_instructions.specs.declared.lowered.LoweredParts.{LoweredParts}
 use Rattle.ick_engine.specs.declared.memory.Rest.{Rest}
 use Rattle.ick_engine.specs.declared.saved.Saved.{Saved}
 use Rattle.ick_engine.specs.Run.{Stands}

@@ -2,7 +2,7 @@
 use Rattle.std.specs.Prelude.{ℕ, ◌≡◌, List, length, map, take}
 use Rattle.ick_code.specs.meaning.State.{Array}
 use Rattle.ick_code.specs.declared.code.Code.{Code}
-use Rattle.ick_lowering.specs.declared.lowered.LoweredParts.{LoweredParts}
+use Rattle.ick_instructions.specs.declared.lowered.LoweredParts.{LoweredParts}
 use Rattle.ick_engine.specs.declared.memory.ArrayStash.{ArrayStash}
 use Rattle.ick_engine.specs.declared.memory.NumberStash.{NumberStash}
 use Rattle.ick_engine.specs.declared.saved.Saved.{Saved}

@@ -4,7 +4,7 @@ use Rattle.std.specs.Prelude.{length, drop, take, reverse, slice_set, ifâ—Œthenâ
 use Rattle.std.proofs.Common.{get_or}
 use Rattle.ick_code.specs.meaning.State.{Array, no_array}
 use Rattle.ick_code.specs.declared.code.Code.{Code}
-use Rattle.ick_lowering.specs.declared.lowered.LoweredParts.{LoweredParts}
+use Rattle.ick_instructions.specs.declared.lowered.LoweredParts.{LoweredParts}
 use Rattle.ick_engine.specs.declared.change.ArrayChange.{ArrayChange}
 use Rattle.ick_engine.specs.declared.change.ArrayChange.TheVariants as now
 use Rattle.ick_engine.specs.declared.change.Entry.{Entry}

@@ -17,7 +17,7 @@ use crate::hide::set_hidden;
 use crate::memory::{Array, Memory, Rest};
 use crate::stash::{drop_array, drop_number, put_array, put_number};
 use crate::trail::Trail;
-use ick_lowering::Lowered;
+use ick_instructions::Lowered;
 use std::mem::replace;
 
 /// A mark: the place and the depth of the NEXT stack, and how many changes were noted before it.

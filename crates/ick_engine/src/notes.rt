@@ -5,7 +5,7 @@ ghost use Rattle.std.specs.Prelude.{◌≡◌, ◌+◌, ◌<◌, ◌≤◌, ◌^
 ghost use Rattle.std.specs.Prelude.{length, map, OnErr, OnOk};
 ghost use Rattle.std.proofs.Common.{get_or};
 ghost use Rattle.ick_code.specs.meaning.State.{no_array};
-ghost use Rattle.ick_lowering.specs.Extends.{Extends};
+ghost use Rattle.ick_instructions.specs.Extends.{Extends};
 ghost use Rattle.ick_engine.specs.Undo.{array_was, change_of, stands_apart, statuses_were};
 ghost use Rattle.ick_engine.specs.Undo.{AlikeUndo, Change, Fixed, KeepsUndoing, Means};
 ghost use Rattle.ick_engine.specs.Undo.{NotesChange};

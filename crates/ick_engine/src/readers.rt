@@ -1,7 +1,7 @@
 //! Readers of the state that a memory represents.
 
 use crate::memory::{Array, Memory};
-use ick_lowering::Lowered;
+use ick_instructions::Lowered;
 
 impl Memory {
     ghost use Rattle.std.specs.Prelude.{◌≡◌, ◌<◌, ◌≤◌, length, map, reverse, slice_get, Some};

@@ -6,7 +6,7 @@ use crate::copy::{copy_bytes, copy_first, copy_numbers, copy_rest, put_first};
 use crate::memory::{Array, ArrayStash, Memory, NumberStash, Rest};
 use crate::same::same_rest;
 use ick_bits::NoMemory;
-use ick_lowering::Lowered;
+use ick_instructions::Lowered;
 use std::alloc::Global;
 
 /// A state of a run. It has no temporaries, no constants, and only those return addresses and
@@ -107,7 +107,7 @@ impl Saved {
     ghost use Rattle.ick_engine.specs.Steady.{IsReady, IsSteady};
     ghost use Rattle.ick_engine.specs.View.{Input, View, state_of};
     ghost use Rattle.ick_code.specs.declared.code.Code.{Code};
-    ghost use Rattle.ick_lowering.specs.declared.lowered.LoweredParts.{LoweredParts};
+    ghost use Rattle.ick_instructions.specs.declared.lowered.LoweredParts.{LoweredParts};
 
     /// Returns the state that a memory represents. `NoMemory` is returned only if a growth was
     /// refused.

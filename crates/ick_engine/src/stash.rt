@@ -4,7 +4,7 @@ ghost use Rattle.std.specs.Prelude.{◌≡◌, ◌+◌, ◌<◌, ◌≤◌, ℕ,
 ghost use Rattle.std.specs.Prelude.{IfNone, IfSome, OnErr, OnOk};
 ghost use Rattle.std.specs.Bool.{OnFalse, OnTrue};
 ghost use Rattle.std.proofs.Common.{get_or};
-ghost use Rattle.ick_lowering.specs.Extends.{Extends};
+ghost use Rattle.ick_instructions.specs.Extends.{Extends};
 ghost use Rattle.ick_engine.specs.Stashes.{ChangesAt, IsExchanged, IsPutOn, IsRestoredTo};
 ghost use Rattle.ick_engine.specs.Stashes.{IsRetrieved, IsTakenOff};
 ghost use Rattle.ick_code.specs.meaning.State.{no_array, Array as ArrayValue};

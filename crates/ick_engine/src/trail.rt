@@ -30,7 +30,7 @@ pub struct Trail {
 impl Trail {
     ghost use Rattle.std.specs.Prelude.{◌≡◌, ◌-◌, ◌≤◌, ℕ, true, [], length, OnOk};
     ghost use Rattle.std.specs.Prelude.{vec_len, vec_capacity, List};
-    ghost use Rattle.ick_lowering.specs.Extends.{Extends};
+    ghost use Rattle.ick_instructions.specs.Extends.{Extends};
     ghost use Rattle.ick_engine.specs.declared.trail.Trail.{Trail};
     ghost use Rattle.ick_engine.specs.History.{history, fixed_by, IsNoted, UndoesBy};
     ghost use Rattle.ick_engine.specs.Undo.{Rewinds};

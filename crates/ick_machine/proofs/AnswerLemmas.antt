@@ -10,7 +10,7 @@ use Rattle.ick_code.specs.declared.code.Code.{Code}
 use Rattle.ick_code.specs.meaning.State.{State, Ending, statement_at}
 use Rattle.ick_code.specs.meaning.Move.{plain, choice, ask, ask_of, ask_at, is_uncertain}
 use Rattle.ick_code.specs.Compiled.{code_program}
-use Rattle.ick_lowering.specs.declared.lowered.LoweredParts.{LoweredParts}
+use Rattle.ick_instructions.specs.declared.lowered.LoweredParts.{LoweredParts}
 use Rattle.ick_engine.specs.declared.exit.Ended.{Ended}
 use Rattle.ick_engine.specs.View.{View, Input, end_of}
 use Rattle.ick_engine.specs.Status.{percent_of, lack_of, is_abstained, past_the_end}

@@ -7,7 +7,7 @@ use Rattle.std.specs.List.{All}
 use Rattle.std.specs.Option.{option_to_list}
 use Rattle.std.proofs.lemmas.List.Elements.{All-append}
 use Rattle.ick_code.specs.declared.code.Code.{Code}
-use Rattle.ick_lowering.specs.declared.lowered.LoweredParts.{LoweredParts}
+use Rattle.ick_instructions.specs.declared.lowered.LoweredParts.{LoweredParts}
 use Rattle.ick_engine.specs.Saved.{IsKept}
 use Rattle.ick_machine.specs.declared.copied.Copy.{Copy}
 use Rattle.ick_machine.specs.Copies.{AreCopies}

@@ -7,7 +7,7 @@ use Rattle.ick_code.specs.Compiled.{code_program}
 use Rattle.ick_code.specs.meaning.State.{State, statement_at}
 use Rattle.ick_code.specs.meaning.Move.{Asking, choice, plain, ended, ask, ask_at, ask_of, is_uncertain}
 use Rattle.ick_code.proofs.AskLaws.{ask_same}
-use Rattle.ick_lowering.specs.declared.lowered.LoweredParts.{LoweredParts}
+use Rattle.ick_instructions.specs.declared.lowered.LoweredParts.{LoweredParts}
 use Rattle.ick_engine.specs.declared.exit.Ended.{Ended}
 use Rattle.ick_engine.specs.View.{View, Input, end_of, input_of}
 use Rattle.ick_backtrack.specs.Asked.{Finish, finished, asked_at_end}

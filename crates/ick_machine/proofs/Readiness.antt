@@ -4,7 +4,7 @@ use mathlib.Core.Logic.{∥∥₁_elim, ∥∥₁_map}
 use mathlib.Core.Path.{fun_ext}
 use Rattle.ick_code.specs.declared.code.Code.{Code}
 use Rattle.ick_code.specs.meaning.State.{State}
-use Rattle.ick_lowering.specs.declared.lowered.LoweredParts.{LoweredParts}
+use Rattle.ick_instructions.specs.declared.lowered.LoweredParts.{LoweredParts}
 use Rattle.ick_engine.specs.Run.{Stands}
 use Rattle.ick_engine.specs.Steady.{IsReady}
 use Rattle.ick_engine.proofs.Readiness.{ready-prop}

@@ -17,7 +17,7 @@ use ick_backtrack::{Ask, End};
 use ick_bits::{Fault, FaultKind};
 use ick_code::Code;
 use ick_engine::{Ended, Memory};
-use ick_lowering::Lowered;
+use ick_instructions::Lowered;
 
 /// Returns the bytes of a text between two positions. It stops at the end of the text.
 fn word<'c>(text: &'c [u8], from: usize, to: usize) -> &'c [u8]

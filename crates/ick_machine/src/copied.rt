@@ -12,7 +12,8 @@ use ick_backtrack::{Ask, Asks, Backtrack};
 use ick_bits::NoMemory;
 use ick_code::Code;
 use ick_engine::{Ended, Saved};
-use ick_lowering::{Lowered, lower};
+use ick_instructions::Lowered;
+use ick_lowering::lower;
 use std::alloc::Global;
 
 /// A copy of a state, and how the run had ended.

@@ -12,7 +12,8 @@ use ick_backtrack::{Ask, FeedFault};
 use ick_bits::NoMemory;
 use ick_code::Code;
 use ick_engine::{Ended, Memory, fresh_memory};
-use ick_lowering::{Lowered, lower};
+use ick_instructions::Lowered;
+use ick_lowering::lower;
 use std::alloc::Global;
 
 /// Runs a program step by step, and reads its input from a feed when it needs it. Nothing is kept

@@ -9,7 +9,7 @@ ghost use Rattle.ick_engine.specs.View.{Input, array_names, array_of, scalar_nam
 
 use ick_code::Code;
 use ick_engine::{Array, Memory};
-use ick_lowering::Lowered;
+use ick_instructions::Lowered;
 use ick_source::{Name, NameKind};
 
 /// Returns whether two names are one.

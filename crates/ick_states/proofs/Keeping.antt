@@ -11,7 +11,7 @@ use Rattle.ick_code.specs.meaning.State.{State}
 use Rattle.ick_backtrack.specs.Asked.{Finish, finished, asked_at_end, IsGoing}
 use Rattle.ick_backtrack.specs.Machine.{Program}
 use Rattle.ick_backtrack.specs.Steps.{IsPlain, RunsOn}
-use Rattle.ick_lowering.specs.declared.lowered.LoweredParts.{LoweredParts}
+use Rattle.ick_instructions.specs.declared.lowered.LoweredParts.{LoweredParts}
 use Rattle.ick_engine.specs.declared.exit.Ended.{Ended}
 use Rattle.ick_engine.specs.declared.saved.Saved.{Saved}
 use Rattle.ick_engine.specs.declared.text_reader.TextReader.{TextReader}

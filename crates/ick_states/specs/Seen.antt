@@ -2,7 +2,7 @@
 use Rattle.std.specs.Prelude.{ℕ, List, Option}
 use Rattle.ick_code.specs.declared.code.Code.{Code}
 use Rattle.ick_code.specs.Compiled.{code_program}
-use Rattle.ick_lowering.specs.declared.lowered.LoweredParts.{LoweredParts}
+use Rattle.ick_instructions.specs.declared.lowered.LoweredParts.{LoweredParts}
 use Rattle.ick_engine.specs.declared.exit.Ended.{Ended}
 use Rattle.ick_engine.specs.declared.saved.Saved.{Saved}
 use Rattle.ick_engine.specs.Saved.{saved_view}

@@ -11,7 +11,7 @@ ghost use Rattle.ick_machine.specs.Run.{run_state};
 
 use ick_backtrack::Ask;
 use ick_engine::Saved;
-use ick_lowering::Lowered;
+use ick_instructions::Lowered;
 
 /// Returns what is asked at a statement with a status.
 fn asked_at<'c>(status: u8) -> Ask<'c>

@@ -1,7 +1,7 @@
 //! How often operations and instructions occur.
 
 use ick_code::{Code, Op};
-use ick_lowering::Lowered;
+use ick_instructions::Lowered;
 use std::alloc::Global;
 use std::collections::BTreeMap;
 use std::io;

@@ -10,7 +10,8 @@ mod counts;
 
 use counts::Counts;
 use ick_code::{Code, compile};
-use ick_lowering::{Instruction, Lowered, Operation, lower};
+use ick_instructions::{Instruction, Lowered, Operation};
+use ick_lowering::lower;
 use ick_source::read_source;
 use std::alloc::Global;
 use std::io::ErrorKind;

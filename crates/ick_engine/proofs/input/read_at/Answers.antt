@@ -3,7 +3,7 @@ use Rattle.std.specs.Prelude.{slice_range}
 use Rattle.std.proofs.lemmas.List.{get_or-map, length-map}
 use Rattle.ick_code.specs.meaning.State.{no_array}
 use Rattle.ick_code.specs.meaning.Value.{element_place}
-use Rattle.ick_lowering.specs.Meaning.{values_of}
+use Rattle.ick_instructions.specs.Meaning.{values_of}
 use Rattle.ick_engine.specs.declared.memory.Array.{Array}
 use Rattle.ick_engine.specs.Steady.{IsProgram}
 use Rattle.ick_engine.specs.View.{Parts, array_of, is_hidden, parts_of}

@@ -1,6 +1,6 @@
 use Rattle.std.proofs.Common.{◌≡◌, ◌≤◌, length, map, take, vec_len, vec_capacity}
 use Rattle.ick_bits.specs.Values.{number_of}
-use Rattle.ick_lowering.specs.Meaning.{values_of}
+use Rattle.ick_instructions.specs.Meaning.{values_of}
 use Rattle.ick_engine.proofs.resize.fill.Given as goal
 
 abbrev pub invariant-loop-register : goal.invariant-loop-register

@@ -1,7 +1,7 @@
 use Rattle.std.proofs.Common.{◌≡◌, ◌==◌, drop, map}
 use Rattle.std.specs.List.{list_any}
 use Rattle.ick_bits.specs.Values.{number_of}
-use Rattle.ick_lowering.specs.Meaning.{values_of}
+use Rattle.ick_instructions.specs.Meaning.{values_of}
 use Rattle.ick_engine.proofs.resize.has_zero.Given as goal
 
 abbrev pub invariant-loop-register : goal.invariant-loop-register

@@ -2,7 +2,7 @@ use Rattle.std.proofs.Common.{map, ap, sym, ◌∙◌}
 use Rattle.std.proofs.Math.Seq.{map-set_same}
 use Rattle.ick_bits.specs.Values.{number_of}
 use Rattle.ick_code.specs.meaning.Store.{zeros}
-use Rattle.ick_lowering.specs.Meaning.{values_of}
+use Rattle.ick_instructions.specs.Meaning.{values_of}
 use Rattle.ick_engine.specs.View.{array_of, is_hidden}
 use Rattle.ick_engine.proofs.DimensionLemmas.{no_fault, array_sized, sized_back}
 use Rattle.ick_engine.proofs.resize.resize.Goals as goal

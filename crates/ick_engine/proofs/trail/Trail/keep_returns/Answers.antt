@@ -1,7 +1,7 @@
 use Rattle.std.proofs.Common.{refl, ◌≡◌, ℕ, ◌+◌, ◌-◌, ◌<◌, ◌≤◌, ◌++◌, [], ◌∷◌, sym, ap, ◌∙◌, subst, arith, length, get_or, Fits, w32}
 use Rattle.ick_engine.specs.declared.change.Entry.TheVariants.{Return}
 use Rattle.ick_engine.specs.Undo.{Rewinds, return_was}
-use Rattle.ick_lowering.proofs.Lists.{extends_trans}
+use Rattle.ick_instructions.proofs.Extends.{extends_trans}
 use Rattle.ick_engine.specs.History.{history}
 use Rattle.ick_engine.proofs.Changes.{newest_alone, grown}
 use Rattle.ick_engine.proofs.Undoing.{notes_return}

@@ -1,5 +1,5 @@
 use Rattle.std.proofs.Common.{◌≡◌, ◌-◌, ◌≤◌, ℕ, vec_len, vec_capacity}
-use Rattle.ick_lowering.specs.Extends.{Extends}
+use Rattle.ick_instructions.specs.Extends.{Extends}
 use Rattle.ick_engine.specs.History.{history}
 use Rattle.ick_engine.specs.Undo.{Rewinds}
 use Rattle.ick_engine.specs.View.{View}
