@@ -314,7 +314,7 @@ module _ (count : ℕ) (slots : Slots) where
   body_settled number (body.Next label) kinded covered labels =
       ending [] (Call (number label)) refl (labels used.Next label refl)
   body_settled number (body.Forget e) kinded covered labels =
-      going _ (both (ops_of_tree slots (tree_of e)) (Forget ∷ []) (tree_goes (tree_of e) kinded covered) refl)
+      ending (ops_of_tree slots (tree_of e)) Forget (tree_goes (tree_of e) kinded covered) refl
   body_settled number (body.Resume e) kinded covered labels =
       ending (ops_of_tree slots (tree_of e)) Resume (tree_goes (tree_of e) kinded covered) refl
   body_settled number (body.Stash names) kinded covered labels =
