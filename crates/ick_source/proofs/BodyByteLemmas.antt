@@ -8,7 +8,7 @@ use Rattle.std.proofs.lemmas.Bool.{cases_lt, cases_order, not-false, not-true}
 use Rattle.std.proofs.lemmas.Bool.Decides.{nat_tests}
 use Rattle.ick_source.specs.declared.position.Position.{Position}
 use Rattle.ick_source.specs.Position.{characters, characters_of, left_at}
-use Rattle.ick_source.specs.BodyTree.{BodyTree}
+use Rattle.ick_syntax.specs.BodyTree.{BodyTree}
 use Rattle.ick_source.specs.BodyGrammar.{IsBody}
 use Rattle.ick_source.specs.BodyBytes.{IsBodyIn, HasBody, HasNoBody}
 use Rattle.ick_source.proofs.PositionLemmas.{characters-drop}

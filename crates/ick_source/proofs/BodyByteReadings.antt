@@ -2,14 +2,14 @@
 use Rattle.std.proofs.Common.{◌≡◌, ℕ, ◌≤◌, List, [], ◌∷◌, Option, Some, length, drop, map, nat_eq}
 use Rattle.std.proofs.Common.{nat_lt, false, refl, sym, ap, subst, ◌∙◌}
 use Rattle.std.proofs.lemmas.Bool.{or_parts}
-use Rattle.ick_source.specs.declared.faults.Faults.{Faults}
-use Rattle.ick_source.specs.declared.body.Body.{Body}
+use Rattle.ick_syntax.specs.declared.faults.Faults.{Faults}
+use Rattle.ick_syntax.specs.declared.body.Body.{Body}
 use Rattle.ick_source.specs.Position.{characters, left_at}
-use Rattle.ick_source.specs.Clamped.{greatest, clamped, clamped_name, clamped_tree, no_faults, label_faults, faults_of}
-use Rattle.ick_source.specs.BodyTree.{ItemTree, single, whole, clamped_item, faults_of_item, BodyTree, calculate}
-use Rattle.ick_source.specs.BodyTree.{dimension, next, forget, resume, stash, retrieve, ignore, remember, abstain_label}
-use Rattle.ick_source.specs.BodyTree.{abstain_kinds, reinstate_label, reinstate_kinds, give_up, write_in, read_out}
-use Rattle.ick_source.specs.BodyTree.{body_tree_of, clamped_body, faults_along, faults_of_name, faults_of_body}
+use Rattle.ick_syntax.specs.Clamped.{greatest, clamped, clamped_name, clamped_tree, no_faults, label_faults, faults_of}
+use Rattle.ick_syntax.specs.BodyTree.{ItemTree, single, whole, clamped_item, faults_of_item, BodyTree, calculate}
+use Rattle.ick_syntax.specs.BodyTree.{dimension, next, forget, resume, stash, retrieve, ignore, remember, abstain_label}
+use Rattle.ick_syntax.specs.BodyTree.{abstain_kinds, reinstate_label, reinstate_kinds, give_up, write_in, read_out}
+use Rattle.ick_syntax.specs.BodyTree.{body_tree_of, clamped_body, faults_along, faults_of_name, faults_of_body}
 use Rattle.ick_source.specs.BodyGrammar.{IsBody}
 use Rattle.ick_source.specs.BodyBytes.{HasNoBody}
 use Rattle.ick_source.specs.BodyAnswers.{IsParsedBody}

@@ -3,13 +3,13 @@ use Rattle.std.proofs.Common.{◌≡◌, ℕ, suc, zero, ◌<◌, inl, inr, List
 use Rattle.std.proofs.Common.{length, refl, sym, ap, subst, ◌∙◌, arith}
 use Rattle.std.specs.Prelude.{codes}
 use Rattle.std.proofs.lemmas.Bool.{cases_lt}
-use Rattle.ick_source.specs.declared.tree.NameKind.{NameKind}
-use Rattle.ick_source.specs.declared.tree.NameKind.TheVariants.{Tail}
-use Rattle.ick_source.specs.declared.tree.Name.{Name}
+use Rattle.ick_syntax.specs.declared.tree.NameKind.{NameKind}
+use Rattle.ick_syntax.specs.declared.tree.NameKind.TheVariants.{Tail}
+use Rattle.ick_syntax.specs.declared.tree.Name.{Name}
 use Rattle.ick_source.specs.declared.lead.Lead.{Lead}
 use Rattle.ick_source.specs.declared.lead.Lead.TheVariants.{Spot, Array, Hash, Group, Unary, Binary, Other}
-use Rattle.ick_source.specs.declared.body.Gerund.{Gerund}
-use Rattle.ick_source.specs.declared.body.Gerund.TheVariants.{Calculating}
+use Rattle.ick_syntax.specs.declared.body.Gerund.{Gerund}
+use Rattle.ick_syntax.specs.declared.body.Gerund.TheVariants.{Calculating}
 use Rattle.ick_source.specs.declared.form.Form.{Form}
 use Rattle.ick_source.specs.declared.form.Form.TheVariants.{Calculation, Dimensioning, Call, Action}
 use Rattle.ick_source.specs.declared.verb.Verb.{Verb}
@@ -18,9 +18,9 @@ use Rattle.ick_source.specs.declared.verb.Verb.TheVariants.{Reinstate, Give, Wri
 use Rattle.ick_source.specs.Position.{next_lead, past_lead}
 use Rattle.ick_source.specs.Token.{IsNumber, IsWord}
 use Rattle.ick_source.specs.Expression.{IsExpr, IsElement}
-use Rattle.ick_source.specs.Gerund.{gerund_word, second_word}
+use Rattle.ick_syntax.specs.Gerund.{gerund_word, second_word}
 use Rattle.ick_source.specs.Verb.{verb_word}
-use Rattle.ick_source.specs.BodyTree.{BodyTree, calculate, dimension, next, give_up}
+use Rattle.ick_syntax.specs.BodyTree.{BodyTree, calculate, dimension, next, give_up}
 use Rattle.ick_source.specs.BodyGrammar.{only, and_more, IsWhole, IsName, a_spot, an_array, IsGerund, one_word}
 use Rattle.ick_source.specs.BodyGrammar.{two_words, AreDimensions, IsAfter, abstains_label, abstains_kinds, gives_up}
 use Rattle.ick_source.specs.BodyGrammar.{writes_in, reads_out, IsBodyOf, calculates, dimensions, nexts, does}

@@ -1,12 +1,12 @@
 -- From what is found of the parts of a body to what is found of the body.
 use Rattle.std.proofs.Common.{◌≡◌, ℕ, List, [], ◌∷◌, Option, Some, Result, map, refl, sym, ap, subst}
 use Rattle.std.specs.Prelude.{codes}
-use Rattle.ick_source.specs.declared.tree.NameKind.{NameKind}
-use Rattle.ick_source.specs.declared.tree.Name.{Name}
-use Rattle.ick_source.specs.declared.faults.Faults.{Faults}
+use Rattle.ick_syntax.specs.declared.tree.NameKind.{NameKind}
+use Rattle.ick_syntax.specs.declared.tree.Name.{Name}
+use Rattle.ick_syntax.specs.declared.faults.Faults.{Faults}
 use Rattle.ick_source.specs.declared.lead.Lead.TheVariants.{Array}
-use Rattle.ick_source.specs.declared.body.Body.{Body}
-use Rattle.ick_source.specs.declared.body.Gerund.{Gerund}
+use Rattle.ick_syntax.specs.declared.body.Body.{Body}
+use Rattle.ick_syntax.specs.declared.body.Gerund.{Gerund}
 use Rattle.ick_source.specs.declared.parsed.Parsed.{Parsed}
 use Rattle.ick_source.specs.declared.parsed.Unread.{Unread}
 use Rattle.ick_source.specs.declared.position.Position.{Position}
@@ -17,12 +17,12 @@ use Rattle.ick_source.specs.declared.verb.Verb.TheVariants.{Forget, Resume, Stas
 use Rattle.ick_source.specs.declared.verb.Verb.TheVariants.{Reinstate, Write, Read}
 use Rattle.ick_source.specs.Position.{next_lead}
 use Rattle.ick_source.specs.Token.{IsWord}
-use Rattle.ick_source.specs.Tree.{Tree}
-use Rattle.ick_source.specs.Clamped.{no_faults, both_faults}
+use Rattle.ick_syntax.specs.Tree.{Tree}
+use Rattle.ick_syntax.specs.Clamped.{no_faults, both_faults}
 use Rattle.ick_source.specs.Verb.{verb_word}
-use Rattle.ick_source.specs.BodyTree.{ItemTree, BodyTree, calculate, dimension, next, forget, resume, stash, retrieve}
-use Rattle.ick_source.specs.BodyTree.{ignore, remember, abstain_label, abstain_kinds, reinstate_label, reinstate_kinds}
-use Rattle.ick_source.specs.BodyTree.{write_in, read_out, faults_along}
+use Rattle.ick_syntax.specs.BodyTree.{ItemTree, BodyTree, calculate, dimension, next, forget, resume, stash, retrieve}
+use Rattle.ick_syntax.specs.BodyTree.{ignore, remember, abstain_label, abstain_kinds, reinstate_label, reinstate_kinds}
+use Rattle.ick_syntax.specs.BodyTree.{write_in, read_out, faults_along}
 use Rattle.ick_source.specs.BodyGrammar.{only, and_more, IsWhole, IsNamed, IsName, a_spot, an_array, IsTarget, IsGerund}
 use Rattle.ick_source.specs.BodyGrammar.{one_word, two_words, IsLabel, AreNames, AreGerunds, ArePlaces, AreItems}
 use Rattle.ick_source.specs.BodyGrammar.{AreDimensions, IsAfter, forgets, resumes, stashes, retrieves, ignores}

@@ -2,14 +2,14 @@
 use Rattle.std.proofs.Common.{◌≡◌, ℕ, suc, zero, ◌<◌, ◌⊎◌, inl, inr, max, Bool, true, false, List}
 use Rattle.std.proofs.Common.{Option, Some, length, refl, sym, ap, subst, ◌∙◌, arith}
 use Rattle.std.specs.Prelude.{codes}
-use Rattle.ick_source.specs.declared.tree.NameKind.{NameKind}
-use Rattle.ick_source.specs.declared.tree.BinaryOp.{BinaryOp}
+use Rattle.ick_syntax.specs.declared.tree.NameKind.{NameKind}
+use Rattle.ick_syntax.specs.declared.tree.BinaryOp.{BinaryOp}
 use Rattle.ick_source.specs.declared.lead.Delimiter.{Delimiter}
 use Rattle.ick_source.specs.declared.lead.Lead.{Lead}
 use Rattle.ick_source.specs.declared.lead.Lead.TheVariants.{Spot, Array, Hash, Group, Unary, Binary, Other}
 use Rattle.ick_source.specs.Position.{next_lead, past_lead}
 use Rattle.ick_source.specs.Token.{IsNumber, IsWord, unary_at, past_unary}
-use Rattle.ick_source.specs.Tree.{Tree, element, binary, Trees, none, more, under}
+use Rattle.ick_syntax.specs.Tree.{Tree, element, binary, Trees, none, more, under}
 use Rattle.ick_source.specs.Expression.{begins_sub, IsExpr, alone, joined, IsOperand, of_simple, of_element, IsSimple}
 use Rattle.ick_source.specs.Expression.{spot, constant, group, IsElement, indexed, IsSubs, nested, simple_first, IsRest}
 use Rattle.ick_source.specs.Expression.{nothing, last, further}

@@ -2,18 +2,18 @@
 use Rattle.std.proofs.Common.{◌≡◌, ◌≢◌, ◌↔◌, ℕ, Bool, true, List, Option, Some, None, refl, sym}
 use Rattle.std.proofs.Common.{subst}
 use Rattle.std.specs.Prelude.{codes, is_some, IsTrue, MatchOption}
-use Rattle.ick_source.specs.declared.tree.NameKind.{NameKind}
-use Rattle.ick_source.specs.declared.tree.Name.{Name}
-use Rattle.ick_source.specs.declared.faults.Faults.{Faults}
+use Rattle.ick_syntax.specs.declared.tree.NameKind.{NameKind}
+use Rattle.ick_syntax.specs.declared.tree.Name.{Name}
+use Rattle.ick_syntax.specs.declared.faults.Faults.{Faults}
 use Rattle.ick_source.specs.declared.position.Position.{Position}
 use Rattle.ick_source.specs.declared.lead.Lead.TheVariants.{Spot, Array, Other}
 use Rattle.ick_source.specs.declared.form.Form.{Form}
 use Rattle.ick_source.specs.declared.form.Form.TheVariants.{Calculation, Dimensioning, Call, Action}
 use Rattle.ick_source.specs.Position.{left_at, next_lead}
 use Rattle.ick_source.specs.Token.{IsWord}
-use Rattle.ick_source.specs.Tree.{Tree}
+use Rattle.ick_syntax.specs.Tree.{Tree}
 use Rattle.ick_source.specs.Expression.{IsElement, indexed}
-use Rattle.ick_source.specs.BodyTree.{BodyTree}
+use Rattle.ick_syntax.specs.BodyTree.{BodyTree}
 use Rattle.ick_source.specs.BodyGrammar.{IsName, an_array, IsTarget, to_spot, to_element, IsBodyOf, calculates}
 use Rattle.ick_source.specs.BodyGrammar.{dimensions, nexts, does, HasSubscripts}
 use Rattle.ick_source.specs.Nonterminal.{names}

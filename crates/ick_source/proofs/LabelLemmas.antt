@@ -7,14 +7,15 @@ use Rattle.std.proofs.lemmas.Option.{slice_get-map, slice_get_read}
 use Rattle.std.specs.BTreeSet.{BTreeSet, Updates, contains}
 use Rattle.std.specs.Ordering.{is_eq, nat_cmp}
 use Rattle.std.proofs.lemmas.Bool.Decides.{nat_tests}
-use Rattle.ick_source.specs.Labels.{HasLabels, fault_of_use}
+use Rattle.ick_source.specs.Labels.{HasLabels}
 use Rattle.ick_bits.specs.declared.faults.FaultKind.TheVariants.{SameLabel}
-use Rattle.ick_source.specs.Refusals.{HoldsAt, IsFaultAt, HasLabel, IsFirstFault, IsSoundBelow, IsLostAt, IsSameLabelAt}
-use Rattle.ick_source.specs.Refusals.{rank, used_label}
-use Rattle.ick_source.specs.declared.labels.LabelUse.{LabelUse}
-use Rattle.ick_source.specs.declared.labels.LabelUse.TheVariants.{Abstain, Next}
-use Rattle.ick_source.specs.StatementTree.{StatementTree, statement_tree_of}
-use Rattle.ick_source.specs.declared.statements.Statement.{Statement}
+use Rattle.ick_syntax.specs.ProgramFaults.{HoldsAt, IsFaultAt, HasLabel, IsFirstFault, IsSoundBelow, IsLostAt}
+use Rattle.ick_syntax.specs.ProgramFaults.{IsSameLabelAt}
+use Rattle.ick_syntax.specs.ProgramFaults.{rank, used_label, fault_of_use}
+use Rattle.ick_syntax.specs.declared.labels.LabelUse.{LabelUse}
+use Rattle.ick_syntax.specs.declared.labels.LabelUse.TheVariants.{Abstain, Next}
+use Rattle.ick_syntax.specs.StatementTree.{StatementTree, statement_tree_of}
+use Rattle.ick_syntax.specs.declared.statements.Statement.{Statement}
 use Rattle.ick_source.proofs.ByteLemmas.{equal_decided}
 use Rattle.ick_source.proofs.RefusalLemmas.{HoldsAt-inside, sound_more}
 

@@ -28,5 +28,4 @@ pub mod SourceLemmas
 pub mod StatementLemmas
 pub mod SubscriptReadings
 pub mod TokenDecided
-pub mod TreeLemmas
 pub mod WordUnique

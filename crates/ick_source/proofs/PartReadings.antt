@@ -3,10 +3,10 @@ use Rattle.std.proofs.Common.{◌≡◌, ◌≢◌, ◌⊎◌, inl, inr, ℕ, Li
 use Rattle.std.proofs.Common.{refl, sym, ap, subst, ◌∙◌}
 use Rattle.std.specs.Option.{ok_or}
 use Rattle.std.specs.Prelude.{codes}
-use Rattle.ick_source.specs.declared.tree.NameKind.{NameKind}
-use Rattle.ick_source.specs.declared.tree.NameKind.TheVariants.{Tail}
-use Rattle.ick_source.specs.declared.tree.Name.{Name}
-use Rattle.ick_source.specs.declared.faults.Faults.{Faults}
+use Rattle.ick_syntax.specs.declared.tree.NameKind.{NameKind}
+use Rattle.ick_syntax.specs.declared.tree.NameKind.TheVariants.{Tail}
+use Rattle.ick_syntax.specs.declared.tree.Name.{Name}
+use Rattle.ick_syntax.specs.declared.faults.Faults.{Faults}
 use Rattle.ick_source.specs.declared.lead.Lead.TheVariants.{Spot, Array, Hash}
 use Rattle.ick_source.specs.declared.parsed.Parsed.{Parsed}
 use Rattle.ick_source.specs.declared.parsed.Unread.{Unread}
@@ -14,10 +14,10 @@ use Rattle.ick_source.specs.declared.parsed.Unread.TheVariants.{Absent}
 use Rattle.ick_source.specs.declared.position.Position.{Position}
 use Rattle.ick_source.specs.Position.{left_at, next_lead, past_lead}
 use Rattle.ick_source.specs.Token.{IsNumber, IsWord, CappedNumber}
-use Rattle.ick_source.specs.Tree.{Tree, Trees, mesh, scalar, element}
-use Rattle.ick_source.specs.Clamped.{clamped, clamped_tree, clamped_name, clamped_trees, name_faults, faults_of}
+use Rattle.ick_syntax.specs.Tree.{Tree, Trees, mesh, scalar, element}
+use Rattle.ick_syntax.specs.Clamped.{clamped, clamped_tree, clamped_name, clamped_trees, name_faults, faults_of}
 use Rattle.ick_source.specs.Expression.{IsElement, indexed}
-use Rattle.ick_source.specs.BodyTree.{ItemTree, single, whole}
+use Rattle.ick_syntax.specs.BodyTree.{ItemTree, single, whole}
 use Rattle.ick_source.specs.BodyGrammar.{IsName, a_spot, an_array, IsTarget, to_spot, to_element, IsTail, IsPlace}
 use Rattle.ick_source.specs.BodyGrammar.{to_target, to_array, IsItem, of_place, of_mesh, IsWholeElement}
 use Rattle.ick_source.specs.Nonterminal.{Nonterminal, elements, names, targets, tails, places, items, numbers, labels}

@@ -2,25 +2,25 @@
 use Rattle.std.proofs.Common.{◌≡◌, ℕ, ◌<◌, List, ◌∷◌, [], Option, Some, None, length, length-append}
 use Rattle.std.proofs.Common.{lit<, refl, sym, ap, subst, ◌∙◌, arith}
 use Rattle.std.specs.Prelude.{codes}
-use Rattle.ick_source.specs.declared.tree.Name.{Name}
-use Rattle.ick_source.specs.declared.tree.NameKind.{NameKind}
+use Rattle.ick_syntax.specs.declared.tree.Name.{Name}
+use Rattle.ick_syntax.specs.declared.tree.NameKind.{NameKind}
 use Rattle.ick_source.specs.declared.lead.Lead.{Lead}
 use Rattle.ick_source.specs.declared.lead.Delimiter.{Delimiter}
 use Rattle.ick_source.specs.declared.lead.Lead.TheVariants.{Spot, Array, Hash}
-use Rattle.ick_source.specs.declared.body.Gerund.{Gerund}
-use Rattle.ick_source.specs.declared.body.Gerund.TheVariants.{Calculating, Nexting, Forgetting, Resuming, Stashing}
-use Rattle.ick_source.specs.declared.body.Gerund.TheVariants.{Retrieving, Ignoring, Remembering, Abstaining}
-use Rattle.ick_source.specs.declared.body.Gerund.TheVariants.{Reinstating, WritingIn, ReadingOut}
+use Rattle.ick_syntax.specs.declared.body.Gerund.{Gerund}
+use Rattle.ick_syntax.specs.declared.body.Gerund.TheVariants.{Calculating, Nexting, Forgetting, Resuming, Stashing}
+use Rattle.ick_syntax.specs.declared.body.Gerund.TheVariants.{Retrieving, Ignoring, Remembering, Abstaining}
+use Rattle.ick_syntax.specs.declared.body.Gerund.TheVariants.{Reinstating, WritingIn, ReadingOut}
 use Rattle.ick_source.specs.declared.verb.Verb.{Verb}
 use Rattle.ick_source.specs.declared.verb.Verb.TheVariants.{Forget, Resume, Stash, Retrieve, Ignore, Remember, Abstain}
 use Rattle.ick_source.specs.declared.verb.Verb.TheVariants.{Reinstate, Give, Write, Read}
 use Rattle.ick_source.specs.Position.{next_lead}
 use Rattle.ick_source.specs.Verb.{verb_word}
 use Rattle.ick_source.specs.Token.{IsNumber, IsWord}
-use Rattle.ick_source.specs.Tree.{Tree, mesh, scalar}
+use Rattle.ick_syntax.specs.Tree.{Tree, mesh, scalar}
 use Rattle.ick_source.specs.Expression.{IsElement, indexed}
-use Rattle.ick_source.specs.BodyTree.{ItemTree, single, whole}
-use Rattle.ick_source.specs.Gerund.{gerund_word, second_word}
+use Rattle.ick_syntax.specs.BodyTree.{ItemTree, single, whole}
+use Rattle.ick_syntax.specs.Gerund.{gerund_word, second_word}
 use Rattle.ick_source.specs.BodyGrammar.{IsSeparated, only, and_more, IsWholeElement, IsNamed, a_spot, an_array}
 use Rattle.ick_source.specs.BodyGrammar.{IsTarget, to_spot, to_element, IsTail, IsPlace, to_target, to_array, of_place}
 use Rattle.ick_source.specs.BodyGrammar.{of_mesh, one_word, two_words}

@@ -13,17 +13,18 @@ use Rattle.ick_source.specs.Bytes.{IsGap}
 use Rattle.ick_source.specs.Cut.{IsCut, done, statement_then, nothing, plain, something}
 use Rattle.ick_source.specs.SourceAnswers.{HasRead, HasReadUpTo, HasReadAll}
 use Rattle.ick_source.specs.Ranges.{AreFirst, IsEmpty}
-use Rattle.ick_source.specs.Refusals.{Compiles, IsSoundBelow, IsRefused, longest}
+use Rattle.ick_source.specs.Refusals.{Compiles, IsRefused, longest}
+use Rattle.ick_syntax.specs.ProgramFaults.{IsSoundBelow}
 use Rattle.ick_source.specs.Statements.{IsStatement, IsTrimmed}
-use Rattle.ick_source.specs.StatementTree.{AreNumbered, StatementTree, polite_in, statement_tree_of}
+use Rattle.ick_syntax.specs.StatementTree.{AreNumbered, StatementTree, polite_in, statement_tree_of}
 use Rattle.ick_bits.specs.declared.faults.FaultKind.{FaultKind}
-use Rattle.ick_source.specs.Programs.{trees_of}
-use Rattle.ick_source.specs.declared.programs.Program.{Program}
+use Rattle.ick_syntax.specs.Programs.{trees_of}
+use Rattle.ick_syntax.specs.declared.programs.Program.{Program}
 use Rattle.ick_source.specs.declared.ranges.OutOfRange.{OutOfRange}
 use Rattle.ick_source.specs.declared.refusals.Refusal.{Refusal}
 use Rattle.ick_source.specs.declared.refusals.Refusal.TheVariants.{Fault, NoMemory, TooLong}
 use Rattle.ick_source.specs.declared.source.Reader.{Reader}
-use Rattle.ick_source.specs.declared.statements.Statement.{Statement}
+use Rattle.ick_syntax.specs.declared.statements.Statement.{Statement}
 use Rattle.ick_source.proofs.BoundaryLemmas.{opening_solid}
 use Rattle.ick_source.proofs.RefusalLemmas.{compiles_unique, refused_not, refused_only, sound_below_none, sound_more}
 use Rattle.ick_source.proofs.StatementLemmas.{statement_boundary}

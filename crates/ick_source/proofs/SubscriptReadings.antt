@@ -3,19 +3,19 @@ use Rattle.std.proofs.Common.{◌≡◌, ◌≢◌, ℕ, suc, ◌+◌, ◌-◌, 
 use Rattle.std.proofs.Common.{List, Option, Result, Ok, Err, refl, sym, ap, subst, ◌∙◌, arith}
 use Rattle.std.specs.Global.{Vec}
 use Rattle.std.specs.Prelude.{codes}
-use Rattle.ick_source.specs.declared.tree.NameKind.{NameKind}
-use Rattle.ick_source.specs.declared.faults.Faults.{Faults}
+use Rattle.ick_syntax.specs.declared.tree.NameKind.{NameKind}
+use Rattle.ick_syntax.specs.declared.faults.Faults.{Faults}
 use Rattle.ick_source.specs.declared.lead.Delimiter.{Delimiter}
 use Rattle.ick_source.specs.declared.lead.Lead.TheVariants.{Array}
 use Rattle.ick_source.specs.declared.parsed.Measured.{Measured}
 use Rattle.ick_source.specs.declared.parsed.Unread.{Unread}
 use Rattle.ick_source.specs.declared.parsed.Unread.TheVariants.{Absent}
-use Rattle.ick_source.specs.declared.tree.Expr.{Expr}
+use Rattle.ick_syntax.specs.declared.tree.Expr.{Expr}
 use Rattle.ick_source.specs.Position.{next_lead, past_lead}
 use Rattle.ick_source.specs.Token.{IsNumber, IsWord, CappedNumber}
-use Rattle.ick_source.specs.Tree.{Tree, element, Trees, none, more, join, trees_in}
-use Rattle.ick_source.specs.Clamped.{clamped, clamped_tree, clamped_trees, faults_of, faults_in, both_faults}
-use Rattle.ick_source.specs.Clamped.{name_faults}
+use Rattle.ick_syntax.specs.Tree.{Tree, element, Trees, none, more, join, trees_in}
+use Rattle.ick_syntax.specs.Clamped.{clamped, clamped_tree, clamped_trees, faults_of, faults_in, both_faults}
+use Rattle.ick_syntax.specs.Clamped.{name_faults}
 use Rattle.ick_source.specs.Expression.{IsOperand, of_simple, of_element}
 use Rattle.ick_source.specs.Expression.{begins_sub, IsSimple, IsElement, indexed, IsSubs, nested, simple_first, IsRest}
 use Rattle.ick_source.specs.Expression.{nothing, last, further}
@@ -23,7 +23,7 @@ use Rattle.ick_source.specs.ExpressionAnswers.{Readings, AnswersTrees, AnswersFr
 use Rattle.ick_source.specs.ExpressionAnswers.{HasNoTree, GoesAfter, after}
 use Rattle.ick_source.proofs.ClampedLemmas.{both_assoc, both-no, clamped_trees-join, faults_in-join, name_faults-capped}
 use Rattle.ick_source.proofs.ClampedLemmas.{clamped-capped}
-use Rattle.ick_source.proofs.TreeLemmas.{join_assoc, join-none}
+use Rattle.ick_syntax.proofs.TreeLemmas.{join_assoc, join-none}
 use Rattle.ick_source.proofs.WordUnique.{word_unique}
 use Rattle.ick_source.proofs.ExpressionUnique.{number_unique, simple_unique}
 use Rattle.ick_source.proofs.ExpressionReadings.{element_is_array}

@@ -1,11 +1,11 @@
 -- The answers of the reader of a body at a byte of a text.
 use Rattle.std.specs.Prelude.{ℕ, ◌≡◌, List, Some, Result, Ok, Err}
-use Rattle.ick_source.specs.declared.body.Body.{Body}
+use Rattle.ick_syntax.specs.declared.body.Body.{Body}
 use Rattle.ick_source.specs.declared.parsed.Parsed.{Parsed}
 use Rattle.ick_source.specs.declared.parsed.Unread.{Unread}
 use Rattle.ick_source.specs.declared.parsed.Unread.TheVariants.{Absent}
-use Rattle.ick_source.specs.Clamped.{no_faults}
-use Rattle.ick_source.specs.BodyTree.{BodyTree, body_tree_of, clamped_body, faults_of_body}
+use Rattle.ick_syntax.specs.Clamped.{no_faults}
+use Rattle.ick_syntax.specs.BodyTree.{BodyTree, body_tree_of, clamped_body, faults_of_body}
 use Rattle.ick_source.specs.BodyBytes.{IsBodyIn, HasNoBody}
 
 -- a body is there, up to the end of what was parsed: the reader clamps it, and answers its faults; without faults it

@@ -1,19 +1,19 @@
 -- The answers of the readers of expressions and of their parts.
 use Rattle.std.specs.Prelude.{ℕ, suc, max, ◌≡◌, ◌≤◌, List, Option, Some, Result, Ok, Err}
 use Rattle.std.specs.Global.{Vec}
-use Rattle.ick_source.specs.declared.faults.Faults.{Faults}
+use Rattle.ick_syntax.specs.declared.faults.Faults.{Faults}
 use Rattle.ick_source.specs.declared.lead.Delimiter.{Delimiter}
 use Rattle.ick_source.specs.declared.lead.Lead.TheVariants.{Group}
 use Rattle.ick_source.specs.declared.parsed.Measured.{Measured}
 use Rattle.ick_source.specs.declared.parsed.Unread.{Unread}
 use Rattle.ick_source.specs.declared.parsed.Unread.TheVariants.{Absent}
-use Rattle.ick_source.specs.declared.tree.BinaryOp.{BinaryOp}
-use Rattle.ick_source.specs.declared.tree.Expr.{Expr}
-use Rattle.ick_source.specs.declared.tree.UnaryOp.{UnaryOp}
+use Rattle.ick_syntax.specs.declared.tree.BinaryOp.{BinaryOp}
+use Rattle.ick_syntax.specs.declared.tree.Expr.{Expr}
+use Rattle.ick_syntax.specs.declared.tree.UnaryOp.{UnaryOp}
 use Rattle.ick_source.specs.Position.{left_at, next_lead, past_lead}
 use Rattle.ick_source.specs.Token.{IsNumber, unary_at, past_unary}
-use Rattle.ick_source.specs.Tree.{Tree, Trees, under, binary, none, more, join, tree_of, trees_in}
-use Rattle.ick_source.specs.Clamped.{clamped_tree, clamped_trees, faults_of, faults_in, both_faults}
+use Rattle.ick_syntax.specs.Tree.{Tree, Trees, under, binary, none, more, join, tree_of, trees_in}
+use Rattle.ick_syntax.specs.Clamped.{clamped_tree, clamped_trees, faults_of, faults_in, both_faults}
 use Rattle.ick_source.specs.Expression.{IsExpr}
 
 -- a reading at a position: its end, its tree and its height

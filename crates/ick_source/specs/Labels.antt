@@ -4,10 +4,10 @@ use Rattle.std.specs.BTreeSet.{BTreeSet, contains}
 use Rattle.std.specs.Ordering.{nat_cmp}
 use Rattle.ick_bits.specs.declared.faults.FaultKind.{FaultKind}
 use Rattle.ick_bits.specs.declared.faults.FaultKind.TheVariants.{NoNextLabel, NoAbstainLabel}
-use Rattle.ick_source.specs.declared.labels.LabelUse.{LabelUse}
-use Rattle.ick_source.specs.declared.labels.LabelUse.TheVariants.{Next, Abstain}
-use Rattle.ick_source.specs.StatementTree.{StatementTree}
-use Rattle.ick_source.specs.Refusals.{HoldsAt, HasLabel}
+use Rattle.ick_syntax.specs.declared.labels.LabelUse.{LabelUse}
+use Rattle.ick_syntax.specs.declared.labels.LabelUse.TheVariants.{Next, Abstain}
+use Rattle.ick_syntax.specs.StatementTree.{StatementTree}
+use Rattle.ick_syntax.specs.ProgramFaults.{HoldsAt, HasLabel}
 
 -- the set has exactly the labels of the first `count` statements
 pub record HasLabels (trees : List StatementTree) (count : ℕ) (labels : BTreeSet ℕ) : Type 0 where
@@ -15,8 +15,3 @@ pub record HasLabels (trees : List StatementTree) (count : ℕ) (labels : BTreeS
       (m : ℕ) × (m ≤ count) × HoldsAt (HasLabel label) trees m
   pub all : (label m : ℕ) → m ≤ count → HoldsAt (HasLabel label) trees m →
       IsTrue (contains nat_cmp labels label)
-
--- the fault of a use of a label that no statement has
-abbrev pub fault_of_use : LabelUse → FaultKind
-fault_of_use Next = NoNextLabel
-fault_of_use Abstain = NoAbstainLabel

@@ -1,6 +1,6 @@
 -- A body made of a part that was read.
 use Rattle.std.specs.Prelude.{◌≡◌, Result, Ok, Err}
-use Rattle.ick_source.specs.declared.body.Body.{Body}
+use Rattle.ick_syntax.specs.declared.body.Body.{Body}
 use Rattle.ick_source.specs.declared.parsed.Parsed.{Parsed}
 use Rattle.ick_source.specs.declared.parsed.Unread.{Unread}
 use Rattle.ick_source.specs.declared.position.Position.{Position}

@@ -1,17 +1,17 @@
 -- The answers of the reader of a statement.
 use Rattle.std.specs.Prelude.{◌≡◌, ℕ, List, Option, Some, Result, Ok, Err}
-use Rattle.ick_source.specs.declared.body.Body.{Body}
-use Rattle.ick_source.specs.declared.faults.Faults.{Faults}
+use Rattle.ick_syntax.specs.declared.body.Body.{Body}
+use Rattle.ick_syntax.specs.declared.faults.Faults.{Faults}
 use Rattle.ick_source.specs.declared.parsed.Parsed.{Parsed}
 use Rattle.ick_source.specs.declared.parsed.Unread.{Unread}
 use Rattle.ick_source.specs.declared.parsed.Unread.TheVariants.{Absent}
-use Rattle.ick_source.specs.declared.statements.Statement.{Statement}
+use Rattle.ick_syntax.specs.declared.statements.Statement.{Statement}
 use Rattle.ick_source.specs.declared.statement_reader.ClampedLabel.{ClampedLabel}
 use Rattle.ick_source.specs.Bytes.{IsGap}
-use Rattle.ick_source.specs.BodyTree.{BodyTree, body_tree_of}
-use Rattle.ick_source.specs.StatementTree.{StatementTree, statement_tree_of}
-use Rattle.ick_source.specs.Clamped.{no_faults}
-use Rattle.ick_source.specs.StatementFaults.{faults_of_recognised, faults_of_label, faults_of_statement}
+use Rattle.ick_syntax.specs.BodyTree.{BodyTree, body_tree_of}
+use Rattle.ick_syntax.specs.StatementTree.{StatementTree, statement_tree_of}
+use Rattle.ick_syntax.specs.Clamped.{no_faults}
+use Rattle.ick_syntax.specs.StatementFaults.{faults_of_recognised, faults_of_label, faults_of_statement}
 use Rattle.ick_source.specs.Statements.{IsRecognised, Ends}
 
 pub record ReadsBody (body : Body) (found : Faults) (tree : Option BodyTree) : Type 0 where

@@ -4,10 +4,10 @@ ghost use Rattle.std.specs.Prelude.{◌≡◌, ◌≤◌, ℕ, drop, length, Mat
 ghost use Rattle.ick_source.specs.BodyAnswers.{AnswersBody};
 ghost use Rattle.ick_source.specs.Position.{left_at, characters};
 
-use crate::body::Body;
 use crate::body_reader::body_at;
 use crate::parsed::{Parsed, Unread};
 use crate::position::Position;
+use ick_syntax::Body;
 use std::alloc::Global;
 
 /// Reads the one body that begins at the byte `at`, and the byte after it (Revised Manual, 4.4).

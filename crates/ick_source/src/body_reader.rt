@@ -1,13 +1,11 @@
 //! Readers of bodies. Each body has one form, which its first characters decide.
 
 ghost use Rattle.ick_source.specs.Answers.{Answers, AnswersRead};
-ghost use Rattle.ick_source.specs.BodyTree.{body_tree_of};
+ghost use Rattle.ick_syntax.specs.BodyTree.{body_tree_of};
 ghost use Rattle.ick_source.specs.Made.{IsMade};
 ghost use Rattle.ick_source.specs.Nonterminal.{after, bodies, formed};
 ghost use Rattle.ick_source.specs.Position.{left_at};
 
-use crate::body::Body;
-use crate::faults::Faults;
 use crate::form::{Form, form_at};
 use crate::lead::Lead;
 use crate::list::{dimensions_at, gerunds_at, items_at, names_at, places_at};
@@ -16,6 +14,7 @@ use crate::part::{label_at, name_at, target_at, whole_at};
 use crate::position::{Position, lead_at};
 use crate::token::word_at;
 use crate::verb::{Verb, verb_at};
+use ick_syntax::{Body, Faults};
 use std::alloc::Global;
 
 /// Makes a body of a part that was read. Returns the reason if no part was read.

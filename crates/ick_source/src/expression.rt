@@ -4,19 +4,18 @@
 ghost use Rattle.std.specs.Prelude.{◌≡◌, ◌<◌, IfOk, OnOk, MatchResult, IsTrue, ◌↔◌};
 ghost use Rattle.ick_source.specs.declared.parsed.Unread.TheVariants.{NoMemory};
 ghost use Rattle.ick_source.specs.Position.{left_at};
-ghost use Rattle.ick_source.specs.Tree.{tree_of, trees_in, scalar, mesh, element};
+ghost use Rattle.ick_syntax.specs.Tree.{tree_of, trees_in, scalar, mesh, element};
 ghost use Rattle.ick_source.specs.Expression.{IsExpr, IsOperand, IsSimple, IsElement, IsSubs};
 ghost use Rattle.ick_source.specs.Expression.{IsRest, begins_sub};
 ghost use Rattle.ick_source.specs.ExpressionAnswers.{AnswersTree, AnswersTrees, AnswersFrom};
 ghost use Rattle.ick_source.specs.ExpressionAnswers.{IsNumbered, IsGroup, IsApplied, IsJoined};
 ghost use Rattle.ick_source.specs.ExpressionAnswers.{IsStarted, IsExtended};
 
-use crate::faults::{Faults, clamped_number};
 use crate::lead::{Delimiter, Lead};
 use crate::parsed::{Measured, Unread};
 use crate::position::{Position, lead_at};
 use crate::token::{number_at, prefix_at, word_at};
-use crate::tree::{BinaryOp, Element, Expr, Name, NameKind, UnaryOp};
+use ick_syntax::{BinaryOp, Element, Expr, Faults, Name, NameKind, UnaryOp, clamped_number};
 use std::alloc::{AllocError, Global};
 
 /// Applies the operator to the expression that was read, if there is an operator.

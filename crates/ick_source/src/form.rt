@@ -2,7 +2,7 @@
 
 ghost use Rattle.std.specs.Prelude.{◌≡◌, ◌↔◌, ℕ, List, IsTrue};
 ghost use Rattle.ick_source.specs.BodyGrammar.{HasSubscripts, IsBodyOf};
-ghost use Rattle.ick_source.specs.BodyTree.{BodyTree};
+ghost use Rattle.ick_syntax.specs.BodyTree.{BodyTree};
 ghost use Rattle.ick_source.specs.Position.{left_at};
 
 use crate::lead::Lead;

@@ -1,52 +1,16 @@
 //! Checks that no two statements have one label, and that every label in use is a statement's.
 
-ghost use Rattle.std.specs.Prelude.{◌≡◌, ◌+◌, length, Option, option_and_then, IfOk};
-ghost use Rattle.std.specs.Prelude.{IfErr, OnOk};
-ghost use Rattle.ick_source.specs.BodyTree.{body_tree_of};
-ghost use Rattle.ick_source.specs.StatementTree.{statement_trees, AreNumbered};
-ghost use Rattle.ick_source.specs.Refusals.{IsSoundBelow, rank, used_label};
+ghost use Rattle.std.specs.Prelude.{◌+◌, length, IfOk, IfErr, OnOk};
+ghost use Rattle.ick_syntax.specs.StatementTree.{statement_trees, AreNumbered};
+ghost use Rattle.ick_syntax.specs.ProgramFaults.{IsSoundBelow, rank, fault_of_use};
 ghost use Rattle.ick_source.specs.RefusalAnswers.{RefusesTrees};
-ghost use Rattle.ick_source.specs.Labels.{HasLabels, fault_of_use};
+ghost use Rattle.ick_source.specs.Labels.{HasLabels};
 
-use crate::body::Body;
 use crate::refusals::Refusal;
-use crate::statements::Statement;
 use ick_bits::FaultKind;
+use ick_syntax::{LabelUse, Statement};
 use std::alloc::Global;
 use std::collections::BTreeSet;
-
-/// The use that a body makes of a label.
-#[derive(Clone, Copy)]
-pub enum LabelUse {
-    /// Jumps to the statement.
-    Next,
-    /// Abstains from the statement, or reinstates it.
-    Abstain,
-}
-
-impl LabelUse {
-    /// Returns the fault of such a use if no statement has the label.
-    fn fault(self) -> FaultKind
-        ensures { result ≡ fault_of_use self }
-    {
-        match self {
-            LabelUse::Next => FaultKind::NoNextLabel,
-            LabelUse::Abstain => FaultKind::NoAbstainLabel,
-        }
-    }
-
-    /// Returns the label that a body uses in this way.
-    fn label(self, body: &Body) -> Option<u16>
-        ensures { result ≡ option_and_then (used_label self) (body_tree_of body.now) }
-    {
-        match (self, body) {
-            (LabelUse::Next, Body::Next(label)) => Some(*label),
-            (LabelUse::Abstain, Body::AbstainLabel(label)) => Some(*label),
-            (LabelUse::Abstain, Body::ReinstateLabel(label)) => Some(*label),
-            _ => None,
-        }
-    }
-}
 
 /// Collects the labels of the statements. Refuses the first statement whose label an earlier one
 /// has.

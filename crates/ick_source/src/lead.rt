@@ -3,7 +3,7 @@
 ghost use Rattle.std.specs.Prelude.{◌≡◌};
 ghost use Rattle.ick_source.specs.Lead.{lead_of};
 
-use crate::tree::{BinaryOp, NameKind, UnaryOp};
+use ick_syntax::{BinaryOp, NameKind, UnaryOp};
 
 /// The delimiter of a group (Revised Manual, 3.4.3).
 #[derive(Clone, Copy, PartialEq, Eq)]

@@ -1,11 +1,5 @@
 //! Reads a source text: cuts it into statements and recognises their bodies, or refuses it.
 //!
-//! Programs:
-//!
-//! - `tree`, `body`: expressions and bodies
-//! - `statements`, `programs`: a statement, and the statements of a source in their order
-//! - `kinds`, `listing`: the kinds of statements, and the lines of a listing
-//!
 //! Readers at a position of a text:
 //!
 //! - `bytes`, `boundaries`, `qualifiers`: bytes, starts and ends of statements, and their heads
@@ -19,20 +13,20 @@
 //! Refusals:
 //!
 //! - `refusals`: the reasons
-//! - `faults`, `ranges`, `labels`, `politeness`: numbers out of range, labels, and politeness
+//! - `ranges`, `labels`, `politeness`: numbers out of range, labels, and politeness
+//! - `programs`: makes a program of statements, or refuses them
+//!
+//! `listing` appends the lines of a program.
 //!
 //! `laws` states laws of every text.
 #![tactic(auto)]
 
-mod body;
 mod body_bytes;
 mod body_reader;
 mod boundaries;
 mod bytes;
 mod expression;
-mod faults;
 mod form;
-mod kinds;
 mod labels;
 mod laws;
 mod lead;
@@ -48,17 +42,14 @@ mod ranges;
 mod refusals;
 mod source;
 mod statement_reader;
-mod statements;
 mod token;
-mod tree;
 mod verb;
 
-pub use body::{Body, Gerund, Item, Place, Target};
-pub use kinds::Kind;
+pub use ick_syntax::{
+    BinaryOp, Body, Element, Expr, Gerund, Item, Kind, Name, NameKind, Place, Program, Statement,
+    Target, UnaryOp,
+};
 pub use laws::{one_body, one_cut, one_reading, one_refusal};
 pub use listing::append_listing;
-pub use programs::Program;
 pub use refusals::Refusal;
 pub use source::read_source;
-pub use statements::Statement;
-pub use tree::{BinaryOp, Element, Expr, Name, NameKind, UnaryOp};

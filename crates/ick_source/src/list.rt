@@ -2,19 +2,17 @@
 
 ghost use Rattle.std.specs.Prelude.{codes, map};
 ghost use Rattle.ick_source.specs.Answers.{AnswersRead};
-ghost use Rattle.ick_source.specs.BodyTree.{item_tree, place_tree};
+ghost use Rattle.ick_syntax.specs.BodyTree.{item_tree, place_tree};
 ghost use Rattle.ick_source.specs.Nonterminal.{StandsOnce, TakesCharacters, gerunds, items, listed};
 ghost use Rattle.ick_source.specs.Nonterminal.{names, places, wholes};
 ghost use Rattle.ick_source.specs.Position.{left_at};
-ghost use Rattle.ick_source.specs.Tree.{tree_of};
+ghost use Rattle.ick_syntax.specs.Tree.{tree_of};
 
-use crate::body::{Gerund, Item, Place};
-use crate::faults::Faults;
 use crate::parsed::{Parsed, Unread};
 use crate::part::Part;
 use crate::position::Position;
 use crate::token::word_at;
-use crate::tree::{Expr, Name};
+use ick_syntax::{Expr, Faults, Gerund, Item, Name, Place};
 use std::alloc::Global;
 
 /// Reads one or more parts, separated by this word.

@@ -2,13 +2,12 @@
 
 ghost use Rattle.std.specs.Prelude.{◌≡◌, ◌+◌, ◌<◌, ◌≤◌, ◌++◌, length, take};
 ghost use Rattle.std.specs.Prelude.{codes, if◌then◌else◌, OnOk, OnErr, vec_len, vec_capacity};
-ghost use Rattle.ick_source.specs.StatementTree.{statement_tree_of, statement_trees, AreNumbered};
-ghost use Rattle.ick_source.specs.Programs.{trees_of};
+ghost use Rattle.ick_syntax.specs.StatementTree.{statement_tree_of, statement_trees, AreNumbered};
+ghost use Rattle.ick_syntax.specs.Programs.{trees_of};
 ghost use Rattle.ick_source.specs.Listing.{front_of, line_of, listing};
 
-use crate::programs::Program;
-use crate::statements::Statement;
 use ick_bits::{NoMemory, append_all, append_quoted};
+use ick_syntax::{Program, Statement};
 use itoa::Buffer;
 
 /// Appends a line for each statement of the program, in the order of the source (this profile).

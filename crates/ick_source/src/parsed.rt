@@ -6,8 +6,8 @@
 ghost use Rattle.std.specs.Prelude.{◌≡◌};
 ghost use Rattle.ick_source.specs.declared.parsed.Unread.TheVariants.{NoMemory};
 
-use crate::faults::Faults;
 use crate::position::Position;
+use ick_syntax::Faults;
 use std::alloc::{AllocError, AllocFailed};
 
 /// A value that the text itself spells, and the position after it.

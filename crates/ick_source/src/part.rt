@@ -3,22 +3,20 @@
 
 ghost use Rattle.std.specs.Prelude.{◌≡◌, ℕ, List, MatchOption};
 ghost use Rattle.ick_source.specs.Answers.{Answers, AnswersRead};
-ghost use Rattle.ick_source.specs.BodyTree.{item_tree, place_tree, single, target_tree};
-ghost use Rattle.ick_source.specs.Gerund.{gerund_word};
+ghost use Rattle.ick_syntax.specs.BodyTree.{item_tree, place_tree, single, target_tree};
+ghost use Rattle.ick_syntax.specs.Gerund.{gerund_word};
 ghost use Rattle.ick_source.specs.Nonterminal.{Nonterminal, elements, gerunds, items, labels};
 ghost use Rattle.ick_source.specs.Nonterminal.{names, numbers, places, tails, targets, wholes};
 ghost use Rattle.ick_source.specs.Position.{left_at};
 ghost use Rattle.ick_source.specs.Token.{IsWord};
-ghost use Rattle.ick_source.specs.Tree.{tree_of};
+ghost use Rattle.ick_syntax.specs.Tree.{tree_of};
 
-use crate::body::{Gerund, Item, Place, Target};
 use crate::expression::{element_at, expr_at};
-use crate::faults::{Faults, clamped_number};
 use crate::lead::Lead;
 use crate::parsed::{Parsed, Scanned, Unread};
 use crate::position::{Position, lead_at};
 use crate::token::{number_at, word_at};
-use crate::tree::{Expr, Name, NameKind};
+use ick_syntax::{Expr, Faults, Gerund, Item, Name, NameKind, Place, Target, clamped_number};
 use std::alloc::Global;
 
 /// Bounds the height of an expression and of an element (this profile).

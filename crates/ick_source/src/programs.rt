@@ -1,73 +1,39 @@
-//! The statements of a source, in the order of the source.
+//! Makes a program of the statements of a source, or refuses them.
 
 ghost use Rattle.std.specs.Prelude.{◌≡◌, ◌≤◌, length, true, IfOk, IfErr};
 ghost use Rattle.std.specs.List.{list_all};
-ghost use Rattle.ick_source.specs.NameKinds.{is_statement_kinded};
-ghost use Rattle.ick_source.specs.StatementTree.{statement_trees, AreNumbered, polite_in};
-ghost use Rattle.ick_source.specs.Refusals.{IsSound, IsSoundBelow, most_statements, rank};
+ghost use Rattle.ick_syntax.specs.NameKinds.{is_statement_kinded};
+ghost use Rattle.ick_syntax.specs.StatementTree.{statement_trees, most_statements};
+ghost use Rattle.ick_syntax.specs.StatementTree.{AreNumbered, polite_in};
+ghost use Rattle.ick_syntax.specs.Programs.{statements_of};
+ghost use Rattle.ick_syntax.specs.ProgramFaults.{IsSoundBelow, rank};
 ghost use Rattle.ick_source.specs.RefusalAnswers.{RefusesTrees};
 
-use crate::labels::{LabelUse, check_use, labels_of};
+use crate::labels::{check_use, labels_of};
 use crate::politeness::check_politeness;
 use crate::refusals::Refusal;
-use crate::statements::Statement;
 use ick_bits::FaultKind;
+use ick_syntax::{LabelUse, Program, Statement};
 use std::alloc::Global;
 
-/// The statements of a source text. Only `read_source` makes a program.
-///
-/// A program has none of the faults that `read_source` refuses. Its statements are numbered from 1,
-/// and there are at most 524,288 of them, because each takes at least two bytes of the source. Each
-/// scalar is a onespot or a twospot (Revised Manual, 3.1). Each array with subscripts or dimensions
-/// is a tail or a hybrid, and a `u32` counts these subscripts or dimensions (3.3). Each array that
-/// WRITE IN or READ OUT takes whole is a tail (5.2).
-#[derive(Debug, Drop)]
-pub struct Program<'a> {
+/// Makes a program of these statements, whose numbers are in range, or refuses them.
+pub fn checked_program<'a>(
+    alloc: Global,
     statements: Vec<Statement<'a>>,
     polite: u32,
-    pub ghost numbered: { AreNumbered statements.items },
-    pub ghost sound: { IsSound (statement_trees statements.items) },
-    pub ghost counted: { polite ≡ polite_in (statement_trees statements.items) },
-    pub ghost size: { length statements.items ≤ most_statements },
-    pub ghost kinded: { list_all is_statement_kinded (statement_trees statements.items) ≡ true },
-}
-
-impl<'a> Program<'a> {
-    ghost use Rattle.ick_source.specs.Programs.{statements_of, trees_of};
-
-    /// Makes a program of these statements, whose numbers are in range, or refuses them.
-    pub(crate) fn checked(
-        alloc: Global,
-        statements: Vec<Statement<'a>>,
-        polite: u32,
-    ) -> Result<Self, Refusal>
-        requires numbered { AreNumbered statements.items }
-        requires counted { polite ≡ polite_in (statement_trees statements.items) }
-        requires size { length statements.items ≤ most_statements }
-        requires kinded { list_all is_statement_kinded (statement_trees statements.items) ≡ true }
-        requires ranges { IsSoundBelow
-            (rank FaultKind.SameLabel) (statement_trees statements.items) }
-        ensures ok { IfOk result (λ p. statements_of p ≡ statements.entry.items) }
-        ensures err { IfErr result (RefusesTrees (statement_trees statements.entry.items)) }
-    {
-        let labels = labels_of(alloc, &statements)?;
-        check_use(LabelUse::Next, &statements, &labels)?;
-        check_use(LabelUse::Abstain, &statements, &labels)?;
-        check_politeness(&statements, polite)?;
-        Ok(Program { statements, polite })
-    }
-
-    /// Returns the statements, in the order of the source.
-    pub fn statements(&self) -> &[Statement<'a>]
-        ensures { result.now ≡ statements_of self.now }
-    {
-        &self.statements
-    }
-
-    /// Returns the number of statements that say PLEASE (Revised Manual, 4.3).
-    pub fn polite(&self) -> u32
-        ensures { result ≡ polite_in (trees_of self.now) }
-    {
-        self.polite
-    }
+) -> Result<Program<'a>, Refusal>
+    requires numbered { AreNumbered statements.items }
+    requires counted { polite ≡ polite_in (statement_trees statements.items) }
+    requires size { length statements.items ≤ most_statements }
+    requires kinded { list_all is_statement_kinded (statement_trees statements.items) ≡ true }
+    requires ranges { IsSoundBelow
+        (rank FaultKind.SameLabel) (statement_trees statements.items) }
+    ensures ok { IfOk result (λ p. statements_of p ≡ statements.entry.items) }
+    ensures err { IfErr result (RefusesTrees (statement_trees statements.entry.items)) }
+{
+    let labels = labels_of(alloc, &statements)?;
+    check_use(LabelUse::Next, &statements, &labels)?;
+    check_use(LabelUse::Abstain, &statements, &labels)?;
+    check_politeness(&statements, polite)?;
+    Ok(Program::new(statements, polite))
 }

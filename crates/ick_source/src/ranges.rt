@@ -2,13 +2,13 @@
 
 ghost use Rattle.std.specs.Prelude.{◌≡◌, ◌+◌, ◌++◌, ◌∷◌, [], List, Bool};
 ghost use Rattle.std.specs.Prelude.{length, OnOk, IfErr, IfNone, IsTrue, false};
-ghost use Rattle.ick_source.specs.StatementTree.{StatementTree};
-ghost use Rattle.ick_source.specs.Refusals.{HoldsAt};
+ghost use Rattle.ick_syntax.specs.StatementTree.{StatementTree};
+ghost use Rattle.ick_syntax.specs.ProgramFaults.{HoldsAt};
 ghost use Rattle.ick_source.specs.Ranges.{IsFirst};
 
-use crate::faults::Faults;
 use crate::refusals::Refusal;
 use ick_bits::FaultKind;
+use ick_syntax::Faults;
 
 /// The numbers of the first statements that have a mesh, a variable's number and a label out of
 /// range.
@@ -20,8 +20,8 @@ pub struct OutOfRange {
 }
 
 impl OutOfRange {
-    ghost use Rattle.ick_source.specs.Clamped.{no_faults};
-    ghost use Rattle.ick_source.specs.StatementFaults.{faults_of_statement};
+    ghost use Rattle.ick_syntax.specs.Clamped.{no_faults};
+    ghost use Rattle.ick_syntax.specs.StatementFaults.{faults_of_statement};
     ghost use Rattle.ick_source.specs.RefusalAnswers.{RefusesTrees};
     ghost use Rattle.ick_source.specs.Ranges.{AreFirst, IsEmpty};
 

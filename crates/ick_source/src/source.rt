@@ -4,24 +4,22 @@ ghost use Rattle.std.specs.Prelude.{◌≡◌, ℕ, ◌+◌, ◌-◌, ◌*◌, �
 ghost use Rattle.std.specs.Prelude.{◌≤◌, List, [], ◌∷◌, ◌++◌, ◌↔◌};
 ghost use Rattle.std.specs.Prelude.{length, IfOk, IfErr, OnOk, IsErrOf};
 ghost use Rattle.ick_bits.specs.declared.faults.FaultKind.{FaultKind};
-ghost use Rattle.ick_source.specs.StatementTree.{StatementTree};
+ghost use Rattle.ick_syntax.specs.StatementTree.{StatementTree};
 ghost use Rattle.ick_source.specs.Cut.{IsCut};
 ghost use Rattle.ick_source.specs.Refusals.{Compiles, IsRefused, longest};
-ghost use Rattle.ick_source.specs.Programs.{trees_of};
+ghost use Rattle.ick_syntax.specs.Programs.{trees_of};
 ghost use Rattle.ick_source.specs.RefusalAnswers.{Refuses, RefusesFitting};
 ghost use Rattle.ick_source.specs.StatementAnswers.{ReadsStatement};
 ghost use Rattle.ick_source.specs.SourceAnswers.{HasRead, HasReadUpTo, HasReadAll};
 
-use crate::body::Body;
 use crate::boundaries::next_boundary;
 use crate::bytes::after_white;
-use crate::faults::Faults;
 use crate::parsed::Scanned;
-use crate::programs::Program;
+use crate::programs::checked_program;
 use crate::ranges::OutOfRange;
 use crate::refusals::Refusal;
 use crate::statement_reader::{statement_at, trimmed};
-use crate::statements::Statement;
+use ick_syntax::{Body, Faults, Program, Statement};
 use std::alloc::{AllocError, Global};
 
 const MOST_BYTES: usize = 1_048_576;
@@ -125,7 +123,7 @@ fn program_of(alloc: Global, text: &[u8]) -> Result<Program<'_>, Refusal>
         out_of_range,
     } = whole_of(alloc, text)?;
     out_of_range.check()?;
-    Program::checked(alloc, statements, polite)
+    checked_program(alloc, statements, polite)
 }
 
 /// Reads a source text as a program, or refuses it.

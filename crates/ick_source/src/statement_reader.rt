@@ -4,21 +4,19 @@ ghost use Rattle.std.specs.Prelude.{◌≡◌, ℕ, ◌<◌, ◌≤◌, length, 
 ghost use Rattle.std.specs.Prelude.{MatchOption};
 ghost use Rattle.ick_source.specs.Bytes.{byte, IsWhite};
 ghost use Rattle.ick_source.specs.Boundaries.{IsStart};
-ghost use Rattle.ick_source.specs.StatementTree.{StatementTree};
+ghost use Rattle.ick_syntax.specs.StatementTree.{StatementTree};
 ghost use Rattle.ick_source.specs.Statements.{IsTrimmed, IsStatement};
 ghost use Rattle.ick_source.specs.HeadAnswers.{ReadsLabel};
 ghost use Rattle.ick_source.specs.StatementAnswers.{AnswersRecognised, EndsAt, ClampsLabel};
 ghost use Rattle.ick_source.specs.StatementAnswers.{ReadsStatement};
 
-use crate::body::Body;
 use crate::body_bytes::body_in;
 use crate::boundaries::{is_boundary, next_boundary, opening_at};
 use crate::bytes::{after_white, byte_at};
-use crate::faults::{Faults, clamped_number};
 use crate::parsed::{Parsed, Unread};
 use crate::qualifiers::qualifiers_at;
-use crate::statements::Statement;
 use ick_bits::is_white;
+use ick_syntax::{Body, Faults, Statement, clamped_number};
 use std::alloc::{AllocError, Global};
 
 /// The label of a statement, clamped, and its faults.

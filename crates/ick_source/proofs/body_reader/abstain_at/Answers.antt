@@ -1,7 +1,7 @@
 use Rattle.std.proofs.Common.{rules}
 use Rattle.std.specs.Prelude.{codes}
 use Rattle.ick_source.specs.Position.{left_at}
-use Rattle.ick_source.specs.BodyTree.{body_tree_of}
+use Rattle.ick_syntax.specs.BodyTree.{body_tree_of}
 use Rattle.ick_source.specs.Nonterminal.{labels}
 use Rattle.ick_source.proofs.PartReadings.{read_or_absent}
 use Rattle.ick_source.proofs.WordUnique.{word_stands, no_word_stands}

@@ -1,5 +1,5 @@
 use Rattle.std.proofs.Common.{refl}
-use Rattle.ick_source.specs.BodyTree.{body_tree_of}
+use Rattle.ick_syntax.specs.BodyTree.{body_tree_of}
 use Rattle.ick_source.proofs.PartReadings.{read_as}
 use Rattle.ick_source.proofs.BodyReadings.{action_made}
 use Rattle.ick_source.proofs.body_reader.action_at.Goals as goal

@@ -1,6 +1,6 @@
 use Rattle.std.proofs.Common.{rules}
-use Rattle.ick_source.specs.BodyTree.{body_tree_of}
-use Rattle.ick_source.specs.Tree.{tree_of}
+use Rattle.ick_syntax.specs.BodyTree.{body_tree_of}
+use Rattle.ick_syntax.specs.Tree.{tree_of}
 use Rattle.ick_source.proofs.PartReadings.{read_or_absent}
 use Rattle.ick_source.proofs.BodyReadings.{made_as, forget_made, resume_made, stash_made, retrieve_made, ignore_made}
 use Rattle.ick_source.proofs.BodyReadings.{remember_made}

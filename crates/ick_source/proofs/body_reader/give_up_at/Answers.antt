@@ -1,5 +1,5 @@
 use Rattle.std.proofs.Common.{refl}
-use Rattle.ick_source.specs.BodyTree.{give_up}
+use Rattle.ick_syntax.specs.BodyTree.{give_up}
 use Rattle.ick_source.specs.BodyGrammar.{gives_up}
 use Rattle.ick_source.proofs.body_reader.give_up_at.Goals as goal
 

@@ -1,6 +1,6 @@
 use Rattle.std.proofs.Common.{rules}
 use Rattle.std.specs.Prelude.{map}
-use Rattle.ick_source.specs.BodyTree.{body_tree_of, item_tree}
+use Rattle.ick_syntax.specs.BodyTree.{body_tree_of, item_tree}
 use Rattle.ick_source.proofs.BodyReadings.{made_as, read_out_made}
 use Rattle.ick_source.proofs.body_reader.read_out_at.Goals as goal
 

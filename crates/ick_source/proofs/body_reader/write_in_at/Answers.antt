@@ -1,6 +1,6 @@
 use Rattle.std.proofs.Common.{rules}
 use Rattle.std.specs.Prelude.{map}
-use Rattle.ick_source.specs.BodyTree.{body_tree_of, place_tree}
+use Rattle.ick_syntax.specs.BodyTree.{body_tree_of, place_tree}
 use Rattle.ick_source.proofs.BodyReadings.{made_as, write_in_made}
 use Rattle.ick_source.proofs.body_reader.write_in_at.Goals as goal
 

@@ -1,7 +1,7 @@
 use Rattle.std.proofs.Common.{◌≡◌, ◌≢◌, ◌<◌, true, false, refl, sym, ap, ◌∙◌, arith}
 use Rattle.std.proofs.lemmas.Result.{err_from_is_err_and}
 use Rattle.ick_source.specs.declared.lead.Lead.TheVariants.{Array, Group}
-use Rattle.ick_source.specs.declared.tree.NameKind.{NameKind}
+use Rattle.ick_syntax.specs.declared.tree.NameKind.{NameKind}
 use Rattle.ick_source.specs.Position.{next_lead, left_at}
 use Rattle.ick_source.specs.Expression.{begins_sub}
 use Rattle.ick_source.proofs.ExpressionReadings.{operand_of_element, operand_of_simple, simple_of_spot, simple_of_mesh}

@@ -1,6 +1,6 @@
 use Rattle.std.proofs.Common.{◌+◌, ◌*◌, length}
 use Rattle.ick_source.specs.Position.{left_at}
-use Rattle.ick_source.specs.Tree.{trees_in}
+use Rattle.ick_syntax.specs.Tree.{trees_in}
 use Rattle.ick_source.proofs.SubscriptReadings.{GoesOn}
 use Rattle.ick_source.proofs.expression.+reader.Given as goal
 

@@ -1,5 +1,5 @@
 use Rattle.std.proofs.Common.{ap, ◌∙◌}
-use Rattle.ick_source.specs.Tree.{under, mesh}
+use Rattle.ick_syntax.specs.Tree.{under, mesh}
 use Rattle.ick_source.proofs.ClampedLemmas.{mesh_stands}
 use Rattle.ick_source.proofs.ExpressionReadings.{made_answers}
 use Rattle.ick_source.proofs.expression.constant_at.Goals as goal

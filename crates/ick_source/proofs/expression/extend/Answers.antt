@@ -1,6 +1,6 @@
 use Rattle.std.proofs.Common.{ap, refl, ◌∙◌}
-use Rattle.ick_source.specs.Tree.{trees_in}
-use Rattle.ick_source.proofs.TreeLemmas.{trees_in-append}
+use Rattle.ick_syntax.specs.Tree.{trees_in}
+use Rattle.ick_syntax.proofs.TreeLemmas.{trees_in-append}
 use Rattle.ick_source.proofs.expression.extend.Goals as goal
 
 pub returns : goal.returns

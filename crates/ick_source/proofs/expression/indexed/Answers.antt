@@ -1,4 +1,4 @@
-use Rattle.ick_source.proofs.TreeLemmas.{tree_of-element}
+use Rattle.ick_syntax.proofs.TreeLemmas.{tree_of-element}
 use Rattle.ick_source.proofs.expression.indexed.Goals as goal
 
 pub returns : goal.returns

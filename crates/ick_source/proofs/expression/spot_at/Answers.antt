@@ -1,5 +1,5 @@
 use Rattle.std.proofs.Common.{ap, ◌∙◌}
-use Rattle.ick_source.specs.Tree.{under, scalar}
+use Rattle.ick_syntax.specs.Tree.{under, scalar}
 use Rattle.ick_source.proofs.ClampedLemmas.{spot_stands}
 use Rattle.ick_source.proofs.ExpressionReadings.{made_answers}
 use Rattle.ick_source.proofs.expression.spot_at.Goals as goal

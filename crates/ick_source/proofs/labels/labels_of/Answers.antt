@@ -1,8 +1,8 @@
 use Rattle.std.proofs.Common.{arith, refl, map}
 use Rattle.std.proofs.lemmas.Option.{slice_get_read}
 use Rattle.std.proofs.lemmas.List.{length-map}
-use Rattle.ick_source.specs.StatementTree.{statement_tree_of}
-use Rattle.ick_source.specs.Refusals.{IsSameLabelAt}
+use Rattle.ick_syntax.specs.StatementTree.{statement_tree_of}
+use Rattle.ick_syntax.specs.ProgramFaults.{IsSameLabelAt}
 use Rattle.ick_source.proofs.LabelLemmas.{apart_more, apart_stay, labels_more, labels_sound, labels_stay, one_more}
 use Rattle.ick_source.proofs.LabelLemmas.{same_label_first, tree_read, was_not_there, was_there}
 use Rattle.ick_source.proofs.labels.labels_of.Goals as goal

@@ -1,5 +1,5 @@
 use Rattle.std.proofs.Common.{◌≡◌, ◌<◌, ◌+◌, ◌++◌, OnOk, OnErr, append_assoc, length, subst, sym, vec_capacity, vec_len}
-use Rattle.ick_source.specs.StatementTree.{statement_tree_of}
+use Rattle.ick_syntax.specs.StatementTree.{statement_tree_of}
 use Rattle.ick_source.proofs.ListingLemmas.{front_labelled}
 use Rattle.ick_source.proofs.listing.push_front.Goals as goal
 

@@ -1,7 +1,7 @@
 use Rattle.std.proofs.Common.{◌∙◌, ◌++◌, ap, append_assoc, arith, codes, length, length-append, sym}
 use Rattle.ick_bits.specs.Quoted.{quoted}
 use Rattle.ick_source.specs.Listing.{front_of}
-use Rattle.ick_source.specs.StatementTree.{statement_tree_of}
+use Rattle.ick_syntax.specs.StatementTree.{statement_tree_of}
 use Rattle.ick_source.proofs.ListingLemmas.{line_joined, line_size, on-err}
 use Rattle.ick_source.proofs.listing.push_line.Goals as goal
 

@@ -2,7 +2,7 @@ use Rattle.std.proofs.Common.{◌∙◌, ap, append_assoc, arith, length, length
 use Rattle.std.proofs.lemmas.List.{append-nil}
 use Rattle.std.proofs.lemmas.Option.{slice_get_read}
 use Rattle.ick_source.specs.Listing.{listing}
-use Rattle.ick_source.specs.StatementTree.{statement_tree_of}
+use Rattle.ick_syntax.specs.StatementTree.{statement_tree_of}
 use Rattle.ick_source.proofs.LabelLemmas.{tree_read}
 use Rattle.ick_source.proofs.ListingLemmas.{listing-fit, listing-more, listing-none, on-err, take_kept}
 use Rattle.ick_source.proofs.listing.push_lines.Goals as goal

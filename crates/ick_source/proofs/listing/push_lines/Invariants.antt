@@ -1,6 +1,6 @@
 use Rattle.std.proofs.Common.{◌≡◌, ◌≤◌, ◌++◌, map, take, vec_capacity}
 use Rattle.ick_source.specs.Listing.{listing}
-use Rattle.ick_source.specs.StatementTree.{statement_tree_of}
+use Rattle.ick_syntax.specs.StatementTree.{statement_tree_of}
 use Rattle.ick_source.proofs.listing.push_lines.Given as goal
 
 abbrev pub invariant-loop-statement : goal.invariant-loop-statement

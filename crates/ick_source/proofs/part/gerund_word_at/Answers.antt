@@ -1,5 +1,5 @@
 use Rattle.std.proofs.Common.{ℕ, List, arith}
-use Rattle.ick_source.specs.Gerund.{gerund_word}
+use Rattle.ick_syntax.specs.Gerund.{gerund_word}
 use Rattle.ick_source.specs.Position.{left_at}
 use Rattle.ick_source.specs.Token.{IsWord}
 use Rattle.ick_source.proofs.WordUnique.{each_gerund}

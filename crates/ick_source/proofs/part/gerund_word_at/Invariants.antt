@@ -1,6 +1,6 @@
 use Rattle.std.proofs.Common.{ℕ, ◌<◌, List, get_or}
-use Rattle.ick_source.specs.declared.body.Gerund.TheVariants.{Calculating}
-use Rattle.ick_source.specs.Gerund.{gerund_word}
+use Rattle.ick_syntax.specs.declared.body.Gerund.TheVariants.{Calculating}
+use Rattle.ick_syntax.specs.Gerund.{gerund_word}
 use Rattle.ick_source.specs.Position.{left_at}
 use Rattle.ick_source.specs.Token.{IsWord}
 use Rattle.ick_source.proofs.part.gerund_word_at.Given as goal

@@ -1,5 +1,5 @@
 use Rattle.std.proofs.Common.{refl, sym, ◌∙◌}
-use Rattle.ick_source.specs.BodyTree.{target_tree}
+use Rattle.ick_syntax.specs.BodyTree.{target_tree}
 use Rattle.ick_source.proofs.PartReadings.{targets_by_elements, targets_by_names, read_as, absent_as, found_as}
 use Rattle.ick_source.proofs.part.target_at.Goals as goal
 

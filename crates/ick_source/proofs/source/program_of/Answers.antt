@@ -10,7 +10,7 @@ returns-in_err-check-clause-err c =
     on_error c.from_residual-in_err-check.result (RefusesFitting c.args.text.now) c.in_err-check.field-0.0
     c.from_residual-in_err-check.ensures.1 (refused_cut c.in_err-check.field-0.0 read.cut c.requires refused)
 
-pub checked-requires-clause-kinded : goal.checked-requires-clause-kinded
-checked-requires-clause-kinded c =
+pub checked_program-requires-clause-kinded : goal.checked_program-requires-clause-kinded
+checked_program-requires-clause-kinded c =
     let read = c.in_ok-statements.ensures.read in
     rw (read.reads.same c.in_ok-check.ensures.ok) (cut_kinded read.cut c.requires)

@@ -1,5 +1,5 @@
 use Rattle.std.proofs.Common.{refl, sym, ◌∙◌, arith}
-use Rattle.ick_source.specs.StatementTree.{StatementTree}
+use Rattle.ick_syntax.specs.StatementTree.{StatementTree}
 use Rattle.ick_source.proofs.BoundaryLemmas.{opening_longer, opening_solid}
 use Rattle.ick_source.proofs.ClampedWhole.{left_fine, right_fine}
 use Rattle.ick_source.proofs.QualifierLemmas.{qualifiers_order}

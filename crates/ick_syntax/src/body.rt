@@ -1,7 +1,7 @@
 //! Bodies of statements.
 
 ghost use Rattle.std.specs.Prelude.{◌≡◌, MatchOption, None, Some};
-ghost use Rattle.ick_source.specs.Gerund.{gerund_word, second_word};
+ghost use Rattle.ick_syntax.specs.Gerund.{gerund_word, second_word};
 
 use crate::tree::{Element, Expr, Name};
 

@@ -1,8 +1,8 @@
 -- Trees with clamped numbers, and the faults of numbers out of range.
 use Rattle.std.specs.Prelude.{ℕ, Bool, false, ◌||◌, nat_lt, nat_eq, min}
-use Rattle.ick_source.specs.declared.tree.Name.{Name}
-use Rattle.ick_source.specs.declared.faults.Faults.{Faults}
-use Rattle.ick_source.specs.Tree.{Tree, mesh, scalar, element, unary, binary, Trees, none, more}
+use Rattle.ick_syntax.specs.declared.tree.Name.{Name}
+use Rattle.ick_syntax.specs.declared.faults.Faults.{Faults}
+use Rattle.ick_syntax.specs.Tree.{Tree, mesh, scalar, element, unary, binary, Trees, none, more}
 
 -- the greatest number of a mesh, a variable and a label
 abbrev pub greatest : ℕ

@@ -1,16 +1,16 @@
 -- The kinds of statements, which their bodies decide.
 use Rattle.std.specs.Prelude.{ℕ, List, Option, Some, None, codes}
-use Rattle.ick_source.specs.declared.kinds.Kind.{Kind}
-use Rattle.ick_source.specs.declared.kinds.Kind.TheVariants.{Calculate, Next, Forget, Resume, Stash, Retrieve, Ignore}
-use Rattle.ick_source.specs.declared.kinds.Kind.TheVariants.{Remember, Abstain, Reinstate, GiveUp, WriteIn, ReadOut}
-use Rattle.ick_source.specs.declared.kinds.Kind.TheVariants.{Unrecognised}
-use Rattle.ick_source.specs.declared.body.Gerund.{Gerund}
-use Rattle.ick_source.specs.declared.body.Gerund.TheVariants.{Calculating, Nexting, Forgetting, Resuming, Stashing}
-use Rattle.ick_source.specs.declared.body.Gerund.TheVariants.{Retrieving, Ignoring, Remembering, Abstaining}
-use Rattle.ick_source.specs.declared.body.Gerund.TheVariants.{Reinstating, WritingIn, ReadingOut}
-use Rattle.ick_source.specs.BodyTree.{BodyTree, calculate, dimension, next, forget, resume, stash, retrieve, ignore}
-use Rattle.ick_source.specs.BodyTree.{remember, abstain_label, abstain_kinds, reinstate_label, reinstate_kinds, give_up}
-use Rattle.ick_source.specs.BodyTree.{write_in, read_out}
+use Rattle.ick_syntax.specs.declared.kinds.Kind.{Kind}
+use Rattle.ick_syntax.specs.declared.kinds.Kind.TheVariants.{Calculate, Next, Forget, Resume, Stash, Retrieve, Ignore}
+use Rattle.ick_syntax.specs.declared.kinds.Kind.TheVariants.{Remember, Abstain, Reinstate, GiveUp, WriteIn, ReadOut}
+use Rattle.ick_syntax.specs.declared.kinds.Kind.TheVariants.{Unrecognised}
+use Rattle.ick_syntax.specs.declared.body.Gerund.{Gerund}
+use Rattle.ick_syntax.specs.declared.body.Gerund.TheVariants.{Calculating, Nexting, Forgetting, Resuming, Stashing}
+use Rattle.ick_syntax.specs.declared.body.Gerund.TheVariants.{Retrieving, Ignoring, Remembering, Abstaining}
+use Rattle.ick_syntax.specs.declared.body.Gerund.TheVariants.{Reinstating, WritingIn, ReadingOut}
+use Rattle.ick_syntax.specs.BodyTree.{BodyTree, calculate, dimension, next, forget, resume, stash, retrieve, ignore}
+use Rattle.ick_syntax.specs.BodyTree.{remember, abstain_label, abstain_kinds, reinstate_label, reinstate_kinds, give_up}
+use Rattle.ick_syntax.specs.BodyTree.{write_in, read_out}
 
 abbrev pub kind_of_body : BodyTree → Kind
 kind_of_body (calculate t e) = Calculate

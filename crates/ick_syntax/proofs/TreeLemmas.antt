@@ -1,9 +1,9 @@
 -- Trees of expressions and of lists of them. The crates above cite these too.
 use Rattle.std.proofs.Common.{◌≡◌, List, [], ◌∷◌, ◌++◌, refl, ap, ◌∙◌}
-use Rattle.ick_source.specs.declared.tree.Expr.{Expr, Element', Row_of-Expr, end_of-Expr, more_of-Expr}
-use Rattle.ick_source.specs.declared.tree.Expr.{items-the_row-Expr, items_hidden-the_row-Expr-0, Element as Element_of}
-use Rattle.ick_source.specs.declared.tree.Element.{Element}
-use Rattle.ick_source.specs.Tree.{element, Trees, none, more, join, tree_of, trees_of, trees_in}
+use Rattle.ick_syntax.specs.declared.tree.Expr.{Expr, Element', Row_of-Expr, end_of-Expr, more_of-Expr}
+use Rattle.ick_syntax.specs.declared.tree.Expr.{items-the_row-Expr, items_hidden-the_row-Expr-0, Element as Element_of}
+use Rattle.ick_syntax.specs.declared.tree.Element.{Element}
+use Rattle.ick_syntax.specs.Tree.{element, Trees, none, more, join, tree_of, trees_of, trees_in}
 
 pub join_assoc : (a b c : Trees) → join (join a b) c ≡ join a (join b c)
 join_assoc none b c = refl

@@ -65,7 +65,7 @@ pub struct Element {
 }
 
 impl Expr {
-    ghost use Rattle.ick_source.specs.Tree.{Trees, element, tree_of, trees_in};
+    ghost use Rattle.ick_syntax.specs.Tree.{Trees, element, tree_of, trees_in};
 
     /// Returns the element that the expression consists of, or `None` if it is no element.
     pub fn into_element(self) -> Option<Element>

@@ -1,7 +1,7 @@
 //! Numbers out of range, which the readers note while they read a text.
 
 ghost use Rattle.std.specs.Prelude.{◌≡◌};
-ghost use Rattle.ick_source.specs.Clamped.{clamped};
+ghost use Rattle.ick_syntax.specs.Clamped.{clamped};
 
 /// Bounds the number of a mesh, a variable and a label (Revised Manual, 3.1, 3.2 and 4.2).
 const GREATEST: u32 = 65_535;
@@ -16,7 +16,7 @@ pub struct Faults {
 }
 
 impl Faults {
-    ghost use Rattle.ick_source.specs.Clamped.{both_faults, mesh_faults, name_faults, label_faults};
+    ghost use Rattle.ick_syntax.specs.Clamped.{both_faults, mesh_faults, name_faults, label_faults};
 
     /// Has no number out of range.
     pub const NONE: Faults = Faults {

@@ -1,24 +1,24 @@
 -- Bodies as trees, whose numbers may be of any size; the tree of a body of the program; and clamped bodies.
 use Rattle.std.specs.Prelude.{ℕ, Option, Some, None, List, [], ◌∷◌, map}
-use Rattle.ick_source.specs.declared.tree.Name.{Name}
-use Rattle.ick_source.specs.declared.faults.Faults.{Faults}
-use Rattle.ick_source.specs.declared.body.Gerund.{Gerund}
-use Rattle.ick_source.specs.declared.body.Target.{Target}
-use Rattle.ick_source.specs.declared.body.Target.TheVariants.{Scalar as TargetScalar, Element as TargetElement}
-use Rattle.ick_source.specs.declared.body.Place.{Place}
-use Rattle.ick_source.specs.declared.body.Place.TheVariants.{Scalar as PlaceScalar, Element as PlaceElement}
-use Rattle.ick_source.specs.declared.body.Place.TheVariants.{Array as PlaceArray}
-use Rattle.ick_source.specs.declared.body.Item.{Item}
-use Rattle.ick_source.specs.declared.body.Item.TheVariants.{Scalar as ItemScalar, Element as ItemElement}
-use Rattle.ick_source.specs.declared.body.Item.TheVariants.{Mesh as ItemMesh, Array as ItemArray}
-use Rattle.ick_source.specs.declared.body.Body.{Body}
-use Rattle.ick_source.specs.declared.body.Body.TheVariants.{Calculate, Dimension, Next, Forget, Resume, Stash, Retrieve}
-use Rattle.ick_source.specs.declared.body.Body.TheVariants.{Ignore, Remember, AbstainLabel, AbstainKinds}
-use Rattle.ick_source.specs.declared.body.Body.TheVariants.{ReinstateLabel, ReinstateKinds, GiveUp, WriteIn, ReadOut}
-use Rattle.ick_source.specs.declared.body.Body.TheVariants.{Unrecognised}
-use Rattle.ick_source.specs.Tree.{Tree, mesh, scalar, element, tree_of, trees_in}
-use Rattle.ick_source.specs.Clamped.{clamped, clamped_name, clamped_tree, no_faults, both_faults, name_faults}
-use Rattle.ick_source.specs.Clamped.{label_faults, faults_of}
+use Rattle.ick_syntax.specs.declared.tree.Name.{Name}
+use Rattle.ick_syntax.specs.declared.faults.Faults.{Faults}
+use Rattle.ick_syntax.specs.declared.body.Gerund.{Gerund}
+use Rattle.ick_syntax.specs.declared.body.Target.{Target}
+use Rattle.ick_syntax.specs.declared.body.Target.TheVariants.{Scalar as TargetScalar, Element as TargetElement}
+use Rattle.ick_syntax.specs.declared.body.Place.{Place}
+use Rattle.ick_syntax.specs.declared.body.Place.TheVariants.{Scalar as PlaceScalar, Element as PlaceElement}
+use Rattle.ick_syntax.specs.declared.body.Place.TheVariants.{Array as PlaceArray}
+use Rattle.ick_syntax.specs.declared.body.Item.{Item}
+use Rattle.ick_syntax.specs.declared.body.Item.TheVariants.{Scalar as ItemScalar, Element as ItemElement}
+use Rattle.ick_syntax.specs.declared.body.Item.TheVariants.{Mesh as ItemMesh, Array as ItemArray}
+use Rattle.ick_syntax.specs.declared.body.Body.{Body}
+use Rattle.ick_syntax.specs.declared.body.Body.TheVariants.{Calculate, Dimension, Next, Forget, Resume, Stash, Retrieve}
+use Rattle.ick_syntax.specs.declared.body.Body.TheVariants.{Ignore, Remember, AbstainLabel, AbstainKinds}
+use Rattle.ick_syntax.specs.declared.body.Body.TheVariants.{ReinstateLabel, ReinstateKinds, GiveUp, WriteIn, ReadOut}
+use Rattle.ick_syntax.specs.declared.body.Body.TheVariants.{Unrecognised}
+use Rattle.ick_syntax.specs.Tree.{Tree, mesh, scalar, element, tree_of, trees_in}
+use Rattle.ick_syntax.specs.Clamped.{clamped, clamped_name, clamped_tree, no_faults, both_faults, name_faults}
+use Rattle.ick_syntax.specs.Clamped.{label_faults, faults_of}
 
 -- a place of WRITE IN or an item of READ OUT: the tree of a scalar or an element, of a mesh for READ OUT alone, or the
 -- name of a whole array

@@ -1,7 +1,7 @@
 -- Statements as trees, whose numbers may be of any size, and the tree of a statement of the program.
 use Rattle.std.specs.Prelude.{◌≡◌, ℕ, ◌+◌, Bool, List, map, slice_get, count_by, Option, Some}
-use Rattle.ick_source.specs.declared.statements.Statement.{Statement}
-use Rattle.ick_source.specs.BodyTree.{BodyTree, body_tree_of}
+use Rattle.ick_syntax.specs.declared.statements.Statement.{Statement}
+use Rattle.ick_syntax.specs.BodyTree.{BodyTree, body_tree_of}
 
 -- a statement; its body is None if it is unrecognised
 pub record StatementTree : Type 0 where
@@ -31,3 +31,7 @@ AreNumbered xs = (k : ℕ) (x : Statement) → slice_get xs k ≡ Some x → x.n
 
 abbrev pub polite_in : List StatementTree → ℕ
 polite_in trees = count_by (λ t. t.polite) trees
+
+-- the greatest number of statements of a program, each of which takes at least two bytes of the source
+abbrev pub most_statements : ℕ
+most_statements = 524288

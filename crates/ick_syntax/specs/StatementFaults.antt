@@ -1,9 +1,9 @@
 -- The faults of a statement: its numbers out of range.
 use Rattle.std.specs.Prelude.{ℕ, Option, Some, None}
-use Rattle.ick_source.specs.declared.faults.Faults.{Faults}
-use Rattle.ick_source.specs.Clamped.{no_faults, both_faults, label_faults}
-use Rattle.ick_source.specs.BodyTree.{BodyTree, faults_of_body}
-use Rattle.ick_source.specs.StatementTree.{StatementTree}
+use Rattle.ick_syntax.specs.declared.faults.Faults.{Faults}
+use Rattle.ick_syntax.specs.Clamped.{no_faults, both_faults, label_faults}
+use Rattle.ick_syntax.specs.BodyTree.{BodyTree, faults_of_body}
+use Rattle.ick_syntax.specs.StatementTree.{StatementTree}
 
 -- numbers within a body count if the body is recognised
 abbrev pub faults_of_recognised : Option BodyTree → Faults

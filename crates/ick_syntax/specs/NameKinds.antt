@@ -3,15 +3,15 @@
 -- each list.
 use Rattle.std.specs.Prelude.{ℕ, suc, nat_lt, length, Bool, true, false, not, ◌&&◌, Option, Some, None}
 use Rattle.std.specs.List.{list_all}
-use Rattle.ick_source.specs.declared.tree.NameKind.{NameKind}
-use Rattle.ick_source.specs.declared.tree.NameKind.TheVariants.{Onespot, Twospot, Tail, Hybrid}
-use Rattle.ick_source.specs.Tree.{Tree, mesh, scalar, element, unary, binary, Trees, none, more}
-use Rattle.ick_source.specs.BodyTree.{ItemTree, single, whole, BodyTree, calculate, dimension, next, forget, resume}
-use Rattle.ick_source.specs.BodyTree.{stash}
-use Rattle.ick_source.specs.BodyTree.{retrieve, ignore, remember, abstain_label, abstain_kinds, reinstate_label}
-use Rattle.ick_source.specs.BodyTree.{reinstate_kinds}
-use Rattle.ick_source.specs.BodyTree.{give_up, write_in, read_out}
-use Rattle.ick_source.specs.StatementTree.{StatementTree}
+use Rattle.ick_syntax.specs.declared.tree.NameKind.{NameKind}
+use Rattle.ick_syntax.specs.declared.tree.NameKind.TheVariants.{Onespot, Twospot, Tail, Hybrid}
+use Rattle.ick_syntax.specs.Tree.{Tree, mesh, scalar, element, unary, binary, Trees, none, more}
+use Rattle.ick_syntax.specs.BodyTree.{ItemTree, single, whole, BodyTree, calculate, dimension, next, forget, resume}
+use Rattle.ick_syntax.specs.BodyTree.{stash}
+use Rattle.ick_syntax.specs.BodyTree.{retrieve, ignore, remember, abstain_label, abstain_kinds, reinstate_label}
+use Rattle.ick_syntax.specs.BodyTree.{reinstate_kinds}
+use Rattle.ick_syntax.specs.BodyTree.{give_up, write_in, read_out}
+use Rattle.ick_syntax.specs.StatementTree.{StatementTree}
 
 abbrev pub is_array : NameKind → Bool
 is_array Onespot = false

@@ -1,10 +1,10 @@
 -- Expressions as trees, whose numbers may be of any size, and the tree of an expression of the program.
 use Rattle.std.specs.Prelude.{ℕ, Option, Some, None, List, [], ◌∷◌}
-use Rattle.ick_source.specs.declared.tree.Name.{Name}
-use Rattle.ick_source.specs.declared.tree.UnaryOp.{UnaryOp}
-use Rattle.ick_source.specs.declared.tree.BinaryOp.{BinaryOp}
-use Rattle.ick_source.specs.declared.tree.Expr.{Expr, Mesh, Scalar, Element', Unary', Binary', Row_of-Expr, end_of-Expr}
-use Rattle.ick_source.specs.declared.tree.Expr.{more_of-Expr}
+use Rattle.ick_syntax.specs.declared.tree.Name.{Name}
+use Rattle.ick_syntax.specs.declared.tree.UnaryOp.{UnaryOp}
+use Rattle.ick_syntax.specs.declared.tree.BinaryOp.{BinaryOp}
+use Rattle.ick_syntax.specs.declared.tree.Expr.{Expr, Mesh, Scalar, Element', Unary', Binary', Row_of-Expr, end_of-Expr}
+use Rattle.ick_syntax.specs.declared.tree.Expr.{more_of-Expr}
 
 mutual
   pub data Tree : Type 0 where

@@ -1,8 +1,8 @@
 //! The kinds of statements, which their bodies decide.
 
 ghost use Rattle.std.specs.Prelude.{◌≡◌};
-ghost use Rattle.ick_source.specs.BodyTree.{body_tree_of};
-ghost use Rattle.ick_source.specs.Kinds.{kind_of, kind_word, named_kind};
+ghost use Rattle.ick_syntax.specs.BodyTree.{body_tree_of};
+ghost use Rattle.ick_syntax.specs.Kinds.{kind_of, kind_word, named_kind};
 
 use crate::body::{Body, Gerund};
 

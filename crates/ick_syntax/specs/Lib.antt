@@ -1,0 +1,10 @@
+pub mod BodyTree
+pub mod Clamped
+pub mod Gerund
+pub mod Kinds
+pub mod NameKinds
+pub mod ProgramFaults
+pub mod Programs
+pub mod StatementFaults
+pub mod StatementTree
+pub mod Tree
