@@ -1,6 +1,6 @@
 -- What contracts see of a machine.
 use Rattle.std.specs.Prelude.{ℕ, List}
-use Rattle.ick_source.specs.StatementTree.{StatementTree}
+use Rattle.ick_syntax.specs.StatementTree.{StatementTree}
 use Rattle.ick_code.specs.meaning.State.{State}
 
 -- a program is the list of its statements

@@ -6,7 +6,7 @@ use Rattle.ick_bits.specs.Faults.{message_of}
 use Rattle.ick_bits.specs.declared.faults.FaultKind.{FaultKind}
 use Rattle.ick_source.specs.RefusalAnswers.{IsOnlyRefused}
 use Rattle.ick_source.specs.Refusals.{Compiles, IsRefused, longest}
-use Rattle.ick_source.specs.StatementTree.{StatementTree}
+use Rattle.ick_syntax.specs.StatementTree.{StatementTree}
 use Rattle.ick_cli.specs.Ending.{Answers, EndsBy, Leaves, LeavesStreams, failed_files, input_of, source_of}
 use Rattle.ick_cli.specs.Input.{EndsCut, EndsUnopened}
 use Rattle.ick_cli.specs.Job.{Task}

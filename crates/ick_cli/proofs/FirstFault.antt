@@ -7,12 +7,13 @@ use Rattle.std.proofs.lemmas.Bool.{cases_eq, cases_lt}
 use Rattle.ick_bits.specs.declared.faults.FaultKind.{FaultKind}
 use Rattle.ick_bits.specs.declared.faults.FaultKind.TheVariants.{MeshTooLarge, NameRange, LabelRange, SameLabel}
 use Rattle.ick_bits.specs.declared.faults.FaultKind.TheVariants.{NoNextLabel, NoAbstainLabel, Impolite, Fawning}
-use Rattle.ick_source.specs.declared.labels.LabelUse.{LabelUse}
-use Rattle.ick_source.specs.declared.labels.LabelUse.TheVariants.{Next, Abstain}
-use Rattle.ick_source.specs.Refusals.{HoldsAt, IsFaultAt, IsFawningAt, HasLabel, IsImpoliteAt, IsFirstFault, IsSound}
-use Rattle.ick_source.specs.Refusals.{IsSoundBelow, IsLostAt, IsSameLabelAt, rank, used_label}
-use Rattle.ick_source.specs.StatementFaults.{faults_of_statement}
-use Rattle.ick_source.specs.StatementTree.{StatementTree, polite_in}
+use Rattle.ick_syntax.specs.declared.labels.LabelUse.{LabelUse}
+use Rattle.ick_syntax.specs.declared.labels.LabelUse.TheVariants.{Next, Abstain}
+use Rattle.ick_syntax.specs.ProgramFaults.{HoldsAt, IsFaultAt, IsFawningAt, HasLabel, IsImpoliteAt, IsFirstFault}
+use Rattle.ick_syntax.specs.ProgramFaults.{IsSound}
+use Rattle.ick_syntax.specs.ProgramFaults.{IsSoundBelow, IsLostAt, IsSameLabelAt, rank, used_label}
+use Rattle.ick_syntax.specs.StatementFaults.{faults_of_statement}
+use Rattle.ick_syntax.specs.StatementTree.{StatementTree, polite_in}
 use Rattle.ick_source.proofs.RefusalLemmas.{HoldsAt-inside, sound_all, sound_below_none, sound_more}
 
 -- it is so, or it isn't

@@ -4,7 +4,7 @@ use Rattle.std.proofs.Common.{None, ap, ap₂, refl, subst, sym, arith, length}
 use Rattle.std.proofs.lemmas.Bool.{cases_lt}
 use Rattle.ick_bits.specs.Faults.{message_of}
 use Rattle.ick_source.specs.Refusals.{longest}
-use Rattle.ick_source.specs.StatementTree.{StatementTree}
+use Rattle.ick_syntax.specs.StatementTree.{StatementTree}
 use Rattle.ick_source.proofs.CutLemmas.{cut_exists}
 use Rattle.ick_source.proofs.RefusalLemmas.{compiles_unique, refused_not, refused_unique}
 use Rattle.ick_code.specs.meaning.State.{State}

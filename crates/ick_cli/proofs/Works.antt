@@ -6,7 +6,7 @@ use Rattle.std.specs.Prelude.{unwrap_or}
 use Rattle.ick_bits.specs.declared.faults.FaultKind.{FaultKind}
 use Rattle.ick_source.specs.RefusalAnswers.{Refuses}
 use Rattle.ick_source.specs.Refusals.{Compiles, IsRefused}
-use Rattle.ick_source.specs.StatementTree.{StatementTree}
+use Rattle.ick_syntax.specs.StatementTree.{StatementTree}
 use Rattle.ick_source.specs.declared.refusals.Refusal.{Refusal}
 use Rattle.ick_source.specs.declared.refusals.Refusal.TheVariants as refusal
 use Rattle.ick_code.specs.meaning.Move.{first_state}

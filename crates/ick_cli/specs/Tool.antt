@@ -4,7 +4,7 @@ use Rattle.std.specs.Prelude.{length, unwrap_or}
 use Rattle.ick_bits.specs.Faults.{message_of}
 use Rattle.ick_bits.specs.declared.faults.FaultKind.{FaultKind}
 use Rattle.ick_source.specs.Listing.{listing}
-use Rattle.ick_source.specs.StatementTree.{StatementTree}
+use Rattle.ick_syntax.specs.StatementTree.{StatementTree}
 use Rattle.ick_source.specs.Refusals.{Compiles, IsRefused, longest}
 use Rattle.ick_code.specs.meaning.State.{State, gave_up, faulted}
 use Rattle.ick_code.specs.meaning.Move.{first_state}

@@ -9,14 +9,14 @@ use Rattle.std.proofs.lemmas.List.{take-append-le, drop-append-le, length-map, l
 use Rattle.std.proofs.Math.Seq.{drop-append_seam, take-length}
 use Rattle.std.proofs.lemmas.List.Elements.{All-same}
 use Rattle.std.proofs.lemmas.Option.{slice_get-map, slice_get-get_or, slice_get_within}
-use Rattle.ick_source.specs.declared.statements.Statement.{Statement}
-use Rattle.ick_source.specs.declared.body.Body.{Body}
-use Rattle.ick_source.specs.declared.body.Body.TheVariants as body
-use Rattle.ick_source.specs.declared.kinds.Kind.{Kind}
-use Rattle.ick_source.specs.StatementTree.{StatementTree}
-use Rattle.ick_source.specs.NameKinds.{is_statement_kinded}
-use Rattle.ick_source.specs.StatementTree.{statement_tree_of}
-use Rattle.ick_source.specs.Refusals.{IsSound}
+use Rattle.ick_syntax.specs.declared.statements.Statement.{Statement}
+use Rattle.ick_syntax.specs.declared.body.Body.{Body}
+use Rattle.ick_syntax.specs.declared.body.Body.TheVariants as body
+use Rattle.ick_syntax.specs.declared.kinds.Kind.{Kind}
+use Rattle.ick_syntax.specs.StatementTree.{StatementTree}
+use Rattle.ick_syntax.specs.NameKinds.{is_statement_kinded}
+use Rattle.ick_syntax.specs.StatementTree.{statement_tree_of}
+use Rattle.ick_syntax.specs.ProgramFaults.{IsSound}
 use Rattle.ick_code.specs.declared.op.Op.{Op}
 use Rattle.ick_code.specs.declared.op.Op.TheVariants.{Call, AbstainOne, ReinstateOne}
 use Rattle.ick_code.specs.declared.code.CompiledStatement.{CompiledStatement}

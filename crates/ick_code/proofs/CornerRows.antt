@@ -7,16 +7,16 @@ use Rattle.ick_bits.specs.Digits.{number_of_words}
 use Rattle.ick_bits.specs.Numeral.{numeral_of, printed}
 use Rattle.ick_bits.specs.declared.faults.FaultKind.TheVariants.{Hyperspace, TooWide, ZeroDimension, NothingStashed}
 use Rattle.ick_bits.specs.declared.faults.FaultKind.TheVariants.{Rupture, NoDigit, SixtyFour, OffTheEdge, Unrecognised}
-use Rattle.ick_source.specs.declared.tree.UnaryOp.TheVariants.{Or, Xor}
-use Rattle.ick_source.specs.declared.tree.BinaryOp.TheVariants.{Mingle}
-use Rattle.ick_source.specs.declared.body.Gerund.{Gerund}
-use Rattle.ick_source.specs.declared.body.Gerund.TheVariants.{Calculating, Nexting, Forgetting, Resuming, Stashing}
-use Rattle.ick_source.specs.declared.body.Gerund.TheVariants.{Retrieving, Ignoring, Remembering, Abstaining}
-use Rattle.ick_source.specs.declared.body.Gerund.TheVariants.{Reinstating, WritingIn, ReadingOut}
-use Rattle.ick_source.specs.Tree.{Tree, mesh, scalar, unary, binary}
-use Rattle.ick_source.specs.StatementTree.{StatementTree}
-use Rattle.ick_source.specs.BodyTree.{calculate, dimension, next, resume, stash, retrieve, ignore, remember}
-use Rattle.ick_source.specs.BodyTree.{abstain_label, abstain_kinds, reinstate_label, reinstate_kinds, give_up}
+use Rattle.ick_syntax.specs.declared.tree.UnaryOp.TheVariants.{Or, Xor}
+use Rattle.ick_syntax.specs.declared.tree.BinaryOp.TheVariants.{Mingle}
+use Rattle.ick_syntax.specs.declared.body.Gerund.{Gerund}
+use Rattle.ick_syntax.specs.declared.body.Gerund.TheVariants.{Calculating, Nexting, Forgetting, Resuming, Stashing}
+use Rattle.ick_syntax.specs.declared.body.Gerund.TheVariants.{Retrieving, Ignoring, Remembering, Abstaining}
+use Rattle.ick_syntax.specs.declared.body.Gerund.TheVariants.{Reinstating, WritingIn, ReadingOut}
+use Rattle.ick_syntax.specs.Tree.{Tree, mesh, scalar, unary, binary}
+use Rattle.ick_syntax.specs.StatementTree.{StatementTree}
+use Rattle.ick_syntax.specs.BodyTree.{calculate, dimension, next, resume, stash, retrieve, ignore, remember}
+use Rattle.ick_syntax.specs.BodyTree.{abstain_label, abstain_kinds, reinstate_label, reinstate_kinds, give_up}
 use Rattle.ick_code.specs.meaning.State.{State, gave_up, faulted}
 use Rattle.ick_code.specs.meaning.Outcome.{done, faults}
 use Rattle.ick_code.specs.meaning.Control.{resume as do_resume, forget as do_forget}

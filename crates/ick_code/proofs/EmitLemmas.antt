@@ -1,8 +1,8 @@
 -- Operations of expressions, one after another.
 use Rattle.std.proofs.Common.{◌≡◌, ℕ, ◌+◌, ◌<◌, List, [], ◌∷◌, ◌++◌, length, take, get_or}
 use Rattle.std.proofs.Common.{sym, ap, ◌∙◌, append_assoc, append-nil}
-use Rattle.ick_source.specs.declared.tree.Expr.{Expr}
-use Rattle.ick_source.specs.Tree.{tree_of, trees_in}
+use Rattle.ick_syntax.specs.declared.tree.Expr.{Expr}
+use Rattle.ick_syntax.specs.Tree.{tree_of, trees_in}
 use Rattle.ick_code.specs.declared.emit.Draft.{Draft}
 use Rattle.ick_code.specs.Effects.{Slots}
 use Rattle.ick_code.specs.Operations.{ops_of_tree, ops_of_trees}

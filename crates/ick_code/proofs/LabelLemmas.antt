@@ -4,8 +4,8 @@ use Rattle.std.proofs.Common.{◌++◌, length, map, take, take_all, length-take
 use Rattle.std.proofs.Common.{sym, ap, ◌∙◌, arith, if◌then◌else◌}
 use Rattle.std.specs.Prelude.{unwrap_or, option_map}
 use Rattle.std.proofs.lemmas.List.{length-map, map-append}
-use Rattle.ick_source.specs.declared.statements.Statement.{Statement}
-use Rattle.ick_source.specs.StatementTree.{statement_tree_of, StatementTree}
+use Rattle.ick_syntax.specs.declared.statements.Statement.{Statement}
+use Rattle.ick_syntax.specs.StatementTree.{statement_tree_of, StatementTree}
 use Rattle.ick_code.specs.meaning.Control.{is_label, place_of}
 use Rattle.ick_code.specs.Labels.{first_place, with_place}
 use Rattle.ick_code.proofs.TakeLemmas.{take_with}

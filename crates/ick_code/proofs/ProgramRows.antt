@@ -8,11 +8,11 @@ use Rattle.ick_bits.specs.Digits.{number_of_words}
 use Rattle.ick_bits.specs.Numeral.{numeral_of, printed}
 use Rattle.ick_bits.specs.declared.faults.FaultKind.TheVariants.{Hyperspace, TooWide, NothingStashed, ResumeZero}
 use Rattle.ick_bits.specs.declared.faults.FaultKind.TheVariants.{Rupture, NoDigit, NoInput}
-use Rattle.ick_source.specs.declared.tree.UnaryOp.TheVariants.{And, Or, Xor}
-use Rattle.ick_source.specs.declared.tree.BinaryOp.TheVariants.{Mingle, Select}
-use Rattle.ick_source.specs.Tree.{mesh, scalar, unary, binary}
-use Rattle.ick_source.specs.StatementTree.{StatementTree}
-use Rattle.ick_source.specs.BodyTree.{calculate, dimension, next, resume, stash, retrieve, ignore, remember, give_up}
+use Rattle.ick_syntax.specs.declared.tree.UnaryOp.TheVariants.{And, Or, Xor}
+use Rattle.ick_syntax.specs.declared.tree.BinaryOp.TheVariants.{Mingle, Select}
+use Rattle.ick_syntax.specs.Tree.{mesh, scalar, unary, binary}
+use Rattle.ick_syntax.specs.StatementTree.{StatementTree}
+use Rattle.ick_syntax.specs.BodyTree.{calculate, dimension, next, resume, stash, retrieve, ignore, remember, give_up}
 use Rattle.ick_code.specs.meaning.State.{gave_up, faulted}
 use Rattle.ick_code.specs.meaning.Move.{advance}
 use Rattle.ick_code.proofs.RowWords.{plainly, labelled, reads, prints, one, two, three, double, tail, at, seen}

@@ -1,10 +1,10 @@
 -- Words that worked rows are said in: programs, and what of a run is looked at.
 use Rattle.std.specs.Prelude.{ℕ, Bool, true, false, List, [], ◌∷◌, map, Option, Some, None, replicate}
-use Rattle.ick_source.specs.declared.tree.Name.{Name}
-use Rattle.ick_source.specs.declared.tree.NameKind.TheVariants.{Onespot, Twospot, Tail, Hybrid}
-use Rattle.ick_source.specs.Tree.{Tree, element}
-use Rattle.ick_source.specs.BodyTree.{single, BodyTree, write_in, read_out}
-use Rattle.ick_source.specs.StatementTree.{StatementTree}
+use Rattle.ick_syntax.specs.declared.tree.Name.{Name}
+use Rattle.ick_syntax.specs.declared.tree.NameKind.TheVariants.{Onespot, Twospot, Tail, Hybrid}
+use Rattle.ick_syntax.specs.Tree.{Tree, element}
+use Rattle.ick_syntax.specs.BodyTree.{single, BodyTree, write_in, read_out}
+use Rattle.ick_syntax.specs.StatementTree.{StatementTree}
 use Rattle.ick_code.specs.meaning.State.{State, Ending}
 use Rattle.ick_code.specs.meaning.Do.{trees_from}
 use Rattle.ick_code.specs.meaning.Move.{advance, first_state}

@@ -9,11 +9,11 @@ use Rattle.ick_bits.specs.Values.{Narrow, Wide}
 use Rattle.ick_bits.specs.declared.faults.FaultKind.TheVariants.{SixtyFour, Hyperspace, TooWide, ZeroDimension}
 use Rattle.ick_bits.specs.declared.faults.FaultKind.TheVariants.{NextDepth, ResumeZero, Rupture, NothingStashed}
 use Rattle.ick_bits.specs.declared.faults.FaultKind.TheVariants.{NoInput, NoDigit}
-use Rattle.ick_source.specs.declared.tree.UnaryOp.TheVariants.{Or}
-use Rattle.ick_source.specs.declared.tree.BinaryOp.TheVariants.{Mingle, Select}
-use Rattle.ick_source.specs.Tree.{mesh, scalar, unary, binary}
-use Rattle.ick_source.specs.StatementTree.{StatementTree}
-use Rattle.ick_source.specs.BodyTree.{give_up, calculate}
+use Rattle.ick_syntax.specs.declared.tree.UnaryOp.TheVariants.{Or}
+use Rattle.ick_syntax.specs.declared.tree.BinaryOp.TheVariants.{Mingle, Select}
+use Rattle.ick_syntax.specs.Tree.{mesh, scalar, unary, binary}
+use Rattle.ick_syntax.specs.StatementTree.{StatementTree}
+use Rattle.ick_syntax.specs.BodyTree.{give_up, calculate}
 use Rattle.ick_code.specs.meaning.State.{State, with_entry}
 use Rattle.ick_code.specs.meaning.Value.{value_of, scalar_value}
 use Rattle.ick_code.specs.meaning.Outcome.{done, faults}

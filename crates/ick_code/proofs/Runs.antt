@@ -10,23 +10,23 @@ use Rattle.std.proofs.Math.Seq.{take-append_seam, drop-append_seam}
 use Rattle.ick_bits.specs.Values.{number_of}
 use Rattle.ick_bits.specs.declared.values.Value.{Value}
 use Rattle.ick_bits.specs.declared.faults.FaultKind.{FaultKind}
-use Rattle.ick_source.specs.declared.tree.Name.{Name}
-use Rattle.ick_source.specs.declared.body.Gerund.{Gerund}
-use Rattle.ick_source.specs.declared.tree.UnaryOp.{UnaryOp}
-use Rattle.ick_source.specs.declared.tree.UnaryOp.TheVariants as unary_op
-use Rattle.ick_source.specs.declared.tree.BinaryOp.{BinaryOp}
-use Rattle.ick_source.specs.declared.tree.BinaryOp.TheVariants as binary_op
-use Rattle.ick_source.specs.declared.body.Target.{Target}
-use Rattle.ick_source.specs.declared.body.Target.TheVariants as to
-use Rattle.ick_source.specs.declared.body.Place.{Place}
-use Rattle.ick_source.specs.declared.body.Place.TheVariants as from
-use Rattle.ick_source.specs.declared.body.Body.{Body}
-use Rattle.ick_source.specs.declared.body.Body.TheVariants as body
-use Rattle.ick_source.specs.Tree.{Tree, mesh, scalar, element, unary, binary, Trees, none, more, tree_of, trees_in}
-use Rattle.ick_source.specs.StatementTree.{StatementTree}
-use Rattle.ick_source.specs.NameKinds.{is_array, is_tail, count_in, are_few, is_kinded, are_kinded, is_item_kinded}
-use Rattle.ick_source.specs.NameKinds.{is_body_kinded}
-use Rattle.ick_source.specs.BodyTree.{ItemTree, single, whole, target_tree, place_tree, item_tree, body_tree_of}
+use Rattle.ick_syntax.specs.declared.tree.Name.{Name}
+use Rattle.ick_syntax.specs.declared.body.Gerund.{Gerund}
+use Rattle.ick_syntax.specs.declared.tree.UnaryOp.{UnaryOp}
+use Rattle.ick_syntax.specs.declared.tree.UnaryOp.TheVariants as unary_op
+use Rattle.ick_syntax.specs.declared.tree.BinaryOp.{BinaryOp}
+use Rattle.ick_syntax.specs.declared.tree.BinaryOp.TheVariants as binary_op
+use Rattle.ick_syntax.specs.declared.body.Target.{Target}
+use Rattle.ick_syntax.specs.declared.body.Target.TheVariants as to
+use Rattle.ick_syntax.specs.declared.body.Place.{Place}
+use Rattle.ick_syntax.specs.declared.body.Place.TheVariants as from
+use Rattle.ick_syntax.specs.declared.body.Body.{Body}
+use Rattle.ick_syntax.specs.declared.body.Body.TheVariants as body
+use Rattle.ick_syntax.specs.Tree.{Tree, mesh, scalar, element, unary, binary, Trees, none, more, tree_of, trees_in}
+use Rattle.ick_syntax.specs.StatementTree.{StatementTree}
+use Rattle.ick_syntax.specs.NameKinds.{is_array, is_tail, count_in, are_few, is_kinded, are_kinded, is_item_kinded}
+use Rattle.ick_syntax.specs.NameKinds.{is_body_kinded}
+use Rattle.ick_syntax.specs.BodyTree.{ItemTree, single, whole, target_tree, place_tree, item_tree, body_tree_of}
 use Rattle.ick_code.specs.declared.op.Op.{Op}
 use Rattle.ick_code.specs.declared.op.Op.TheVariants.{Fetch, StoreAt, Resize, Forget, Resume, Save, Restore, Hide, Show}
 use Rattle.ick_code.specs.declared.op.Op.TheVariants.{AbstainKind, ReinstateKind, Print, ReadAt, PrintArray, ReadArray}

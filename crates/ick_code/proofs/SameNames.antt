@@ -1,9 +1,9 @@
 -- When two names are one.
 use Rattle.std.proofs.Common.{◌≡◌, ℕ, ◌<◌, ◌==◌, true, ◌&&◌, refl, ap, ◌∙◌, arith, eq-eqb}
 use Rattle.std.proofs.lemmas.Bool.{eqb-true}
-use Rattle.ick_source.specs.declared.tree.Name.{Name}
-use Rattle.ick_source.specs.declared.tree.NameKind.{NameKind}
-use Rattle.ick_source.specs.declared.tree.NameKind.TheVariants.{Onespot, Twospot, Tail, Hybrid}
+use Rattle.ick_syntax.specs.declared.tree.Name.{Name}
+use Rattle.ick_syntax.specs.declared.tree.NameKind.{NameKind}
+use Rattle.ick_syntax.specs.declared.tree.NameKind.TheVariants.{Onespot, Twospot, Tail, Hybrid}
 use Rattle.ick_code.specs.meaning.State.{same_kind, same_name}
 use Rattle.ick_code.specs.Names.{kind_rank, rank_of}
 use Rattle.ick_code.proofs.Bools.{both_left, both_right}

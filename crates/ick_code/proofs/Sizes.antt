@@ -1,11 +1,11 @@
 -- How large trees are: what a recursion over them goes down by.
 use Rattle.std.proofs.Common.{◌≡◌, ℕ, zero, suc, ◌+◌, ◌<◌, List, [], ◌∷◌, length, get_or, ap}
 use Rattle.std.proofs.Common.{◌∙◌, arith}
-use Rattle.ick_source.specs.declared.tree.Element.{Element as ElementRecord}
-use Rattle.ick_source.specs.declared.tree.Expr.{Expr}
-use Rattle.ick_source.specs.declared.tree.Expr.TheVariants.{Element}
-use Rattle.ick_source.specs.Tree.{Tree, mesh, scalar, element, unary, binary, Trees, none, more, tree_of, trees_in}
-use Rattle.ick_source.proofs.TreeLemmas.{tree_of-element}
+use Rattle.ick_syntax.specs.declared.tree.Element.{Element as ElementRecord}
+use Rattle.ick_syntax.specs.declared.tree.Expr.{Expr}
+use Rattle.ick_syntax.specs.declared.tree.Expr.TheVariants.{Element}
+use Rattle.ick_syntax.specs.Tree.{Tree, mesh, scalar, element, unary, binary, Trees, none, more, tree_of, trees_in}
+use Rattle.ick_syntax.proofs.TreeLemmas.{tree_of-element}
 
 abbrev mutual
   pub size_of : Tree → ℕ

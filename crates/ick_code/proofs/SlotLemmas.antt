@@ -14,7 +14,7 @@ use Rattle.std.specs.BTreeMap.{BTreeMap, get, Updates}
 use Rattle.std.specs.Ordering.{nat_cmp, is_eq}
 use Rattle.std.proofs.lemmas.List.Folds.{list_any-append, list_all-append}
 use Rattle.std.proofs.lemmas.Map.Steps.{length-le_from_distinct_below}
-use Rattle.ick_source.specs.declared.tree.Name.{Name}
+use Rattle.ick_syntax.specs.declared.tree.Name.{Name}
 use Rattle.ick_code.specs.meaning.State.{same_name}
 use Rattle.ick_code.specs.Names.{is_among, each_once, found, slot_in, with_name, rank_of, numbers_of_a_kind, most_names}
 use Rattle.ick_code.specs.Names.{is_short}

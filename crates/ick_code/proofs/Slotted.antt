@@ -4,9 +4,9 @@ use Rattle.std.proofs.Common.{refl, ap, ◌∙◌, subst, if◌then◌else◌}
 use Rattle.std.specs.Prelude.{filter, slice_get}
 use Rattle.std.specs.List.{list_all}
 use Rattle.std.proofs.lemmas.Bool.{false_from_ne_true}
-use Rattle.ick_source.specs.declared.tree.Name.{Name}
-use Rattle.ick_source.specs.StatementTree.{StatementTree}
-use Rattle.ick_source.specs.NameKinds.{is_array, is_body_kinded, is_statement_kinded}
+use Rattle.ick_syntax.specs.declared.tree.Name.{Name}
+use Rattle.ick_syntax.specs.StatementTree.{StatementTree}
+use Rattle.ick_syntax.specs.NameKinds.{is_array, is_body_kinded, is_statement_kinded}
 use Rattle.ick_code.specs.declared.op.SlotName.TheVariants.{Scalar, Array}
 use Rattle.ick_code.specs.meaning.State.{same_name}
 use Rattle.ick_code.specs.Effects.{Slots, name_at}

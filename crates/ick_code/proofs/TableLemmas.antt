@@ -3,10 +3,10 @@ use Rattle.std.proofs.Common.{◌≡◌, ℕ, ◌+◌, ◌<◌, List, [], ◌∷
 use Rattle.std.proofs.Common.{get_or, refl, sym, ap, ◌∙◌, append_assoc, append-nil}
 use Rattle.std.specs.List.{flat_map}
 use Rattle.std.proofs.lemmas.List.{take_more}
-use Rattle.ick_source.specs.declared.tree.Expr.{Expr}
-use Rattle.ick_source.specs.Tree.{tree_of, trees_in}
+use Rattle.ick_syntax.specs.declared.tree.Expr.{Expr}
+use Rattle.ick_syntax.specs.Tree.{tree_of, trees_in}
 use Rattle.ick_code.specs.Names.{names_of_tree, names_of_trees}
-use Rattle.ick_source.specs.declared.tree.Name.{Name}
+use Rattle.ick_syntax.specs.declared.tree.Name.{Name}
 use Rattle.ick_code.specs.declared.table.Table.{Table}
 use Rattle.ick_code.specs.Effects.{Slots}
 use Rattle.ick_code.specs.Tables.{table_slots, with_slot, with_names, Adds}

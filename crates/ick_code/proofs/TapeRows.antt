@@ -7,9 +7,9 @@ use Rattle.ick_bits.specs.Digits.{line_answer, first_unknown, beginnings, begins
 use Rattle.ick_bits.specs.Digits.{number_of_words}
 use Rattle.ick_bits.specs.Numeral.{numeral_of, printed}
 use Rattle.ick_bits.specs.declared.faults.FaultKind.TheVariants.{Hyperspace}
-use Rattle.ick_source.specs.Tree.{mesh, scalar}
-use Rattle.ick_source.specs.BodyTree.{single, whole, calculate, dimension, ignore, give_up, write_in, read_out}
-use Rattle.ick_source.specs.StatementTree.{StatementTree}
+use Rattle.ick_syntax.specs.Tree.{mesh, scalar}
+use Rattle.ick_syntax.specs.BodyTree.{single, whole, calculate, dimension, ignore, give_up, write_in, read_out}
+use Rattle.ick_syntax.specs.StatementTree.{StatementTree}
 use Rattle.ick_code.specs.meaning.State.{gave_up, faulted}
 use Rattle.ick_code.specs.meaning.Move.{advance}
 use Rattle.ick_code.proofs.RowWords.{plainly, prints, one, tail, at, seen_after, seen}

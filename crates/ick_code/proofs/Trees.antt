@@ -2,26 +2,26 @@
 use Rattle.std.proofs.Common.{◌≡◌, ℕ, zero, suc, ◌<◌, true, ◌&&◌, nat_lt, List, [], ◌∷◌, ◌++◌}
 use Rattle.std.proofs.Common.{length, map, get_or, Vec, Global, refl, sym, ap, ◌∙◌, arith, ltb-true}
 use Rattle.std.specs.List.{flat_map, list_all}
-use Rattle.ick_source.specs.declared.tree.Element.{Element as ElementRecord}
-use Rattle.ick_source.specs.declared.tree.Expr.{Expr}
-use Rattle.ick_source.specs.declared.tree.Expr.TheVariants.{Element}
+use Rattle.ick_syntax.specs.declared.tree.Element.{Element as ElementRecord}
+use Rattle.ick_syntax.specs.declared.tree.Expr.{Expr}
+use Rattle.ick_syntax.specs.declared.tree.Expr.TheVariants.{Element}
 use Rattle.std.proofs.lemmas.List.{length-map}
 use Rattle.std.proofs.lemmas.List.Folds.{list_all-map}
-use Rattle.ick_source.specs.declared.tree.Name.{Name}
-use Rattle.ick_source.specs.declared.body.Place.{Place}
-use Rattle.ick_source.specs.declared.body.Item.{Item}
-use Rattle.ick_source.specs.declared.body.Body.{Body}
-use Rattle.ick_source.specs.declared.body.Body.TheVariants.{Dimension, WriteIn, ReadOut}
-use Rattle.ick_source.specs.declared.statements.Statement.{Statement}
-use Rattle.ick_source.specs.BodyTree.{place_tree, item_tree, body_tree_of}
-use Rattle.ick_source.specs.StatementTree.{statement_tree_of}
-use Rattle.ick_source.specs.NameKinds.{is_array, count_in, are_few, is_kinded, are_kinded, is_item_kinded}
-use Rattle.ick_source.specs.NameKinds.{is_body_kinded, is_statement_kinded}
+use Rattle.ick_syntax.specs.declared.tree.Name.{Name}
+use Rattle.ick_syntax.specs.declared.body.Place.{Place}
+use Rattle.ick_syntax.specs.declared.body.Item.{Item}
+use Rattle.ick_syntax.specs.declared.body.Body.{Body}
+use Rattle.ick_syntax.specs.declared.body.Body.TheVariants.{Dimension, WriteIn, ReadOut}
+use Rattle.ick_syntax.specs.declared.statements.Statement.{Statement}
+use Rattle.ick_syntax.specs.BodyTree.{place_tree, item_tree, body_tree_of}
+use Rattle.ick_syntax.specs.StatementTree.{statement_tree_of}
+use Rattle.ick_syntax.specs.NameKinds.{is_array, count_in, are_few, is_kinded, are_kinded, is_item_kinded}
+use Rattle.ick_syntax.specs.NameKinds.{is_body_kinded, is_statement_kinded}
 use Rattle.ick_code.specs.meaning.Do.{trees_from}
 use Rattle.ick_code.specs.Names.{names_of_tree, names_of_trees}
 use Rattle.ick_code.proofs.Bools.{both_left, both_right, second_of, third_of}
-use Rattle.ick_source.specs.Tree.{more, tree_of, trees_in}
-use Rattle.ick_source.proofs.TreeLemmas.{tree_of-element}
+use Rattle.ick_syntax.specs.Tree.{more, tree_of, trees_in}
+use Rattle.ick_syntax.proofs.TreeLemmas.{tree_of-element}
 
 -- the trees of a list of expressions
 pub trees-listed : (es : List Expr) → trees_from (map tree_of es) ≡ trees_in es

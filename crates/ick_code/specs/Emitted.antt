@@ -1,6 +1,6 @@
 -- What is appended for a statement, and what is kept of it by the shape of its operations: neither says what they do.
 use Rattle.std.specs.Prelude.{ℕ, false, ◌≡◌, ◌≤◌, List, ◌++◌, length, slice_range}
-use Rattle.ick_source.specs.declared.statements.Statement.{Statement}
+use Rattle.ick_syntax.specs.declared.statements.Statement.{Statement}
 use Rattle.ick_code.specs.declared.op.Op.{Op}
 use Rattle.ick_code.specs.declared.emit.Draft.{Draft}
 use Rattle.ick_code.specs.declared.code.CompiledStatement.{CompiledStatement}

@@ -1,5 +1,5 @@
 -- The operation that a list's statement does for each of its members.
-use Rattle.ick_source.specs.declared.body.Gerund.{Gerund}
+use Rattle.ick_syntax.specs.declared.body.Gerund.{Gerund}
 use Rattle.ick_code.specs.declared.op.Op.{Op}
 use Rattle.ick_code.specs.declared.op.Op.TheVariants.{Save, Restore, Hide, Show, AbstainKind, ReinstateKind}
 use Rattle.ick_code.specs.declared.op.SlotName.{SlotName}

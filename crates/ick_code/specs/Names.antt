@@ -2,15 +2,15 @@
 use Rattle.std.specs.Prelude.{ℕ, suc, ◌+◌, ◌*◌, nat_lt, Bool, not, List, [], ◌∷◌, ◌++◌, filter}
 use Rattle.std.specs.Prelude.{Option, Some, None, unwrap_or, option_map, if◌then◌else◌}
 use Rattle.std.specs.List.{flat_map, list_any}
-use Rattle.ick_source.specs.declared.tree.Name.{Name}
-use Rattle.ick_source.specs.declared.tree.NameKind.{NameKind}
-use Rattle.ick_source.specs.declared.tree.NameKind.TheVariants.{Onespot, Twospot, Tail, Hybrid}
-use Rattle.ick_source.specs.Tree.{Tree, mesh, scalar, element, unary, binary, Trees, none, more}
-use Rattle.ick_source.specs.BodyTree.{ItemTree, single, whole, BodyTree, calculate, dimension, next, forget, resume}
-use Rattle.ick_source.specs.BodyTree.{stash, retrieve, ignore, remember, abstain_label, abstain_kinds, reinstate_label}
-use Rattle.ick_source.specs.BodyTree.{reinstate_kinds, give_up, write_in, read_out}
-use Rattle.ick_source.specs.StatementTree.{StatementTree}
-use Rattle.ick_source.specs.NameKinds.{is_array}
+use Rattle.ick_syntax.specs.declared.tree.Name.{Name}
+use Rattle.ick_syntax.specs.declared.tree.NameKind.{NameKind}
+use Rattle.ick_syntax.specs.declared.tree.NameKind.TheVariants.{Onespot, Twospot, Tail, Hybrid}
+use Rattle.ick_syntax.specs.Tree.{Tree, mesh, scalar, element, unary, binary, Trees, none, more}
+use Rattle.ick_syntax.specs.BodyTree.{ItemTree, single, whole, BodyTree, calculate, dimension, next, forget, resume}
+use Rattle.ick_syntax.specs.BodyTree.{stash, retrieve, ignore, remember, abstain_label, abstain_kinds, reinstate_label}
+use Rattle.ick_syntax.specs.BodyTree.{reinstate_kinds, give_up, write_in, read_out}
+use Rattle.ick_syntax.specs.StatementTree.{StatementTree}
+use Rattle.ick_syntax.specs.NameKinds.{is_array}
 use Rattle.ick_code.specs.declared.op.SlotName.{SlotName}
 use Rattle.ick_code.specs.declared.op.SlotName.TheVariants.{Scalar, Array}
 use Rattle.ick_code.specs.meaning.State.{same_name}

@@ -1,7 +1,7 @@
 -- Slots that names get, one after another.
 use Rattle.std.specs.Prelude.{◌≡◌, false, List, [], ◌∷◌, if◌then◌else◌}
-use Rattle.ick_source.specs.declared.tree.Name.{Name}
-use Rattle.ick_source.specs.NameKinds.{is_array}
+use Rattle.ick_syntax.specs.declared.tree.Name.{Name}
+use Rattle.ick_syntax.specs.NameKinds.{is_array}
 use Rattle.ick_code.specs.declared.table.Table.{Table}
 use Rattle.ick_code.specs.Effects.{Slots}
 use Rattle.ick_code.specs.Names.{with_name}

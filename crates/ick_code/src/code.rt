@@ -2,14 +2,14 @@
 
 ghost use Rattle.std.specs.Prelude.{◌≡◌, ◌≤◌, ◌<◌, length};
 ghost use Rattle.std.proofs.Props.{props};
-ghost use Rattle.ick_source.specs.Programs.{trees_of};
+ghost use Rattle.ick_syntax.specs.Programs.{trees_of};
 ghost use Rattle.ick_code.specs.Names.{most_names};
-ghost use Rattle.ick_source.specs.Refusals.{most_statements};
+ghost use Rattle.ick_syntax.specs.StatementTree.{most_statements};
 ghost use Rattle.ick_code.specs.Code.{IsCode};
 
 use crate::op::Op;
 use crate::table::Table;
-use ick_source::{Kind, Name, Program};
+use ick_syntax::{Kind, Name, Program};
 use std::snapshot::Snapshot;
 
 /// The bounds of a statement's operations in the list of all operations, and its chance, its state
@@ -46,7 +46,7 @@ pub struct Code<'a> {
 
 impl<'a> Code<'a> {
     ghost use Rattle.std.specs.Prelude.{Some, IsSomeAnd, slice_get, option_map};
-    ghost use Rattle.ick_source.specs.Kinds.{kind_of};
+    ghost use Rattle.ick_syntax.specs.Kinds.{kind_of};
     ghost use Rattle.ick_code.specs.Code.{Means, kinds_of};
     ghost use Rattle.ick_code.specs.Compiled.{code_program, code_slots, code_statement};
     ghost use Rattle.ick_code.specs.Compiled.{compiled_at, code_ops, code_operands, Shows};

@@ -1,9 +1,9 @@
 //! Compiles programs: gives each name a slot first, and then each statement its operations.
 
 ghost use Rattle.std.specs.Prelude.{◌≡◌, ◌++◌, true, [], OnOk, IfOk};
-ghost use Rattle.ick_source.specs.NameKinds.{is_body_kinded};
-ghost use Rattle.ick_source.specs.Programs.{trees_of};
-ghost use Rattle.ick_source.specs.BodyTree.{body_tree_of};
+ghost use Rattle.ick_syntax.specs.NameKinds.{is_body_kinded};
+ghost use Rattle.ick_syntax.specs.Programs.{trees_of};
+ghost use Rattle.ick_syntax.specs.BodyTree.{body_tree_of};
 ghost use Rattle.ick_code.specs.Tables.{table_slots};
 ghost use Rattle.ick_code.specs.Labels.{place_in};
 ghost use Rattle.ick_code.specs.Operations.{ops_of_body};
@@ -18,7 +18,7 @@ use crate::emit::{Draft, emit_body};
 use crate::labels::Labels;
 use crate::table::Table;
 use ick_bits::NoMemory;
-use ick_source::{Kind, Program, Statement};
+use ick_syntax::{Kind, Program, Statement};
 use std::alloc::Global;
 
 /// Compiles a program: each statement becomes a flat list of operations, with slots for names and

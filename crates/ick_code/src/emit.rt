@@ -3,10 +3,10 @@
 
 ghost use Rattle.std.specs.Prelude.{◌≡◌, ◌∷◌, [], true};
 ghost use Rattle.std.specs.List.{flat_map, list_all};
-ghost use Rattle.ick_source.specs.Tree.{tree_of, trees_in};
-ghost use Rattle.ick_source.specs.NameKinds.{count_in, are_few, is_kinded, are_kinded};
-ghost use Rattle.ick_source.specs.NameKinds.{is_item_kinded, is_body_kinded};
-ghost use Rattle.ick_source.specs.BodyTree.{target_tree, place_tree, item_tree, body_tree_of};
+ghost use Rattle.ick_syntax.specs.Tree.{tree_of, trees_in};
+ghost use Rattle.ick_syntax.specs.NameKinds.{count_in, are_few, is_kinded, are_kinded};
+ghost use Rattle.ick_syntax.specs.NameKinds.{is_item_kinded, is_body_kinded};
+ghost use Rattle.ick_syntax.specs.BodyTree.{target_tree, place_tree, item_tree, body_tree_of};
 ghost use Rattle.ick_code.specs.Names.{slot_in};
 ghost use Rattle.ick_code.specs.Tables.{table_slots};
 ghost use Rattle.ick_code.specs.Labels.{place_in};
@@ -19,7 +19,7 @@ ghost use Rattle.ick_code.specs.Emitted.{Emits};
 use crate::labels::Labels;
 use crate::op::{Op, SlotName};
 use crate::table::Table;
-use ick_source::{BinaryOp, Body, Element, Expr, Gerund, Item, Name, Place, Target, UnaryOp};
+use ick_syntax::{BinaryOp, Body, Element, Expr, Gerund, Item, Name, Place, Target, UnaryOp};
 
 /// Operations that are being appended. After a growth is refused, none is appended.
 #[derive(Drop)]

@@ -3,13 +3,13 @@
 ghost use Rattle.std.specs.Prelude.{◌≡◌, ℕ, ◌≤◌, length, map, OnOk, IfOk};
 ghost use Rattle.std.specs.BTreeMap.{get};
 ghost use Rattle.std.specs.Ordering.{nat_cmp};
-ghost use Rattle.ick_source.specs.StatementTree.{statement_tree_of};
+ghost use Rattle.ick_syntax.specs.StatementTree.{statement_tree_of};
 ghost use Rattle.ick_code.specs.meaning.Control.{is_label, place_of};
 ghost use Rattle.ick_code.specs.Labels.{with_place, place_in};
-ghost use Rattle.ick_source.specs.Refusals.{most_statements};
+ghost use Rattle.ick_syntax.specs.StatementTree.{most_statements};
 
 use ick_bits::NoMemory;
-use ick_source::Statement;
+use ick_syntax::Statement;
 use std::alloc::Global;
 use std::collections::BTreeMap;
 

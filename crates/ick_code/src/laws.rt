@@ -3,8 +3,8 @@
 
 ghost use Rattle.std.specs.Prelude.{◌≡◌, ◌<◌, ◌↔◌, ◌++◌, ℕ, Bool, true};
 ghost use Rattle.std.specs.Prelude.{false, List, Some, length};
-ghost use Rattle.ick_source.specs.declared.kinds.Kind.TheVariants.{WriteIn, ReadOut};
-ghost use Rattle.ick_source.specs.StatementTree.{StatementTree};
+ghost use Rattle.ick_syntax.specs.declared.kinds.Kind.TheVariants.{WriteIn, ReadOut};
+ghost use Rattle.ick_syntax.specs.StatementTree.{StatementTree};
 ghost use Rattle.ick_code.specs.meaning.State.{State, Ending};
 ghost use Rattle.ick_code.specs.meaning.Move.{ask, plain, choice, ended, advance, first_state};
 ghost use Rattle.ick_code.specs.Laws.{after_output, kind_at, IsWithin};

@@ -23,6 +23,6 @@ mod table;
 
 pub use code::Code;
 pub use compiler::compile;
-pub use ick_source::Kind;
+pub use ick_syntax::Kind;
 pub use laws::{law_of_asking, law_of_output_and_input, law_of_places};
 pub use op::{Op, SlotName};

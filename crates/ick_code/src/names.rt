@@ -5,13 +5,13 @@ ghost use Rattle.std.specs.List.{list_all, IsDistinct};
 ghost use Rattle.std.specs.BTreeMap.{get};
 ghost use Rattle.std.specs.Ordering.{nat_cmp};
 ghost use Rattle.std.proofs.lemmas.Map.Keys.{IsDistinct-prop};
-ghost use Rattle.ick_source.specs.declared.tree.Name.{Name as Named};
+ghost use Rattle.ick_syntax.specs.declared.tree.Name.{Name as Named};
 ghost use Rattle.ick_code.specs.meaning.State.{same_name};
 ghost use Rattle.ick_code.specs.Names.{found, slot_in, with_name, rank_of, kind_rank, is_short};
 ghost use Rattle.ick_code.specs.Names.{most_names};
 
 use ick_bits::NoMemory;
-use ick_source::{Name, NameKind};
+use ick_syntax::{Name, NameKind};
 use std::alloc::Global;
 use std::collections::BTreeMap;
 

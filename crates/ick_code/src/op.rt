@@ -1,6 +1,6 @@
 //! Operations over an operand stack.
 
-use ick_source::Gerund;
+use ick_syntax::Gerund;
 use std::mem::size_of;
 
 /// The slot of a scalar or of an array.

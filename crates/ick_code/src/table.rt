@@ -2,9 +2,9 @@
 
 ghost use Rattle.std.specs.Prelude.{◌≡◌, [], ◌∷◌, map, IfOk};
 ghost use Rattle.std.specs.List.{flat_map};
-ghost use Rattle.ick_source.specs.Tree.{tree_of, trees_in};
-ghost use Rattle.ick_source.specs.BodyTree.{target_tree, place_tree, item_tree, body_tree_of};
-ghost use Rattle.ick_source.specs.StatementTree.{statement_tree_of};
+ghost use Rattle.ick_syntax.specs.Tree.{tree_of, trees_in};
+ghost use Rattle.ick_syntax.specs.BodyTree.{target_tree, place_tree, item_tree, body_tree_of};
+ghost use Rattle.ick_syntax.specs.StatementTree.{statement_tree_of};
 ghost use Rattle.ick_code.specs.Names.{names_of_tree, names_of_trees, names_of_item, names_of_body};
 ghost use Rattle.ick_code.specs.Names.{names_of, slot_name};
 ghost use Rattle.ick_code.specs.Tables.{table_slots, with_names, no_slots, Adds};
@@ -12,7 +12,7 @@ ghost use Rattle.ick_code.specs.Tables.{table_slots, with_names, no_slots, Adds}
 use crate::names::Names;
 use crate::op::SlotName;
 use ick_bits::NoMemory;
-use ick_source::{Body, Element, Expr, Item, Name, NameKind, Place, Statement, Target};
+use ick_syntax::{Body, Element, Expr, Item, Name, NameKind, Place, Statement, Target};
 use std::alloc::Global;
 
 /// The names of scalars and of arrays, by their slots. After a growth is refused, no name gets a

@@ -6,7 +6,7 @@ use ick_instructions::Lowered;
 impl Memory {
     ghost use Rattle.std.specs.Prelude.{◌≡◌, ◌<◌, ◌≤◌, length, map, reverse, slice_get, Some};
     ghost use Rattle.ick_code.specs.Compiled.{code_program};
-    ghost use Rattle.ick_source.specs.declared.tree.Name.{Name};
+    ghost use Rattle.ick_syntax.specs.declared.tree.Name.{Name};
     ghost use Rattle.ick_engine.specs.Memory.{view_in};
     ghost use Rattle.ick_engine.specs.Steady.{IsReady};
     ghost use Rattle.ick_engine.specs.View.{Input, array_names, array_of, scalar_names, state_of};

@@ -4,10 +4,10 @@ use Rattle.std.specs.Prelude.{codes, replicate}
 use Rattle.std.specs.Fmt.{digits}
 use Rattle.ick_bits.specs.Numeral.{numeral_of, printed, symbols_of, digit_symbols, bar_line}
 use Rattle.ick_bits.specs.Quoted.{quoted, escaped}
-use Rattle.ick_source.specs.declared.body.Gerund.TheVariants.{ReadingOut}
-use Rattle.ick_source.specs.Tree.{mesh}
-use Rattle.ick_source.specs.StatementTree.{StatementTree}
-use Rattle.ick_source.specs.BodyTree.{next, abstain_kinds, give_up}
+use Rattle.ick_syntax.specs.declared.body.Gerund.TheVariants.{ReadingOut}
+use Rattle.ick_syntax.specs.Tree.{mesh}
+use Rattle.ick_syntax.specs.StatementTree.{StatementTree}
+use Rattle.ick_syntax.specs.BodyTree.{next, abstain_kinds, give_up}
 use Rattle.ick_code.specs.meaning.Move.{ask, advance, first_state}
 use Rattle.ick_code.proofs.RowWords.{plainly, labelled, prints}
 use Rattle.ick_explorer.specs.Runs.{run, wants}

@@ -5,7 +5,7 @@ use Rattle.std.specs.Prelude.{◌⊎◌, nat_lt, nat_le, ◌&&◌, option_map, i
 use Rattle.std.proofs.lemmas.Bool.{cases_lt, not-true, not-false}
 use Rattle.std.proofs.lemmas.Bool.Decides.{nat_tests}
 use Rattle.std.proofs.lemmas.Option.{slice_get_past}
-use Rattle.ick_source.specs.StatementTree.{StatementTree}
+use Rattle.ick_syntax.specs.StatementTree.{StatementTree}
 use Rattle.ick_code.specs.declared.code.Code.{Code}
 use Rattle.ick_code.specs.meaning.State.{State, Ending, statement_at}
 use Rattle.ick_code.specs.meaning.Move.{plain, choice, ask, ask_of, ask_at, is_uncertain}

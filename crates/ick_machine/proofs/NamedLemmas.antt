@@ -1,10 +1,10 @@
 -- What a map of names has at a name that it doesn't have.
 use Rattle.std.proofs.Common.{◌≡◌, ◌≢◌, ℕ, suc, Bool, true, false, List, [], ◌∷◌, Some, refl, ap}
 use Rattle.std.specs.Prelude.{slice_get, if◌then◌else◌}
-use Rattle.ick_source.specs.declared.tree.Name.{Name}
+use Rattle.ick_syntax.specs.declared.tree.Name.{Name}
 use Rattle.ick_code.specs.meaning.State.{same_name}
 use Rattle.ick_code.proofs.SameNames.{same_name_is}
-use Rattle.ick_source.specs.NameKinds.{is_array}
+use Rattle.ick_syntax.specs.NameKinds.{is_array}
 use Rattle.ick_engine.specs.View.{map_of, both}
 
 pub map_of-absent : {A : Type 0} (names : List Name) (xs : List A) (none : A) (name : Name) →

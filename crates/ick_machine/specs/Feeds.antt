@@ -6,7 +6,7 @@ use Rattle.std.proofs.Common.{false, refl, sym}
 use Rattle.std.proofs.lemmas.Bool.{false≢true}
 use Rattle.ick_bits.specs.declared.digits.DigitFault.{DigitFault}
 use Rattle.ick_bits.specs.declared.digits.DigitFault.TheVariants.{Word, TooLarge as TooLargeNumber}
-use Rattle.ick_source.specs.declared.kinds.Kind.TheVariants.{WriteIn}
+use Rattle.ick_syntax.specs.declared.kinds.Kind.TheVariants.{WriteIn}
 use Rattle.ick_code.specs.meaning.State.{State}
 use Rattle.ick_code.specs.Laws.{kind_at}
 use Rattle.ick_engine.specs.View.{Input}

@@ -4,7 +4,7 @@ use crate::copied::Copied;
 use crate::named;
 use crate::readers::{Inspect, left};
 use ick_engine::Array;
-use ick_source::Name;
+use ick_syntax::Name;
 
 impl<'c, 'a> Inspect for Copied<'c, 'a> {
     fn place(&self) -> u32 {

@@ -1,7 +1,7 @@
 //! Readers of the state that a memory represents, by the names of variables.
 
 ghost use Rattle.std.specs.Prelude.{◌≡◌, ◌≢◌, ℕ, map, reverse, slice_get, MatchOption, Some};
-ghost use Rattle.ick_source.specs.NameKinds.{is_array};
+ghost use Rattle.ick_syntax.specs.NameKinds.{is_array};
 ghost use Rattle.ick_code.specs.meaning.State.{same_name};
 ghost use Rattle.ick_engine.specs.Memory.{view_in};
 ghost use Rattle.ick_engine.specs.Steady.{IsReady};
@@ -10,7 +10,7 @@ ghost use Rattle.ick_engine.specs.View.{Input, array_names, array_of, scalar_nam
 use ick_code::Code;
 use ick_engine::{Array, Memory};
 use ick_instructions::Lowered;
-use ick_source::{Name, NameKind};
+use ick_syntax::{Name, NameKind};
 
 /// Returns whether two names are one.
 fn is_same(one: Name, other: Name) -> bool

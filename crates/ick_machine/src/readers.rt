@@ -5,7 +5,7 @@ ghost use Rattle.ick_engine.specs.View.{array_of};
 
 use ick_backtrack::Backtrack;
 use ick_engine::Array;
-use ick_source::Name;
+use ick_syntax::Name;
 
 /// A machine whose state can be read. Each call reads the present state and changes nothing. A name
 /// that the program doesn't have is that of a variable that is 0, or of an array that has no

@@ -4,7 +4,7 @@ use crate::named;
 use crate::readers::{Inspect, left};
 use crate::trailed::Trailed;
 use ick_engine::Array;
-use ick_source::Name;
+use ick_syntax::Name;
 
 impl<'c, 'a> Inspect for Trailed<'c, 'a> {
     fn place(&self) -> u32 {

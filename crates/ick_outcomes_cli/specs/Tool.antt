@@ -3,7 +3,7 @@ use Rattle.std.specs.Prelude.{◌≡◌, ◌<◌, ◌≤◌, ℕ, Bool, true, fa
 use Rattle.ick_bits.specs.Faults.{message_of}
 use Rattle.ick_bits.specs.declared.faults.FaultKind.{FaultKind}
 use Rattle.ick_source.specs.Refusals.{Compiles, IsRefused, longest}
-use Rattle.ick_source.specs.StatementTree.{StatementTree}
+use Rattle.ick_syntax.specs.StatementTree.{StatementTree}
 use Rattle.ick_code.specs.meaning.Move.{first_state}
 use Rattle.ick_backtrack.specs.Machine.{Program}
 use Rattle.ick_outcomes.specs.Lines.{IsSummaryText, IsTotal}

@@ -1,6 +1,6 @@
 -- Describes the answer, the output and the input of a streamed run.
 use Rattle.std.specs.Prelude.{◌≡◌, ℕ, ◌<◌, Bool, true, List, [], ◌++◌, take, Some, Result, Ok, Err}
-use Rattle.ick_source.specs.declared.kinds.Kind.TheVariants.{WriteIn}
+use Rattle.ick_syntax.specs.declared.kinds.Kind.TheVariants.{WriteIn}
 use Rattle.ick_code.specs.meaning.State.{State}
 use Rattle.ick_code.specs.Laws.{kind_at}
 use Rattle.ick_backtrack.specs.Machine.{Program}

@@ -1,7 +1,7 @@
 //! Expressions as text: `(op a b)` for an operator, `[name subscripts]` for an element.
 
 use crate::texts::{Text, append_name, append_number};
-use ick_source::{BinaryOp, Element, Expr, UnaryOp};
+use ick_syntax::{BinaryOp, Element, Expr, UnaryOp};
 
 /// Appends an expression with a space before it.
 pub fn append_expression(out: &mut Text, expression: &Expr) {

@@ -1,6 +1,6 @@
 //! `ick check`: how many statements a program has.
 ghost use Rattle.std.specs.Prelude.{◌≡◌, ◌+◌, ◌<◌, ◌^◌, IfOk, true};
-ghost use Rattle.ick_source.specs.Programs.{trees_of};
+ghost use Rattle.ick_syntax.specs.Programs.{trees_of};
 ghost use Rattle.ick_cli.specs.Ending.{Answers, LeavesWriter};
 ghost use Rattle.ick_cli.specs.Summary.{summary};
 ghost use Rattle.ick_cli.specs.Tool.{shown};
@@ -10,7 +10,7 @@ use crate::notice::Message;
 use crate::output::send;
 use ick_bits::{NoMemory, append_decimal};
 use ick_runs::ByteSink;
-use ick_source::Program;
+use ick_syntax::Program;
 use std::alloc::Global;
 
 /// Answers a program by the line that counts its statements.

@@ -1,7 +1,7 @@
 //! `ick list`: the statements of a program.
 ghost use Rattle.std.specs.Prelude.{◌≡◌, ◌+◌, ◌<◌, ◌^◌, true};
 ghost use Rattle.ick_source.specs.Listing.{listing};
-ghost use Rattle.ick_source.specs.Programs.{trees_of};
+ghost use Rattle.ick_syntax.specs.Programs.{trees_of};
 ghost use Rattle.ick_cli.specs.Ending.{Answers, LeavesWriter};
 ghost use Rattle.ick_cli.specs.Tool.{shown};
 
@@ -10,7 +10,8 @@ use crate::notice::Message;
 use crate::output::send;
 use ick_bits::NoMemory;
 use ick_runs::ByteSink;
-use ick_source::{Program, append_listing};
+use ick_syntax::Program;
+use ick_source::append_listing;
 use std::alloc::Global;
 
 /// Answers a program by the lines of its statements.

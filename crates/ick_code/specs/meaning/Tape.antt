@@ -4,7 +4,7 @@ use Rattle.std.specs.Prelude.{ℕ, zero, suc, ◌==◌, List, [], ◌∷◌, ◌
 use Rattle.std.specs.Prelude.{if◌then◌else◌}
 use Rattle.ick_bits.specs.Tape.{tape_position, tape_difference, reversed_byte}
 use Rattle.ick_bits.specs.declared.faults.FaultKind.TheVariants.{Hyperspace}
-use Rattle.ick_source.specs.declared.tree.Name.{Name}
+use Rattle.ick_syntax.specs.declared.tree.Name.{Name}
 use Rattle.ick_code.specs.meaning.State.{State, Array}
 use Rattle.ick_code.specs.meaning.Outcome.{Outcome, done, faults}
 use Rattle.ick_code.specs.meaning.Store.{set_array}

@@ -1,6 +1,6 @@
 use Rattle.std.proofs.Common.{refl}
 use Rattle.ick_source.specs.Listing.{listing}
-use Rattle.ick_source.specs.Programs.{trees_of}
+use Rattle.ick_syntax.specs.Programs.{trees_of}
 use Rattle.ick_code.specs.Compiled.{code_program}
 use Rattle.ick_cli.specs.Summary.{summary}
 use Rattle.ick_cli.specs.Tool.{shown}

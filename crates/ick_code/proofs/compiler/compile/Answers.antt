@@ -1,6 +1,6 @@
 use Rattle.std.proofs.Common.{map, ap, ◌∙◌}
-use Rattle.ick_source.specs.Programs.{trees_of}
-use Rattle.ick_source.specs.StatementTree.{statement_tree_of}
+use Rattle.ick_syntax.specs.Programs.{trees_of}
+use Rattle.ick_syntax.specs.StatementTree.{statement_tree_of}
 use Rattle.ick_code.specs.Names.{names_of}
 use Rattle.ick_code.specs.Tables.{with_names, no_slots}
 use Rattle.ick_code.proofs.Slotted.{with_names-slots_of}

@@ -2,9 +2,9 @@ use Rattle.std.proofs.Common.{◌≡◌, ℕ, max, map, sym, ap, ◌∙◌, take
 use Rattle.std.specs.Prelude.{slice_range}
 use Rattle.std.specs.List.{list_all}
 use Rattle.std.proofs.lemmas.Grind.{common_steps}
-use Rattle.ick_source.specs.Programs.{trees_of}
-use Rattle.ick_source.specs.StatementTree.{statement_tree_of}
-use Rattle.ick_source.specs.NameKinds.{is_statement_kinded}
+use Rattle.ick_syntax.specs.Programs.{trees_of}
+use Rattle.ick_syntax.specs.StatementTree.{statement_tree_of}
+use Rattle.ick_syntax.specs.NameKinds.{is_statement_kinded}
 use Rattle.ick_code.specs.meaning.Control.{place_of}
 use Rattle.ick_code.specs.Labels.{place_in}
 use Rattle.ick_code.specs.Code.{kinds_of}

@@ -1,5 +1,5 @@
 use Rattle.std.proofs.Common.{◌≡◌, map, take}
-use Rattle.ick_source.specs.StatementTree.{statement_tree_of}
+use Rattle.ick_syntax.specs.StatementTree.{statement_tree_of}
 use Rattle.ick_code.specs.Code.{kinds_of}
 use Rattle.ick_code.specs.Tables.{table_slots}
 use Rattle.ick_code.specs.Labels.{place_in}

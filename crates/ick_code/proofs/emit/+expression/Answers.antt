@@ -1,10 +1,10 @@
 use Rattle.std.proofs.Common.{◌+◌, ap, ◌∙◌, sym, subst, rules, arith}
-use Rattle.ick_source.specs.Tree.{tree_of, trees_in}
-use Rattle.ick_source.specs.NameKinds.{are_kinded}
+use Rattle.ick_syntax.specs.Tree.{tree_of, trees_in}
+use Rattle.ick_syntax.specs.NameKinds.{are_kinded}
 use Rattle.ick_code.specs.Tables.{table_slots}
 use Rattle.ick_code.specs.Operations.{ops_of_tree}
 use Rattle.ick_code.specs.Emitted.{Emits}
-use Rattle.ick_source.proofs.TreeLemmas.{tree_of-element}
+use Rattle.ick_syntax.proofs.TreeLemmas.{tree_of-element}
 use Rattle.ick_code.proofs.Trees.{kinded_at, kinded_element, count_is, few_fits}
 use Rattle.ick_code.proofs.Sizes.{sizes_of, smaller_element, smaller_member}
 use Rattle.ick_code.proofs.EmitLemmas.{emitted_more}

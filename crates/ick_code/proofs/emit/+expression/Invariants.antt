@@ -1,5 +1,5 @@
 use Rattle.std.proofs.Common.{◌+◌, take}
-use Rattle.ick_source.specs.Tree.{tree_of, trees_in}
+use Rattle.ick_syntax.specs.Tree.{tree_of, trees_in}
 use Rattle.ick_code.specs.Tables.{table_slots}
 use Rattle.ick_code.specs.Operations.{ops_of_trees}
 use Rattle.ick_code.proofs.Sizes.{size_of, sizes_of}

@@ -1,7 +1,7 @@
 use Rattle.std.proofs.Common.{ap, ◌∙◌}
 use Rattle.std.specs.List.{list_all}
-use Rattle.ick_source.specs.NameKinds.{is_item_kinded}
-use Rattle.ick_source.specs.BodyTree.{place_tree, item_tree}
+use Rattle.ick_syntax.specs.NameKinds.{is_item_kinded}
+use Rattle.ick_syntax.specs.BodyTree.{place_tree, item_tree}
 use Rattle.ick_code.proofs.Trees.{kinded_dimensions, kinded_places, kinded_items}
 use Rattle.ick_code.proofs.emit.emit_body.Goals as goal
 

@@ -1,4 +1,4 @@
-use Rattle.ick_source.specs.Programs.{trees_of}
+use Rattle.ick_syntax.specs.Programs.{trees_of}
 use Rattle.ick_code.specs.Compiled.{code_program}
 use Rattle.ick_outcomes_cli.specs.Job.{wanted}
 use Rattle.ick_outcomes_cli.proofs.Giving.{gives_refused, gives_so, leaves_nothing, leaves_refused, source_compiled}

@@ -1,5 +1,5 @@
 use Rattle.std.proofs.Common.{ap}
-use Rattle.ick_source.specs.Programs.{trees_of}
+use Rattle.ick_syntax.specs.Programs.{trees_of}
 use Rattle.ick_code.proofs.CodeLemmas.{is_compiled, named_code}
 use Rattle.ick_code.proofs.code.Code.new.Goals as goal
 

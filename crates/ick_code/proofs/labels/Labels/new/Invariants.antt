@@ -1,6 +1,6 @@
 use Rattle.std.proofs.Common.{◌≡◌, ℕ, ◌+◌, map, take, nat_cmp}
 use Rattle.std.specs.BTreeMap.{get}
-use Rattle.ick_source.specs.StatementTree.{statement_tree_of}
+use Rattle.ick_syntax.specs.StatementTree.{statement_tree_of}
 use Rattle.ick_code.specs.Labels.{first_place}
 use Rattle.ick_code.proofs.labels.Labels.new.Given as goal
 

@@ -3,7 +3,7 @@ use Rattle.std.proofs.Common.{Result, Ok, Err, IsOk}
 use Rattle.std.proofs.Common.{is_ok, if◌then◌else◌, sym, ap, ◌∙◌, subst, arith, rules, nat_cmp}
 use Rattle.std.specs.BTreeMap.{get, Updates}
 use Rattle.std.specs.List.{IsDistinct, list_all}
-use Rattle.ick_source.specs.declared.tree.Name.{Name}
+use Rattle.ick_syntax.specs.declared.tree.Name.{Name}
 use Rattle.ick_code.specs.meaning.State.{same_name}
 use Rattle.ick_code.specs.Names.{found, rank_of, is_short}
 use Rattle.ick_code.proofs.SlotLemmas.{few_names, once_more, short_more, indexed_more, among_indexed, with_present}

@@ -1,7 +1,7 @@
 use Rattle.std.proofs.Common.{ap, ◌∙◌}
-use Rattle.ick_source.specs.Tree.{tree_of, trees_in}
+use Rattle.ick_syntax.specs.Tree.{tree_of, trees_in}
 use Rattle.ick_code.specs.Names.{names_of_tree, names_of_trees}
-use Rattle.ick_source.proofs.TreeLemmas.{tree_of-element}
+use Rattle.ick_syntax.proofs.TreeLemmas.{tree_of-element}
 use Rattle.ick_code.proofs.TableLemmas.{came_more, trees-step, came_array}
 use Rattle.ick_code.proofs.table.Table.+adding.Goals as goal
 

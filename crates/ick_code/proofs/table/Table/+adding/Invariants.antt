@@ -1,5 +1,5 @@
 use Rattle.std.proofs.Common.{take}
-use Rattle.ick_source.specs.Tree.{trees_in}
+use Rattle.ick_syntax.specs.Tree.{trees_in}
 use Rattle.ick_code.specs.Names.{names_of_trees}
 use Rattle.ick_code.specs.Tables.{Adds}
 use Rattle.ick_code.proofs.table.Table.+adding.Given as goal

@@ -1,6 +1,6 @@
 use Rattle.std.proofs.Common.{ap, ◌∙◌, ◌∷◌}
-use Rattle.ick_source.specs.Tree.{trees_in}
-use Rattle.ick_source.specs.BodyTree.{body_tree_of}
+use Rattle.ick_syntax.specs.Tree.{trees_in}
+use Rattle.ick_syntax.specs.BodyTree.{body_tree_of}
 use Rattle.ick_code.specs.Names.{names_of_trees, names_of_body}
 use Rattle.ick_code.proofs.Trees.{names-listed}
 use Rattle.ick_code.proofs.TableLemmas.{came_array}

@@ -1,6 +1,6 @@
 use Rattle.std.proofs.Common.{map}
 use Rattle.std.specs.List.{flat_map}
-use Rattle.ick_source.specs.BodyTree.{place_tree}
+use Rattle.ick_syntax.specs.BodyTree.{place_tree}
 use Rattle.ick_code.specs.Names.{names_of_item}
 use Rattle.ick_code.proofs.TableLemmas.{came_more, mapped-step}
 use Rattle.ick_code.proofs.table.Table.add_places.Goals as goal

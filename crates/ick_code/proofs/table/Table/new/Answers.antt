@@ -1,6 +1,6 @@
 use Rattle.std.proofs.Common.{map, false}
-use Rattle.ick_source.specs.BodyTree.{body_tree_of}
-use Rattle.ick_source.specs.StatementTree.{statement_tree_of}
+use Rattle.ick_syntax.specs.BodyTree.{body_tree_of}
+use Rattle.ick_syntax.specs.StatementTree.{statement_tree_of}
 use Rattle.ick_code.specs.Names.{names_of_body, names_of}
 use Rattle.ick_code.proofs.TableLemmas.{came_more, mapped-step}
 use Rattle.ick_code.proofs.table.Table.new.Goals as goal

@@ -1,5 +1,5 @@
 use Rattle.std.proofs.Common.{take, map}
-use Rattle.ick_source.specs.StatementTree.{statement_tree_of}
+use Rattle.ick_syntax.specs.StatementTree.{statement_tree_of}
 use Rattle.ick_code.specs.Names.{names_of}
 use Rattle.ick_code.specs.Tables.{Adds}
 use Rattle.ick_code.proofs.table.Table.new.Given as goal
