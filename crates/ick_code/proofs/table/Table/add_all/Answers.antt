@@ -4,5 +4,5 @@ use Rattle.ick_code.proofs.table.Table.add_all.Goals as goal
 
 pub loop-name-preserved : goal.loop-name-preserved
 loop-name-preserved c =
-    came_more (λ l. l) (λ name. name ∷ []) (λ xs x. refl) c.args.self.now c.loop-name.self c.add.new.self c.args.names.now c.loop-name.name-index _ _
-    c.loop-name.invariant c.add.ensures c.loop-name-test.true refl
+    came_more (λ l. l) (λ name. name ∷ []) (λ xs x. refl) c.args.self.now c.loop-name.self c.add.new.self
+    c.args.names.now c.loop-name.name-index _ _ c.loop-name.invariant c.add.ensures c.loop-name-test.true refl
