@@ -4,8 +4,8 @@ use crate::expressions::{append_element, append_expression, append_expressions};
 use crate::stop::Stop;
 use crate::texts::{Text, append_name, append_number, append_shown};
 use ick_bits::FaultKind;
-use ick_syntax::{Body, Expr, Gerund, Item, Name, Place, Program, Statement, Target};
 use ick_source::{Refusal, read_source};
+use ick_syntax::{Body, Expr, Gerund, Item, Name, Place, Program, Statement, Target};
 use std::alloc::Global;
 use test_rows::Row;
 

@@ -5,8 +5,8 @@ use crate::sources::{gerunds, kind, listing, politeness};
 use crate::stop::Stop;
 use crate::texts::Text;
 use ick_code::{Code, compile};
-use ick_syntax::Program;
 use ick_source::read_source;
+use ick_syntax::Program;
 use std::alloc::Global;
 use test_rows::Row;
 

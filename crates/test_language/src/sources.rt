@@ -2,8 +2,8 @@
 
 use crate::stop::Stop;
 use crate::texts::{Text, append_number, append_refusal, append_shown};
-use ick_syntax::{Body, Program};
 use ick_source::{Refusal, read_source};
+use ick_syntax::{Body, Program};
 use std::alloc::Global;
 use test_rows::Row;
 

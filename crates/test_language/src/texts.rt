@@ -5,8 +5,8 @@ use ick_bits::{
     Fault, FaultKind, NoMemory, Value, Width, append_decimal, append_message, append_numeral,
     append_quoted,
 };
-use ick_syntax::{Name, NameKind, Program};
 use ick_source::{Refusal, append_listing};
+use ick_syntax::{Name, NameKind, Program};
 use std::alloc::Global;
 use std::fmt::Debug;
 

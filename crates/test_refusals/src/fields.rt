@@ -3,8 +3,8 @@
 use crate::stop::{Call, Stop, Wrong};
 use ick_code::{Code, compile};
 use ick_runs::{Cursor, RunsError};
-use ick_syntax::Program;
 use ick_source::{Refusal, read_source};
+use ick_syntax::Program;
 use std::alloc::Global;
 use test_rows::Row;
 

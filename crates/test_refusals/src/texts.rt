@@ -8,8 +8,8 @@ use ick_bits::{
 };
 use ick_machine::Live;
 use ick_runs::Cursor;
-use ick_syntax::Program;
 use ick_source::append_listing;
+use ick_syntax::Program;
 use test_rows::Row;
 
 /// What is appended.

@@ -10,8 +10,8 @@ use crate::notice::Message;
 use crate::output::send;
 use ick_bits::NoMemory;
 use ick_runs::ByteSink;
-use ick_syntax::Program;
 use ick_source::append_listing;
+use ick_syntax::Program;
 use std::alloc::Global;
 
 /// Answers a program by the lines of its statements.
