@@ -23,7 +23,7 @@ Exit status:
   2   the source is refused
   3   the run was cut short, or wants a choice
   4   a file, a stream or memory failed, or the input is too long
-  64  the words ask for nothing
+  64  wrong arguments
 
 Example:
   ick run examples/numerals.i
@@ -33,7 +33,7 @@ Example:
 Usage: ick check [FILE]
 
 Arguments:
-  [FILE]  The source; standard input where none is named
+  [FILE]  The source; standard input if none is given
 
 Options:
   -h, --help  Print help
@@ -44,7 +44,7 @@ Exit status:
   0   the source compiles
   2   it is refused
   4   a file, a stream or memory failed
-  64  the words ask for nothing
+  64  wrong arguments
 
 Example:
   ick check examples/bodies.i
@@ -54,19 +54,19 @@ Example:
 Usage: ick list [FILE]
 
 Arguments:
-  [FILE]  The source; standard input where none is named
+  [FILE]  The source; standard input if none is given
 
 Options:
   -h, --help  Print help
 
 Prints a line for each statement: its number, its label, DO or PLEASE,
-NOT where it is abstained from at the start, its chance, its kind and its text.
+NOT if it is abstained from at the start, its chance, its kind and its text.
 
 Exit status:
   0   the source compiles
   2   it is refused
   4   a file, a stream or memory failed
-  64  the words ask for nothing
+  64  wrong arguments
 
 Example:
   ick list examples/bodies.i
@@ -76,7 +76,7 @@ Example:
 Usage: ick run [OPTIONS] [FILE]
 
 Arguments:
-  [FILE]  The source; standard input where none is named
+  [FILE]  The source; standard input if none is given
 
 Options:
   -b                 Changes nothing: there is no random compiler bug to switch off
@@ -85,9 +85,9 @@ Options:
       --limit <N>    The steps after which a run is cut short
   -h, --help         Print help
 
-Prints what the program reads out. With FILE its input is standard input, and without it the
-input is empty. A run that asks for more choices than it is given stops there; with neither
---choices nor --seed it is given none. It is cut short after 1000000 steps where no limit is
+Prints what the program reads out. With FILE its input is standard input. Without FILE the
+input is empty. A run that asks for more choices than it is given stops there. With neither
+--choices nor --seed it is given none. It is cut short after 1000000 steps if no limit is
 given.
 
 Exit status:
@@ -96,7 +96,7 @@ Exit status:
   2   the source is refused
   3   the run was cut short, or wants a choice
   4   a file, a stream or memory failed
-  64  the words ask for nothing
+  64  wrong arguments
 
 Example:
   ick run examples/numerals.i
@@ -106,26 +106,26 @@ Example:
 Usage: ick runs [OPTIONS] [FILE]
 
 Arguments:
-  [FILE]  The source; standard input where none is named
+  [FILE]  The source; standard input if none is given
 
 Options:
   -b               Changes nothing: there is no random compiler bug to switch off
       --from <C>   The run to go on after, by its choices: --from=- for none
-      --count <N>  How many runs are shown at most, from 1 to 1000000; 1000 where none is given
+      --count <N>  How many runs are shown at most, from 1 to 1000000; 1000 if none is given
       --limit <N>  The steps after which a run is cut short
   -h, --help       Print help
 
 Prints a line for each run that the program can make, in the order of their choices:
-the choices, the end and the output. Then comes MORE where there are further runs, and
+the choices, the end and the output. The last line is MORE if there are further runs, and
 else DONE. With --from the listing goes on after the run with these choices. With FILE
-the input is standard input. Each run is cut short after 10000 steps where no limit is
+the input is standard input. Each run is cut short after 10000 steps if no limit is
 given.
 
 Exit status:
   0   the runs were listed
   2   the source is refused
   4   a file, a stream or memory failed, or the input is too long
-  64  the words ask for nothing
+  64  wrong arguments
 
 Example:
   ick runs examples/choice.i

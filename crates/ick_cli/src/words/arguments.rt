@@ -14,7 +14,7 @@ pub fn file_argument<'a>(alloc: Global) -> Arg<'a>
 {
     Arg::new(alloc, "file")
         .value_name("FILE")
-        .help("The source; standard input where none is named")
+        .help("The source; standard input if none is given")
 }
 
 /// Returns the option `-b`, which changes nothing.
@@ -82,5 +82,5 @@ pub fn count_argument<'a>(alloc: Global) -> Arg<'a>
         .long("count")
         .value_name("N")
         .value_parser(value_parser!(u32).range(1..=1_000_000))
-        .help("How many runs are shown at most, from 1 to 1000000; 1000 where none is given")
+        .help("How many runs are shown at most, from 1 to 1000000; 1000 if none is given")
 }
