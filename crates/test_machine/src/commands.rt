@@ -1,10 +1,10 @@
-//! The words of scripts.
+//! The commands of scripts.
 
 use crate::failure::Failure;
 
-/// A word of a script. `scripts` and `live` say what a machine does at each.
+/// A command of a script. `scripts` and `live` say what a machine does at each.
 #[derive(Clone, Copy)]
-pub enum Order {
+pub enum Command {
     Do,
     Pass,
     Go,
@@ -22,29 +22,29 @@ pub enum Order {
     Message,
 }
 
-const ORDERS: [(&[u8], Order); 15] = [
-    (b"do", Order::Do),
-    (b"pass", Order::Pass),
-    (b"go", Order::Go),
-    (b"finish", Order::Finish),
-    (b"mark", Order::Mark),
-    (b"back", Order::Back),
-    (b"drop", Order::Drop),
-    (b"clear", Order::Clear),
-    (b"asks", Order::Asks),
-    (b"output", Order::Output),
-    (b"work", Order::Work),
-    (b"marks", Order::Marks),
-    (b"rest", Order::Rest),
-    (b"failures", Order::Failures),
-    (b"message", Order::Message),
+const COMMANDS: [(&[u8], Command); 15] = [
+    (b"do", Command::Do),
+    (b"pass", Command::Pass),
+    (b"go", Command::Go),
+    (b"finish", Command::Finish),
+    (b"mark", Command::Mark),
+    (b"back", Command::Back),
+    (b"drop", Command::Drop),
+    (b"clear", Command::Clear),
+    (b"asks", Command::Asks),
+    (b"output", Command::Output),
+    (b"work", Command::Work),
+    (b"marks", Command::Marks),
+    (b"rest", Command::Rest),
+    (b"failures", Command::Failures),
+    (b"message", Command::Message),
 ];
 
-/// Returns the word that a text is.
-pub fn order_of(text: &[u8]) -> Result<Order, Failure> {
-    for (name, word) in &ORDERS {
+/// Returns the command that has this name.
+pub fn command_of(text: &[u8]) -> Result<Command, Failure> {
+    for (name, command) in &COMMANDS {
         if *name == text {
-            return Ok(*word);
+            return Ok(*command);
         }
     }
     Err(Failure::NoSuchWord)

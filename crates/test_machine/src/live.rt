@@ -10,10 +10,10 @@
 //! | `message` | adds the message of the fault that ended the run |
 
 use crate::answers::Answers;
+use crate::commands::{Command, command_of};
 use crate::failure::Failure;
 use crate::feeds::{Fed, TextFeed};
 use crate::fields::number;
-use crate::orders::{Order, order_of};
 use ick_code::Code;
 use ick_machine::{EndKind, LiveAsk};
 use std::alloc::Global;
@@ -34,7 +34,7 @@ pub fn answer(
     follow(alloc, &mut fed, row.field(b"script"), answers)
 }
 
-/// Does what the words of a script order.
+/// Executes the commands of a script.
 fn follow(
     alloc: Global,
     fed: &mut Fed<'_, '_, '_>,
@@ -42,26 +42,26 @@ fn follow(
     answers: &mut Answers,
 ) -> Result<(), Failure> {
     for word in script.split(|byte| *byte == b' ') {
-        obey(alloc, fed, order_of(word)?, answers)?;
+        obey(alloc, fed, command_of(word)?, answers)?;
     }
     Ok(())
 }
 
-/// Does what a word orders, or adds what it asks for.
+/// Executes a command, or adds the answer that it asks for.
 fn obey(
     alloc: Global,
     fed: &mut Fed<'_, '_, '_>,
-    order: Order,
+    command: Command,
     answers: &mut Answers,
 ) -> Result<(), Failure> {
-    match order {
-        Order::Finish => finish(fed, answers),
-        Order::Clear => Ok(fed.clear_output()),
-        Order::Asks => tell_asked(fed.asks(), answers),
-        Order::Output => answers.quote(fed.output()),
-        Order::Rest => answers.quote(fed.feed.text),
-        Order::Failures => answers.count(fed.feed.failures, b" failures"),
-        Order::Message => answers.quote(&fed.message(alloc)?),
+    match command {
+        Command::Finish => finish(fed, answers),
+        Command::Clear => Ok(fed.clear_output()),
+        Command::Asks => tell_asked(fed.asks(), answers),
+        Command::Output => answers.quote(fed.output()),
+        Command::Rest => answers.quote(fed.feed.text),
+        Command::Failures => answers.count(fed.feed.failures, b" failures"),
+        Command::Message => answers.quote(&fed.message(alloc)?),
         _ => Err(Failure::NoSuchWord),
     }
 }

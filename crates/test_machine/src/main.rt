@@ -13,8 +13,8 @@
 //! | `programs` | the code of a source |
 //! | `machines` | steps and marks of a machine |
 //! | `runs` | runs from the start and from marks |
-//! | `orders` | the words of scripts |
-//! | `scripts` | steps and marks as a script orders them |
+//! | `commands` | the commands of scripts |
+//! | `scripts` | steps and marks that a script commands |
 //! | `sides` | two machines with marks side by side |
 //! | `pairs` | steps and marks in random order on both machines with marks |
 //! | `feeds` | a text as a feed, and a machine that reads its input from it |
@@ -25,13 +25,13 @@
 mod alike;
 mod answers;
 mod both;
+mod commands;
 mod counts;
 mod failure;
 mod feeds;
 mod fields;
 mod live;
 mod machines;
-mod orders;
 mod pairs;
 mod programs;
 mod random_programs;

@@ -10,9 +10,9 @@
 //! | `work`, `marks` | adds the number of its steps, of its marks |
 
 use crate::answers::Answers;
+use crate::commands::{Command, command_of};
 use crate::failure::Failure;
 use crate::machines::{back, drop_mark, finish, go, mark, step};
-use crate::orders::{Order, order_of};
 use ick_machine::Asks;
 
 /// Adds the answers of a machine to the words of a script.
@@ -27,24 +27,24 @@ pub fn follow<'c, M: Asks<'c>>(
     Ok(())
 }
 
-/// Does what a word orders, or adds what it asks for.
+/// Executes a command, or adds the answer that it asks for.
 fn obey<'c, M: Asks<'c>>(
     machine: &mut M,
     word: &[u8],
     answers: &mut Answers,
 ) -> Result<(), Failure> {
-    match order_of(word)? {
-        Order::Do => step(machine, true),
-        Order::Pass => step(machine, false),
-        Order::Go => go(machine),
-        Order::Finish => finish(machine),
-        Order::Mark => mark(machine),
-        Order::Back => back(machine),
-        Order::Drop => drop_mark(machine),
-        Order::Asks => answers.ask(machine.asks()),
-        Order::Output => answers.quote(machine.output()),
-        Order::Work => answers.count(machine.work(), b" steps"),
-        Order::Marks => answers.count(machine.marks() as u64, b" marks"),
+    match command_of(word)? {
+        Command::Do => step(machine, true),
+        Command::Pass => step(machine, false),
+        Command::Go => go(machine),
+        Command::Finish => finish(machine),
+        Command::Mark => mark(machine),
+        Command::Back => back(machine),
+        Command::Drop => drop_mark(machine),
+        Command::Asks => answers.ask(machine.asks()),
+        Command::Output => answers.quote(machine.output()),
+        Command::Work => answers.count(machine.work(), b" steps"),
+        Command::Marks => answers.count(machine.marks() as u64, b" marks"),
         _ => Err(Failure::NoSuchWord),
     }
 }

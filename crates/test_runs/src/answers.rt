@@ -4,9 +4,9 @@ use crate::cursors::cursor;
 use crate::cut_short::cut_short;
 use crate::fields::code_of;
 use crate::generated::generated;
+use crate::interleaving::interleaving;
 use crate::listings::runs;
 use crate::many::many;
-use crate::order::order;
 use crate::seeds::{draw, later_draws, listed_draws, streamed_draws, words};
 use crate::stop::Stop;
 use crate::streams::stream;
@@ -79,8 +79,8 @@ fn answer_on(alloc: Global, code: &Code<'_>, row: &Row, out: &mut Vec<u8>) -> Re
 fn answer_on_one(alloc: Global, code: &Code<'_>, row: &Row, out: &mut Vec<u8>) -> Result<(), Stop> {
     if row.calls(b"stream") {
         stream(alloc, code, row, out)
-    } else if row.calls(b"order") {
-        order(alloc, code, row, out)
+    } else if row.calls(b"interleaving") {
+        interleaving(alloc, code, row, out)
     } else if row.calls(b"later draws") {
         later_draws(alloc, code, row, out)
     } else if row.calls(b"listed draws") {

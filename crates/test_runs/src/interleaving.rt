@@ -63,7 +63,12 @@ impl ByteSource for WatchingSource<'_> {
 
 /// Runs the program of a row, and appends how many bytes the writer had taken before the first read
 /// and at the end.
-pub fn order(alloc: Global, code: &Code<'_>, row: &Row, out: &mut Vec<u8>) -> Result<(), Stop> {
+pub fn interleaving(
+    alloc: Global,
+    code: &Code<'_>,
+    row: &Row,
+    out: &mut Vec<u8>,
+) -> Result<(), Stop> {
     let taken = Cell::new(0);
     let mut reader = WatchingSource {
         rest: SliceSource::new(row.field(b"input")),

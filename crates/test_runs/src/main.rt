@@ -12,7 +12,7 @@
 //! | `cut_short` | listings on a writer that fails |
 //! | `cursors` | texts of cursors |
 //! | `devices` | a reader and a writer that fail after so many bytes |
-//! | `streams`, `order` | runs whose input and output are streams |
+//! | `streams`, `interleaving` | runs whose input and output are streams |
 //! | `same` | runs that are held against one another |
 //! | `seeds` | runs whose choices a seed draws |
 //! | `generated` | listings of random programs |
@@ -27,9 +27,9 @@ mod devices;
 mod explorers;
 mod fields;
 mod generated;
+mod interleaving;
 mod listings;
 mod many;
-mod order;
 mod same;
 mod seeds;
 mod stop;
