@@ -1,12 +1,12 @@
 //! A text as a feed, and a machine that reads its input from it.
 
-ghost use Rattle.std.specs.Prelude.{◌≡◌, ◌==◌, ◌≤◌, length, true};
-ghost use Rattle.std.specs.List.{position_or_len};
+ghost use Rattle.std.specs.Prelude.{true};
 
 use crate::failure::Failure;
 use ick_code::Code;
 use ick_machine::{Feed, FeedFault, Live, LiveAsk};
 use std::alloc::Global;
+use test_rows::first_line;
 
 /// A text as a feed. A read fails when `unread` bytes are left.
 #[derive(Drop)]
@@ -48,10 +48,10 @@ impl Feed for TextFeed<'_> {
         if self.text.is_empty() {
             return Ok(false);
         }
-        let length = line_length(self.text);
+        let line = first_line(self.text);
         target.clear();
-        target.extend_from_slice(&self.text[..length])?;
-        let next = (length + 1).min(self.text.len());
+        target.extend_from_slice(line)?;
+        let next = (line.len() + 1).min(self.text.len());
         self.text = &self.text[next..];
         Ok(true)
     }
@@ -67,19 +67,6 @@ impl Feed for TextFeed<'_> {
         self.text = rest;
         Ok(Some(*byte))
     }
-}
-
-/// Returns the length of the first line.
-fn line_length(text: &[u8]) -> usize
-    ensures place { result ≡ position_or_len (λ b. b == 10) text.now }
-    ensures within { result ≤ length text.now }
-{
-    for (index, byte) in text.iter().enumerate() {
-        if *byte == b'\n' {
-            return index;
-        }
-    }
-    text.len()
 }
 
 /// A machine, and the feed that it reads its input from.

@@ -1,9 +1,9 @@
 //! A text as a feed.
 
-ghost use Rattle.std.specs.Prelude.{◌≡◌, ◌==◌, ◌≤◌, length, true};
-ghost use Rattle.std.specs.List.{position_or_len};
+ghost use Rattle.std.specs.Prelude.{true};
 
 use ick_machine::{Feed, FeedFault};
+use test_rows::first_line;
 
 /// A text as a feed. Only memory can be wanting.
 #[derive(Drop)]
@@ -28,10 +28,10 @@ impl Feed for TextFeed<'_> {
         if self.text.is_empty() {
             return Ok(false);
         }
-        let length = line_length(self.text);
+        let line = first_line(self.text);
         target.clear();
-        target.extend_from_slice(&self.text[..length])?;
-        let next = (length + 1).min(self.text.len());
+        target.extend_from_slice(line)?;
+        let next = (line.len() + 1).min(self.text.len());
         self.text = &self.text[next..];
         Ok(true)
     }
@@ -43,17 +43,4 @@ impl Feed for TextFeed<'_> {
         self.text = rest;
         Ok(Some(*byte))
     }
-}
-
-/// Returns the length of the first line.
-fn line_length(text: &[u8]) -> usize
-    ensures place { result ≡ position_or_len (λ b. b == 10) text.now }
-    ensures within { result ≤ length text.now }
-{
-    for (index, byte) in text.iter().enumerate() {
-        if *byte == b'\n' {
-            return index;
-        }
-    }
-    text.len()
 }

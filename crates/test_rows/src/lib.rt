@@ -6,15 +6,18 @@
 //!
 //! - `values`: the bytes that a value is written for
 //! - `rows`: rows, and how a text is cut into them
+//! - `lines`: the first line of a text
 //! - `numbers`: decimal numbers in the fields of a row
 //! - `tally`: how many rows hold
 #![tactic(auto)]
 
+mod lines;
 mod numbers;
 mod rows;
 mod tally;
 mod values;
 
+pub use lines::first_line;
 pub use numbers::{decimal, short_decimal};
 pub use rows::{Row, read_rows};
 pub use tally::Tally;
