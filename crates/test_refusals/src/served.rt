@@ -99,10 +99,13 @@ fn allowed(row: &Row, word: &[u8]) -> Result<u64, Stop> {
 pub fn served(context: &mut Context<'_>, row: &Row, rooms: Rooms) -> Result<Left, Stop> {
     let mut files = Shelf {
         bytes: row.field(b"source"),
-        rest: b"",
-        good: allowed(row, b"filereads")?,
+        source: WornSource {
+            rest: b"",
+            piece: u64::MAX,
+            good: allowed(row, b"filereads")?,
+            failures: 0,
+        },
         opened: 0,
-        failures: 0,
     };
     let mut reader = WornSource {
         rest: row.field(b"input"),
