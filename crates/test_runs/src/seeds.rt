@@ -7,7 +7,7 @@ use crate::fields::{code_of, number, short_number};
 use crate::same::{drawn_run, ended, ended_with, is_same, kind_of};
 use crate::stop::Stop;
 use crate::tasks::Task;
-use crate::texts::{append_choices, append_end, append_number};
+use crate::texts::{append_choices, append_end_name, append_number};
 use ick_bits::{NoMemory, append_quoted};
 use ick_code::Code;
 use ick_machine::{Asks, Backtrack, Copied};
@@ -155,7 +155,7 @@ fn drawn_from<'c>(
 fn append_run(out: &mut Vec<u8>, run: &Run<'_>) -> Result<(), NoMemory> {
     append_choices(out, &run.choices)?;
     out.push(b' ')?;
-    append_end(out, kind_of(&run.end))?;
+    append_end_name(out, kind_of(&run.end))?;
     append_number(out, b" after ", u64::from(run.steps))?;
     out.extend_from_slice(b" steps ")?;
     append_quoted(out, &run.output)

@@ -5,7 +5,7 @@ ghost use Rattle.std.specs.Prelude.{◌≡◌};
 use crate::devices::{WornSink, WornSource};
 use crate::fields::{choices, number, short_number};
 use crate::stop::Stop;
-use crate::texts::{append_choices, append_end, append_error, append_number};
+use crate::texts::{append_choices, append_end_name, append_error, append_number};
 use ick_bits::{NoMemory, append_quoted};
 use ick_code::Code;
 use ick_runs::{Chooser, RunsError, Streamed, run_stream};
@@ -14,7 +14,7 @@ use test_rows::Row;
 
 /// Appends how a run came out: its end, its message if it has one, its steps and its choices.
 fn append_streamed(out: &mut Vec<u8>, streamed: &Streamed) -> Result<(), NoMemory> {
-    append_end(out, streamed.end)?;
+    append_end_name(out, streamed.end)?;
     append_message(out, &streamed.message)?;
     append_number(out, b" after ", u64::from(streamed.steps))?;
     out.extend_from_slice(b" steps by \"")?;

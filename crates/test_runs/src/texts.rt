@@ -37,7 +37,7 @@ pub fn append_number(out: &mut Vec<u8>, before: &[u8], number: u64) -> Result<()
 }
 
 /// Appends the name of an end.
-pub fn append_end(out: &mut Vec<u8>, end: EndKind) -> Result<(), NoMemory> {
+pub fn append_end_name(out: &mut Vec<u8>, end: EndKind) -> Result<(), NoMemory> {
     match end {
         EndKind::GiveUp => Ok(out.extend_from_slice(b"GIVE-UP")?),
         EndKind::Limit => Ok(out.extend_from_slice(b"LIMIT")?),
