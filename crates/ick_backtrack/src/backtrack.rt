@@ -28,11 +28,11 @@ pub trait Backtrack: Drop {
     fn marks(&self) -> usize
         ensures { result ≡ length (seen self.now).marks };
 
-    /// Makes one step: does or passes over the statement that is met (Revised Manual, 4.3), or ends
-    /// the run by fault 633 past the last statement (this profile). The count of work rises by
-    /// one. Beside this call only `Asks::run` changes it.
+    /// Makes one step: does or passes over the statement that is met (Revised Manual, 4.3). Past the
+    /// last statement it ends the run by fault 633 (this profile). The count of work rises by one.
+    /// Beside this call only `Asks::run` changes the count.
     ///
-    /// `done` says whether a statement with a chance is done, if the machine asks that, and else it
+    /// If the machine asks for a choice, `done` says whether the statement is done. Else `done`
     /// changes nothing. The run must not have ended, and the count must be below 2^64 - 1. After
     /// `NoMemory` state, marks and count are unchanged.
     fn step(&mut self, done: bool) -> Result<(), NoMemory>
@@ -71,9 +71,9 @@ pub trait Backtrack: Drop {
 /// A machine with marks that tells what it asks, and goes on while it asks nothing. `'c` is the
 /// lifetime of the code: the message of a fault shows a text of it.
 pub trait Asks<'c>: Backtrack {
-    /// Returns what is asked before the next step (Revised Manual, 4.3): a choice, if the statement
-    /// that is met isn't abstained from and has a chance from 1 to 99; or nothing, if there is one
-    /// way to go on; or how the run ended.
+    /// Returns what is asked before the next step (Revised Manual, 4.3). A choice is asked if the
+    /// statement that is met has a chance from 1 to 99 and isn't abstained from. If there is one way
+    /// to go on, nothing is asked. If the run has ended, the answer says how.
     fn asks(&self) -> Ask<'c>
         ensures { let machine = Self.seen self.now in
             asked_of result ≡ Some (ask machine.program machine.state) };

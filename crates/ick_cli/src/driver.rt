@@ -30,8 +30,8 @@ use std::alloc::Global;
 ///
 /// The arguments are without the program's own name. If they name a file, `files` opens it, its
 /// bytes are the source, and the input of a run comes from `reader`. A run leaves in `reader`
-/// exactly the input that it has not read, and a listing of runs reads the input whole if the
-/// source compiles. Without a file the source comes from `reader`, which is read to its end before
+/// exactly the input that it has not read. A listing of runs reads the input whole if the source
+/// compiles. Without a file the source comes from `reader`, which is read to its end before
 /// anything is written, and the input is empty. The output goes to `writer`. The text of a refusal,
 /// a fault or a failure goes to `errors`, after the output. The arguments, the statuses and the
 /// texts are this profile's.
@@ -50,8 +50,8 @@ pub fn serve<F: Files, R: ByteSource, W: ByteSink, E: ByteSink>(
     requires writer_sound { W.failed writer.old + 1 < 2 ^ 64 }
     requires errors_sound { E.failed errors.old + 1 < 2 ^ 64 }
 
-    // Words that ask for a job, over devices that do what they say: there is an answer that is the
-    // tool's, and it is served.
+    // Arguments that ask for a job, over devices that do what they say: there is an answer that is
+    // the tool's, and it is served.
     ensures job { HasJob (texts words.entry.now) → F.told ≡ true → R.told ≡ true
         → W.told ≡ true → let job = job_of (texts words.entry.now) in
         (answer : Answer)
@@ -82,7 +82,7 @@ pub fn serve<F: Files, R: ByteSource, W: ByteSink, E: ByteSink>(
         × FinishesDue (IsLineDue line) E.told (E.failed errors.old) (E.failed errors.new)
         (E.written errors.old) (E.written errors.new) result }
 
-    // Other words: a mistake in them, or a request for help. Words may be both, as `help nope`.
+    // Other arguments: a mistake in them, or a request for help. They may be both, as `help nope`.
     ensures no_job { (fault_of ick_app (texts words.entry.now) ≢ [])
         → ((writer.new ≡ writer.old) × FinishesDue IsRefused
         E.told (E.failed errors.old) (E.failed errors.new)
@@ -103,7 +103,7 @@ pub fn serve<F: Files, R: ByteSource, W: ByteSink, E: ByteSink>(
     ensures untouched { (fault_of ick_app (texts words.entry.now) ≢ [])
         → (files.new ≡ files.old) × (reader.new ≡ reader.old) }
 
-    // Any words, over any devices.
+    // Any arguments, over any devices.
     ensures said { FinishesDue (IsDue
         (counts (F.failed files.old) (R.failed reader.old) (W.failed writer.old))
         (counts (F.failed files.new) (R.failed reader.new) (W.failed writer.new)))

@@ -27,9 +27,14 @@ impl Status {
         Status { code }
     }
 
-    /// Returns the exit status (this profile): 0 if all went well, 1 for a fault of the run, 2 for
-    /// a source that is refused, 3 for a run that reached its limit or wants a choice, 4 if a file,
-    /// a stream or memory failed or the input was too long, 64 for arguments that ask for nothing.
+    /// Returns the exit status (this profile):
+    ///
+    /// - 0 if all went well;
+    /// - 1 for a fault of the run;
+    /// - 2 for a source that is refused;
+    /// - 3 for a run that reached its limit or wants a choice;
+    /// - 4 if a file, a stream or memory failed, or the input was too long;
+    /// - 64 for wrong arguments.
     pub fn code(&self) -> u8
         ensures { result ≡ self.now }
     {

@@ -32,8 +32,8 @@ pub enum Subcommand<'a> {
     },
 }
 
-/// What the arguments ask for: what is to be done with the source in a file, or with the source
-/// that the reader has if no file is named.
+/// What the arguments ask for. The source is in the file, or comes from the reader if no file is
+/// named.
 #[derive(Clone, Copy)]
 pub struct Job<'a> {
     pub subcommand: Subcommand<'a>,
