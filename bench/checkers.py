@@ -12,8 +12,8 @@ file, by one write. SPIN's program is compiled and called in the plainest way, a
 a fast search. It writes nothing of a run, or the same lines as `ick` by blocks of the C library, or each of these lines
 by one write. Maude writes each last state into a file, by blocks.
 
-Printed are the least processor times of fifteen rounds (five for Maude), the system's share of each, and how many times
-as long as `ick` each takes. SPIN's times are without making and compiling its program. Nothing is judged.
+The table has the least processor times of fifteen rounds (five for Maude), the system's share of each, and how many
+times as long as `ick` each takes. SPIN's times don't include that its program is made and compiled. Nothing is judged.
 """
 import os
 import shutil

@@ -5,18 +5,19 @@
 
 It needs the built program (a call of ./ick builds it), Python 3.8 and Linux, and for the second table valgrind.
 
-Five programs. Three have twenty or sixteen chances, and so 1,048,576 or 65,536 runs: one makes 40,000 steps before its
-first chance and prints nothing, of one each run prints a numeral behind the chances, and one prints 204 bytes before
-them. The fourth has ten chances, and then each run goes through the loops of workloads.py: there nearly all steps are
-made in the runs' own parts, while marks stand. Each run of the fifth has a million choices. The first table has the
-least processor time of five listings, the runs and the steps a second, the nanoseconds a step, and the largest resident
-memory.
+There are five programs. Three have twenty or sixteen chances, and so 1,048,576 or 65,536 runs. The first of these makes
+40,000 steps before its first chance and prints nothing. The second prints a numeral behind the chances, and the third
+prints 204 bytes before them. The fourth program has ten chances, and then each run goes through the loops of
+workloads.py. So nearly all of its steps are made under marks. Each run of the fifth has a million choices. The first
+table has the least processor time of five listings, the runs and the steps a second, the nanoseconds a step, and the
+largest resident memory.
 
 The second table has the instructions that callgrind counts for a run: those of a listing of many runs less those of a
 listing of one run.
 
-And in turns, the least of twenty rounds each: a step of the fourth program's runs, while marks stand, and a step of the
-same loops by `ick run`, where nothing is marked. Nothing is judged.
+At last the script compares a step of the fourth program's runs, which is made under marks, with a step of the same
+loops by `ick run`, without marks. Both are measured in turns, and each is the least of twenty rounds. Nothing is
+judged.
 """
 import shutil
 import tempfile

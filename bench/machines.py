@@ -6,10 +6,10 @@
 It needs that program (`rt run` in crates/bench_steps builds it), Python 3.8 and Linux, and callgrind (Valgrind) for
 --instructions.
 
-For each program and machine the nanoseconds a step. The program makes a run once, and so often more that the further
-runs have some twenty million steps; what these take is measured, without what as many runs take of the same source with
-GIVE UP in front, which only make the machine. Each is the least processor time of ten rounds in each of which every
-machine is measured. All runs must make equally many steps. Nothing else is judged.
+The script prints the nanoseconds a step, for each program and machine. The program makes a run once, and then so many
+further runs that these have some twenty million steps. Their time is measured, less the time of as many runs of the
+same source with GIVE UP in front, which only make the machine. Each time is the least processor time of ten rounds, and
+each round measures every machine. All runs must make equally many steps. Nothing else is judged.
 
 With --instructions it prints the instructions a step that callgrind counts for a run of half a million steps, less
 those of a run of no step.

@@ -5,9 +5,9 @@
 
 It needs the built program (a call of ./ick builds it), Python 3.8 and Linux.
 
-For each source of sources.py and each of `ick check`, `ick list` and `ick run`, which compiles and then ends at its
-first fault or choice: the least processor time of five runs, the largest resident memory, and the exit status. Nothing
-is judged.
+The script calls `ick check`, `ick list` and `ick run` on each source of sources.py. `ick run` compiles the source, and
+ends at its first fault or choice. The table has the least processor time of five calls, the largest resident memory,
+and the exit status. Nothing is judged.
 """
 import os
 import subprocess

@@ -5,9 +5,9 @@
 
 PROGRAM is the program `ick`. Without --program the script takes the one that ./ick builds. Each NAME is a program of
 workloads.py. Without a NAME the script measures all. It needs Python 3.8 and Linux, and callgrind (Valgrind) for
---instructions. If C-INTERCAL is installed (Debian's package `intercal`, whose compiler is called `ick` too), its
-compiled programs are measured beside, in the same rounds, without and with its optimiser (-O). The script first checks
-that all print the same.
+--instructions. If C-INTERCAL is installed, its compiled programs are measured in the same rounds, without and with its
+optimiser (-O). It is Debian's package `intercal`, and its compiler is called `ick` too. The script first checks that
+all print the same.
 
 The first table is of the run alone: the least processor time of forty-one rounds, less the time before the first step.
 For `ick run` this is the time that it takes for the same source with GIVE UP in front, which it reads and compiles too.

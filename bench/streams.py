@@ -1,15 +1,15 @@
 #!/usr/bin/env python3
-"""Measures how long lines and numerals take: programs that read a line or print a numeral, or do both, 1,048,576 times,
+"""Measures how long lines and numerals take. The programs read a line or print a numeral, or do both, 1,048,576 times,
 by the built program's `ick run`.
 
   streams.py [PROGRAM]
 
-It needs the built program (a call of ./ick builds it), Python 3.8 and Linux. Where C-INTERCAL is installed (Debian's
-package `intercal`, whose compiler is called `ick` too), its compiled programs are measured beside, in the same rounds,
-without and with its optimiser (-O).
+It needs the built program (a call of ./ick builds it), Python 3.8 and Linux. If C-INTERCAL is installed, its compiled
+programs are measured in the same rounds, without and with its optimiser (-O). It is Debian's package `intercal`, and
+its compiler is called `ick` too.
 
-Each is measured with files as standard input and output, and with pipes: the least processor time of five rounds, and
-what of it the system took. Nothing is judged.
+Each program is measured with files as standard input and output, and with pipes. The table has the least processor time
+of five rounds, and the system's part of it. Nothing is judged.
 """
 import os
 import subprocess

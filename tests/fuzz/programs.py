@@ -1,6 +1,6 @@
-"""Makes random programs whose statements interact: subroutines and loops by NEXT, FORGET and RESUME, stashes of ignored
-names, arrays that get other dimensions under chances, ABSTAIN by label and by gerund, also of a GIVE UP with a label,
-loops that count, and Turing text. Each program comes with its listing.
+"""Makes random programs whose statements interact. They have subroutines and loops by NEXT, FORGET and RESUME, stashes
+of ignored names, and arrays that get other dimensions under chances. They ABSTAIN by label and by gerund, also from a
+GIVE UP with a label, and have loops that count and Turing text. Each program comes with its listing.
 """
 import collections
 

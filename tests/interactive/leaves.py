@@ -1,5 +1,5 @@
-"""What runs leave of their input for whoever reads there next, what comes where output and errors go to one place, and
-what is written at once. The texts are written out, from docs/MANUAL.md, and come from no run of the program.
+"""What runs leave of their input for the next reader, what comes if output and errors go to one place, and what is
+written at once. The texts are written out, from docs/MANUAL.md, and come from no run of the program.
 """
 from table import ECHOES, FAULTED, FAULTS, REFUSAL, REFUSED, Answer, Given, message
 
