@@ -4,7 +4,6 @@
 #![tactic(auto)]
 
 ghost use Rattle.std.specs.Prelude.{◌≡◌, ◌+◌, ◌<◌, ◌^◌, ◌⊎◌, IfErr, IfOk};
-ghost use Rattle.std.specs.Process.{exit_status};
 ghost use Rattle.clap.specs.Words.{fault_of};
 ghost use Rattle.ick_cli.specs.Notice.{notice_text};
 ghost use Rattle.ick_cli.specs.Serve.{Finishes, FinishesDue, IsStatus};
@@ -17,7 +16,7 @@ mod serving;
 
 use ick_cli::{Status, WordsFault, refuse_words};
 use ick_runs::ByteSink;
-use ick_system::{DiskFiles, InStream, OutStream, arguments};
+use ick_system::{DiskFiles, InStream, OutStream, arguments, exit_code};
 use serving::serve_arguments;
 use std::io::Lock;
 use std::process::ExitCode;
@@ -62,11 +61,4 @@ fn answer<E: ByteSink>(
         }
         Err(fault) => refuse_words(fault, errors),
     }
-}
-
-/// Returns the status in the system's form.
-fn exit_code(status: Status) -> ExitCode
-    ensures { exit_status result ≡ status }
-{
-    ExitCode::from(status.code())
 }
