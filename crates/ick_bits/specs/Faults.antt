@@ -7,7 +7,7 @@ use Rattle.ick_bits.specs.declared.faults.FaultKind.TheVariants.{LabelRange, Nam
 use Rattle.ick_bits.specs.declared.faults.FaultKind.TheVariants.{TooWide, NothingStashed, SixtyFour, NoInput}
 use Rattle.ick_bits.specs.declared.faults.FaultKind.TheVariants.{NoDigit, ResumeZero, Rupture, OffTheEdge}
 
--- the table: a kind's number, and its text up to the place where a subject is shown
+-- the table: a kind's number, and its text up to the subject
 abbrev pub entry_of : FaultKind → ℕ × List ℕ
 entry_of Unrecognised = (0, [])
 entry_of MeshTooLarge = (17, codes "DO YOU EXPECT ME TO FIGURE THIS OUT?")

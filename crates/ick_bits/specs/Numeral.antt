@@ -91,7 +91,7 @@ abbrev pub first_value : List Symbol → ℕ
 first_value [] = 0
 first_value (s ∷ ss) = symbol_value s
 
--- the sum of the symbols, each with a minus sign where the one right after it is worth more
+-- the sum of the symbols, each with a minus sign if the one right after it is worth more
 unfoldable pub worth : List Symbol → ℤ
 worth [] = pos 0
 worth (s ∷ ss) =

@@ -7,7 +7,7 @@ use Rattle.ick_bits.specs.Operators.{with_bits}
 abbrev pub byte_difference : ℕ → ℕ → ℕ
 byte_difference a b = (a + (256 - b % 256)) % 256
 
--- where the tape stands after a number was written, `last` being where it stood
+-- the position of the tape after a number was written, if it was at `last` before
 abbrev pub tape_position : ℕ → ℕ → ℕ
 tape_position last value = byte_difference last value
 

@@ -77,7 +77,7 @@ HasAnswer answer InputTooLong = (4 ≡ answer.status) × (notice_text notice.Inp
 HasAnswer answer FileNotRead = (4 ≡ answer.status) × (notice_text notice.FileNotRead ≡ answer.errors)
 HasAnswer answer _ = Unit {0}
 
--- all of the answer's output went out where the ending has the answer, and else a beginning of it
+-- all of the answer's output was written if the ending has the answer, and else a prefix of it
 abbrev pub Sends : List ℕ → Ending → List ℕ → List ℕ → Type 0
 Sends output (Answered status message) before after = after ≡ before ++ output
 Sends output InputTooLong before after = after ≡ before ++ output
@@ -99,12 +99,12 @@ abbrev pub WhereAnswered : Ending → Type 0 → Type 0
 WhereAnswered (Answered status message) Fact = Fact
 WhereAnswered _ Fact = Unit {0}
 
--- the source that a job is given: none exactly where the count of the files' failures rose
+-- the source that a job is given: none exactly if the count of the files' failures rose
 abbrev pub source_of : Option (List ℕ) → (List ℕ → List ℕ) → ℕ → ℕ → List ℕ → Option (List ℕ)
 source_of None named before after left = Some left
 source_of (Some name) named before after left = if before == after then Some (named name) else None
 
--- the input of a job: what the reader has, where the source is a file's
+-- the input of a job: what the reader has, if the source is a file's
 abbrev pub input_of : Option (List ℕ) → List ℕ → List ℕ
 input_of file left = if is_some file then left else []
 

@@ -60,7 +60,7 @@ number_in bits id rows = option_and_then (number_of bits) (one_of id rows)
 abbrev pub number_or : Text → List Row → ℕ → ℕ
 number_or id rows usual = unwrap_or (number_in 32 id rows) usual
 
--- a run, and a listing of runs, with what is usual where a number isn't given
+-- a run, and a listing of runs, with the usual number if none is given
 abbrev pub run_in : List Row → Task
 run_in rows =
     to_run (text_in (codes "choices") rows) (number_in 64 (codes "seed") rows) (number_or (codes "limit") rows 1000000)
@@ -80,7 +80,7 @@ task_named name rows = if bytes_eq name (codes "check") then to_check
 abbrev pub asked_of : Text → List Row → Asked
 asked_of name rows = record { task = task_named name rows; file = text_in (codes "file") rows }
 
--- where no command is named, a run with no argument
+-- a run without arguments, if no command is named
 abbrev pub asked_in : Option (Text × List Row) → Asked
 asked_in found = option_map_or (λ p. asked_of p.0 p.1) found (record { task = run_in []; file = None })
 

@@ -19,9 +19,9 @@ counts files reads writes = record { files = files; reads = reads; writes = writ
 abbrev pub IsStatus : ℕ → Type 0
 IsStatus code = (code ≤ 4) ⊎ (code ≡ 64)
 
--- The error text and the status that are due. No device failed, and the status is any but 4; or it is 4, and the text
--- is the line of the device that failed, once, or that of an input that is too long or of want of memory, where none
--- failed.
+-- The error text and the status that are owed. If a device failed, the status is 4, and the text is the line of this
+-- device, once. If none failed, the status is any but 4, or it is 4 with the line of an input that is too long or of
+-- memory that ran out.
 pub data IsDue (old new : Failures) : List ℕ → ℕ → Type 0 where
   nothing_failed : (text : List ℕ) (status : ℕ) → new ≡ old → (status ≤ 3) ⊎ (status ≡ 64) →
       IsDue old new text status

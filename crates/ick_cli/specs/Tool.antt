@@ -87,7 +87,7 @@ pub data IsRunsAnswer (program : Program) (s : State) (limit count : ℕ) : Opti
       → IsRunsAnswer program s limit count (Some c) (refusal 64 (notice_text notice.NoSuchRun))
 
 -- the answer of a program's runs over an input: of the one with given choices, of the one whose choices a seed draws,
--- or of their listing, where the input isn't too long
+-- or of their listing, if the input isn't too long
 pub data IsExecuted (program : Program) (input : List ℕ) : Runs → Answer → Type 0 where
   ran : (choices : Option (List Bool)) (limit : ℕ) → IsExecuted program input (Given choices limit)
       (run_answer (run program (first_state program input) limit (unwrap_or choices [])))
@@ -116,7 +116,7 @@ pub data IsSourceAnswer (plan : Plan) (source input : List ℕ) : Answer → Typ
       → IsProgramAnswer trees input plan answer
       → IsSourceAnswer plan source input answer
 
--- the answer to a source that is none where the file did not open or a read of it failed
+-- the answer to a source; there is none if the file did not open or a read of it failed
 pub data IsReadAnswer (plan : Plan) (input : List ℕ) : Option (List ℕ) → Answer → Type 0 where
   not_read : IsReadAnswer plan input None (refusal 4 (notice_text notice.FileNotRead))
   read : (source : List ℕ) (answer : Answer) → IsSourceAnswer plan source input answer

@@ -45,7 +45,7 @@ pub data IsHelped (told : Bool) (failed failed' : ℕ) (before after : List ℕ)
   help_without_memory : failed' ≡ failed → after ≡ before
       → IsHelped told failed failed' before after (notice_text OutOfMemory) 4
 
--- what is due where the words can't be had
+-- what is owed if the arguments can't be read
 abbrev pub words_notice : WordsFault → Notice
 words_notice NoMemory = OutOfMemory
 words_notice NotText = WordsNotRead

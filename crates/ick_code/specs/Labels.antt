@@ -7,13 +7,13 @@ use Rattle.ick_syntax.specs.StatementTree.{StatementTree}
 use Rattle.ick_code.specs.declared.labels.Labels.{Labels}
 use Rattle.ick_code.specs.meaning.Control.{is_label}
 
--- the number of the first statement with a label, where there is one
+-- the number of the first statement with a label, if there is one
 abbrev pub first_place : ℕ → List StatementTree → Option ℕ
 first_place label [] = None
 first_place label (statement ∷ rest) =
     if is_label label statement.label then Some 1 else option_map suc (first_place label rest)
 
--- a place that is known stays; else it is the new one, where the label is that of the statement there
+-- a place that is known stays; else it is the new one, if the statement there has the label
 abbrev pub with_place : Option ℕ → Bool → ℕ → Option ℕ
 with_place (Some place) is_here new = Some place
 with_place None true new = Some new

@@ -77,7 +77,7 @@ slots_of program = record {
   arrays = each_once (filter is_array_name (names_of program));
 }
 
--- where a name stands in a list
+-- the position of a name in a list
 abbrev pub found : List Name → Name → Option ℕ
 found [] name = None
 found (other ∷ names) name = if same_name name other then Some 0 else option_map suc (found names name)
@@ -90,11 +90,11 @@ abbrev pub slot_name : Slots → Name → SlotName
 slot_name slots name =
     if is_array name.kind then Array (slot_in slots.arrays name) else Scalar (slot_in slots.scalars name)
 
--- the names with one more at the end, where it isn't among them
+-- the names, with one more at the end unless it is among them
 abbrev pub with_name : List Name → Name → List Name
 with_name names name = if is_among name names then names else names ++ name ∷ []
 
--- where a name stands among all names, number by number
+-- the position of a name among all names, number by number
 abbrev pub kind_rank : NameKind → ℕ
 kind_rank Onespot = 0
 kind_rank Twospot = 1

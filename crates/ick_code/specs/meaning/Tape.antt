@@ -9,17 +9,17 @@ use Rattle.ick_code.specs.meaning.State.{State, Array}
 use Rattle.ick_code.specs.meaning.Outcome.{Outcome, done, faults}
 use Rattle.ick_code.specs.meaning.Store.{set_array}
 
--- the bytes that elements are printed as, where the tape stands at `last`
+-- the bytes that elements are printed as, if the tape is at `last`
 abbrev pub tape_bytes : ℕ → List ℕ → List ℕ
 tape_bytes last [] = []
 tape_bytes last (v ∷ vs) = reversed_byte (tape_position last v) ∷ tape_bytes (tape_position last v) vs
 
--- where the tape stands after elements were printed
+-- the position of the tape after elements were printed
 abbrev pub tape_after : ℕ → List ℕ → ℕ
 tape_after last [] = last
 tape_after last (v ∷ vs) = tape_after (tape_position last v) vs
 
--- the numbers that n elements get from the bytes of an input, where the last byte read was `lastin`; past its end 256
+-- the numbers that n elements get from the bytes of an input, if the last byte read was `lastin`; past its end 256
 abbrev pub tape_numbers : ℕ → ℕ → List ℕ → List ℕ
 tape_numbers zero lastin input = []
 tape_numbers (suc n) lastin [] = 256 ∷ tape_numbers n lastin []
