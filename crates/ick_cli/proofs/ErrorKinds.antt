@@ -16,7 +16,7 @@ among P k (x ∷ xs) each (inr h) = among P k xs each.1 h
 pub memory_is_mistake : (k : ErrorKind) → k ≡ kind.OutOfMemory → IsMistake k
 memory_is_mistake k e = (λ h. cc, λ h. cc)
 
--- where the words ask for a job, an error is want of memory
+-- if the arguments ask for a job, an error says that memory ran out
 pub memory_ran_out : (error : Error) (kinds : Kinds) → kinds ≡ [] → HasKind kinds error →
     kind_of error ≡ kind.OutOfMemory
 memory_ran_out error kinds none (inl e) = e

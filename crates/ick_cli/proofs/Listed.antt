@@ -62,7 +62,7 @@ wrote_all told s count old new w w' says answer is_told writes is =
     let wrote = writes is.runs is.listing in
     subst (λ (a : Answer). Answers a (Answered 0 Nothing) w w') (sym is.shown_is) ((refl, refl), wrote.text is_told)
 
--- what was written behind w is a beginning of a text
+-- what was written behind w is a prefix of a text
 behind : (w w' x text : List ℕ) → w' ≡ w ++ x → IsBeginning x text → (n : ℕ) × (w' ≡ w ++ take n text)
 behind w w' x text e (n, h) = (n, e ∙ ap (λ t. w ++ t) h)
 

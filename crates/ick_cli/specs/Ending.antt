@@ -64,7 +64,7 @@ LeavesStreams ending reads reads' writes writes' = Leaves ending 0 0 reads reads
 abbrev pub LeavesWriter : Ending → ℕ → ℕ → Type 0
 LeavesWriter ending writes writes' = LeavesStreams ending 0 0 writes writes'
 
--- an answer with this status and error text, or want of memory
+-- an answer with this status and error text, or memory ran out
 abbrev pub EndsBy : ℕ → List ℕ → Ending → Type 0
 EndsBy status text (Answered given message) = (given ≡ status) × (message_text message ≡ text)
 EndsBy status text NoMemory = Unit {0}

@@ -84,7 +84,7 @@ asked_of name rows = record { task = task_named name rows; file = text_in (codes
 abbrev pub asked_in : Option (Text × List Row) → Asked
 asked_in found = option_map_or (λ p. asked_of p.0 p.1) found (record { task = run_in []; file = None })
 
--- the words ask for a job: by the law of clap their parse fails for want of memory alone
+-- the arguments ask for a job: by the law of clap their parse fails only if memory runs out
 abbrev pub HasJob : List Text → Type 0
 HasJob words = fault_of ick_app words ≡ []
 

@@ -54,7 +54,7 @@ pub data IsUnplanned : Task → Notice → Type 0 where
   from_unread : (text : Option Text) (count limit : ℕ) (line : Notice) → IsUnread limit text line
       → IsUnplanned (to_list_runs text count limit) line
 
--- an ending by one of these lines, with the status of usage, or want of memory
+-- an ending by one of these lines, with the status of usage, or memory ran out
 abbrev pub EndsByLine : (Notice → Type 0) → Ending → Type 0
 EndsByLine IsLine (Answered status (Line line)) = (status ≡ 64) × IsLine line
 EndsByLine IsLine (Answered status _) = ⊥

@@ -31,8 +31,8 @@ pub data IsDue (old new : Failures) : List ℕ → ℕ → Type 0 where
   input_long : new ≡ old → IsDue old new (notice_text InputTooLong) 4
   memory_failed : new ≡ old → IsDue old new (notice_text OutOfMemory) 4
 
--- The error text and the status that are due to a job that has this answer, behind what was written. They are the
--- answer's, and all of its output is written; or reader, writer or memory failed, and a beginning of it is.
+-- The error text and the status that are owed to a job that has this answer, after what was written. They are the
+-- answer's, and all of its output is written. If reader, writer or memory failed, a prefix of it is written.
 pub data IsServed (answer : Answer) (old new : Failures) (before after : List ℕ) : List ℕ → ℕ → Type 0 where
   answered : new.reads ≡ old.reads → new.writes ≡ old.writes → after ≡ before ++ answer.output
       → IsServed answer old new before after answer.errors answer.status
@@ -49,7 +49,7 @@ pub data IsLineDue (line : Notice) : List ℕ → ℕ → Type 0 where
   line_due : IsLineDue line (notice_text line) 64
   line_without_memory : IsLineDue line (notice_text OutOfMemory) 4
 
--- The text was written behind what stood on the error stream, and the status is the one given; or a beginning of the
+-- The text was written behind what stood on the error stream, and the status is the one given; or a prefix of the
 -- text was, a write of it failed, and the status is 4.
 pub record Finishes (told : Bool) (status : ℕ) (text : List ℕ)
     (failed failed' : ℕ) (errors errors' : List ℕ) (code : ℕ) : Type 0 where

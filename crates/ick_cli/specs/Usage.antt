@@ -35,7 +35,7 @@ pub data IsRefused : List ℕ → ℕ → Type 0 where
   refused_without_memory : IsRefused (notice_text OutOfMemory) 4
 
 -- What is due to a request for help, behind what was written: a text of clap is written, and nothing is said; or the
--- writer failed, once, and a beginning of the text is written; or memory ran out, and nothing is.
+-- writer failed, once, and a prefix of the text is written; or memory ran out, and nothing is.
 pub data IsHelped (told : Bool) (failed failed' : ℕ) (before after : List ℕ) : List ℕ → ℕ → Type 0 where
   helped : (text : List ℕ) → failed' ≡ failed → (told ≡ true → after ≡ before ++ text)
       → IsHelped told failed failed' before after [] 0

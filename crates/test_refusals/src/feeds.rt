@@ -5,7 +5,7 @@ ghost use Rattle.std.specs.Prelude.{true};
 use ick_machine::{Feed, FeedFault};
 use test_rows::first_line;
 
-/// A text as a feed. Only memory can be wanting.
+/// A text as a feed. It fails only if memory runs out.
 #[derive(Drop)]
 pub struct TextFeed<'t> {
     pub text: &'t [u8],
