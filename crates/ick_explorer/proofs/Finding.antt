@@ -51,11 +51,10 @@ arrived s l p m c points n f e w a = record {
   keeps = subst (λ q. Keeps q s l c m.marks points) e w.keeps;
 }
 
--- what two clauses say of an answer that is no error
-pub both_ok : {T E : Type 0} {P Q R : T → Type 0} (r : Result T E) → ((x : T) → P x → Q x → R x) → IfOk r P →
-    IfOk r Q → IfOk r R
-both_ok (Ok x) f p q = f x p q
-both_ok (Err e) f p q = tt
+-- what a clause says of an answer that is no error
+pub ok_so : {T E : Type 0} {P Q : T → Type 0} (r : Result T E) → ((x : T) → P x → Q x) → IfOk r P → IfOk r Q
+ok_so (Ok x) f p = f x p
+ok_so (Err e) f p = tt
 
 pub finds_first : (l : ℕ) (m m' : Machine) (c c' : List Bool) (points points' : List ℕ) (n : ℕ) (f : Finish) →
     c ≡ [] → IsMarked l m c points → Goes Down l m c points 0 m' c' points' n → EndsHere l m' n f →

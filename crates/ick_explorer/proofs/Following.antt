@@ -1,17 +1,16 @@
 -- How a machine is led along the run of given choices.
-use Rattle.std.proofs.Common.{◌≡◌, ◌≢◌, ℕ, zero, suc, ◌+◌, ◌<◌, ◌≤◌, Bool, true, false}
+use Rattle.std.proofs.Common.{◌≡◌, ◌≢◌, ℕ, zero, suc, ◌+◌, ◌<◌, ◌≤◌, Bool, true, false, inl, inr}
 use Rattle.std.proofs.Common.{List, [], ◌∷◌, ◌++◌, length, take, drop, nat_eq, refl, ap, sym, ◌∙◌, subst, arith}
-use Rattle.std.specs.Prelude.{Option, Some, None, IfSome, IfNone, is_some, slice_get}
+use Rattle.std.specs.Prelude.{Option, Some, None, slice_get}
 use Rattle.std.proofs.lemmas.Bool.Decides.{nat_tests}
 use Rattle.std.proofs.lemmas.List.{take-append-drop, length-take}
-use Rattle.ick_code.specs.meaning.Move.{ask}
+use Rattle.ick_code.specs.meaning.Move.{Asking, plain, choice, ended, ask}
 use Rattle.ick_backtrack.specs.Machine.{Machine}
-use Rattle.ick_backtrack.specs.Asked.{Finish, finish_of}
-use Rattle.ick_backtrack.specs.declared.asking.End.{End}
+use Rattle.ick_backtrack.specs.Asked.{Finish, finished, at_limit, IsGoing}
 use Rattle.ick_explorer.specs.Runs.{run, wants, IsWhole, IsEnd}
 use Rattle.ick_explorer.specs.Marked.{IsMarked}
-use Rattle.ick_explorer.specs.Walks.{Walks, IsChoosing, EndsHere, Moves, Follows}
-use Rattle.ick_explorer.proofs.RunLaws.{Leads-wants, Leads-ends}
+use Rattle.ick_explorer.specs.Walks.{Walks, IsChoosing, IsOver, EndsHere, Moves, Follows}
+use Rattle.ick_explorer.proofs.RunLaws.{Leads-wants, Leads-ends, ends_finished, ends_limit}
 use Rattle.ick_explorer.proofs.Marks.{choice_of}
 use Rattle.ick_explorer.proofs.Finding.{walks_start, arrives, arrived}
 
@@ -70,15 +69,20 @@ ended_path c₀ path c z e taken is t =
     let same : path ≡ z = is ∙ ap (λ x. x ++ z) e in
     same ∙ (taken ∙ take_whole c (length z) (ap length (sym same) ∙ tested_same (length path) (length c) t))
 
--- the end that a way has come to
-pub end_of : (l : ℕ) (m : Machine) (n : ℕ) (end : Option End) → is_some end ≡ true →
-    IfSome end (λ e. EndsHere l m n (finish_of e)) → (f : Finish) × EndsHere l m n f
-end_of l m n (Some e) t h = (finish_of e, h)
-end_of l m n None t h = cc
+-- the end of a run that is over
+pub end_of : (l : ℕ) (m : Machine) (n : ℕ) → IsOver l m n → (f : Finish) × EndsHere l m n f
+end_of l m n over = cases (ask m.program m.state) refl
+  where
+    limited : IsGoing (ask m.program m.state) → (f : Finish) × EndsHere l m n f
+    limited going = elim over [
+      | inl stopped ↦ absurd (stopped going)
+      | inr at ↦ (at_limit, ends_limit l m n at going)
+    ]
 
-pub no_end_of : {P : Type 0} (end : Option End) → is_some end ≡ false → IfNone end P → P
-no_end_of (Some e) t h = cc
-no_end_of None t h = h
+    cases : (a : Asking) → ask m.program m.state ≡ a → (f : Finish) × EndsHere l m n f
+    cases plain is = limited (subst IsGoing (sym is) tt)
+    cases (choice chance) is = limited (subst IsGoing (sym is) tt)
+    cases (ended x) is = (finished x, ends_finished l m n x is)
 
 -- at the end of a run with all choices used
 pub ended_whole : (l : ℕ) (old m : Machine) (c : List Bool) (used : ℕ) (points : List ℕ) (n : ℕ)

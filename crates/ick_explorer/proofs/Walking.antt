@@ -6,7 +6,7 @@ use Rattle.std.proofs.lemmas.List.{map-append, length_push, take_more}
 use Rattle.std.proofs.lemmas.Option.{slice_get_within, get_or_from_slice_get}
 use Rattle.std.specs.Prelude.{Some}
 use Rattle.ick_code.specs.meaning.State.{State}
-use Rattle.ick_code.specs.meaning.Move.{plain, choice, ask, advance}
+use Rattle.ick_code.specs.meaning.Move.{plain, choice, ended, ask, advance}
 use Rattle.ick_backtrack.specs.Machine.{Program, Machine}
 use Rattle.ick_backtrack.specs.Asked.{Finish, finished, at_limit, finish_of, asked_at_end, asked_of, IsGoing}
 use Rattle.ick_backtrack.specs.Steps.{IsPlain, HasRun, Rests}
@@ -32,6 +32,15 @@ asks_end asked e l n m i a = by (finish_of e) (sym (ap asked_of i) ∙ a)
   where
     by : (f : Finish) → asked_at_end f ≡ Some (ask m.program m.state) → EndsHere l m n f
     by (finished x) h = ends_finished l m n x cc
+    by at_limit h = cc
+
+-- .. and its run is over
+pub asks_over : (asked : Ask) (e : End) (m : Machine) → asked ≡ Ended e →
+    asked_of asked ≡ Some (ask m.program m.state) → ¬ IsGoing (ask m.program m.state)
+asks_over asked e m i a = by (finish_of e) (sym (ap asked_of i) ∙ a)
+  where
+    by : (f : Finish) → asked_at_end f ≡ Some (ask m.program m.state) → ¬ IsGoing (ask m.program m.state)
+    by (finished x) h = let e : ask m.program m.state ≡ ended x = cc in λ going. subst IsGoing e going
     by at_limit h = cc
 
 pub asks_chance : (asked : Ask) (k : ℕ) (m : Machine) → asked ≡ Choice k →

@@ -1,10 +1,10 @@
 -- Describes how an explorer leads its machine along runs, for its private contracts.
-use Rattle.std.specs.Prelude.{◌≡◌, ℕ, ◌+◌, ◌-◌, ◌<◌, ◌≤◌, Bool, true, false, List, [], ◌∷◌}
+use Rattle.std.specs.Prelude.{◌≡◌, ℕ, ◌+◌, ◌-◌, ◌<◌, ◌≤◌, ◌⊎◌, Bool, true, false, List, [], ◌∷◌}
 use Rattle.std.specs.Prelude.{◌++◌, length, take, slice_get, Option, Some, None}
 use Rattle.ick_code.specs.meaning.State.{State}
 use Rattle.ick_code.specs.meaning.Move.{ask}
 use Rattle.ick_backtrack.specs.Machine.{Program, Machine}
-use Rattle.ick_backtrack.specs.Asked.{Finish}
+use Rattle.ick_backtrack.specs.Asked.{Finish, IsGoing}
 use Rattle.ick_explorer.specs.Runs.{run, ends, stays}
 use Rattle.ick_explorer.specs.Listings.{IsLeastAfter}
 use Rattle.ick_explorer.specs.Paths.{Leads, AllZeros, TurnsAt}
@@ -21,6 +21,10 @@ pub record Walks (s : State) (limit : ℕ) (m : Machine) (c : List Bool) (points
 -- the machine asks a choice
 abbrev pub IsChoosing : Machine → Type 0
 IsChoosing m = is_choice (ask m.program m.state) ≡ true
+
+-- the machine has made n steps and its run is over: it has ended, or no more steps are allowed
+abbrev pub IsOver : (limit : ℕ) → Machine → (n : ℕ) → Type 0
+IsOver limit m n = (¬ IsGoing (ask m.program m.state)) ⊎ (n ≡ limit)
 
 -- the machine has made n steps and its run ends here, for every list of choices left
 pub record EndsHere (limit : ℕ) (m : Machine) (n : ℕ) (finish : Finish) : Type 0 where

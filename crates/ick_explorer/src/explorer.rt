@@ -40,14 +40,15 @@ pub struct Explorer<M: Backtrack> {
 }
 
 impl<M: Backtrack> Explorer<M> {
+    ghost use Rattle.std.specs.Prelude.{ℕ};
     ghost use Rattle.ick_explorer.specs.Explorers.{explored};
     ghost use Rattle.ick_code.specs.meaning.State.{State};
     ghost use Rattle.ick_explorer.specs.Runs.{IsWhole};
     ghost use Rattle.ick_explorer.specs.Standing.{Stands, HasMore, IsAtLast, HasFailed, Gives, IsFull};
     ghost use Rattle.ick_explorer.specs.Standing.{IsMachineFull, Resumes, zeros_of};
-    ghost use Rattle.ick_backtrack.specs.Asked.{finish_of};
+    ghost use Rattle.ick_backtrack.specs.Asked.{Finish, finish_of};
     ghost use Rattle.ick_explorer.specs.Lines.{line_of};
-    ghost use Rattle.ick_explorer.specs.Walks.{Reaches};
+    ghost use Rattle.ick_explorer.specs.Walks.{EndsHere, IsOver, Reaches};
 
     /// Returns an explorer before the first run from the machine's state. Each run has at most
     /// `limit` steps. The machine must have no marks. This call makes no step.
@@ -215,9 +216,10 @@ impl<M: Backtrack> Explorer<M> {
         ensures program { (explored self.new).program ≡ (explored self.old).program }
         ensures limit { (explored self.new).limit ≡ (explored self.old).limit }
     {
-        let Some((steps, end)) = self.advance()? else {
+        let Some(steps) = self.advance()? else {
             return Ok(None);
         };
+        let end = self.end_here();
         match self.copy_run(steps, end) {
             Ok(run) => Ok(Some(run)),
             Err(NoMemory) => {
@@ -227,9 +229,8 @@ impl<M: Backtrack> Explorer<M> {
         }
     }
 
-    /// Moves to the next run, and returns its number of steps and its end. Returns `None` if no run
-    /// is left. The refusals, and the state after each of them, are those of `next`.
-    pub(crate) fn advance<'c>(&mut self) -> Result<Option<(u32, End<'c>)>, RunsError>
+    /// Moves to the next run, and returns its number of steps. Returns `None` if no run is left. The refusals, and the state after each of them, are those of `next`.
+    pub(crate) fn advance<'c>(&mut self) -> Result<Option<u32>, RunsError>
     where
         M: Asks<'c>,
         ensures failed { result ≡ Err RunsError.Failed ↔ (explored self.old).failed ≡ true }
@@ -240,10 +241,13 @@ impl<M: Backtrack> Explorer<M> {
         ensures refused { IfErr result (λ e.
             (e ≡ RunsError.NoMemory) ⊎ (explored self.new ≡ explored self.old)) }
         ensures no_memory { result ≡ Err RunsError.NoMemory → HasFailed (explored self.new) }
-        ensures some { IfOk result (λ found. IfSome found (λ r.
+        ensures over { IfOk result (λ found.
+            IfSome found (IsOver self.new.limit (M.seen self.new.machine))) }
+        ensures some { IfOk result (λ found. IfSome found (λ steps. (finish : Finish) →
+            EndsHere self.new.limit (M.seen self.new.machine) steps finish →
             (s : State) → Stands s (explored self.old) →
             Reaches s (explored self.old) (explored self.new) self.new.path.choices
-            r.0 (finish_of r.1))) }
+            steps finish)) }
         ensures none { IfOk result (λ found.
             IfNone found ((explored self.new ≡ explored self.old)
             × ((s : State) → Stands s (explored self.old) → IsAtLast s (explored self.old)))) }
@@ -283,6 +287,17 @@ impl<M: Backtrack> Explorer<M> {
                 Err(RunsError::NoMemory)
             }
         }
+    }
+
+    /// Returns how the run at the explorer's position ends.
+    #[inline(always)]
+    pub(crate) fn end_here<'c>(&self) -> End<'c>
+    where
+        M: Asks<'c>,
+        ensures { (limit n : ℕ) → IsOver limit (M.seen self.now.machine) n →
+            EndsHere limit (M.seen self.now.machine) n (finish_of result) }
+    {
+        walk::end_here(&self.machine)
     }
 
     /// Returns the run at the explorer's position, which has made this number of steps and has this

@@ -5,13 +5,13 @@ ghost use Rattle.std.specs.Prelude.{◌≤◌, ◌^◌, [], ◌∷◌, ◌++◌}
 ghost use Rattle.std.specs.Prelude.{length, None, Some, IfOk, IfSome, IfNone, OnOk, OnErr};
 ghost use Rattle.ick_code.specs.meaning.State.{State};
 ghost use Rattle.ick_code.specs.meaning.Move.{ask};
-ghost use Rattle.ick_backtrack.specs.Asked.{finish_of, IsGoing};
+ghost use Rattle.ick_backtrack.specs.Asked.{Finish, finish_of};
 ghost use Rattle.ick_explorer.specs.Runs.{IsWhole};
 ghost use Rattle.ick_explorer.specs.Listings.{zeros_in};
 ghost use Rattle.ick_explorer.specs.Paths.{TurnsAt};
 ghost use Rattle.ick_explorer.specs.Marked.{IsMarked};
 ghost use Rattle.ick_explorer.specs.Standing.{StandsAfter, StandsFrom, place_of, has_failed};
-ghost use Rattle.ick_explorer.specs.Walks.{IsChoosing, EndsHere, Moves, given_by, Goes};
+ghost use Rattle.ick_explorer.specs.Walks.{IsChoosing, IsOver, EndsHere, Moves, given_by, Goes};
 ghost use Rattle.ick_explorer.specs.Walks.{IsStranded, TurnsBack, Finds, Follows};
 ghost use Rattle.ick_explorer.specs.declared.walk.Way.TheVariants.{Down};
 
@@ -107,7 +107,7 @@ impl<'a> Way<'a> {
 
 /// Leads the machine until the run ends, or until a choice is asked that the way doesn't have.
 /// `start` counts the steps made before this call, and must be at most `limit`. Returns the number
-/// of steps made from the start of the run, and the end, if the run has ended.
+/// of steps made from the start of the run, and whether the run has ended.
 #[inline(always)]
 fn lead<'c, M: Asks<'c>>(
     machine: &mut M,
@@ -115,31 +115,30 @@ fn lead<'c, M: Asks<'c>>(
     limit: u32,
     start: u32,
     way: Way<'_>,
-) -> Result<(u32, Option<End<'c>>), NoMemory>
+) -> Result<(u32, bool), NoMemory>
     requires within { start ≤ limit }
     requires room { (M.seen machine.old).work + limit < 2 ^ 64 + start }
     ensures program { (M.seen machine.new).program ≡ (M.seen machine.old).program }
     ensures goes { IfOk result (λ r. Goes way.entry limit
         (M.seen machine.old) path.old.choices path.old.points.items start
         (M.seen machine.new) path.new.choices path.new.points.items r.0) }
-    ensures end { IfOk result (λ r. IfSome r.1 (λ end.
-        EndsHere limit (M.seen machine.new) r.0 (finish_of end))) }
-    ensures stranded { IfOk result (λ r. IfNone r.1 (IsStranded way.entry limit
-        (M.seen machine.new) path.old.choices path.new.choices r.0)) }
+    ensures over { IfOk result (λ r. r.1 ≡ true → IsOver limit (M.seen machine.new) r.0) }
+    ensures stranded { IfOk result (λ r. r.1 ≡ false → IsStranded way.entry limit
+        (M.seen machine.new) path.old.choices path.new.choices r.0) }
 {
     let mut steps = start;
     let mut used = 0;
     'on: loop {
         let asked = machine.asks();
-        if let Ask::Ended(end) = asked {
-            return Ok((steps, Some(end)));
+        if let Ask::Ended(_) = asked {
+            return Ok((steps, true));
         }
         if steps == limit {
-            return Ok((steps, Some(End::Limit)));
+            return Ok((steps, true));
         }
         if let Ask::Choice(_) = asked {
             let Some(done) = way.at(used) else {
-                return Ok((steps, None));
+                return Ok((steps, false));
             };
             choose(machine, path, limit, steps, done)?;
             used += 1;
@@ -152,26 +151,37 @@ fn lead<'c, M: Asks<'c>>(
 }
 
 /// Goes on with a zero at each choice until the run ends. `start` counts the steps made before this
-/// call, and must be at most `limit`. Returns the number of steps made from the start of the run,
-/// and the end.
+/// call, and must be at most `limit`. Returns the number of steps made from the start of the run.
 #[inline(always)]
 fn go_down<'c, M: Asks<'c>>(
     machine: &mut M,
     path: &mut Path,
     limit: u32,
     start: u32,
-) -> Result<(u32, End<'c>), NoMemory>
+) -> Result<u32, NoMemory>
     requires within { start ≤ limit }
     requires room { (M.seen machine.old).work + limit < 2 ^ 64 + start }
     ensures program { (M.seen machine.new).program ≡ (M.seen machine.old).program }
     ensures down { IfOk result (λ r. Goes Down limit
         (M.seen machine.old) path.old.choices path.old.points.items start
-        (M.seen machine.new) path.new.choices path.new.points.items r.0) }
-    ensures end { IfOk result (λ r. EndsHere limit (M.seen machine.new) r.0 (finish_of r.1)) }
+        (M.seen machine.new) path.new.choices path.new.points.items r) }
+    ensures over { IfOk result (IsOver limit (M.seen machine.new)) }
 {
     match lead(machine, path, limit, start, Way::Down)? {
-        (steps, Some(end)) => Ok((steps, end)),
-        (_, None) => unreachable!(),
+        (steps, true) => Ok(steps),
+        (_, false) => unreachable!(),
+    }
+}
+
+/// Returns how the run ends at whose end the machine is: as the machine answers, or at the limit.
+#[inline(always)]
+pub(crate) fn end_here<'c, M: Asks<'c>>(machine: &M) -> End<'c>
+    ensures { (limit n : ℕ) → IsOver limit (M.seen machine.now) n →
+        EndsHere limit (M.seen machine.now) n (finish_of result) }
+{
+    match machine.asks() {
+        Ask::Ended(end) => end,
+        _ => End::Limit,
     }
 }
 
@@ -197,8 +207,8 @@ pub(crate) fn follow<'c, M: Asks<'c>>(
     ensures not_whole { IfOk result (λ whole. whole ≡ false →
         ¬ IsWhole (M.seen machine.old).program (M.seen machine.old).state limit choices.now) }
 {
-    let (_, end) = lead(machine, path, limit, 0, Way::Along(choices))?;
-    Ok(end.is_some() && path.choices.as_slice().len() == choices.len())
+    let (_, ended) = lead(machine, path, limit, 0, Way::Along(choices))?;
+    Ok(ended && path.choices.as_slice().len() == choices.len())
 }
 
 /// Drops all marks.
@@ -223,13 +233,13 @@ pub(crate) fn forget<M: Backtrack>(machine: &mut M, path: &mut Path)
     path.points.clear();
 }
 
-/// Moves to the first run, and returns its number of steps and its end. The path must be empty. The
-/// answer is `NoMemory` if this call runs out of memory.
+/// Moves to the first run, and returns its number of steps. The path must be empty. The answer is
+/// `NoMemory` if this call runs out of memory.
 fn find_first<'c, M: Asks<'c>>(
     machine: &mut M,
     path: &mut Path,
     limit: u32,
-) -> Result<(u32, End<'c>), NoMemory>
+) -> Result<u32, NoMemory>
     requires marked { IsMarked limit
         (M.seen machine.old) path.old.choices path.old.points.items }
     requires none { path.old.choices ≡ [] }
@@ -239,20 +249,19 @@ fn find_first<'c, M: Asks<'c>>(
         (M.seen machine.new) path.new.choices path.new.points.items) }
     ensures within { IfOk result (λ _.
         (M.seen machine.new).work ≤ (M.seen machine.old).work + limit) }
-    ensures found { IfOk result (λ r. Finds (M.seen machine.old).state limit None
+    ensures over { IfOk result (IsOver limit (M.seen machine.new)) }
+    ensures found { IfOk result (λ r. (finish : Finish) →
+        EndsHere limit (M.seen machine.new) r finish →
+        Finds (M.seen machine.old).state limit None
         (M.seen machine.old) (M.seen machine.new) path.new.choices path.new.points.items
-        r.0 (finish_of r.1)) }
+        r finish) }
 {
     go_down(machine, path, limit, 0)
 }
 
-/// Moves to the run after the run that the path names, and returns its number of steps and its end.
-/// The path must have a zero. The answer is `NoMemory` if this call runs out of memory.
-fn find_next<'c, M: Asks<'c>>(
-    machine: &mut M,
-    path: &mut Path,
-    limit: u32,
-) -> Result<(u32, End<'c>), NoMemory>
+/// Moves to the run after the run that the path names, and returns its number of steps. The path
+/// must have a zero. The answer is `NoMemory` if this call runs out of memory.
+fn find_next<'c, M: Asks<'c>>(machine: &mut M, path: &mut Path, limit: u32) -> Result<u32, NoMemory>
     requires marked { IsMarked limit
         (M.seen machine.old) path.old.choices path.old.points.items }
     requires more { 0 < length path.old.points.items }
@@ -262,26 +271,28 @@ fn find_next<'c, M: Asks<'c>>(
         (M.seen machine.new) path.new.choices path.new.points.items) }
     ensures within { IfOk result (λ _.
         (M.seen machine.new).work ≤ (M.seen machine.old).work + limit) }
-    ensures found { IfOk result (λ r. (s : State) →
+    ensures over { IfOk result (IsOver limit (M.seen machine.new)) }
+    ensures found { IfOk result (λ r. (finish : Finish) →
+        EndsHere limit (M.seen machine.new) r finish → (s : State) →
         StandsAfter (M.seen machine.old).program s limit path.old.choices
         (M.seen machine.old).marks path.old.points.items →
         Finds s limit (Some path.old.choices)
         (M.seen machine.old) (M.seen machine.new) path.new.choices path.new.points.items
-        r.0 (finish_of r.1)) }
+        r finish) }
 {
     let turned = turn_back(machine, path, limit)?;
     go_down(machine, path, limit, turned)
 }
 
-/// Moves to the run after the explorer's position, and returns its number of steps and its end. The
-/// explorer must not have failed, and a further run must exist. The answer is `NoMemory` if this
-/// call runs out of memory.
+/// Moves to the run after the explorer's position, and returns its number of steps. The explorer
+/// must not have failed, and a further run must exist. The answer is `NoMemory` if this call runs
+/// out of memory.
 pub(crate) fn find<'c, M: Asks<'c>>(
     machine: &mut M,
     path: &mut Path,
     limit: u32,
     progress: Progress,
-) -> Result<(u32, End<'c>), NoMemory>
+) -> Result<u32, NoMemory>
     requires sound { has_failed progress ≡ false }
     requires marked { IsMarked limit
         (M.seen machine.old) path.old.choices path.old.points.items }
@@ -293,12 +304,14 @@ pub(crate) fn find<'c, M: Asks<'c>>(
         (M.seen machine.new) path.new.choices path.new.points.items) }
     ensures within { IfOk result (λ _.
         (M.seen machine.new).work ≤ (M.seen machine.old).work + limit) }
-    ensures found { IfOk result (λ r. (s : State) →
+    ensures over { IfOk result (IsOver limit (M.seen machine.new)) }
+    ensures found { IfOk result (λ r. (finish : Finish) →
+        EndsHere limit (M.seen machine.new) r finish → (s : State) →
         StandsFrom (M.seen machine.old).program s limit (place_of progress path.old.choices)
         (M.seen machine.old).state (M.seen machine.old).marks path.old.points.items →
         Finds s limit (place_of progress path.old.choices)
         (M.seen machine.old) (M.seen machine.new) path.new.choices path.new.points.items
-        r.0 (finish_of r.1)) }
+        r finish) }
 {
     match progress {
         Progress::Fresh => find_first(machine, path, limit),

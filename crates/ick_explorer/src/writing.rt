@@ -38,10 +38,11 @@ fn write_next<'c, M: Asks<'c>, W: ByteSink>(
     if !explorer.more() {
         return Ok(false);
     }
-    let Some(found) = explorer.advance()? else {
+    let Some(_) = explorer.advance()? else {
         return Ok(false);
     };
-    if explorer.build_line(lines, found.1).is_err() {
+    let end = explorer.end_here();
+    if explorer.build_line(lines, end).is_err() {
         explorer.fail();
         return Err(RunsError::NoMemory);
     }

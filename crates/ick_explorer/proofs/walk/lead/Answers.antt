@@ -1,30 +1,19 @@
-use Rattle.std.proofs.Common.{◌≡◌, ◌∙◌, ◌<◌, ◌+◌, ◌∷◌, [], length, ap, arith}
+use Rattle.std.proofs.Common.{◌≡◌, ◌∙◌, ◌<◌, length, ap, arith, inl, inr}
 use Rattle.std.specs.Prelude.{Some}
 use Rattle.std.proofs.lemmas.Grind.{common_steps}
 use Rattle.std.proofs.lemmas.List.{length_push}
 use Rattle.ick_explorer.specs.Walks.{given_by}
-use Rattle.ick_explorer.proofs.RunLaws.{ends_limit}
-use Rattle.ick_explorer.proofs.Walking.{asks_end, asks_plain, asks_going, moves_plain, made_some}
+use Rattle.ick_explorer.proofs.Walking.{asks_over, asks_plain, moves_plain, made_some}
 use Rattle.ick_explorer.proofs.Walking.{goes_plainly, goes_by}
 use Rattle.ick_explorer.proofs.walk.lead.Goals as goal
 
-pub returns-in-Ended-clause-end : goal.returns-in-Ended-clause-end
-returns-in-Ended-clause-end g c =
-    asks_end c.asks-asked.result c.in-Ended.end c.args.limit c.on.steps (g.M.Backtrack.seen c.on.machine)
-    c.in-Ended.is c.asks-asked.ensures
+pub returns-in-Ended-clause-over : goal.returns-in-Ended-clause-over
+returns-in-Ended-clause-over g c = λ _.
+    inl (asks_over c.asks-asked.result c.in-Ended.field-0 (g.M.Backtrack.seen c.on.machine) c.in-Ended.is
+    c.asks-asked.ensures)
 
-pub returns-then-steps-limit : goal.returns-then-steps-limit
-returns-then-steps-limit g c =
-    let m = g.M.Backtrack.seen c.on.machine in
-    let at : c.on.steps ≡ c.args.limit = grind (arith, common_steps) in
-    record {
-      program = c.on.invariant.goes.moves.program;
-      goes = c.on.invariant.goes;
-      end =
-          ends_limit c.args.limit m c.on.steps at
-          (asks_going c.asks-asked.result m c.in_default.not-Ended c.asks-asked.ensures);
-      stranded = tt;
-    }
+pub returns-then-steps-limit-clause-over : goal.returns-then-steps-limit-clause-over
+returns-then-steps-limit-clause-over g c = λ _. inr (grind (arith, common_steps))
 
 pub on-preserved-in-Choice : goal.on-preserved-in-Choice
 on-preserved-in-Choice g c =

@@ -1,11 +1,11 @@
 use Rattle.std.proofs.Common.{◌≡◌, rules, sym, subst, ◌∙◌}
 use Rattle.std.specs.Prelude.{Err}
 use Rattle.ick_code.specs.meaning.State.{State}
-use Rattle.ick_backtrack.specs.Asked.{finish_of}
+use Rattle.ick_backtrack.specs.Asked.{Finish, finish_of}
 use Rattle.ick_explorer.specs.Explorers.{explored}
 use Rattle.ick_explorer.specs.Lines.{line_of}
 use Rattle.ick_explorer.specs.Standing.{Stands}
-use Rattle.ick_explorer.specs.Walks.{Reaches}
+use Rattle.ick_explorer.specs.Walks.{EndsHere, IsOver, Reaches}
 use Rattle.ick_explorer.specs.WritingSteps.{WritesOne, WritesPart, Moves, IsWithin}
 use Rattle.ick_explorer.proofs.KeptLaws.{on_ok}
 use Rattle.ick_explorer.proofs.WritingLaws.{some_of, writes_none, writes_one, writes_part, told_part, move_refused}
@@ -22,18 +22,24 @@ returns-in-Ok-clause-next g c = λ s xs h k.
     let old = explored c.args.explorer.now in
     let new = explored c.advance.new.self in
     let choices = c.advance.new.self.path.choices in
-    let found = c.in-Some.found in
-    let e = c.in_ok-found.ensures in
-    let moved : Reaches s old new choices found.0 (finish_of found.1) =
-    some_of c.in_ok-found.field-0 found
-    (λ r. (s' : State) → Stands s' old → Reaches s' old new choices r.0 (finish_of r.1)) c.in-Some.is e.some s h in
-    let line : c.as_slice.result.now ≡ line_of choices (finish_of found.1) new.present.output =
+    let steps = c.in-Some.field-0 in
+    let finish = finish_of c.end_here-end.result in
+    let e = c.in_ok-advance.ensures in
+    let limit = c.advance.new.self.limit in
+    let machine = g.M.Backtrack.seen c.advance.new.self.machine in
+    let over : IsOver limit machine steps =
+    some_of c.in_ok-advance.field-0 steps (IsOver limit machine) c.in-Some.is e.over in
+    let moved : Reaches s old new choices steps finish =
+    some_of c.in_ok-advance.field-0 steps
+    (λ n. (f : Finish) → EndsHere limit machine n f → (s' : State) → Stands s' old → Reaches s' old new choices n f)
+    c.in-Some.is e.some finish (c.end_here-end.ensures limit steps over) s h in
+    let line : c.as_slice.result.now ≡ line_of choices finish new.present.output =
     c.as_slice.ensures.value
     ∙ on_ok c.build_line.result c.is_err.result c.is_err.ensures.value c.if-is_err.false c.build_line.ensures.line in
     subst (λ x. WritesOne told s xs old x (written c.args.writer.now) (written c.write_whole.new.sink))
     (sym c.build_line.ensures.same)
-    (writes_one told s xs old new (written c.args.writer.now) (written c.write_whole.new.sink) choices found.0
-    (finish_of found.1) c.as_slice.result.now moved e.program e.limit e.room k line c.in-Ok.ensures.all)
+    (writes_one told s xs old new (written c.args.writer.now) (written c.write_whole.new.sink) choices steps
+    finish c.as_slice.result.now moved e.program e.limit e.room k line c.in-Ok.ensures.all)
 
 pub returns-in-Err-clause-next : goal.returns-in-Err-clause-next
 returns-in-Err-clause-next g c = λ s xs h k.
@@ -42,12 +48,18 @@ returns-in-Err-clause-next g c = λ s xs h k.
     let old = explored c.args.explorer.now in
     let new = explored c.advance.new.self in
     let choices = c.advance.new.self.path.choices in
-    let found = c.in-Some.found in
-    let e = c.in_ok-found.ensures in
-    let moved : Reaches s old new choices found.0 (finish_of found.1) =
-    some_of c.in_ok-found.field-0 found
-    (λ r. (s' : State) → Stands s' old → Reaches s' old new choices r.0 (finish_of r.1)) c.in-Some.is e.some s h in
-    let line : c.as_slice.result.now ≡ line_of choices (finish_of found.1) new.present.output =
+    let steps = c.in-Some.field-0 in
+    let finish = finish_of c.end_here-end.result in
+    let e = c.in_ok-advance.ensures in
+    let limit = c.advance.new.self.limit in
+    let machine = g.M.Backtrack.seen c.advance.new.self.machine in
+    let over : IsOver limit machine steps =
+    some_of c.in_ok-advance.field-0 steps (IsOver limit machine) c.in-Some.is e.over in
+    let moved : Reaches s old new choices steps finish =
+    some_of c.in_ok-advance.field-0 steps
+    (λ n. (f : Finish) → EndsHere limit machine n f → (s' : State) → Stands s' old → Reaches s' old new choices n f)
+    c.in-Some.is e.some finish (c.end_here-end.ensures limit steps over) s h in
+    let line : c.as_slice.result.now ≡ line_of choices finish new.present.output =
     c.as_slice.ensures.value
     ∙ on_ok c.build_line.result c.is_err.result c.is_err.ensures.value c.if-is_err.false c.build_line.ensures.line in
     let part =
@@ -56,22 +68,22 @@ returns-in-Err-clause-next g c = λ s xs h k.
       part.0,
       subst (λ x. WritesPart told s xs old x (written c.args.writer.now) (written c.write_whole.new.sink) part.0)
           (sym c.build_line.ensures.same)
-          (writes_part told s xs old new (written c.args.writer.now) (written c.write_whole.new.sink) choices found.0
-          (finish_of found.1) c.as_slice.result.now moved e.program e.limit e.room k line part.0 part.1),
+          (writes_part told s xs old new (written c.args.writer.now) (written c.write_whole.new.sink) choices steps
+          finish c.as_slice.result.now moved e.program e.limit e.room k line part.0 part.1),
     )
 
-pub returns-in_err-found-clause-moves : goal.returns-in_err-found-clause-moves
-returns-in_err-found-clause-moves g c =
-    let h = c.in_err-found.ensures in
-    let e : c.from_residual.result ≡ Err c.in_err-found.field-0.0 = search rules in
+pub returns-in_err-advance-clause-moves : goal.returns-in_err-advance-clause-moves
+returns-in_err-advance-clause-moves g c =
+    let h = c.in_err-advance.ensures in
+    let e : c.from_residual.result ≡ Err c.in_err-advance.field-0.0 = search rules in
     subst (λ r. Moves (explored c.args.explorer.now) (explored c.advance.new.self) r) (sym e)
-    (move_refused (explored c.args.explorer.now) (explored c.advance.new.self) c.in_err-found.field-0.0
+    (move_refused (explored c.args.explorer.now) (explored c.advance.new.self) c.in_err-advance.field-0.0
     c.requires.sound h.failed.0 (λ x. (h.work_full.0 x).1) h.no_memory h.errors)
 
 pub returns-in-Ok-clause-moves : goal.returns-in-Ok-clause-moves
 returns-in-Ok-clause-moves g c =
     subst (λ x. IsWithin (explored c.args.explorer.now) x) (sym c.build_line.ensures.same) (record {
-      sound = c.in_ok-found.ensures.sound;
-      limit = c.in_ok-found.ensures.limit;
-      work = c.in_ok-found.ensures.within;
+      sound = c.in_ok-advance.ensures.sound;
+      limit = c.in_ok-advance.ensures.limit;
+      work = c.in_ok-advance.ensures.within;
     })
