@@ -13,4 +13,3 @@ mod CopyLemmas
 mod FeedLemmas
 mod FedLemmas
 mod LiveLemmas
-mod NamedLemmas

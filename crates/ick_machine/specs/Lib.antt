@@ -5,6 +5,7 @@ pub mod Marks
 pub mod Copies
 pub mod Whole
 pub mod Seen
+pub mod Present
 pub mod Feeds
 pub mod LiveAsk
 pub mod Message

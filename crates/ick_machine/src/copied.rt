@@ -7,6 +7,7 @@ ghost use Rattle.ick_machine.specs.Copies.{AreCopies};
 ghost use Rattle.ick_machine.specs.Whole.{CanRun};
 
 use crate::asking::answer;
+use crate::present::{Inspect, Present};
 use crate::whole::{Running, begin, whole_run, whole_step};
 use ick_backtrack::{Ask, Asks, Backtrack};
 use ick_bits::NoMemory;
@@ -28,9 +29,9 @@ pub struct Copy {
 #[derive(Drop)]
 pub struct Copied<'c, 'a> {
     alloc: Global,
-    pub(crate) lowered: Lowered<'c, 'a>,
-    pub(crate) input: &'c [u8],
-    pub(crate) running: Running,
+    lowered: Lowered<'c, 'a>,
+    input: &'c [u8],
+    running: Running,
     copies: Vec<Copy>,
     ghost can: { ∥ CanRun lowered running ∥₁ },
     ghost copied: { ∥ AreCopies lowered.code.now lowered.parts copies.items ∥₁ },
@@ -67,11 +68,23 @@ impl<'c, 'a> Copied<'c, 'a> {
 }
 
 impl<'c, 'a> Copied<'c, 'a> {
+    ghost use Rattle.ick_machine.specs.Present.{present_program, present_state};
     ghost use Rattle.ick_machine.specs.RunIn.{CanGoOn};
+    ghost use Rattle.ick_machine.specs.Seen.{copied_machine};
     ghost use Rattle.ick_machine.specs.Whole.{CanRun};
 
+    /// Returns the parts that represent the present state. Nothing changes.
+    pub fn present(&self) -> Present<'_, 'c, 'a>
+        ensures program { present_program result ≡ (copied_machine self.now).program }
+        ensures state { present_state result ≡ (copied_machine self.now).state }
+    {
+        self.law();
+        let end = self.running.end;
+        Present::new(&self.lowered, &self.running.memory, end, self.input)
+    }
+
     /// States that the run can go on.
-    pub(crate) fn law(&self)
+    fn law(&self)
         ensures can { CanRun self.now.lowered self.now.running }
         ensures ready { CanGoOn self.now.lowered self.now.running.memory }
     {}
@@ -139,5 +152,16 @@ impl<'c, 'a> Asks<'c> for Copied<'c, 'a> {
     fn run(&mut self, limit: u32) -> Result<u32, NoMemory> {
         self.law();
         whole_run(&self.lowered, self.input, &mut self.running, false, limit)
+    }
+}
+
+impl<'c, 'a> Inspect for Copied<'c, 'a> {
+    fn place(&self) -> u32 {
+        self.running.memory.place(&self.lowered)
+    }
+
+    fn return_addresses(&self) -> &[u32] {
+        self.law();
+        self.running.memory.return_addresses(&self.lowered)
     }
 }

@@ -8,8 +8,7 @@
 //! | `whole` | steps that are made whole or not at all |
 //! | `trailed` | a machine with marks that notes each change |
 //! | `copied` | a machine with marks that copies its state |
-//! | `readers`, `trailed_readers`, `copied_readers` | readers of the state of a machine with marks |
-//! | `named` | readers of a memory, by the names of variables |
+//! | `present` | the present state of a machine with marks, to be read |
 //! | `feed` | where the input of a run comes from that is read while it runs |
 //! | `feed_reader` | a feed as the input of a step |
 //! | `fed` | steps whose input comes from a feed |
@@ -20,18 +19,15 @@
 
 mod asking;
 mod copied;
-mod copied_readers;
 mod fed;
 mod feed;
 mod feed_reader;
 mod live;
 mod live_ask;
 mod message;
-mod named;
-mod readers;
+mod present;
 mod steps;
 mod trailed;
-mod trailed_readers;
 mod whole;
 
 pub use asking::end_of;
@@ -40,6 +36,6 @@ pub use feed::Feed;
 pub use ick_backtrack::{Ask, Asks, Backtrack, End, FeedFault};
 pub use live::Live;
 pub use live_ask::{EndKind, LiveAsk};
-pub use readers::Inspect;
+pub use present::{Inspect, Present};
 pub use steps::{Came, run_on, step_once};
 pub use trailed::Trailed;

@@ -1,0 +1,5 @@
+use Rattle.ick_engine.specs.View.{input_of}
+use Rattle.ick_machine.proofs.copied.CopiedInspect.return_addresses.Goals as goal
+
+pub returns : goal.returns
+returns c = c.return_addresses.ensures (input_of c.args.self.now.input.now)
