@@ -1,1 +1,5 @@
 mod ReaderLemmas
+mod TextLemmas
+mod PositionLemmas
+mod PlacedLemmas
+mod Rows

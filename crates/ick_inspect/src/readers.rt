@@ -22,7 +22,7 @@ fn is_same(one: Name, other: Name) -> bool
 }
 
 /// Returns whether a name is that of an array.
-fn names_array(name: Name) -> bool
+pub(crate) fn names_array(name: Name) -> bool
     ensures { result ≡ is_array name.kind }
 {
     matches!(name.kind, NameKind::Tail | NameKind::Hybrid)

@@ -1,0 +1,27 @@
+use Rattle.std.proofs.Common.{arith, sym}
+use Rattle.ick_machine.specs.Present.{present_program}
+use Rattle.ick_inspect.specs.Statements.{listed_text}
+use Rattle.ick_inspect.proofs.TextLemmas.{list_is, list_more, same, chain}
+use Rattle.ick_inspect.proofs.statements.append_list.Goals as goal
+
+pub append_listed-requires-clause-positions : goal.append_listed-requires-clause-positions
+unfolding present_program
+append_listed-requires-clause-positions c = c.requires
+
+pub loop-n-preserved : goal.loop-n-preserved
+unfolding present_program
+loop-n-preserved c = record {
+  low = omega arith;
+  high = omega arith;
+  adds =
+      same (chain c.loop-n.invariant.adds c.append_listed.ensures)
+      (sym (list_more (listed_text (present_program c.args.present.now) c.args.positions.now c.place-place.result)
+      c.max-first.result c.loop-n.n c.loop-n.invariant.low));
+}
+
+pub returns : goal.returns
+unfolding present_program
+returns c =
+    rw (c.place-place.ensures) (same c.loop-n.invariant.adds
+    (list_is (present_program c.args.present.now) c.args.positions.now c.place-place.result c.args.around
+    c.max-first.result _ (omega arith) (omega arith)))

@@ -1,0 +1,56 @@
+use Rattle.std.proofs.Common.{◌≡◌, length, ◌+◌, ◌++◌, ◌∙◌, ap, arith, refl, subst, sym}
+use Rattle.std.specs.Prelude.{codes, decimal, filter}
+use Rattle.std.specs.List.{range_with_len}
+use Rattle.ick_machine.specs.Present.{present_program, present_state}
+use Rattle.ick_inspect.specs.Text.{numbers_text}
+use Rattle.ick_inspect.proofs.TextLemmas.{are_none, are_none-more, filter_no, filter_yes, none_left, nothing, numbers_push}
+use Rattle.ick_inspect.proofs.TextLemmas.{same, some_left, chain}
+use Rattle.ick_inspect.proofs.summary.append_numbers.Goals.{then-is_abstained_from, else-is_abstained_from}
+use Rattle.ick_inspect.proofs.summary.append_numbers.Goals as goal
+
+pub loop-index-init : goal.loop-index-init
+unfolding numbers_text
+loop-index-init c = record { adds = nothing c.args.text.now; none = refl }
+
+pub is_abstained_from-requires : goal.is_abstained_from-requires
+unfolding present_program
+is_abstained_from-requires c = omega arith
+
+pub loop-index-preserved : goal.loop-index-preserved
+loop-index-preserved c =
+    let test = (present_state c.args.present.now).abstained in
+    let index = c.loop-index.index in
+    let found = filter test (range_with_len 1 index) in
+    elim c.if-is_abstained_from.branch [
+      | then-is_abstained_from w ↦
+          let yes = filter_yes test index (c.is_abstained_from.ensures ∙ w.if-is_abstained_from.true) in
+          record {
+            adds =
+                rw w.text-is (same (chain c.loop-index.invariant.adds (chain w.push.ensures w.push_decimal.ensures))
+                (ap (λ n. numbers_text (codes " ") found ++ (codes " " ++ decimal n)) w.from.ensures
+                ∙ (sym (numbers_push (codes " ") found (index + 1)) ∙ ap (numbers_text (codes " ")) (sym yes))));
+            none = w.none-is ∙ (sym (are_none-more found (index + 1)) ∙ ap are_none (sym yes));
+          }
+      | else-is_abstained_from w ↦
+          let no_more = filter_no test index (c.is_abstained_from.ensures ∙ w.if-is_abstained_from.false) in
+          record {
+            adds = rw w.text-is (same c.loop-index.invariant.adds (ap (numbers_text (codes " ")) (sym no_more)));
+            none = w.none-is ∙ (c.loop-index.invariant.none ∙ ap are_none (sym no_more));
+          }
+    ]
+
+pub returns-then-none : goal.returns-then-none
+unfolding present_program
+returns-then-none c =
+    let found = filter (present_state c.args.present.now).abstained (range_with_len 1 c.loop-index.index) in
+    let all : c.loop-index.index ≡ length (present_program c.args.present.now) = omega arith in
+    rw (← all) (same (chain c.loop-index.invariant.adds c.push-then-none.ensures)
+    (none_left found (sym c.loop-index.invariant.none ∙ c.if-none.true)))
+
+pub returns-else-none : goal.returns-else-none
+unfolding present_program
+returns-else-none c =
+    let found = filter (present_state c.args.present.now).abstained (range_with_len 1 c.loop-index.index) in
+    let all : c.loop-index.index ≡ length (present_program c.args.present.now) = omega arith in
+    rw (← all) (same c.loop-index.invariant.adds
+    (some_left found (sym c.loop-index.invariant.none ∙ c.if-none.false)))

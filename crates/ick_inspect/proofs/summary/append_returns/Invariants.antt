@@ -1,0 +1,7 @@
+use Rattle.std.proofs.Common.{take}
+use Rattle.std.specs.Prelude.{codes, reverse}
+use Rattle.ick_inspect.specs.Text.{Adds, numbers_text}
+use Rattle.ick_inspect.proofs.summary.append_returns.Given as goal
+
+abbrev pub invariant-loop-back : goal.invariant-loop-back
+invariant-loop-back l = Adds l.fn.text l.text (numbers_text (codes " ") (take l.back (reverse l.returns)))

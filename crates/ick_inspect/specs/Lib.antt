@@ -1,0 +1,5 @@
+pub mod Text
+pub mod Names
+pub mod Summary
+pub mod Positions
+pub mod Statements
