@@ -1,5 +1,6 @@
 -- The texts of the statements of a cut begin at positions of the source.
-use Rattle.std.proofs.Common.{◌≡◌, ℕ, suc, ◌+◌, ◌-◌, ◌<◌, ◌≤◌, Bool, true, false, Option, List, [], ◌∷◌, ◌⊎◌, inl, inr, length, ap, sym, refl, ◌∙◌, arith, take, drop, get_or, subst}
+use Rattle.std.proofs.Common.{◌≡◌, ℕ, suc, ◌+◌, ◌-◌, ◌<◌, ◌≤◌, Bool, true, false, Option, List, [], ◌∷◌, ◌⊎◌, inl, inr}
+use Rattle.std.proofs.Common.{length, ap, sym, refl, ◌∙◌, arith, take, drop, get_or, subst}
 use Rattle.std.specs.Prelude.{codes, slice_index, slice_range}
 use Rattle.std.proofs.lemmas.Bool.{cases_lt}
 use Rattle.std.proofs.lemmas.List.{get_or_past, length-drop, length-take}
@@ -26,7 +27,10 @@ record Solid (text : List ℕ) (at : ℕ) : Type 0 where
   pub solid : is_white_byte (byte text at) ≡ false
 
 solid_by : (text : List ℕ) (at b : ℕ) → byte text at ≡ b → 0 < b → is_white_byte b ≡ false → Solid text at
-solid_by text at b is some not_white = record { within = inside text at b is some; solid = ap is_white_byte is ∙ not_white }
+solid_by text at b is some not_white = record {
+  within = inside text at b is some;
+  solid = ap is_white_byte is ∙ not_white;
+}
 
 identifier_solid : {text : List ℕ} {from to : ℕ} {polite : Bool} → IsIdentifier text from to polite → Solid text from
 identifier_solid {text} {from} (please_do word gap next) = solid_by text from 80 word.0 (omega arith) refl
@@ -112,9 +116,11 @@ not_true false refused = refl
 front_placed : {text : List ℕ} {begin start : ℕ} {rest trees : List StatementTree} → start ≤ length text →
     (is_white_byte (byte text begin) ≡ true → ⊥) → IsFront text begin start rest trees → Placed text start rest →
     Placed text begin trees
-front_placed {text} {begin} {start} {rest} within refused (nothing e) placed = subst (λ at. Placed text at rest) (sym e) placed
+front_placed {text} {begin} {start} {rest} within refused (nothing e) placed =
+    subst (λ at. Placed text at rest) (sym e) placed
 front_placed {text} {begin} within refused (something lt trimmed) placed =
-    joined trimmed within record { within = omega arith; solid = not_true (is_white_byte (byte text begin)) refused } placed
+    joined trimmed within
+    record { within = omega arith; solid = not_true (is_white_byte (byte text begin)) refused } placed
 
 pub cut_placed : (text : List ℕ) (trees : List StatementTree) → IsCut text trees →
     (starts : List ℕ) × AreAt text 0 (texts_of trees) starts

@@ -1,15 +1,19 @@
 -- Positions, byte by byte.
-use Rattle.std.proofs.Common.{Option, Some, None, zero, drop, map, append_assoc, ◌⊎◌, inl, inr, ◌≡◌, ℕ, suc, ◌+◌, ◌<◌, ◌≤◌, Bool, true, false, List, [], ◌∷◌, ◌++◌, length, ap, sym, refl, ◌∙◌, arith, take, get_or, subst}
+use Rattle.std.proofs.Common.{Option, Some, None, zero, drop, map, append_assoc, ◌⊎◌, inl, inr, ◌≡◌, ℕ, suc, ◌+◌, ◌<◌}
+use Rattle.std.proofs.Common.{◌≤◌, Bool, true, false, List, [], ◌∷◌, ◌++◌, length, ap, sym, refl, ◌∙◌, arith, take}
+use Rattle.std.proofs.Common.{get_or, subst}
 use Rattle.std.specs.Prelude.{option_map, if◌then◌else◌, reverse, not, slice_index}
 use Rattle.std.specs.List.{count_by, take_while}
 use Rattle.std.proofs.lemmas.Bool.{cases_lt}
-use Rattle.std.proofs.lemmas.List.{drop_all, append-nil, length-append, take_more, reverse-append, length-reverse, length-take}
+use Rattle.std.proofs.lemmas.List.{drop_all, append-nil, length-append, take_more, reverse-append, length-reverse}
+use Rattle.std.proofs.lemmas.List.{length-take}
 use Rattle.std.proofs.lemmas.List.Sums.{count_by-le-length, count_by_more_yes, count_by_more_no, take_while-cons}
 use Rattle.ick_inspect.specs.declared.positions.Position.{Position}
 use Rattle.ick_bits.specs.White.{is_white_byte}
 use Rattle.ick_syntax.specs.StatementTree.{StatementTree}
 use Rattle.ick_code.specs.meaning.State.{statement_at}
-use Rattle.ick_inspect.specs.Positions.{AreAt, texts_of, no_text, text_then, BeginsAt, ends_line, position_in, position_behind}
+use Rattle.ick_inspect.specs.Positions.{AreAt, texts_of, no_text, text_then, BeginsAt, ends_line, position_in}
+use Rattle.ick_inspect.specs.Positions.{position_behind}
 
 abbrev line_bytes : ℕ → Bool
 line_bytes b = not (ends_line b)
@@ -177,7 +181,8 @@ goes_last source texts k at found all goes starts are = cases (goes.others start
         × (map (position_in source) starts ≡ found ++ map (position_in source) left)) →
         found ≡ map (position_in source) starts
     cases (left, others, e) =
-        let none = no_start (subst (λ ts. AreAt source at ts left) (ap (λ n. drop n texts) all ∙ drop_all (length texts) texts (omega arith)) others) in
+        let past : drop k texts ≡ [] = drop_all k texts (omega arith) in
+        let none = no_start (subst (λ ts. AreAt source at ts left) past others) in
         sym (e ∙ (ap (λ xs. found ++ map (position_in source) xs) none ∙ append-nil found))
 
 -- the text behind those of the first statements

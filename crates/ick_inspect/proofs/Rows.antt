@@ -56,7 +56,8 @@ an_array :
 unfolding variable_text name_text array_text dimensions_text elements_text numbers_text marks_text digits first first_name
 an_array = refl
 
-no_dimensions : variable_text (record first { ignored = λ _. true }) (first_name Hybrid) ≡ codes ";1 = no dimensions (ignored)"
+no_dimensions : variable_text (record first { ignored = λ _. true }) (first_name Hybrid)
+    ≡ codes ";1 = no dimensions (ignored)"
 unfolding variable_text name_text array_text dimensions_text elements_text numbers_text marks_text digits first first_name
 no_dimensions = refl
 
@@ -69,7 +70,9 @@ unfolding stack_text statements_text numbers_text digits first
 no_stack = refl
 
 two : List StatementTree
-two = record (plainly give_up) { text = codes "PLEASE\nGIVE UP" } ∷ record (plainly give_up) { text = codes "DO GIVE UP" } ∷ []
+two =
+    record (plainly give_up) { text = codes "PLEASE\nGIVE UP" }
+    ∷ record (plainly give_up) { text = codes "DO GIVE UP" } ∷ []
 
 at_end : state_text two (record first { place = 2; abstained = λ n. true; end = Some gave_up })
     ≡ codes "next statement: 2 of 2\nNEXT stack: none\nabstained from: 1 2\ninput left: 4\noutput: 0\nended: GIVE UP\n"

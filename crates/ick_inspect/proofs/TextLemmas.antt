@@ -1,6 +1,9 @@
 -- Pieces that are added one after another.
-use Rattle.std.proofs.Common.{Some, zero, suc, add-one, ◌≡◌, ◌≢◌, ℕ, ◌+◌, ◌-◌, ◌<◌, ◌≤◌, Bool, true, false, List, [], ◌∷◌, ◌++◌, length, ap, sym, refl, ◌∙◌, arith, append_assoc, take, get_or, vec_len, vec_capacity, subst}
-use Rattle.std.specs.Prelude.{codes, decimal, filter, reverse, min, max, slice_get, option_map, if◌then◌else◌, Option, None}
+use Rattle.std.proofs.Common.{Some, zero, suc, add-one, ◌≡◌, ◌≢◌, ℕ, ◌+◌, ◌-◌, ◌<◌, ◌≤◌, Bool, true, false, List, []}
+use Rattle.std.proofs.Common.{◌∷◌, ◌++◌, length, ap, sym, refl, ◌∙◌, arith, append_assoc, take, get_or, vec_len}
+use Rattle.std.proofs.Common.{vec_capacity, subst}
+use Rattle.std.specs.Prelude.{codes, decimal, filter, reverse, min, max, slice_get, option_map, if◌then◌else◌, Option}
+use Rattle.std.specs.Prelude.{None}
 use Rattle.std.proofs.lemmas.List.Elements.{filter-append}
 use Rattle.ick_bits.specs.Faults.{message_of}
 use Rattle.ick_bits.specs.declared.faults.Fault.{Fault}
@@ -16,7 +19,8 @@ use Rattle.ick_inspect.specs.Text.{Adds, numbers_text}
 use Rattle.ick_inspect.specs.Names.{array_text, dimensions_text, elements_text, variable_text}
 use Rattle.ick_inspect.specs.declared.positions.Position.{Position}
 use Rattle.ick_code.specs.Names.{slots_of}
-use Rattle.ick_inspect.specs.Summary.{abstained_text, counts_text, end_text, stack_text, state_text, statements_text, variables_text}
+use Rattle.ick_inspect.specs.Summary.{abstained_text, counts_text, end_text, stack_text, state_text, statements_text}
+use Rattle.ick_inspect.specs.Summary.{variables_text}
 use Rattle.ick_inspect.specs.Statements.{list_text, listed_text, text_at}
 use Rattle.ick_syntax.specs.declared.tree.Name.{Name}
 use Rattle.ick_code.specs.meaning.State.{Array, State, Ending, gave_up, faulted}
@@ -101,12 +105,14 @@ pub are_none-more : (numbers : List ℕ) (n : ℕ) → are_none (numbers ++ n �
 are_none-more [] n = refl
 are_none-more (x ∷ numbers) n = refl
 
-pub none_left : (numbers : List ℕ) → are_none numbers ≡ true → numbers_text (codes " ") numbers ++ codes " none" ≡ statements_text numbers
+pub none_left : (numbers : List ℕ) → are_none numbers ≡ true →
+    numbers_text (codes " ") numbers ++ codes " none" ≡ statements_text numbers
 unfolding numbers_text statements_text
 none_left [] e = refl
 none_left (n ∷ numbers) e = cc
 
-pub some_left : (numbers : List ℕ) → are_none numbers ≡ false → numbers_text (codes " ") numbers ≡ statements_text numbers
+pub some_left : (numbers : List ℕ) → are_none numbers ≡ false →
+    numbers_text (codes " ") numbers ≡ statements_text numbers
 unfolding statements_text
 some_left [] e = cc
 some_left (n ∷ numbers) e = refl
@@ -133,7 +139,8 @@ pub all_returns : (numbers : List ℕ) (i : ℕ) → length numbers ≤ i → 0 
     numbers_text (codes " ") (take i (reverse numbers)) ≡ statements_text (reverse numbers)
 all_returns numbers i all some =
     let long = length-reverse numbers in
-    ap (numbers_text (codes " ")) (take_all i (reverse numbers) (omega arith)) ∙ some_left (reverse numbers) (found (reverse numbers) (omega arith))
+    ap (numbers_text (codes " ")) (take_all i (reverse numbers) (omega arith))
+    ∙ some_left (reverse numbers) (found (reverse numbers) (omega arith))
   where
     found : (xs : List ℕ) → 0 < length xs → are_none xs ≡ false
     found [] h = absurd (omega arith)
@@ -146,11 +153,13 @@ no_returns (n ∷ numbers) h = absurd (omega arith)
 
 pub reverse_more : (numbers : List ℕ) (i : ℕ) → i < length numbers →
     numbers_text (codes " ") (take (i + 1) (reverse numbers))
-    ≡ numbers_text (codes " ") (take i (reverse numbers)) ++ (codes " " ++ decimal (get_or numbers (length numbers - 1 - i) 0))
+    ≡ numbers_text (codes " ") (take i (reverse numbers))
+    ++ (codes " " ++ decimal (get_or numbers (length numbers - 1 - i) 0))
 reverse_more numbers i h =
     let long = length-reverse numbers in
     numbers_more (codes " ") (reverse numbers) i (omega arith)
-    ∙ ap (λ n. numbers_text (codes " ") (take i (reverse numbers)) ++ (codes " " ++ decimal n)) (get_or-reverse numbers i 0 h)
+    ∙ ap (λ n. numbers_text (codes " ") (take i (reverse numbers)) ++ (codes " " ++ decimal n))
+    (get_or-reverse numbers i 0 h)
 
 pub all_variables : (names others : List Name) (s : State) (k : ℕ) → length names ≤ k → names ≡ others →
     variables_text (take k names) s ≡ variables_text others s
@@ -222,7 +231,8 @@ text_is None text e = cc
 text_is (Some s) text e = cc
 
 -- an end that is answered
-pub end_gave_up : (end : Option Ending) → Some (finish_of GiveUp) ≡ option_map finished end → end_text end ≡ codes "ended: GIVE UP\n"
+pub end_gave_up : (end : Option Ending) → Some (finish_of GiveUp) ≡ option_map finished end →
+    end_text end ≡ codes "ended: GIVE UP\n"
 unfolding end_text
 end_gave_up None e = cc
 end_gave_up (Some gave_up) e = refl

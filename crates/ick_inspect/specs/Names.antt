@@ -43,7 +43,8 @@ stash_depth s name =
 -- whether a name is ignored, and how many values are stashed of it: nothing, if neither
 unfoldable pub marks_text : (ignored : Bool) → (depth : ℕ) → List ℕ
 marks_text ignored depth =
-    if ignored then (if depth == 0 then codes " (ignored)" else codes " (ignored, " ++ decimal depth ++ codes " stashed)")
+    if ignored then (if depth == 0 then codes " (ignored)"
+    else codes " (ignored, " ++ decimal depth ++ codes " stashed)")
     else if depth == 0 then [] else codes " (" ++ decimal depth ++ codes " stashed)"
 
 -- `.1 = 7 (ignored, 2 stashed)`

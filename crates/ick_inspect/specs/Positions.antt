@@ -1,5 +1,6 @@
 -- The line and the column at a position of a source, and the positions at which the statements begin.
-use Rattle.std.specs.Prelude.{ℕ, suc, ◌≡◌, ◌+◌, ◌<◌, ◌≤◌, ◌==◌, Bool, if◌then◌else◌, false, not, List, [], ◌∷◌, length, map, reverse, take}
+use Rattle.std.specs.Prelude.{ℕ, suc, ◌≡◌, ◌+◌, ◌<◌, ◌≤◌, ◌==◌, Bool, if◌then◌else◌, false, not, List, [], ◌∷◌, length}
+use Rattle.std.specs.Prelude.{map, reverse, take}
 use Rattle.std.specs.Prelude.{slice_index, slice_range, IsTrue}
 use Rattle.std.specs.List.{count_by, take_while}
 use Rattle.ick_bits.specs.White.{is_white_byte}

@@ -58,7 +58,7 @@ fn append_listed(text: &mut Text, code: &Code<'_>, positions: &[Position], place
 }
 
 /// Appends a line for each statement around the one that is met next: at most `around` before it,
-/// itself, and at most `around` behind it. A line has the statement's number, line, column and text;
+/// itself, and at most `around` behind it. A line has the statement's number, position and text;
 /// `> ` stands before the one that is met next, and two spaces before each other one. There is a
 /// position for each statement.
 pub fn append_list(

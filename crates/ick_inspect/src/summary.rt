@@ -2,7 +2,8 @@
 
 ghost use Rattle.std.specs.Prelude.{◌≡◌, reverse};
 ghost use Rattle.ick_code.specs.Names.{slots_of};
-ghost use Rattle.ick_inspect.specs.Summary.{abstained_in, abstained_text, counts_text, end_text, stack_text};
+ghost use Rattle.ick_inspect.specs.Summary.{abstained_in, abstained_text, counts_text, end_text};
+ghost use Rattle.ick_inspect.specs.Summary.{stack_text};
 ghost use Rattle.ick_inspect.specs.Summary.{state_text, statements_text, variables_text};
 ghost use Rattle.ick_inspect.specs.Text.{Adds};
 ghost use Rattle.ick_machine.specs.Present.{present_program, present_state};

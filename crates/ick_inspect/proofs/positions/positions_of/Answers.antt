@@ -22,8 +22,10 @@ loop-index-preserved c =
       within = omega arith;
       position = c.moved-position-in-loop-index.ensures;
       goes =
-          rw (c.in_ok-push.ensures.items, c.moved-position.ensures) (goes_more source texts c.loop-index.index c.loop-index.at start _ c.loop-index.found.items
-          c.text.result.now c.loop-index.invariant.goes (rw add-one (next_text (code_program c.args.code.now) c.loop-index.index
+          rw (c.in_ok-push.ensures.items, c.moved-position.ensures) (goes_more source texts
+          c.loop-index.index c.loop-index.at start _ c.loop-index.found.items
+          c.text.result.now c.loop-index.invariant.goes (rw add-one (next_text
+          (code_program c.args.code.now) c.loop-index.index
           c.text.result.now (rw add-one at c.text.ensures))) record {
             order = c.after_white-start.ensures.order;
             within = c.after_white-start.ensures.within;

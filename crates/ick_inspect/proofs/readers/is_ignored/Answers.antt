@@ -28,7 +28,8 @@ is_scalar_ignored-requires-clause-slot c =
 
 pub returns-in-Some-scalar_slot : goal.returns-in-Some-scalar_slot
 unfolding present_state
-returns-in-Some-scalar_slot c = c.is_scalar_ignored.ensures (input_of c.args.present.now.input.now) c.args.name c.in-Some-scalar_slot.ensures
+returns-in-Some-scalar_slot c =
+    c.is_scalar_ignored.ensures (input_of c.args.present.now.input.now) c.args.name c.in-Some-scalar_slot.ensures
 
 pub returns-in-None-scalar_slot : goal.returns-in-None-scalar_slot
 unfolding present_state

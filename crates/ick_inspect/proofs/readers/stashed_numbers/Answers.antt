@@ -13,4 +13,5 @@ pub returns-in-None : goal.returns-in-None
 unfolding present_state
 returns-in-None c =
     ap reverse (map_of-absent (scalar_names c.args.present.now.lowered.now.code.now)
-    (map used (map numbers_of c.args.present.now.memory.now.rest.scalar_stashes.items)) [] c.args.name c.in-None.ensures)
+    (map used (map numbers_of c.args.present.now.memory.now.rest.scalar_stashes.items)) []
+    c.args.name c.in-None.ensures)

@@ -21,5 +21,6 @@ unfolding present_program
 returns c =
     let slots = code_slots c.args.present.now.lowered.now.code.now in
     same c.loop-slot.invariant
-    (all_variables slots.arrays (slots_of (present_program c.args.present.now)).arrays (present_state c.args.present.now)
+    (all_variables slots.arrays (slots_of (present_program c.args.present.now)).arrays
+    (present_state c.args.present.now)
     c.loop-slot.slot (omega arith) (ap (λ s. s.arrays) c.law.ensures.slots_are))

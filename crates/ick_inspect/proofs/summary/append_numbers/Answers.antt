@@ -3,7 +3,8 @@ use Rattle.std.specs.Prelude.{codes, decimal, filter}
 use Rattle.std.specs.List.{range_with_len}
 use Rattle.ick_machine.specs.Present.{present_program, present_state}
 use Rattle.ick_inspect.specs.Text.{numbers_text}
-use Rattle.ick_inspect.proofs.TextLemmas.{are_none, are_none-more, filter_no, filter_yes, none_left, nothing, numbers_push}
+use Rattle.ick_inspect.proofs.TextLemmas.{are_none, are_none-more, filter_no, filter_yes, none_left, nothing}
+use Rattle.ick_inspect.proofs.TextLemmas.{numbers_push}
 use Rattle.ick_inspect.proofs.TextLemmas.{same, some_left, chain}
 use Rattle.ick_inspect.proofs.summary.append_numbers.Goals.{then-is_abstained_from, else-is_abstained_from}
 use Rattle.ick_inspect.proofs.summary.append_numbers.Goals as goal
