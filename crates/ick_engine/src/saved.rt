@@ -1,6 +1,6 @@
 //! States that are kept apart from a memory.
 
-ghost use Rattle.std.specs.Prelude.{◌≡◌, true};
+ghost use Rattle.std.specs.Prelude.{◌≡◌, ◌+◌, ◌≤◌, true, length};
 
 use crate::copy::{copy_bytes, copy_first, copy_numbers, copy_rest, put_first};
 use crate::memory::{Array, ArrayStash, Memory, NumberStash, Rest};
@@ -8,6 +8,7 @@ use crate::same::same_rest;
 use ick_bits::NoMemory;
 use ick_instructions::Lowered;
 use std::alloc::Global;
+use std::hash::{FoldHasher, Hasher};
 
 /// A state of a run. It has no temporaries, no constants, and only those return addresses and
 /// places of stashes that are used.
@@ -36,35 +37,48 @@ fn same_numbers(one: &Saved, other: &Saved) -> bool
         && one.returns == other.returns
 }
 
-/// Mixes a number into a hash.
-fn mixed(hash: u64, number: u64) -> u64 {
-    let product = (hash ^ number).wrapping_mul(0x9E37_79B9_7F4A_7C15);
-    product ^ (product >> 32)
+/// Mixes two numbers into a hash.
+fn mixed(hash: u64, one: u64, other: u64) -> u64 {
+    let (low, high) = (hash ^ one).carrying_mul(other ^ 0x9E37_79B9_7F4A_7C15, 0);
+    low ^ high
 }
 
-/// Mixes numbers, and how many they are, into a hash.
+/// Returns two numbers from a place on as one.
+fn pair_at(numbers: &[u32], at: usize) -> u64
+    requires { at + 2 ≤ length numbers.now }
+{
+    numbers[at] as u64 | (numbers[at + 1] as u64) << 32
+}
+
+/// Mixes numbers, and how many they are, into a hash, four at a time.
 fn mix_numbers(hash: u64, numbers: &[u32]) -> u64 {
-    let mut hash = mixed(hash, numbers.len() as u64);
-    for number in numbers {
-        hash = mixed(hash, *number as u64);
+    let fours = numbers.len() / 4;
+    let mut hash = mixed(hash, numbers.len() as u64, 0);
+    for four in 0..fours {
+        hash = mixed(
+            hash,
+            pair_at(numbers, four * 4),
+            pair_at(numbers, four * 4 + 2),
+        );
+    }
+    for number in &numbers[fours * 4..] {
+        hash = mixed(hash, *number as u64, 0);
     }
     hash
 }
 
 /// Mixes bytes into a hash.
 fn mix_bytes(hash: u64, bytes: &[u8]) -> u64 {
-    let mut hash = hash;
-    for byte in bytes {
-        hash = mixed(hash, *byte as u64);
-    }
-    hash
+    let mut hasher = FoldHasher::default();
+    hasher.write(bytes);
+    mixed(hash, hasher.finish(), 0)
 }
 
 /// Mixes arrays, and how many they are, into a hash.
 fn mix_arrays(hash: u64, arrays: &[Array]) -> u64 {
-    let mut hash = mixed(hash, arrays.len() as u64);
+    let mut hash = mixed(hash, arrays.len() as u64, 0);
     for array in arrays {
-        hash = mixed(hash, array.hidden as u64);
+        hash = mixed(hash, array.hidden as u64, 0);
         hash = mix_numbers(hash, &array.dimensions);
         hash = mix_numbers(hash, &array.elements);
     }
@@ -94,10 +108,9 @@ fn mix_rest(hash: u64, rest: &Rest) -> u64 {
     let hash = mix_arrays(hash, &rest.arrays);
     let hash = mix_number_stashes(hash, &rest.scalar_stashes);
     let hash = mix_array_stashes(hash, &rest.array_stashes);
-    let hash = mixed(hash, rest.taken as u64);
     let hash = mix_bytes(hash, &rest.output);
-    let hash = mixed(hash, rest.last as u64);
-    mixed(hash, rest.lastin as u64)
+    let hash = mixed(hash, rest.last as u64, rest.lastin as u64);
+    mixed(hash, rest.taken as u64, 0)
 }
 
 impl Saved {
@@ -254,7 +267,7 @@ impl Saved {
     /// Returns a number by which states can be looked up. States that are the same have the same
     /// number, which no contract says: callers compare states by `same`.
     pub fn hash(&self) -> u64 {
-        let hash = mixed(0, self.place as u64);
+        let hash = mixed(0, self.place as u64, 0);
         let hash = mix_numbers(hash, &self.numbers);
         let hash = mix_numbers(hash, &self.home);
         let hash = mix_bytes(hash, &self.statuses);
