@@ -1,8 +1,12 @@
 -- Proves what comparing lists of choices position by position shows.
 use Prim.Native.Nat.{zero, suc}
-use Rattle.std.proofs.Common.{◌≡◌, ℕ, ◌<◌, ◌≤◌, Bool, true, false, length, take, List, [], ◌∷◌}
-use Rattle.std.proofs.Common.{refl, ap, arith, slice_index_or}
+use Rattle.std.proofs.Common.{◌≡◌, ℕ, ◌+◌, ◌*◌, ◌-◌, ◌<◌, ◌≤◌, Bool, true, false, length, take, drop, List, [], ◌∷◌}
+use Rattle.std.proofs.Common.{◌++◌, refl, ap, sym, ◌∙◌, arith, slice_index_or}
+use Rattle.std.proofs.Math.Seq.{take-add}
 use mathlib.Core.Bool.{beq, not}
+use Rattle.std.specs.Bool.{Decides}
+use Rattle.std.specs.Cmp.Lexicographic.{pointwise}
+use Rattle.std.proofs.lemmas.Slice.Eq.{slice_eq-Decides}
 use Rattle.ick_explorer.specs.Listings.{IsBelow}
 use Rattle.ick_outcomes.specs.Tallies.{lesser}
 
@@ -69,3 +73,27 @@ pub differ-true : (a b : Bool) → not (beq a b) ≡ true → b ≡ false → a 
 differ-true true b h e = refl
 differ-true false false h e = let z : false ≡ true = h in cc
 differ-true false true h e = cc
+
+beq-decides : (a b : Bool) → Decides (beq a b) (a ≡ b)
+beq-decides true true = (λ h. refl, λ h. refl)
+beq-decides false false = (λ h. refl, λ h. refl)
+beq-decides true false = (λ h. let z : false ≡ true = h in cc, λ h. let z : true ≡ false = h in cc)
+beq-decides false true = (λ h. let z : false ≡ true = h in cc, λ h. let z : false ≡ true = h in cc)
+
+pub same_lists : (xs ys : List Bool) (r : Bool) → r ≡ pointwise beq xs ys → r ≡ true → xs ≡ ys
+same_lists xs ys r is h = (slice_eq-Decides beq-decides xs ys r is).0 h
+
+-- lists that are equal up to a block, and in the block
+pub same_blocks : (one other : List Bool) (block : ℕ) → take (block * 64) one ≡ take (block * 64) other →
+    take (block * 64 + 64 - block * 64) (drop (block * 64) one)
+    ≡ take (block * 64 + 64 - block * 64) (drop (block * 64) other) →
+    take ((block + 1) * 64) one ≡ take ((block + 1) * 64) other
+same_blocks one other block h e =
+    let from = block * 64 in
+    let n : from + 64 - from ≡ 64 = omega arith in
+    let m : from + 64 ≡ (block + 1) * 64 = omega arith in
+    let f : take 64 (drop from one) ≡ take 64 (drop from other) =
+    sym (ap (λ k. take k (drop from one)) n) ∙ (e ∙ ap (λ k. take k (drop from other)) n) in
+    sym (ap (λ k. take k one) m) ∙ (take-add from 64 one
+    ∙ (ap (λ z. z ++ take 64 (drop from one)) h ∙ (ap (λ z. take from other ++ z) f
+    ∙ (sym (take-add from 64 other) ∙ ap (λ k. take k other) m))))

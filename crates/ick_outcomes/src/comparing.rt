@@ -1,6 +1,6 @@
 //! Compares lists of choices.
 
-ghost use Rattle.std.specs.Prelude.{◌≡◌, ◌⊎◌, true, false};
+ghost use Rattle.std.specs.Prelude.{◌≡◌, ◌≤◌, ◌⊎◌, true, false, length, take};
 ghost use Rattle.ick_explorer.specs.Listings.{IsBelow};
 ghost use Rattle.ick_outcomes.specs.Tallies.{lesser};
 
@@ -15,6 +15,27 @@ pub(crate) enum Order {
     Longer,
 }
 
+/// The number of elements that are compared at once.
+const BLOCK: usize = 64;
+
+/// Returns a length up to which two lists are equal. It is a number of whole blocks.
+#[tactic(auto, using(crate::proofs::PlaceByPlace::same_blocks))]
+fn same_front(one: &[bool], other: &[bool]) -> usize
+    ensures one { result ≤ length one.now }
+    ensures other { result ≤ length other.now }
+    ensures same { take result one.now ≡ take result other.now }
+{
+    let blocks = one.len().min(other.len()) / BLOCK;
+    'fronts: for block in 0..blocks {
+        let from = block * BLOCK;
+        let same = one[from..from + BLOCK] == other[from..from + BLOCK];
+        if !same {
+            return from;
+        }
+    }
+    blocks * BLOCK
+}
+
 /// Compares two lists.
 pub(crate) fn compare(one: &[bool], other: &[bool]) -> Order
     ensures below { result ≡ Order.Before → IsBelow one.now other.now }
@@ -22,7 +43,7 @@ pub(crate) fn compare(one: &[bool], other: &[bool]) -> Order
     ensures beginning { result ≡ Order.Short → lesser one.now other.now ≡ one.now }
     ensures longer { result ≡ Order.Longer → lesser one.now other.now ≡ other.now }
 {
-    'places: for at in 0..one.len() {
+    'places: for at in same_front(one, other)..one.len() {
         if at == other.len() {
             return Order::Longer;
         }
