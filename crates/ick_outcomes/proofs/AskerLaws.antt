@@ -245,46 +245,53 @@ followed_by state_of p s limit c mine theirs left at end end' askers askers' h h
     (subst (λ l. IsFollowed p s limit c (state_of mine) (finish_of end) l) (sym asks_so)
     (followed-all p s limit c (state_of mine) left at (finish_of end) askers h here all)))
 
+-- a step of the state of a place, and plain steps behind it
 pub stepped_plain : {S : Type 0} (place : S → Place) (p : Program) (s : State) (limit : ℕ) (c : List Bool)
-    (old new now : S) (left : ℕ) (askers askers' : List AskedBy) →
-    Follows p s limit (take (length askers) c) (place old).state left askers → (place old).program ≡ p →
+    (old new : S) (left k : ℕ) (askers : List AskedBy) →
+    Follows p s limit c (place old).state left askers → (place old).program ≡ p →
     ask (place old).program (place old).state ≡ plain → 0 < left →
-    (place new).state ≡ advance (place old).program (place old).state false → now ≡ new → askers' ≡ askers →
-    Follows p s limit (take (length askers') c) (place now).state (left - 1) askers'
-stepped_plain place p s limit c old new now left askers askers' h same plainly some step is asks_so =
-    subst (λ l. Follows p s limit (take (length l) c) (place now).state (left - 1) l) (sym asks_so)
-    (subst (λ x. Follows p s limit (take (length askers) c) (place x).state (left - 1) askers) (sym is)
-    (subst (λ t. Follows p s limit (take (length askers) c) t (left - 1) askers)
-    (sym (step ∙ ap (λ q. advance q (place old).state false) same))
-    (follows-step p s limit (take (length askers) c) (place old).state left askers h
-    (subst (λ q. ask q (place old).state ≡ plain) same plainly) some)))
+    RunsOn IsPlain (place old).program (advance (place old).program (place old).state false) k (place new).state →
+    k ≤ left - 1 → Follows p s limit c (place new).state (left - (k + 1)) askers
+stepped_plain place p s limit c old new left k askers h same plainly some runs le =
+    let t = (place old).state in
+    let q = (place old).program in
+    let next : left - 1 - k ≡ left - (k + 1) = omega arith in
+    subst (λ n. Follows p s limit c (place new).state n askers) next
+    (went_on p q s limit c (advance q t false) (place new).state (left - 1) k askers same
+    (subst (λ x. Follows p s limit c (advance x t false) (left - 1) askers) (sym same)
+    (follows-step p s limit c t left askers h (subst (λ x. ask x t ≡ plain) same plainly) some)) runs le)
 
 pub length-push : (l : List AskedBy) (x : AskedBy) → length (l ++ x ∷ []) ≡ suc (length l)
 length-push [] x = refl
 length-push (y ∷ l) x = ap suc (length-push l x)
 
 pub stepped_chosen : {S : Type 0} (place : S → Place) (p : Program) (s : State) (limit : ℕ) (c : List Bool)
-    (old new now : S) (left k statement : ℕ) (b d : Bool) (askers askers' : List AskedBy) →
+    (old new : S) (left k chance statement : ℕ) (b d : Bool) (askers askers' : List AskedBy) →
     Follows p s limit (take (length askers) c) (place old).state left askers → (place old).program ≡ p →
-    ask (place old).program (place old).state ≡ choice k → 0 < left → length askers < length c →
+    ask (place old).program (place old).state ≡ choice chance → 0 < left → length askers < length c →
     statement ≡ (place old).state.place → b ≡ get_or c (length askers) d →
-    (place new).state ≡ advance (place old).program (place old).state b → now ≡ new →
-    askers' ≡ askers ++ record { statement = statement; chance = k } ∷ [] →
-    Follows p s limit (take (length askers') c) (place now).state (left - 1) askers'
-stepped_chosen place p s limit c old new now left k statement b d askers askers' h same asks some within at_place chosen
-    step is asks_so =
-    let pushed : askers' ≡ askers ++ asker (place old).state k ∷ [] =
-    asks_so ∙ ap (λ (n : ℕ). askers ++ record { statement = n; chance = k } ∷ []) at_place in
+    RunsOn IsPlain (place old).program (advance (place old).program (place old).state b) k (place new).state →
+    k ≤ left - 1 → askers' ≡ askers ++ record { statement = statement; chance = chance } ∷ [] →
+    Follows p s limit (take (length askers') c) (place new).state (left - (k + 1)) askers'
+stepped_chosen place p s limit c old new left k chance statement b d askers askers' h same asks some within at_place
+    chosen runs le asks_so =
+    let t = (place old).state in
+    let q = (place old).program in
+    let all = askers ++ asker t chance ∷ [] in
+    let front = take (suc (length askers)) c in
+    let next : left - 1 - k ≡ left - (k + 1) = omega arith in
+    let pushed : askers' ≡ all =
+    asks_so ∙ ap (λ (n : ℕ). askers ++ record { statement = n; chance = chance } ∷ []) at_place in
     let longer : length askers' ≡ suc (length askers) =
-    ap (λ (l : List AskedBy). length l) pushed ∙ length-push askers (asker (place old).state k) in
-    subst (λ n. Follows p s limit (take n c) (place now).state (left - 1) askers') (sym longer)
-    (subst (λ l. Follows p s limit (take (suc (length askers)) c) (place now).state (left - 1) l) (sym pushed)
-    (subst (λ x. Follows p s limit (take (suc (length askers)) c) (place x).state (left - 1)
-    (askers ++ asker (place old).state k ∷ [])) (sym is)
-    (subst (λ t. Follows p s limit (take (suc (length askers)) c) t (left - 1) (askers ++ asker (place old).state k ∷ []))
-    (sym (step ∙ (ap (λ q. advance q (place old).state b) same ∙ ap (advance p (place old).state) chosen)))
-    (follows-chosen p s limit c (place old).state left k (length askers) d askers h
-    (subst (λ q. ask q (place old).state ≡ choice k) same asks) some within))))
+    ap (λ (l : List AskedBy). length l) pushed ∙ length-push askers (asker t chance) in
+    subst (λ n. Follows p s limit (take n c) (place new).state (left - (k + 1)) askers') (sym longer)
+    (subst (λ l. Follows p s limit front (place new).state (left - (k + 1)) l) (sym pushed)
+    (subst (λ n. Follows p s limit front (place new).state n all) next
+    (went_on p q s limit front (advance q t b) (place new).state (left - 1) k all same
+    (subst (λ u. Follows p s limit front u (left - 1) all)
+    (sym (ap (λ x. advance x t b) same ∙ ap (advance p t) chosen))
+    (follows-chosen p s limit c t left chance (length askers) d askers h
+    (subst (λ x. ask x t ≡ choice chance) same asks) some within)) runs le)))
 
 -- the texts of askers, one after another
 abbrev behind : AskedBy → List ℕ

@@ -1,5 +1,5 @@
 -- Proves the lemmas in the form in which functions use them.
-use Prim.Native.Nat.{suc}
+use Prim.Native.Nat.{zero, suc}
 use Rattle.std.proofs.Common.{◌⊎◌, take}
 use Rattle.std.proofs.Common.{◌≡◌, inl, inr, ℕ, ◌+◌, ◌*◌, ◌-◌, ◌^◌, ◌<◌, ◌≤◌, Bool, true, false, length, List, []}
 use Rattle.std.proofs.Common.{◌∷◌, ◌++◌, Option, Some, None}
@@ -13,7 +13,7 @@ use Rattle.ick_backtrack.specs.Asked.{Finish, finished, at_limit, IsGoing, asked
 use Rattle.ick_backtrack.specs.Steps.{after_steps, IsPlain, RunsOn}
 use Rattle.ick_explorer.specs.Listings.{IsBelow}
 use Rattle.ick_outcomes.specs.Tallies.{lesser, join, after, tally}
-use Rattle.ick_outcomes.specs.Weights.{amount}
+use Rattle.ick_outcomes.specs.Weights.{amount, part}
 use Rattle.ick_outcomes.specs.Fractions.{top_of, IsSum, IsPart}
 use Rattle.ick_outcomes.specs.declared.fraction.Fraction.{Fraction}
 use Rattle.ick_outcomes.proofs.Amounts.{amount-end, amount-run, amount-plus, amount-part}
@@ -123,6 +123,19 @@ one_step p s u h e = record {
   on = λ i lt. let z : i ≡ 0 = omega (arith, lt) in subst (λ k. IsPlain p (after_steps p s k)) (sym z) h;
 }
 
+-- a step, and then others
+after-first : (p : Program) (s : State) (k : ℕ) → after_steps p s (suc k) ≡ after_steps p (advance p s false) k
+after-first p s zero = refl
+after-first p s (suc k) = ap (λ t. advance p t false) (after-first p s k)
+
+pub first_step : (p : Program) (s u : State) (k : ℕ) → IsPlain p s → RunsOn IsPlain p (advance p s false) k u →
+    RunsOn IsPlain p s (suc k) u
+first_step p s u k h r = record { leads = r.leads ∙ sym (after-first p s k); on = plain_at }
+  where
+    plain_at : (i : ℕ) → i < suc k → IsPlain p (after_steps p s i)
+    plain_at zero lt = h
+    plain_at (suc i) lt = subst (IsPlain p) (sym (after-first p s i)) (r.on i (omega (arith, lt)))
+
 pub over_limit : (n : Pending) → IsGoing (ask n.place.program n.place.state) → (0 < n.left → ⊥) →
     AreOver n at_limit
 over_limit n g lt = record { same_runs = λ q. ahead-limit q n g (omega (arith, lt)) }
@@ -165,9 +178,6 @@ pub makes_pass : (n m : Pending) (ns ns' : List Pending) (rs rs' : List Row) →
 makes_pass n m ns ns' rs rs' g lt h =
     let s = settles_on n m ns ns' rs rs' g h in
     record { settled = s.settled; apart = s.apart; fewer = λ le b. h.below n.left lt b }
-
-pub goes_on_here : (n : Pending) → GoesOn n n
-goes_on_here n = record { same_runs = λ q. refl; no_more = omega arith }
 
 pub goes_on_runs : (n m : Pending) (k : ℕ) →
     RunsOn IsPlain n.place.program n.place.state k m.place.state → m.place.program ≡ n.place.program →
@@ -222,9 +232,9 @@ sum_fits f g r l m h u v e = elim h.is_either [
   | inr x ↦ omega (arith, x, v, e)
 ]
 
-pub part_fits : (n l : ℕ) (f r : Fraction) → IsPart n f r → l + f.places ≤ 4294967295 → 0 < l →
-    l - 1 + r.places ≤ 4294967295
-part_fits n l f r h le lt = let w = h.within in omega (arith, w, le, lt)
+pub part_fits : (n l k : ℕ) (f r : Fraction) → IsPart n f r → l + f.places ≤ 4294967295 → 0 < l →
+    l - 1 - k + r.places ≤ 4294967295
+part_fits n l k f r h le lt = let w = h.within in omega (arith, w, le, lt)
 
 pub chosen_part : (n l : ℕ) (f r : Fraction) → IsPart n f r → l + f.places ≤ 4294967295 → 0 < l →
     amount (top_of r) r.places (l - 1) ≡ n * amount (top_of f) f.places l
@@ -248,6 +258,20 @@ moved_on f k l le lt =
     let e : l ≡ k + (l - k) = omega (arith, lt) in
     sym (ap (λ z. amount (top_of f) f.places z * 100 ^ k) e
     ∙ amount-run k (top_of f) f.places (l - k) (omega (arith, le, lt)))
+
+-- the node after a choice, and after steps that ask nothing
+pub chosen_goes_on : (n m : Pending) (chance k : ℕ) (b : Bool) (f r : Fraction) → 0 < n.left →
+    n.left + f.places ≤ 4294967295 → IsPart (part chance b) f r → n.weight ≡ amount (top_of f) f.places n.left →
+    RunsOn IsPlain n.place.program (advance n.place.program n.place.state b) k m.place.state →
+    m.place.program ≡ n.place.program → k ≤ n.left - 1 → m.left ≡ n.left - 1 - k → m.count ≡ n.count →
+    m.weight ≡ amount (top_of r) r.places (n.left - 1 - k) → m.choices ≡ n.choices ++ b ∷ [] →
+    GoesOn (chosen chance n b) m
+chosen_goes_on n m chance k b f r some fits h was runs p le s c v w =
+    let all = part_fits (part chance b) n.left 0 f r h fits some in
+    goes_on_runs (chosen chance n b) m k runs p le s c
+    (v ∙ (moved_on r k (n.left - 1) (omega (arith, all)) le
+    ∙ ap (λ z. z * 100 ^ k) (chosen_part (part chance b) n.left f r h fits some
+    ∙ ap (λ z. part chance b * z) (sym was)))) w
 
 pub counts_start : (n m : Pending) (ns : List Pending) (rs : List Row) (most : ℕ) → Settles n [] [] ns rs →
     m ≡ n → n.left < most → IsAccount m ns rs most

@@ -7,7 +7,7 @@ use Rattle.ick_outcomes.specs.Seen.{natural, rows_of}
 use Rattle.ick_outcomes.specs.Texts.{IsNumberText, IsWeightText}
 use Rattle.ick_outcomes.specs.declared.outcome.Outcome.{Outcome}
 
--- the line of an outcome: the number of its runs, their weight, the choices of the first of them, the end and the output
+-- the line of an outcome: the number of its runs, their weight, the choices of the first run, the end and the output
 pub record IsLine (exact : Bool) (o : Outcome) (line : List ℕ) : Type 0 where
   pub count : List ℕ
   pub weight : List ℕ

@@ -1,6 +1,7 @@
 //! Follows one run, and says what its choices were asked by.
 
-ghost use Rattle.std.specs.Prelude.{◌≡◌, ◌++◌, ◌<◌, ◌≤◌, codes, length, IfOk, IfSome, None, Ok, OnOk};
+ghost use Rattle.std.specs.Prelude.{◌≡◌, ◌++◌, ◌<◌, ◌≤◌, codes, length, None, Ok};
+ghost use Rattle.std.specs.Prelude.{IfOk, IfSome, OnOk};
 ghost use Rattle.ick_code.specs.meaning.State.{State};
 ghost use Rattle.ick_code.specs.meaning.Move.{ask, choice, plain};
 ghost use Rattle.ick_backtrack.specs.Asked.{finish_of};
@@ -19,7 +20,7 @@ use std::alloc::Global;
 /// Limits the choices of a line that says what they were asked by.
 const MOST_ASKED: usize = 10_000;
 
-/// What a choice was asked by: the number of a statement, and its chance in hundredths.
+/// The statement that asked for a choice: its number, and its chance in hundredths.
 #[derive(Clone, Copy)]
 pub struct AskedBy {
     pub statement: u32,
@@ -92,10 +93,13 @@ pub fn follow<'c, P: States<'c>>(
     let mut asked = Vec::new(alloc);
     let mut left = limit;
     'steps: loop {
-        left -= program.run(tools, &mut state, left)?;
         match asks_within(program, &state, left) {
             Ask::Ended(end) => return Ok(whole(state, end, asked, choices)),
-            Ask::Plain => program.step(tools, &mut state, false)?,
+            Ask::Plain => {
+                let (next, made) = program.step(tools, state, false, left - 1)?;
+                state = next;
+                left -= made + 1;
+            }
             Ask::Choice(chance) => {
                 let at = asked.len();
                 if at == choices.len() {
@@ -103,10 +107,11 @@ pub fn follow<'c, P: States<'c>>(
                 }
                 let statement = program.statement(&state);
                 asked.push(AskedBy { statement, chance })?;
-                program.step(tools, &mut state, choices[at])?;
+                let (next, made) = program.step(tools, state, choices[at], left - 1)?;
+                state = next;
+                left -= made + 1;
             }
         }
-        left -= 1;
     }
 }
 

@@ -176,7 +176,7 @@ fn file<'c, P: States<'c>>(
 
 /// Adds a node to the rows if its runs end there, and else lets it wait.
 #[tactic(auto, using(crate::proofs::Uses::settles_over, crate::proofs::Uses::settles_waiting))]
-fn put<'c, P: States<'c>>(
+pub(crate) fn put<'c, P: States<'c>>(
     alloc: Global,
     program: &P,
     node: Node<P::State>,
@@ -196,55 +196,6 @@ fn put<'c, P: States<'c>>(
     }
 }
 
-/// Makes the steps of a node while nothing is asked.
-#[tactic(auto, using(crate::proofs::Uses::goes_on_runs, crate::proofs::Uses::goes_on_here))]
-fn go_on<'c, P: States<'c>>(
-    program: &P,
-    tools: &mut P::Tools,
-    node: Node<P::State>,
-) -> Result<Node<P::State>, NoMemory>
-    requires tools { P.serves program.now tools.old }
-    requires node { P.suits program.now node.state }
-    ensures goes_on { IfOk result (λ m. GoesOn (pending_of (P.place program.now) node)
-        (pending_of (P.place program.now) m)) }
-    ensures node { IfOk result (λ m. P.suits program.now m.state) }
-    ensures tools { P.serves program.now tools.new }
-{
-    let mut node = node;
-    if node.left > 0 {
-        let left = node.left;
-        let made = program.run(tools, &mut node.state, left)?;
-        node.left = left - made;
-        return Ok(node);
-    }
-    Ok(node)
-}
-
-/// Makes the steps of a node while nothing is asked. Then adds it to the rows if its run is over,
-/// and else lets it wait.
-#[tactic(auto, using(crate::proofs::Uses::settles_on))]
-pub(crate) fn settle<'c, P: States<'c>>(
-    alloc: Global,
-    program: &P,
-    tools: &mut P::Tools,
-    node: Node<P::State>,
-    pending: &mut Waiting<P::State>,
-    rows: &mut Table,
-) -> Result<(), NoMemory>
-    requires tools { P.serves program.now tools.old }
-    requires node { P.suits program.now node.state }
-    requires pending { AreSound (P.suits program.now) pending.old.nodes.items }
-    ensures settles { OnOk result (Settles (pending_of (P.place program.now) node)
-        (nodes_of (P.place program.now) pending.old.nodes.items) (rows_of rows.old.rows.items)
-        (nodes_of (P.place program.now) pending.new.nodes.items) (rows_of rows.new.rows.items)) }
-    ensures pending { OnOk result (AreSound (P.suits program.now) pending.new.nodes.items) }
-    ensures tools { P.serves program.now tools.new }
-{
-    let moved = go_on(program, tools, node)?;
-    put(alloc, program, moved, pending, rows)?;
-    Ok(())
-}
-
 /// Returns the chance, in hundredths, that a statement with this chance is done, or that it is
 /// passed over.
 fn hundredths(chance: u8, done: bool) -> u8
@@ -255,8 +206,9 @@ fn hundredths(chance: u8, done: bool) -> u8
     if done { chance } else { 100 - chance }
 }
 
-/// Returns the node after a choice. `chance` is that of the statement that is met.
-#[tactic(auto, using(crate::proofs::Uses::part_fits, crate::proofs::Uses::chosen_part))]
+/// Returns the node after a choice, and after the steps behind it while nothing is asked. `chance`
+/// is that of the statement that is met.
+#[tactic(auto, using(crate::proofs::Uses::part_fits))]
 fn choose<'c, P: States<'c>>(
     alloc: Global,
     program: &P,
@@ -271,21 +223,23 @@ fn choose<'c, P: States<'c>>(
         (P.place program.now node.state).state) }
     requires chance { chance ≤ 100 }
     requires left { 0 < node.left }
-    ensures chosen { IfOk result (λ n. pending_of (P.place program.now) n
-        ≡ chosen chance (pending_of (P.place program.now) node) done) }
+    ensures goes_on { IfOk result (λ n. GoesOn
+        (chosen chance (pending_of (P.place program.now) node) done)
+        (pending_of (P.place program.now) n)) }
     ensures node { IfOk result (λ n. P.suits program.now n.state) }
     ensures tools { P.serves program.now tools.new }
 {
-    let mut node = node;
-    program.step(tools, &mut node.state, done)?;
-    node.choices.push(done)?;
+    let left = node.left - 1;
+    let (state, made) = program.step(tools, node.state, done, left)?;
+    let mut choices = node.choices;
+    choices.push(done)?;
     let weight = node.weight.part(hundredths(chance, done), alloc)?;
     Ok(Node {
-        state: node.state,
-        left: node.left - 1,
+        state,
+        left: left - made,
         count: node.count,
         weight,
-        choices: node.choices,
+        choices,
     })
 }
 
@@ -334,13 +288,12 @@ fn branch<'c, P: States<'c>>(
     let other = copy_node(program, &node)?;
     let zero = choose(alloc, program, tools, node, chance, false)?;
     let one = choose(alloc, program, tools, other, chance, true)?;
-    settle(alloc, program, tools, zero, pending, rows)?;
-    settle(alloc, program, tools, one, pending, rows)?;
+    put(alloc, program, zero, pending, rows)?;
+    put(alloc, program, one, pending, rows)?;
     Ok(())
 }
 
-/// Makes one step of a node that asks nothing.
-#[tactic(auto, using(crate::proofs::Uses::going_on))]
+/// Makes one step of a node that asks nothing, and the steps behind it while nothing is asked.
 fn pass<'c, P: States<'c>>(
     program: &P,
     tools: &mut P::Tools,
@@ -357,14 +310,19 @@ fn pass<'c, P: States<'c>>(
     ensures node { IfOk result (λ m. P.suits program.now m.state) }
     ensures tools { P.serves program.now tools.new }
 {
-    let mut node = node;
-    program.step(tools, &mut node.state, false)?;
-    node.left = node.left - 1;
-    Ok(node)
+    let left = node.left - 1;
+    let (state, made) = program.step(tools, node.state, false, left)?;
+    Ok(Node {
+        state,
+        left: left - made,
+        count: node.count,
+        weight: node.weight,
+        choices: node.choices,
+    })
 }
 
-/// Makes one step of a node that asks nothing, and the steps after it while nothing is asked.
-#[tactic(auto, using(crate::proofs::Uses::makes_pass))]
+/// Makes steps of a node that asks nothing. Then adds it to the rows if its runs end there, and
+/// else lets it wait.
 fn pass_on<'c, P: States<'c>>(
     alloc: Global,
     program: &P,
@@ -386,7 +344,7 @@ fn pass_on<'c, P: States<'c>>(
     ensures tools { P.serves program.now tools.new }
 {
     let next = pass(program, tools, node)?;
-    settle(alloc, program, tools, next, pending, rows)?;
+    put(alloc, program, next, pending, rows)?;
     Ok(())
 }
 

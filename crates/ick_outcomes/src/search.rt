@@ -10,7 +10,7 @@ use crate::filing::no_rows;
 use crate::fraction::Fraction;
 use crate::hints::Hints;
 use crate::natural::Natural;
-use crate::node::{make, settle};
+use crate::node::{make, put};
 use crate::outcome::Outcome;
 use crate::pending::{Node, Waiting};
 use crate::states::States;
@@ -108,7 +108,8 @@ pub(crate) fn count_outcomes<'c, P: States<'c>>(
     ensures counted { IfOk result (λ rows. AreCounted (P.place program.now state).program
         (P.place program.now state).state limit (rows_of rows.items)) }
     ensures more { result ≡ Err OutcomesError.TooManyStates →
-        HasMoreRuns (P.place program.now state).program (P.place program.now state).state limit most }
+        HasMoreRuns (P.place program.now state).program (P.place program.now state).state limit
+        most }
 {
     let mut rows = no_rows(alloc);
     let mut pending = no_nodes(alloc);
@@ -119,7 +120,7 @@ pub(crate) fn count_outcomes<'c, P: States<'c>>(
         weight: Fraction::one(alloc)?,
         choices: Vec::new(alloc),
     };
-    settle(alloc, program, tools, node, &mut pending, &mut rows)?;
+    put(alloc, program, node, &mut pending, &mut rows)?;
     'rounds: for gone in 0..u64::from(limit) + 1 {
         if is_done(&pending) {
             return Ok(rows.rows);

@@ -54,7 +54,8 @@ pub fn outcomes<'c, P: States<'c>>(
         (count_of (rows_of rows.items))) }
     ensures whole { IfOk result (λ rows. weight_of (rows_of rows.items) ≡ whole) }
     ensures more { result ≡ Err OutcomesError.TooManyStates →
-        HasMoreRuns (P.place program.now state).program (P.place program.now state).state limit most }
+        HasMoreRuns (P.place program.now state).program (P.place program.now state).state limit
+        most }
 {
     let mut rows = count_outcomes(alloc, program, tools, state, limit, most)?;
     sort_rows(&mut rows)?;

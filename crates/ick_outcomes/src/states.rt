@@ -1,6 +1,6 @@
 //! Programs whose states can be copied and compared.
 
-ghost use Rattle.std.specs.Prelude.{◌≡◌, ◌≤◌, true, Some, IfOk, OnOk};
+ghost use Rattle.std.specs.Prelude.{◌≡◌, ◌≤◌, true, Some, IfOk};
 ghost use Rattle.ick_code.specs.meaning.Move.{ask, advance};
 ghost use Rattle.ick_backtrack.specs.Asked.{asked_of, IsGoing};
 ghost use Rattle.ick_backtrack.specs.Steps.{IsPlain, RunsOn};
@@ -41,41 +41,28 @@ pub trait States<'c>: Drop {
     fn statement(&self, state: &Self::State) -> u32
         ensures { result ≡ (place self.now state.now).state.place };
 
-    /// Makes one step. `done` says whether a statement with a chance is done, if the state asks
-    /// that, and else it changes nothing. The run must not have ended. After `NoMemory` nothing is
-    /// known of the state.
+    /// Makes one step, and then further steps while nothing is asked and the run hasn't ended, at
+    /// most as many as the limit. Returns the state after them, and the number of the further
+    /// steps. `done` says whether a statement with a chance is done, if the state asks that, and
+    /// else it changes nothing. The run must not have ended.
     fn step(
         &self,
         tools: &mut Self::Tools,
-        state: &mut Self::State,
+        state: Self::State,
         done: bool,
-    ) -> Result<(), NoMemory>
-        requires tools { serves self.now tools.old }
-        requires state { suits self.now state.old }
-        requires going { IsGoing (ask (place self.now state.old).program
-            (place self.now state.old).state) }
-        ensures step { OnOk result (place self.now state.new ≡ record (place self.now state.old) {
-          state = advance (place self.now state.old).program (place self.now state.old).state done;
-        }) }
-        ensures tools { serves self.now tools.new }
-        ensures state { suits self.now state.new };
-
-    /// Makes steps while nothing is asked and the run hasn't ended, at most as many as the limit.
-    /// Returns their number. After `NoMemory` nothing is known of the state.
-    fn run(
-        &self,
-        tools: &mut Self::Tools,
-        state: &mut Self::State,
         limit: u32,
-    ) -> Result<u32, NoMemory>
+    ) -> Result<(Self::State, u32), NoMemory>
         requires tools { serves self.now tools.old }
-        requires state { suits self.now state.old }
-        ensures runs { IfOk result (λ k. RunsOn IsPlain (place self.now state.old).program
-            (place self.now state.old).state k (place self.now state.new).state) }
-        ensures program { (place self.now state.new).program ≡ (place self.now state.old).program }
-        ensures within { IfOk result (λ k. k ≤ limit) }
-        ensures tools { serves self.now tools.new }
-        ensures state { suits self.now state.new };
+        requires state { suits self.now state }
+        requires going { IsGoing (ask (place self.now state).program (place self.now state).state) }
+        ensures runs { IfOk result (λ p. RunsOn IsPlain (place self.now state).program
+            (advance (place self.now state).program (place self.now state).state done)
+            p.1 (place self.now p.0).state) }
+        ensures program { IfOk result (λ p. (place self.now p.0).program
+            ≡ (place self.now state).program) }
+        ensures within { IfOk result (λ p. p.1 ≤ limit) }
+        ensures state { IfOk result (λ p. suits self.now p.0) }
+        ensures tools { serves self.now tools.new };
 
     /// Returns a copy of a state.
     fn copy(&self, state: &Self::State) -> Result<Self::State, NoMemory>

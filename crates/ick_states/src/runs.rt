@@ -39,7 +39,7 @@ impl<'c, 'a> Runs<'c, 'a> {
     ghost use Rattle.ick_engine.specs.Memory.{view_in};
     ghost use Rattle.ick_engine.specs.Saved.{IsKept, saved_view};
     ghost use Rattle.ick_engine.specs.Steady.{IsReady, IsSteady};
-    ghost use Rattle.ick_engine.specs.View.{Input};
+    ghost use Rattle.ick_engine.specs.View.{Input, input_of};
     ghost use Rattle.ick_machine.specs.Run.{run_state};
     ghost use Rattle.ick_states.specs.Seen.{place_of};
 
@@ -72,29 +72,67 @@ impl<'c, 'a> Runs<'c, 'a> {
         Ok(KeptRun { saved, end })
     }
 
-    /// Makes one step of a state whose run hasn't ended.
-    fn make_step(
+    /// Makes steps while nothing is asked and the run hasn't ended, at most as many as the limit.
+    /// Returns their number.
+    #[tactic(auto, using(crate::proofs::Keeping::no_steps))]
+    fn go_on(
         &self,
         memory: &mut Memory,
-        state: &mut KeptRun,
-        done: bool,
-    ) -> Result<(), NoMemory>
-        requires steady { IsSteady self.now.lowered.code.now self.now.lowered.parts
-            (view_in memory.old) }
-        requires kept { IsKept self.now.lowered.code.now self.now.lowered.parts state.old.saved }
-        requires going { IsGoing (ask (code_program self.now.lowered.code.now)
-            (place_of self.now.lowered.code.now self.now.lowered.parts self.now.input.now
-            state.old.saved state.old.end).state) }
+        end: &mut Option<Ended>,
+        limit: u32,
+    ) -> Result<u32, NoMemory>
+        requires { IsReady self.now.lowered.code.now self.now.lowered.parts (view_in memory.old) }
         ensures steady { IsSteady self.now.lowered.code.now self.now.lowered.parts
             (view_in memory.new) }
-        ensures kept { IsKept self.now.lowered.code.now self.now.lowered.parts state.new.saved }
-        ensures step { OnOk result ((place_of self.now.lowered.code.now self.now.lowered.parts
-            self.now.input.now state.new.saved state.new.end).state
-            ≡ advance (code_program self.now.lowered.code.now)
-            (place_of self.now.lowered.code.now self.now.lowered.parts self.now.input.now
-            state.old.saved state.old.end).state done) }
+        ensures ready { OnOk result (IsReady self.now.lowered.code.now self.now.lowered.parts
+            (view_in memory.new)) }
+        ensures runs { IfOk result (λ made. RunsOn IsPlain
+            (code_program self.now.lowered.code.now)
+            (run_state self.now.lowered.code.now self.now.lowered.parts
+            (input_of self.now.input.now) (view_in memory.old) end.old) made
+            (run_state self.now.lowered.code.now self.now.lowered.parts
+            (input_of self.now.input.now) (view_in memory.new) end.new)) }
+        ensures within { IfOk result (λ made. made ≤ limit) }
     {
-        state.saved.load(self.alloc, memory, &self.lowered)?;
+        match *end {
+            Some(_) => Ok(0),
+            None => {
+                let mut reader = TextReader::new(self.input);
+                let came = run_on(&self.lowered, memory, end, &mut Nobody, &mut reader, limit)?;
+                Ok(came.made)
+            }
+        }
+    }
+
+    /// Makes one step of a state whose run hasn't ended, and then further steps while nothing is
+    /// asked, at most as many as the limit. Returns the state after them, and the number of the
+    /// further steps.
+    fn make_steps(
+        &self,
+        memory: &mut Memory,
+        state: KeptRun,
+        done: bool,
+        limit: u32,
+    ) -> Result<(KeptRun, u32), NoMemory>
+        requires steady { IsSteady self.now.lowered.code.now self.now.lowered.parts
+            (view_in memory.old) }
+        requires kept { IsKept self.now.lowered.code.now self.now.lowered.parts state.saved }
+        requires going { IsGoing (ask (code_program self.now.lowered.code.now)
+            (place_of self.now.lowered.code.now self.now.lowered.parts self.now.input.now
+            state.saved state.end).state) }
+        ensures steady { IsSteady self.now.lowered.code.now self.now.lowered.parts
+            (view_in memory.new) }
+        ensures kept { IfOk result (λ p. IsKept self.now.lowered.code.now
+            self.now.lowered.parts p.0.saved) }
+        ensures runs { IfOk result (λ p. RunsOn IsPlain (code_program self.now.lowered.code.now)
+            (advance (code_program self.now.lowered.code.now)
+            (place_of self.now.lowered.code.now self.now.lowered.parts self.now.input.now
+            state.saved state.end).state done) p.1
+            (place_of self.now.lowered.code.now self.now.lowered.parts self.now.input.now
+            p.0.saved p.0.end).state) }
+        ensures within { IfOk result (λ p. p.1 ≤ limit) }
+    {
+        state.saved.restore(memory, &self.lowered);
         // It has a length, so `Nobody` has room for the changes of any statement.
         let _longest = self.lowered.longest();
         let mut end = None;
@@ -107,48 +145,8 @@ impl<'c, 'a> Runs<'c, 'a> {
             &mut reader,
             done,
         )?;
-        *state = self.keep(memory, end)?;
-        Ok(())
-    }
-
-    /// Makes steps of a state whose run hasn't ended, while nothing is asked, at most as many as
-    /// the limit. Returns their number.
-    fn make_steps(
-        &self,
-        memory: &mut Memory,
-        state: &mut KeptRun,
-        limit: u32,
-    ) -> Result<u32, NoMemory>
-        requires steady { IsSteady self.now.lowered.code.now self.now.lowered.parts
-            (view_in memory.old) }
-        requires kept { IsKept self.now.lowered.code.now self.now.lowered.parts state.old.saved }
-        requires going { IsGoing (ask (code_program self.now.lowered.code.now)
-            (place_of self.now.lowered.code.now self.now.lowered.parts self.now.input.now
-            state.old.saved state.old.end).state) }
-        ensures steady { IsSteady self.now.lowered.code.now self.now.lowered.parts
-            (view_in memory.new) }
-        ensures kept { IsKept self.now.lowered.code.now self.now.lowered.parts state.new.saved }
-        ensures runs { IfOk result (λ made. RunsOn IsPlain
-            (code_program self.now.lowered.code.now)
-            (place_of self.now.lowered.code.now self.now.lowered.parts self.now.input.now
-            state.old.saved state.old.end).state made
-            (place_of self.now.lowered.code.now self.now.lowered.parts self.now.input.now
-            state.new.saved state.new.end).state) }
-        ensures within { IfOk result (λ made. made ≤ limit) }
-    {
-        state.saved.load(self.alloc, memory, &self.lowered)?;
-        let mut end = None;
-        let mut reader = TextReader::new(self.input);
-        let came = run_on(
-            &self.lowered,
-            memory,
-            &mut end,
-            &mut Nobody,
-            &mut reader,
-            limit,
-        )?;
-        *state = self.keep(memory, end)?;
-        Ok(came.made)
+        let made = self.go_on(memory, &mut end, limit)?;
+        Ok((self.keep(memory, end)?, made))
     }
 }
 
@@ -185,15 +183,14 @@ impl<'c, 'a> States<'c> for Runs<'c, 'a> {
         state.saved.place()
     }
 
-    fn step(&self, tools: &mut Memory, state: &mut KeptRun, done: bool) -> Result<(), NoMemory> {
-        self.make_step(tools, state, done)
-    }
-
-    fn run(&self, tools: &mut Memory, state: &mut KeptRun, limit: u32) -> Result<u32, NoMemory> {
-        match self.asks(state) {
-            Ask::Plain => self.make_steps(tools, state, limit),
-            Ask::Choice(_) | Ask::Ended(_) => Ok(0),
-        }
+    fn step(
+        &self,
+        tools: &mut Memory,
+        state: KeptRun,
+        done: bool,
+        limit: u32,
+    ) -> Result<(KeptRun, u32), NoMemory> {
+        self.make_steps(tools, state, done, limit)
     }
 
     fn copy(&self, state: &KeptRun) -> Result<KeptRun, NoMemory> {

@@ -1,16 +1,25 @@
-use Rattle.std.proofs.Common.{ap, ◌∙◌, true}
-use Rattle.ick_outcomes.specs.Accounts.{chosen}
+use Rattle.std.proofs.Common.{false, refl, subst, true}
+use Rattle.ick_outcomes.specs.Accounts.{GoesOn, chosen}
 use Rattle.ick_outcomes.specs.Seen.{pending_of, rows_of, nodes_of}
-use Rattle.ick_outcomes.proofs.Uses.{makes_choice}
+use Rattle.ick_outcomes.proofs.Uses.{makes_choice, settles_on}
 use Rattle.ick_outcomes.proofs.node.branch.Goals as goal
 
 pub returns-clause-makes : goal.returns-clause-makes
 returns-clause-makes g c =
     let seen = g.P.States.place c.args.program.now in
-    makes_choice (pending_of seen c.args.node) (pending_of seen c.in_ok-zero.zero) (pending_of seen c.in_ok-one.one)
-    c.args.chance (nodes_of seen c.args.pending.now.nodes.items) (nodes_of seen c.settle.new.pending.nodes.items)
-    (nodes_of seen c.settle-2.new.pending.nodes.items) (rows_of c.args.rows.now.rows.items)
-    (rows_of c.settle.new.rows.rows.items)
-    (rows_of c.settle-2.new.rows.rows.items) c.requires.asks c.requires.left c.in_ok-zero.ensures.chosen
-    (c.in_ok-one.ensures.chosen ∙ ap (λ z. chosen c.args.chance z true) c.in_ok-other.ensures.same)
-    c.in_ok-settle.ensures.settles c.in_ok-settle-2.ensures.settles
+    let node = pending_of seen c.args.node in
+    let zero = pending_of seen c.in_ok-zero.zero in
+    let one = pending_of seen c.in_ok-one.one in
+    let ns = nodes_of seen c.args.pending.now.nodes.items in
+    let ns' = nodes_of seen c.put.new.pending.nodes.items in
+    let ns'' = nodes_of seen c.put-2.new.pending.nodes.items in
+    let rs = rows_of c.args.rows.now.rows.items in
+    let rs' = rows_of c.put.new.rows.rows.items in
+    let rs'' = rows_of c.put-2.new.rows.rows.items in
+    let other = subst (λ n. GoesOn (chosen c.args.chance n true) one) c.in_ok-other.ensures.same
+    c.in_ok-one.ensures.goes_on in
+    makes_choice node (chosen c.args.chance node false) (chosen c.args.chance node true) c.args.chance ns ns' ns'' rs rs'
+    rs'' c.requires.asks c.requires.left refl refl
+    (settles_on (chosen c.args.chance node false) zero ns ns' rs rs' c.in_ok-zero.ensures.goes_on
+    c.in_ok-put.ensures.settles)
+    (settles_on (chosen c.args.chance node true) one ns' ns'' rs' rs'' other c.in_ok-put-2.ensures.settles)

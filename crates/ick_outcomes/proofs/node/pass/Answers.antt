@@ -1,8 +1,8 @@
-use Rattle.std.proofs.Common.{refl, ap, arith, ◌-◌}
+use Rattle.std.proofs.Common.{◌≡◌, ◌∙◌, ◌-◌, ap, arith, refl, suc}
 use Rattle.ick_outcomes.specs.Fractions.{top_of}
-use Rattle.ick_outcomes.specs.Seen.{pending_of}
+use Rattle.ick_outcomes.specs.Seen.{natural, pending_of}
 use Rattle.ick_outcomes.specs.Weights.{amount}
-use Rattle.ick_outcomes.proofs.Uses.{goes_on_runs, moved_on, one_step}
+use Rattle.ick_outcomes.proofs.Uses.{first_step, goes_on_runs, moved_on}
 use Rattle.ick_outcomes.proofs.node.pass.Goals as goal
 
 pub returns-clause-goes_on : goal.returns-clause-goes_on
@@ -10,16 +10,20 @@ returns-clause-goes_on g c =
     let seen = g.P.States.place c.args.program.now in
     let n = pending_of seen c.args.node in
     let f = c.args.node.weight in
-    let e = c.in_ok-step.ensures.step in
-    let left = c.requires.left in
+    let k = c.in_ok-state.made in
+    let step = c.in_ok-state.ensures in
+    let some = c.requires.left in
+    let few = step.within in
+    let same : n.left - 1 - k ≡ n.left - suc k = omega arith in
     goes_on_runs n
     (record {
-      place = seen c.step.new.state;
-      left = n.left - 1;
-      count = n.count;
-      weight = amount (top_of f) f.places (n.left - 1);
+      place = seen c.in_ok-state.state;
+      left = n.left - 1 - k;
+      count = natural c.args.node.count;
+      weight = amount (top_of f) f.places (n.left - 1 - k);
       choices = n.choices;
     })
-    1 (one_step n.place.program n.place.state (seen c.step.new.state).state c.requires.plain (ap (λ z. z.state) e))
-    (ap (λ z. z.program) e) (omega (arith, left)) refl refl
-    (moved_on f 1 n.left c.args.node.fits (omega (arith, left))) refl
+    (suc k) (first_step n.place.program n.place.state (seen c.in_ok-state.state).state k c.requires.plain step.runs)
+    step.program (omega (arith, some, few)) same refl
+    (ap (λ z. amount (top_of f) f.places z) same
+    ∙ moved_on f (suc k) n.left c.args.node.fits (omega (arith, some, few))) refl
