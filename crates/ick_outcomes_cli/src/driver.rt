@@ -23,8 +23,9 @@ use std::alloc::Global;
 /// The arguments are without the program's own name. If they name a file, `files` opens it, its
 /// bytes are the source, and `reader` has the input, which is read whole if the source compiles.
 /// Without a file the source comes from `reader`, and the input is empty. If they name a listing,
-/// `listings` opens it, after the input is read. The output goes to `writer`, and nothing is written
-/// before all of it is found. The text of a refusal or a failure goes to `errors`, after the output.
+/// `listings` opens it, after the input is read. The output goes to `writer`, and nothing is
+/// written before all of it is found. The text of a refusal or a failure goes to `errors`, after
+/// the output.
 /// The arguments, the statuses and the texts are this profile's.
 ///
 /// The counts of failures of all devices must be below their greatest values.

@@ -18,8 +18,8 @@ use ick_system::words_of;
 use std::alloc::Global;
 
 /// Serves all arguments after the program's own name, and returns the exit status. The clauses are
-/// those of `serve_outcomes`. If memory runs out for the arguments, files, listings, reader and writer
-/// are unchanged.
+/// those of `serve_outcomes`. If memory runs out for the arguments, files, listings, reader and
+/// writer are unchanged.
 pub fn serve_arguments<F: Files, L: Files, R: ByteSource, W: ByteSink, E: ByteSink>(
     alloc: Global,
     arguments: &[String],
