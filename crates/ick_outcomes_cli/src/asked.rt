@@ -11,7 +11,7 @@ use crate::lines::{first_line, first_word, is_last};
 use ick_bits::NoMemory;
 use ick_code::Code;
 use ick_explorer::{one_reading, runs_are_limited};
-use ick_outcomes::{asked_text, follow, run_line};
+use ick_outcomes::{States, asked_text, follow, run_line};
 use ick_runs::{Cursor, RunsError};
 use ick_states::Runs;
 use std::alloc::Global;
@@ -36,6 +36,26 @@ pub fn asked_by(
     ensures { IfOk result (λ asked. IsAskedBy (code_program code.now)
         (first_state (code_program code.now) input.now) limit listing.now asked) }
 {
+    let runs = Runs::new(alloc, code, input)?;
+    let mut tools = runs.tools()?;
+    let first = runs.first()?;
+    lines_asked(alloc, &runs, &mut tools, &first, limit, listing)
+}
+
+/// Returns what the choices of a listing were asked by. The runs begin in the state `first`.
+fn lines_asked<'c, P: States<'c>>(
+    alloc: Global,
+    program: &P,
+    tools: &mut P::Tools,
+    first: &P::State,
+    limit: u32,
+    listing: &[u8],
+) -> Result<Asked, NoMemory>
+    requires tools { P.serves program.now tools.old }
+    requires first { P.suits program.now first.now }
+    ensures { IfOk result (λ asked. IsAskedBy (P.place program.now first.now).program
+        (P.place program.now first.now).state limit listing.now asked) }
+{
     let mut text = Vec::new(alloc);
     let mut rest = listing;
     let mut number = 0;
@@ -45,7 +65,7 @@ pub fn asked_by(
             return Ok(Asked::Foreign(number));
         };
         if !is_last(line) {
-            match line_asked(alloc, code, input, limit, line)? {
+            match line_asked(alloc, program, tools, first, limit, line)? {
                 Some(asked) => text.extend_from_slice(&asked)?,
                 None => return Ok(Asked::Foreign(number)),
             }
@@ -56,21 +76,26 @@ pub fn asked_by(
 }
 
 /// Returns what the choices of a line of a listing were asked by, or `None` if the line is that of
-/// no run.
-fn line_asked(
+/// no run. The runs begin in the state `first`.
+fn line_asked<'c, P: States<'c>>(
     alloc: Global,
-    code: &Code<'_>,
-    input: &[u8],
+    program: &P,
+    tools: &mut P::Tools,
+    first: &P::State,
     limit: u32,
     line: &[u8],
 ) -> Result<Option<Vec<u8>>, NoMemory>
+    requires tools { P.serves program.now tools.old }
+    requires first { P.suits program.now first.now }
     ensures some { IfOk result (λ found. IfSome found (λ text. (c : List Bool)
-        × IsRunLine (code_program code.now) (first_state (code_program code.now) input.now) limit
-        line.now c
-        × (text.items ≡ asked_line (asked (code_program code.now)
-        (first_state (code_program code.now) input.now) limit c)))) }
-    ensures none { result ≡ Ok None → (c : List Bool) → ¬ IsRunLine (code_program code.now)
-        (first_state (code_program code.now) input.now) limit line.now c }
+        × IsRunLine (P.place program.now first.now).program (P.place program.now first.now).state
+        limit line.now c
+        × (text.items ≡ asked_line (asked (P.place program.now first.now).program
+        (P.place program.now first.now).state limit c)))) }
+    ensures none { result ≡ Ok None → (c : List Bool)
+        → ¬ IsRunLine (P.place program.now first.now).program
+        (P.place program.now first.now).state limit line.now c }
+    ensures tools { P.serves program.now tools.new }
 {
     one_reading();
     runs_are_limited();
@@ -78,7 +103,7 @@ fn line_asked(
         return Ok(None);
     };
     match Cursor::from_text(alloc, word, limit) {
-        Ok(cursor) => run_asked(alloc, code, input, limit, line, cursor.choices()),
+        Ok(cursor) => run_asked(alloc, program, tools, first, limit, line, cursor.choices()),
         Err(error) => refused_word(error),
     }
 }
@@ -95,29 +120,31 @@ fn refused_word(error: RunsError) -> Result<Option<Vec<u8>>, NoMemory>
 
 /// Returns what choices were asked by, or `None` if the line isn't that of a run with these
 /// choices.
-fn run_asked(
+fn run_asked<'c, P: States<'c>>(
     alloc: Global,
-    code: &Code<'_>,
-    input: &[u8],
+    program: &P,
+    tools: &mut P::Tools,
+    first: &P::State,
     limit: u32,
     line: &[u8],
     choices: &[bool],
 ) -> Result<Option<Vec<u8>>, NoMemory>
+    requires tools { P.serves program.now tools.old }
+    requires first { P.suits program.now first.now }
     ensures some { IfOk result (λ found. IfSome found (λ text.
-        IsLineOf (code_program code.now) (first_state (code_program code.now) input.now) limit
-        line.now choices.now
-        × (text.items ≡ asked_line (asked (code_program code.now)
-        (first_state (code_program code.now) input.now) limit choices.now)))) }
-    ensures none { result ≡ Ok None → ¬ IsLineOf (code_program code.now)
-        (first_state (code_program code.now) input.now) limit line.now choices.now }
+        IsLineOf (P.place program.now first.now).program (P.place program.now first.now).state
+        limit line.now choices.now
+        × (text.items ≡ asked_line (asked (P.place program.now first.now).program
+        (P.place program.now first.now).state limit choices.now)))) }
+    ensures none { result ≡ Ok None → ¬ IsLineOf (P.place program.now first.now).program
+        (P.place program.now first.now).state limit line.now choices.now }
+    ensures tools { P.serves program.now tools.new }
 {
-    let runs = Runs::new(alloc, code, input)?;
-    let mut tools = runs.tools()?;
-    let first = runs.first()?;
-    let Some(followed) = follow(alloc, &runs, &mut tools, first, limit, choices)? else {
+    let state = program.copy(first)?;
+    let Some(followed) = follow(alloc, program, tools, state, limit, choices)? else {
         return Ok(None);
     };
-    let wanted = run_line(alloc, &runs, &followed, choices)?;
+    let wanted = run_line(alloc, program, &followed, choices)?;
     if wanted.as_slice() != line {
         return Ok(None);
     }

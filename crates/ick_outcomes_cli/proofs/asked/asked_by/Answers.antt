@@ -1,82 +1,13 @@
-use Rattle.std.proofs.Common.{◌∙◌, ◌++◌, ℕ, List, Ok, ap, arith, inl, inr, subst, sym}
-use Rattle.ick_code.specs.Compiled.{code_program}
-use Rattle.ick_code.specs.meaning.Move.{first_state}
-use Rattle.ick_outcomes_cli.proofs.Explaining.{GoesOn, counts_on, counts_on_first, explains_all, foreign_line}
-use Rattle.ick_outcomes_cli.proofs.Explaining.{foreign_rest, goes_on_first, goes_on_last, goes_on_run, none_left}
-use Rattle.ick_outcomes_cli.proofs.Explaining.{some_left}
+use Rattle.std.proofs.Common.{subst}
+use Rattle.std.specs.Prelude.{IfOk}
+use Rattle.ick_outcomes.specs.Accounts.{Place}
+use Rattle.ick_outcomes_cli.specs.Asked.{IsAskedBy}
+use Rattle.ick_outcomes_cli.proofs.Explaining.{place_is}
 use Rattle.ick_outcomes_cli.proofs.asked.asked_by.Goals as goal
-
-pub returns-in_default : goal.returns-in_default
-returns-in_default c =
-    let p = code_program c.args.code.now in
-    let s = first_state p c.args.input.now in
-    let some = some_left c.loop-rest.rest.now _ c.is_empty.ensures c.loop-rest-test.true in
-    c.loop-rest.invariant.counts_on 1
-    (foreign_rest p s c.args.limit c.loop-rest.rest.now some (c.first_line.ensures.none c.in_default.is))
-
-pub returns-in-None : goal.returns-in-None
-returns-in-None c =
-    let p = code_program c.args.code.now in
-    let s = first_state p c.args.input.now in
-    let some = some_left c.loop-rest.rest.now _ c.is_empty.ensures c.loop-rest-test.true in
-    c.loop-rest.invariant.counts_on 1
-    (foreign_line p s c.args.limit c.loop-rest.rest.now c.in-Some.line.now c.in-Some.behind.now some
-    c.in-Some.ensures.first c.in-Some.ensures.whole (c.is_last.ensures.no c.if-not-is_last.true)
-    (c.line_asked.ensures.none (c.in_ok-asked.was ∙ ap (λ x. Ok x) c.in-None.is)))
-
-pub loop-rest-init : goal.loop-rest-init
-loop-rest-init c =
-    let p = code_program c.args.code.now in
-    let s = first_state p c.args.input.now in
-    record {
-      goes_on = goes_on_first p s c.args.limit c.args.listing.now c.new-text.result.items c.new-text.ensures.items;
-      counts_on = counts_on_first p s c.args.limit c.args.listing.now;
-      few = omega arith;
-    }
-
-pub loop-rest-preserved : goal.loop-rest-preserved
-loop-rest-preserved c =
-    let p = code_program c.args.code.now in
-    let s = first_state p c.args.input.now in
-    let i = c.loop-rest.invariant in
-    let last = c.is_last.ensures.yes c.if-not-is_last.false in
-    let shorter = c.in-Some.ensures.shorter in
-    let few = i.few in
-    record {
-      goes_on = goes_on_last p s c.args.limit c.args.listing.now c.loop-rest.rest.now c.in-Some.line.now
-          c.in-Some.behind.now c.loop-rest.text.items i.goes_on c.in-Some.ensures.first c.in-Some.ensures.whole last;
-      counts_on = counts_on p s c.args.limit c.args.listing.now c.loop-rest.rest.now c.in-Some.line.now
-          c.in-Some.behind.now c.loop-rest.number i.counts_on c.in-Some.ensures.first c.in-Some.ensures.whole
-          (inl last);
-      few = omega (arith, shorter, few);
-    }
-
-pub loop-rest-preserved-in_ok-extend_from_slice-in-Some-2 : goal.loop-rest-preserved-in_ok-extend_from_slice-in-Some-2
-loop-rest-preserved-in_ok-extend_from_slice-in-Some-2 c =
-    let p = code_program c.args.code.now in
-    let s = first_state p c.args.input.now in
-    let i = c.loop-rest.invariant in
-    let other = c.is_last.ensures.no c.if-not-is_last.true in
-    let run = rw c.in-Some-2.is at c.in_ok-asked.ensures.some in
-    let new = c.in_ok-extend_from_slice-in-Some-2.ensures.items
-    ∙ ap (λ (l : List ℕ). c.loop-rest.text.items ++ l) (c.deref.ensures.value ∙ run.2) in
-    let shorter = c.in-Some.ensures.shorter in
-    let few = i.few in
-    record {
-      goes_on = subst (λ (text : List ℕ). GoesOn p s c.args.limit c.args.listing.now c.in-Some.behind.now text)
-          (sym new)
-          (goes_on_run p s c.args.limit c.args.listing.now c.loop-rest.rest.now c.in-Some.line.now
-          c.in-Some.behind.now c.loop-rest.text.items run.0 i.goes_on c.in-Some.ensures.first c.in-Some.ensures.whole
-          other run.1);
-      counts_on = counts_on p s c.args.limit c.args.listing.now c.loop-rest.rest.now c.in-Some.line.now
-          c.in-Some.behind.now c.loop-rest.number i.counts_on c.in-Some.ensures.first c.in-Some.ensures.whole
-          (inr (run.0, run.1));
-      few = omega (arith, shorter, few);
-    }
 
 pub returns : goal.returns
 returns c =
-    let p = code_program c.args.code.now in
-    let s = first_state p c.args.input.now in
-    explains_all p s c.args.limit c.args.listing.now c.loop-rest.rest.now c.loop-rest.text.items
-    (none_left c.loop-rest.rest.now _ c.is_empty.ensures c.loop-rest-test.false) c.loop-rest.invariant.goes_on
+    subst (λ (x : Place). IfOk c.lines_asked.result (λ asked. IsAskedBy x.program x.state c.args.limit c.args.listing.now
+    asked))
+    (place_is c.in_ok-runs.runs.lowered.code.now c.args.code.now c.in_ok-runs.runs.input.now c.args.input.now _
+    c.in_ok-first.ensures.first c.in_ok-runs.ensures.code c.in_ok-runs.ensures.input) c.lines_asked.ensures
