@@ -12,11 +12,11 @@ use Rattle.ick_cli.specs.Usage.{help_without_memory, refused_without_memory, wor
 use Rattle.ick_cli.specs.declared.driver.WordsFault.{WordsFault}
 use Rattle.ick_cli.specs.declared.driver.WordsFault.TheVariants.{NoMemory, NotText}
 use Rattle.ick_c.specs.Arguments.{Holds}
-use Rattle.ick_c.specs.Call.{Serves, ServesBytes, nothing, source_in}
+use Rattle.ick_c.specs.Call.{OfBytes, Serves, nothing, source_in}
 use Rattle.ick_c.proofs.ArgumentLemmas.{same_held}
 
 -- what any arguments leave if memory ran out before they were read
-without_memory : OneAnswer → (arguments : List Text) (file input : List ℕ) (writer errors errors' : Written)
+pub without_memory : OneAnswer → (arguments : List Text) (file input : List ℕ) (writer errors errors' : Written)
     (status : ℕ)
     → Finishes true 4 (notice_text (words_notice NoMemory))
     errors.failures errors'.failures errors.bytes errors'.bytes status
@@ -34,38 +34,36 @@ without_memory law arguments file input writer errors errors' status done =
     }
 
 -- what bytes leave whose arguments were not read
-pub not_read : OneAnswer → (bytes file input : List ℕ) (writer errors errors' : Written) (fault : WordsFault)
+pub not_read : (Leaves : List Text → Type 0) (bytes : List ℕ) (writer errors errors' : Written) (fault : WordsFault)
     (status : ℕ) → (fault ≡ NotText → (arguments : List Text) → ¬ Holds bytes arguments)
     → (fault ≡ NoMemory → (arguments : List Text) × Holds bytes arguments)
     → Finishes true (words_status fault) (notice_text (words_notice fault))
     errors.failures errors'.failures errors.bytes errors'.bytes status
-    → ServesBytes bytes file input writer writer errors errors' status
-not_read law bytes file input writer errors errors' NoMemory status none some done = record {
-  held = λ arguments held. without_memory law arguments file input writer errors errors' status done;
+    → (Finishes true 4 (notice_text (words_notice NoMemory))
+    errors.failures errors'.failures errors.bytes errors'.bytes status → (arguments : List Text) → Leaves arguments)
+    → OfBytes Leaves bytes writer writer errors errors' status
+not_read Leaves bytes writer errors errors' NoMemory status none some done short = record {
+  held = λ arguments held. short done arguments;
   unread = λ unheld. let found = some refl in absurd (unheld found.0 found.1);
 }
-not_read law bytes file input writer errors errors' NotText status none some done = record {
+not_read Leaves bytes writer errors errors' NotText status none some done short = record {
   held = λ arguments held. absurd (none refl arguments held);
   unread = λ unheld. (refl, done);
 }
 
 -- what bytes leave whose arguments were served
-pub read : (bytes file input : List ℕ) (writer writer' errors errors' : Written) (status : ℕ) (arguments : List Text)
-    → Holds bytes arguments → Serves arguments file input writer writer' errors errors' status
-    → ServesBytes bytes file input writer writer' errors errors' status
-read bytes file input writer writer' errors errors' status arguments holds serves = record {
-  held = λ others held.
-      subst (λ (a : List Text). Serves a file input writer writer' errors errors' status)
-      (same_held bytes others arguments held holds) serves;
+pub read : (Leaves : List Text → Type 0) (bytes : List ℕ) (writer writer' errors errors' : Written) (status : ℕ)
+    (arguments : List Text) → Holds bytes arguments → Leaves arguments
+    → OfBytes Leaves bytes writer writer' errors errors' status
+read Leaves bytes writer writer' errors errors' status arguments holds leaves = record {
+  held = λ others held. subst Leaves (same_held bytes others arguments held holds) leaves;
   unread = λ unheld. absurd (unheld arguments holds);
 }
 
--- what bytes leave over two sinks that are new, with the same status
-pub from_nothing : (bytes file input : List ℕ) (writer writer' errors errors' : Written) (status code : ℕ)
-    → writer ≡ nothing → errors ≡ nothing → code ≡ status
-    → ServesBytes bytes file input writer writer' errors errors' status
-    → ServesBytes bytes file input nothing writer' nothing errors' code
-from_nothing bytes file input writer writer' errors errors' status code none none' same serves =
-    subst (λ (w : Written). ServesBytes bytes file input w writer' nothing errors' code) none
-    (subst (λ (w : Written). ServesBytes bytes file input writer writer' w errors' code) none'
-    (subst (λ (n : ℕ). ServesBytes bytes file input writer writer' errors errors' n) (sym same) serves))
+-- what is left over two sinks that are new, with the same status
+pub from_nothing : (Leaves : Written → Written → ℕ → Type 0) (writer errors : Written) (status code : ℕ)
+    → writer ≡ nothing → errors ≡ nothing → code ≡ status → Leaves writer errors status → Leaves nothing nothing code
+from_nothing Leaves writer errors status code none none' same leaves =
+    subst (λ (w : Written). Leaves w nothing code) none
+    (subst (λ (w : Written). Leaves writer w code) none'
+    (subst (λ (n : ℕ). Leaves writer errors n) (sym same) leaves))

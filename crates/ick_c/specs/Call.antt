@@ -46,11 +46,15 @@ pub record Serves (arguments : List Text) (file input : List ℕ)
   pub said : Reports (IsDue (failures_of writer) (failures_of writer')) errors errors' status
   pub failed : (writer.failures < writer'.failures) ⊎ (errors.failures < errors'.failures) → status ≡ 4
 
--- What bytes leave: what `serve` leaves of the arguments that they hold; or one line, if they hold none.
-pub record ServesBytes (bytes file input : List ℕ)
+-- What bytes leave: what a call leaves of the arguments that they hold; or one line, if they hold none.
+pub record OfBytes (Leaves : List Text → Type 0) (bytes : List ℕ)
     (writer writer' errors errors' : Written) (status : ℕ) : Type 0 where
-  pub held : (arguments : List Text) → Holds bytes arguments
-      → Serves arguments file input writer writer' errors errors' status
+  pub held : (arguments : List Text) → Holds bytes arguments → Leaves arguments
   pub unread : ((arguments : List Text) → ¬ Holds bytes arguments) → (writer' ≡ writer)
       × Finishes true 64 (notice_text WordsNotRead)
       errors.failures errors'.failures errors.bytes errors'.bytes status
+
+abbrev pub ServesBytes : (bytes file input : List ℕ) (writer writer' errors errors' : Written) (status : ℕ) → Type 0
+ServesBytes bytes file input writer writer' errors errors' status =
+    OfBytes (λ arguments. Serves arguments file input writer writer' errors errors' status) bytes
+    writer writer' errors errors' status

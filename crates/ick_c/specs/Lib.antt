@@ -1,3 +1,4 @@
 pub mod Arguments
 pub mod Call
+pub mod OutcomesCall
 pub mod Room

@@ -13,6 +13,7 @@ ghost use Rattle.std.specs.Prelude.{◌≡◌, length};
 ghost use Rattle.ick_explorer.specs.Written.{Written};
 ghost use Rattle.ick_cli.specs.Serve.{IsStatus};
 ghost use Rattle.ick_c.specs.Call.{ServesBytes, nothing};
+ghost use Rattle.ick_c.specs.OutcomesCall.{OutcomesOfBytes};
 ghost use Rattle.ick_c.specs.Room.{filled};
 
 mod arguments;
@@ -92,9 +93,9 @@ pub extern "C" fn ick_serve(
     status.code()
 }
 
-/// Does what the program `ick-outcomes` does with these arguments, and returns the exit status. Each
-/// FILE has the bytes `file`, each LISTING has the bytes `listing`, and standard input has the bytes
-/// `input`. The rest is as for `ick_serve`.
+/// Does what the program `ick-outcomes` does with these arguments, and returns the exit status.
+/// Each FILE has the bytes `file`, each LISTING has the bytes `listing`, and standard input has the
+/// bytes `input`. The rest is as for `ick_serve`.
 #[unsafe(no_mangle)]
 pub extern "C" fn ick_outcomes_serve(
     alloc: Global,
@@ -106,6 +107,13 @@ pub extern "C" fn ick_outcomes_serve(
     errors: &mut [u8],
     lengths: &mut Lengths,
 ) -> u8
+    ensures served { (writer : Written) × (said : Written)
+        × (output.new ≡ filled writer.bytes output.old)
+        × (lengths.new.output ≡ length writer.bytes)
+        × (errors.new ≡ filled said.bytes errors.old)
+        × (lengths.new.errors ≡ length said.bytes)
+        × OutcomesOfBytes arguments.now file.now listing.now input.now nothing writer nothing said
+        result }
     ensures status { IsStatus result }
 {
     let mut writer = VecSink::new(alloc);
