@@ -1,0 +1,106 @@
+//! The program `test_traces`: reads programs that stand between lines of `====`. It prints the
+//! traces of each, follows them from the first statement on, and prints where the run is then.
+#![tactic(auto)]
+
+ghost use Rattle.ick_engine.specs.Memory.{view_in};
+ghost use Rattle.ick_engine.specs.Steady.{IsReady};
+ghost use Rattle.ick_traces.specs.Traces.{AreAllowed, AreTraces};
+
+use ick_code::{Code, compile};
+use ick_engine::{Memory, fresh_memory};
+use ick_instructions::Lowered;
+use ick_lowering::lower;
+use ick_source::read_source;
+use ick_traces::{Traces, build_traces, fixed_statements, follow_traces};
+use std::io;
+use std::io::ErrorKind;
+
+fn main(rt: HostRuntime) -> io::Result<()> {
+    let text = io::read_to_string(rt.alloc(), rt.stdin())?;
+    for source in text.split("====\n") {
+        show(&rt, source.as_bytes())?;
+    }
+    Ok(())
+}
+
+/// Shows the traces of a source text.
+fn show(rt: &HostRuntime, source: &[u8]) -> io::Result<()> {
+    let Ok(program) = read_source(rt.alloc(), source) else {
+        return Err(ErrorKind::InvalidData.into());
+    };
+    let Ok(code) = compile(rt.alloc(), &program) else {
+        return Err(ErrorKind::OutOfMemory.into());
+    };
+    show_code(rt, &code)
+}
+
+/// Shows the traces of a code.
+fn show_code(rt: &HostRuntime, code: &Code<'_>) -> io::Result<()> {
+    let Ok(lowered) = lower(rt.alloc(), code) else {
+        return Err(ErrorKind::OutOfMemory.into());
+    };
+    let Ok(memory) = fresh_memory(rt.alloc(), &lowered) else {
+        return Err(ErrorKind::OutOfMemory.into());
+    };
+    let Ok(fixed) = fixed_statements(rt.alloc(), &lowered, &memory.statuses) else {
+        return Err(ErrorKind::OutOfMemory.into());
+    };
+    match build_traces(rt.alloc(), &lowered, fixed) {
+        Ok(Some(traces)) => {
+            print_traces(rt, &traces)?;
+            print_run(rt, &lowered, memory, &traces)
+        }
+        Ok(None) => println!(rt; "the traces are not those of the program"),
+        Err(_) => Err(ErrorKind::OutOfMemory.into()),
+    }
+}
+
+/// Prints each instruction of traces, and where it is in the program.
+fn print_traces(rt: &HostRuntime, traces: &Traces) -> io::Result<()> {
+    for at in 0..traces.code.len().min(traces.marks.len()) {
+        let (i, m) = (traces.code[at], traces.marks[at]);
+        let (operation, here, steps, pending) = (i.operation, m.here, m.steps, m.count);
+        println!(rt;
+            "{at}: {operation:?} of statement {here} after {steps} steps, {pending} pending"
+        )?;
+    }
+    Ok(())
+}
+
+/// Follows traces for at most a thousand steps, and prints where the run is then.
+fn print_run(
+    rt: &HostRuntime,
+    lowered: &Lowered<'_, '_>,
+    mut memory: Memory,
+    traces: &Traces,
+) -> io::Result<()>
+    requires traces { AreTraces lowered.now.code.now lowered.now.parts traces.now }
+    requires ready { IsReady lowered.now.code.now lowered.now.parts (view_in memory) }
+    requires allowed { AreAllowed lowered.now.code.now traces.now.fixed.items memory.statuses.items }
+{
+    memory.cursor.left = 1000;
+    follow_traces(
+        lowered,
+        traces,
+        memory.registers.as_mut_slice(),
+        memory.home.as_slice(),
+        memory.statuses.as_slice(),
+        memory.returns.as_mut_slice(),
+        &memory.rest,
+        &mut memory.cursor,
+    );
+    let cursor = memory.cursor;
+    let (place, left, depth) = (cursor.place, cursor.left, cursor.depth);
+    println!(rt;
+        "at statement {place} with {left} of 1000 steps left and {depth} return addresses"
+    )?;
+    print_scalars(rt, lowered, memory.registers.as_slice())
+}
+
+/// Prints the numbers of the scalars.
+fn print_scalars(rt: &HostRuntime, lowered: &Lowered<'_, '_>, registers: &[u32]) -> io::Result<()> {
+    for slot in 0..registers.len().min(lowered.layout().base as usize) {
+        println!(rt; "scalar {slot} is {}", registers[slot])?;
+    }
+    Ok(())
+}
