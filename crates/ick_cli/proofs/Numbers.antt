@@ -9,7 +9,7 @@ use Rattle.std.specs.Char.{digit_value}
 use Rattle.std.specs.Str.Parse.{AllDigits, IsNumeral, ParsesUnsigned, digits_value, without_leading_plus}
 use Rattle.clap.specs.ValueTests.{is_numeral}
 use Rattle.clap.specs.Words.{ReadsOne}
-use Rattle.ick_cli.specs.Job.{number_of}
+use Rattle.ick_cli.specs.Job.{parsed_number}
 
 both : (a b : Bool) → (a && b) ≡ true → (a ≡ true) × (b ≡ true)
 both true b e = (refl, e)
@@ -36,7 +36,7 @@ chosen true v r passes fails = passes refl
 chosen false v r passes fails = fails refl
 
 some_read : (k : ℕ) (E : Type 0) (t : List ℕ) (r : Result ℕ E) → ParsesUnsigned k 10 t r →
-    result_ok r ≡ number_of k t
+    result_ok r ≡ parsed_number k t
 some_read k E t (Ok x) h =
     let digits : List ℕ = without_leading_plus t in
     chosen (is_numeral digits && nat_lt (digits_value 10 digits) (2 ^ k)) (digits_value 10 digits) (Some x)
@@ -51,7 +51,7 @@ some_read k E t (Err e) h =
 
 read_one : (k : ℕ) (E : Type 0) (gives : List ℕ → Result ℕ E → Type 0) (t : List ℕ) (r : Option ℕ)
     → ((u : List ℕ) (x : Result ℕ E) → gives u x → ParsesUnsigned k 10 u x) → ReadsOne gives t r →
-    r ≡ number_of k t
+    r ≡ parsed_number k t
 read_one k E gives t (Some v) reads h = some_read k E t (Ok v) (reads t (Ok v) h)
 read_one k E gives t None reads h = some_read k E t (Err h.0) (reads t (Err h.0) h.1)
 
@@ -60,6 +60,6 @@ pub read_number : (k : ℕ) (E : Type 0) (gives : List ℕ → Result ℕ E → 
     (r : Option ℕ)
     → ((u : List ℕ) (x : Result ℕ E) → gives u x → ParsesUnsigned k 10 u x)
     → (f ≡ None → r ≡ None) → ((t : List ℕ) → f ≡ Some t → ReadsOne gives t r)
-    → r ≡ option_and_then (number_of k) f
+    → r ≡ option_and_then (parsed_number k) f
 read_number k E gives None r reads none some = none refl
 read_number k E gives (Some t) r reads none some = read_one k E gives t r reads (some t refl)

@@ -45,8 +45,8 @@ abbrev pub asked : Job → Asked
 asked j = record { task = task_of j.subcommand; file = option_map (λ s. s.now) j.file }
 
 -- the number that a text of decimal digits writes, if it has so many bits
-abbrev pub number_of : ℕ → Text → Option ℕ
-number_of bits text =
+abbrev pub parsed_number : ℕ → Text → Option ℕ
+parsed_number bits text =
     let digits = without_leading_plus text in
     if is_numeral digits && nat_lt (digits_value 10 digits) (2 ^ bits) then Some (digits_value 10 digits) else None
 
@@ -55,7 +55,7 @@ abbrev pub text_in : Text → List Row → Option Text
 text_in id rows = first_of id rows
 
 abbrev pub number_in : ℕ → Text → List Row → Option ℕ
-number_in bits id rows = option_and_then (number_of bits) (one_of id rows)
+number_in bits id rows = option_and_then (parsed_number bits) (one_of id rows)
 
 abbrev pub number_or : Text → List Row → ℕ → ℕ
 number_or id rows usual = unwrap_or (number_in 32 id rows) usual

@@ -158,7 +158,7 @@ impl<M: Backtrack> Explorer<M> {
         ensures program { (explored self.new).program ≡ (explored self.old).program }
         ensures limit { (explored self.new).limit ≡ (explored self.old).limit }
     {
-        walk::forget(&mut self.machine, &mut self.path);
+        walk::reset(&mut self.machine, &mut self.path);
         self.progress = Progress::Spent;
     }
 
@@ -282,7 +282,7 @@ impl<M: Backtrack> Explorer<M> {
                 Ok(Some(found))
             }
             Err(NoMemory) => {
-                walk::forget(&mut self.machine, &mut self.path);
+                walk::reset(&mut self.machine, &mut self.path);
                 self.progress = Progress::Spent;
                 Err(RunsError::NoMemory)
             }

@@ -222,7 +222,7 @@ fn drop_marks<M: Backtrack>(machine: &mut M)
 }
 
 /// Drops all marks and clears the path.
-pub(crate) fn forget<M: Backtrack>(machine: &mut M, path: &mut Path)
+pub(crate) fn reset<M: Backtrack>(machine: &mut M, path: &mut Path)
     ensures marks { (M.seen machine.new).marks ≡ [] }
     ensures choices { path.new.choices ≡ [] }
     ensures points { path.new.points.items ≡ [] }

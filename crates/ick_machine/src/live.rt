@@ -7,7 +7,7 @@ use crate::asking::{answer, end_of};
 use crate::fed::{fed_step, fed_steps};
 use crate::feed::Feed;
 use crate::live_ask::LiveAsk;
-use crate::message::append_end;
+use crate::message::append_end_message;
 use ick_backtrack::{Ask, FeedFault};
 use ick_bits::NoMemory;
 use ick_code::Code;
@@ -190,7 +190,7 @@ impl<'c, 'a> Live<'c, 'a> {
     {
         match self.end {
             None => Ok(()),
-            Some(ended) => append_end(
+            Some(ended) => append_end_message(
                 out,
                 Ask::Ended(end_of(self.lowered.code, &self.line, ended)),
             ),

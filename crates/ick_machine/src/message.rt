@@ -11,7 +11,7 @@ use ick_bits::{NoMemory, append_message};
 
 /// Appends the message of the fault that a run has ended by, or nothing if it hasn't ended by a
 /// fault (Revised Manual, 9.1).
-pub fn append_end(out: &mut Vec<u8>, ask: Ask<'_>) -> Result<(), NoMemory>
+pub fn append_end_message(out: &mut Vec<u8>, ask: Ask<'_>) -> Result<(), NoMemory>
     ensures ok { (asked : Asking) → asked_of ask.entry ≡ Some asked →
         OnOk result (out.new.items ≡ out.old.items ++ asked_message asked) }
     ensures err { OnErr result (out.new.items ≡ out.old.items) }

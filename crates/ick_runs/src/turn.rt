@@ -44,7 +44,7 @@ fn step_from<R: ByteSource>(
 /// Makes at most `limit` steps, and returns their number. Before each step the run asks no choice
 /// and the machine holds no output. The steps take their input from `reader`. The answer is
 /// `NoMemory` or `Read` if a step fails.
-fn run_from<R: ByteSource>(
+fn steps_from<R: ByteSource>(
     machine: &mut Live<'_, '_>,
     reader: &mut R,
     limit: u32,
@@ -157,7 +157,7 @@ pub(crate) fn stride<R: ByteSource, W: ByteSink>(
     ensures errors { IfErr result (λ e. (e ≡ RunsError.NoMemory)
         ⊎ ((e ≡ RunsError.Read) ⊎ (e ≡ RunsError.Write))) }
 {
-    let made = run_from(machine, reader, limit)?;
+    let made = steps_from(machine, reader, limit)?;
     leave(machine, writer)?;
     Ok(made)
 }

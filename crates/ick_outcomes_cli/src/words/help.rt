@@ -5,7 +5,7 @@ pub const OUTCOMES: &str =
     "Prints a line for each outcome of the program: the number of its runs, their weight, the
 choices of the first of them, the end and the output. Then comes DONE. An outcome is an
 output together with an end. With FILE the input is standard input, and without it the
-input is empty. Each run is cut short after 10000 steps where no limit is given.
+input is empty. Each run is cut short after 10000 steps if no limit is given.
 
 The weight of a run is its probability if each choice were drawn by itself with the
 chance of its statement. Nothing is claimed of the choices that a seed draws.
@@ -17,7 +17,7 @@ Exit status:
   0   the outcomes were listed
   2   the source is refused
   4   a file, a stream or memory failed, the input is too long, or there are too many states
-  64  the words ask for nothing, or a line of LISTING isn't of this program and input
+  64  wrong arguments, or a line of LISTING isn't of this program and input
 
 Example:
   ick-outcomes examples/choice.i";

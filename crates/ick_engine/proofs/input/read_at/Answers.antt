@@ -38,7 +38,7 @@ returns-in_default-clause-does g c = λ home statuses returns place depth text s
     let within : i.to < length all = omega (arith, c.requires.slot, c.requires.arrays) in
     let none = placed all i.to c.index.result.now c.subscripts.result.now c.args.program.now.parts.subscripts.items
     c.args.registers.now i.right (i.right + i.number) None within c.index.ensures c.subscripts.ensures
-    c.in_default.ensures.place in
+    c.in_default.ensures.index in
     (steady, reads_nowhere is steady i text g.R.Reader.Has c.args.reader.now c.requires.operation c.requires.slot none)
 
 pub returns-in-None-clause-does : goal.returns-in-None-clause-does
@@ -50,7 +50,7 @@ returns-in-None-clause-does g c = λ home statuses returns place depth text stea
     let is : IsProgram c.args.program.now.code.now c.args.program.now.parts = record { compiled = c.law.ensures; lowered_is = c.law-2.ensures } in
     let within : i.to < length all = omega (arith, c.requires.slot, c.requires.arrays) in
     let some = placed all i.to c.index.result.now c.subscripts.result.now subs regs i.right (i.right + i.number)
-    (Some c.in-Some._at) within c.index.ensures c.subscripts.ensures c.in-Some.ensures.place in
+    (Some c.in-Some._at) within c.index.ensures c.subscripts.ensures c.in-Some.ensures.index in
     let mid = parts_of c.read_line.new.rest in
     let was = c.read_line.new.rest.arrays.items in
     let now = c.store_at.new.arrays.items in
@@ -75,7 +75,7 @@ returns-in-Some-store_at-clause-does g c = λ home statuses returns place depth 
     let is : IsProgram c.args.program.now.code.now c.args.program.now.parts = record { compiled = c.law.ensures; lowered_is = c.law-2.ensures } in
     let within : i.to < length all = omega (arith, c.requires.slot, c.requires.arrays) in
     let some = placed all i.to c.index.result.now c.subscripts.result.now subs regs i.right (i.right + i.number)
-    (Some c.in-Some._at) within c.index.ensures c.subscripts.ensures c.in-Some.ensures.place in
+    (Some c.in-Some._at) within c.index.ensures c.subscripts.ensures c.in-Some.ensures.index in
     let mid = parts_of c.read_line.new.rest in
     let was = c.read_line.new.rest.arrays.items in
     let now = c.store_at.new.arrays.items in
@@ -101,7 +101,7 @@ returns-in-Err-clause-does g c = λ home statuses returns place depth text stead
     let within : i.to < length all = omega (arith, c.requires.slot, c.requires.arrays) in
     let some = placed all i.to c.index.result.now c.subscripts.result.now c.args.program.now.parts.subscripts.items regs
     i.right (i.right + i.number) (Some c.in-Some._at) within c.index.ensures c.subscripts.ensures
-    c.in-Some.ensures.place in
+    c.in-Some.ensures.index in
     let new = parts_of c.read_line.new.rest in
     let kept = c.in-Err.ensures.parts in (
       parts_kept steady regs new (record (parts_of c.args.rest.now) { taken = new.taken }) refl steady.constants kept refl refl refl refl,

@@ -12,7 +12,7 @@ returns-in_err-made-clause-moved g c = λ tells.
     let written = g.W.ByteSink.written c.args.writer.now in
     let first = seen c.args.machine.now in
     let begin = fed (left c.args.reader.now) first.state in
-    let now = fed (left c.run_from.new.reader) (seen c.run_from.new.machine).state in
+    let now = fed (left c.steps_from.new.reader) (seen c.steps_from.new.machine).state in
     let e : c.from_residual.result ≡ Err c.in_err-made.field-0.0 = search rules in
     subst (λ r. Strides told first.program begin c.args.limit now written written r) (sym e)
     (no_stride told first.program begin now c.args.limit written c.in_err-made.field-0.0)
@@ -23,8 +23,8 @@ returns-in_err-leave-clause-moved g c = λ tells.
     let written = g.W.ByteSink.written in
     let first = seen c.args.machine.now in
     let begin = fed (left c.args.reader.now) first.state in
-    let reached = fed (left c.run_from.new.reader) (seen c.run_from.new.machine).state in
-    let now = fed (left c.run_from.new.reader) (seen c.leave.new.machine).state in
+    let reached = fed (left c.steps_from.new.reader) (seen c.steps_from.new.machine).state in
+    let now = fed (left c.steps_from.new.reader) (seen c.leave.new.machine).state in
     let e : c.from_residual-in_err-leave.result ≡ Err c.in_err-leave.field-0.0 = search rules in
     subst (λ r. Strides g.W.ByteSink.told first.program begin c.args.limit now (written c.args.writer.now)
     (written c.leave.new.writer) r) (sym e)

@@ -41,8 +41,8 @@ returns-in-Some c =
     (finish_of c.end_of.result) c.end_of.ensures
     ∙ ap (λ end. Some (ask (code_program code) (run_state code lowered input v end))) (sym c.in-Some.is) in
     record {
-      ok = c.append_end.ensures.ok asked same;
-      err = c.append_end.ensures.err;
-      full = c.append_end.ensures.full asked same;
-      capacity = c.append_end.ensures.capacity;
+      ok = c.append_end_message.ensures.ok asked same;
+      err = c.append_end_message.ensures.err;
+      full = c.append_end_message.ensures.full asked same;
+      capacity = c.append_end_message.ensures.capacity;
     }

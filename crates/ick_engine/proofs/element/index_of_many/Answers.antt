@@ -7,7 +7,7 @@ use Rattle.ick_engine.specs.View.{array_of}
 use Rattle.ick_engine.specs.Walk.{walk}
 use Rattle.ick_engine.proofs.PlaceLemmas.{inside, place_is, beyond, none_at, walk_next, walk_done, is_inside}
 use Rattle.ick_engine.proofs.PlaceLemmas.{is_outside}
-use Rattle.ick_engine.proofs.element.place_of_many.Goals as goal
+use Rattle.ick_engine.proofs.element.index_of_many.Goals as goal
 
 count_is : (subscripts regs : List ℕ) → length (values_of subscripts regs) ≡ length subscripts
 count_is subscripts regs = length-map subscripts (λ r. Wide (reg regs r))
@@ -18,8 +18,8 @@ value_at : (subscripts regs : List ℕ) (at : ℕ) → at < length subscripts �
 value_at subscripts regs at low =
     sym (get_or-map (λ r. Wide (reg regs r)) subscripts at 0 (Wide (reg regs (get_or subscripts at 0))) low)
 
-pub returns-then-len-subscripts-clause-place : goal.returns-then-len-subscripts-clause-place
-returns-then-len-subscripts-clause-place c =
+pub returns-then-len-subscripts-clause-index : goal.returns-then-len-subscripts-clause-index
+returns-then-len-subscripts-clause-index c =
     let a = array_of c.args.array.now in
     let subs = values_of c.args.subscripts.now c.args.registers.now in
     let count = count_is c.args.subscripts.now c.args.registers.now in
@@ -27,8 +27,8 @@ returns-then-len-subscripts-clause-place c =
     (sym (none_at a.dimensions subs
     (λ e. c.if-len-subscripts.true (c.len.ensures ∙ c.args.array.now.dimensions.ok.0 ∙ e ∙ count))))
 
-pub returns-in_default-clause-place : goal.returns-in_default-clause-place
-returns-in_default-clause-place c =
+pub returns-in_default-clause-index : goal.returns-in_default-clause-index
+returns-in_default-clause-index c =
     let a = array_of c.args.array.now in
     let subs = values_of c.args.subscripts.now c.args.registers.now in
     let count = count_is c.args.subscripts.now c.args.registers.now in
@@ -43,8 +43,8 @@ returns-in_default-clause-place c =
     (value_at c.args.subscripts.now c.args.registers.now at c.loop-at-test.true) refl ∙ c.loop-at.invariant.walked)
     ∙ place_is a subs
 
-pub returns-then-place-ge-FAR-clause-place : goal.returns-then-place-ge-FAR-clause-place
-returns-then-place-ge-FAR-clause-place c =
+pub returns-then-place-ge-FAR-clause-index : goal.returns-then-place-ge-FAR-clause-index
+returns-then-place-ge-FAR-clause-index c =
     let a = array_of c.args.array.now in
     let subs = values_of c.args.subscripts.now c.args.registers.now in
     let at = c.loop-at.at in
@@ -72,8 +72,8 @@ loop-at-preserved c =
           ∙ c.loop-at.invariant.walked;
     }
 
-pub returns-then-place-count-clause-place : goal.returns-then-place-count-clause-place
-returns-then-place-count-clause-place c =
+pub returns-then-place-count-clause-index : goal.returns-then-place-count-clause-index
+returns-then-place-count-clause-index c =
     let a = array_of c.args.array.now in
     let subs = values_of c.args.subscripts.now c.args.registers.now in
     let count = count_is c.args.subscripts.now c.args.registers.now in
@@ -87,8 +87,8 @@ returns-then-place-count-clause-place c =
     ∙ c.loop-at.invariant.walked)
     ∙ place_is a subs
 
-pub returns-else-place-count-clause-place : goal.returns-else-place-count-clause-place
-returns-else-place-count-clause-place c =
+pub returns-else-place-count-clause-index : goal.returns-else-place-count-clause-index
+returns-else-place-count-clause-index c =
     let a = array_of c.args.array.now in
     let subs = values_of c.args.subscripts.now c.args.registers.now in
     let count = count_is c.args.subscripts.now c.args.registers.now in
