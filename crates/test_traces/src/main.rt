@@ -76,7 +76,8 @@ fn print_run(
 ) -> io::Result<()>
     requires traces { AreTraces lowered.now.code.now lowered.now.parts traces.now }
     requires ready { IsReady lowered.now.code.now lowered.now.parts (view_in memory) }
-    requires allowed { AreAllowed lowered.now.code.now traces.now.fixed.items memory.statuses.items }
+    requires allowed { AreAllowed lowered.now.code.now traces.now.fixed.items
+        memory.statuses.items }
 {
     memory.cursor.left = 1000;
     follow_traces(
