@@ -35,6 +35,7 @@ mod stopped;
 mod usage;
 mod words;
 
+pub use commands::ended;
 pub use driver::{WordsFault, refuse_words, serve};
 pub use ending::Ending;
 pub use files::Files;
@@ -42,8 +43,9 @@ pub use input::{read_file, read_front, read_input, read_named};
 pub use laws::one_answer;
 pub use notice::{Message, Notice};
 pub use output::send;
+pub use plan::choices_of;
 pub use refusing::refused;
 pub use report::finish;
 pub use status::Status;
 pub use usage::answer_words;
-pub use words::{bug_argument, file_argument, limit_argument};
+pub use words::{bug_argument, choices_argument, file_argument, limit_argument, seed_argument};

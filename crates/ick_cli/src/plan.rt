@@ -96,7 +96,7 @@ fn plan_run(
 
 /// Returns the choices that a text has, at most `most`, or nothing if there is no text. Memory is
 /// said to be out only if the text has such choices.
-fn choices_of(alloc: Global, text: Option<&str>, most: u32) -> Result<Option<Cursor>, Ending>
+pub fn choices_of(alloc: Global, text: Option<&str>, most: u32) -> Result<Option<Cursor>, Ending>
     ensures ok { IfOk result (AreChoices (option_map (λ s. s.now) text.entry) most) }
     ensures err { IfErr result (EndsByLine (IsUnread most (option_map (λ s. s.now) text.entry))) }
     ensures memory { IfErr result (λ ending. ending ≡ Ending.NoMemory

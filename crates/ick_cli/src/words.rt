@@ -5,5 +5,5 @@ mod command;
 mod help;
 mod job;
 
-pub use arguments::{bug_argument, file_argument, limit_argument};
+pub use arguments::{bug_argument, choices_argument, file_argument, limit_argument, seed_argument};
 pub use job::{Job, Subcommand, read_job};
