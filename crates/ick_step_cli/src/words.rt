@@ -1,0 +1,9 @@
+//! The command line: its options, and the job that arguments ask for.
+
+mod arguments;
+mod command;
+mod help;
+mod job;
+
+pub use help::COMMANDS;
+pub use job::{Job, read_job};
