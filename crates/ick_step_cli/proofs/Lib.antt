@@ -1,2 +1,4 @@
-mod WordLaws
-mod GivenLaws
+pub mod WordLaws
+pub mod GivenLaws
+pub mod AddLaws
+pub mod ShownLaws

@@ -2,3 +2,6 @@ pub mod Words
 pub mod Job
 pub mod Commands
 pub mod Given
+pub mod Shown
+pub mod Trace
+pub mod Stepper

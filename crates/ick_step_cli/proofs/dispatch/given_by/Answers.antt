@@ -1,0 +1,6 @@
+use Rattle.std.proofs.Common.{inr, refl, rules}
+use Rattle.ick_cli.proofs.Lines.{leaves_by_line}
+use Rattle.ick_step_cli.proofs.dispatch.given_by.Goals as goal
+
+pub returns-in-Err : goal.returns-in-Err
+returns-in-Err c = leaves_by_line _ c.in-Err.ending 0 0 0 c.in-Err.ensures.err

@@ -1,0 +1,34 @@
+use Rattle.std.proofs.Common.{◌≡◌, inl, inr, ap}
+use Rattle.clap.specs.Words.{kind_of}
+use Rattle.ick_cli.specs.Usage.{IsMistake, IsRequest, help_without_memory}
+use Rattle.ick_cli.proofs.ErrorKinds.{among, memory_is_mistake}
+use Rattle.ick_cli.proofs.Served.{due, finished_status}
+use Rattle.ick_step_cli.proofs.driver.serve_step.Goals as goal
+
+pub returns-in-Ok-clause-said : goal.returns-in-Ok-clause-said
+returns-in-Ok-clause-said g c =
+    (_, _, due c.perform-ending.result _ _ _ _ _ _ c.perform-ending.ensures, c.report.ensures)
+
+pub returns-in-Ok-clause-status : goal.returns-in-Ok-clause-status
+returns-in-Ok-clause-status g c = finished_status _ _ _ _ _ _ _ _ (returns-in-Ok-clause-said g c)
+
+pub returns-in-Err-clause-said : goal.returns-in-Err-clause-said
+returns-in-Err-clause-said g c = c.answer_words.ensures.said _ _
+
+pub returns-in-Err-clause-status : goal.returns-in-Err-clause-status
+returns-in-Err-clause-status g c = finished_status _ _ _ _ _ _ _ _ (returns-in-Err-clause-said g c)
+
+pub returns-in-Err-clause-usage : goal.returns-in-Err-clause-usage
+returns-in-Err-clause-usage g c = λ mistakes.
+    elim c.in-Err.ensures.law [
+      | inl e ↦ c.answer_words.ensures.usage (memory_is_mistake (kind_of c.in-Err.error) e)
+      | inr h ↦ c.answer_words.ensures.usage (among IsMistake (kind_of c.in-Err.error) _ mistakes.1 h)
+    ]
+
+pub returns-in-Err-clause-help : goal.returns-in-Err-clause-help
+returns-in-Err-clause-help g c = λ requests.
+    elim c.in-Err.ensures.law [
+      | inl e ↦ let memory = c.answer_words.ensures.memory e in
+          (_, _, help_without_memory (ap g.W.ByteSink.failed memory.0) (ap g.W.ByteSink.written memory.0), memory.1)
+      | inr h ↦ c.answer_words.ensures.help (among IsRequest (kind_of c.in-Err.error) _ requests.1 h)
+    ]

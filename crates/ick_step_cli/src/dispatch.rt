@@ -1,0 +1,251 @@
+//! From a job to its answer: the source is read, then compiled, then the input is read, then the
+//! run is traced or stepped through.
+
+ghost use Rattle.std.specs.Prelude.{◌≡◌, ◌+◌, ◌<◌, ◌≤◌, ◌^◌, [], IfErr, IfOk, length};
+ghost use Rattle.ick_code.specs.Compiled.{code_program};
+ghost use Rattle.ick_explorer.specs.Writes.{write_failures};
+ghost use Rattle.ick_cli.specs.Ending.{Leaves, LeavesStreams, LeavesWriter};
+ghost use Rattle.ick_step_cli.specs.Trace.{IsTraceError};
+
+use crate::given::Given;
+use crate::stepper::Stepper;
+use crate::talk::talk;
+use crate::trace::{Pair, Stopped, trace};
+use crate::words::Job;
+use ick_bits::{NoMemory, append_message};
+use ick_cli::{Ending, Files, Notice, choices_of, ended, read_file, read_front, refused};
+use ick_code::{Code, compile};
+use ick_inspect::{Position, Text, positions_of};
+use ick_machine::{End, EndKind, Trailed};
+use ick_runs::{ByteSink, ByteSource, RunsError, SliceSource, Streamed};
+use ick_source::read_source;
+use std::alloc::Global;
+
+/// How many bytes the longest input has (this profile).
+const LONGEST: usize = 1_048_576;
+
+/// How many choices of a run are read at most (this profile).
+const MOST_CHOICES: u32 = 1_000_000;
+
+/// The run that a job wants.
+#[derive(Drop)]
+struct Wanted {
+    given: Given,
+    limit: u32,
+    trace: bool,
+}
+
+/// Returns the choices that a run is given, by a text or by a seed, and not by both.
+fn given_by(alloc: Global, choices: Option<&str>, seed: Option<u64>) -> Result<Given, Ending>
+    ensures { IfErr result (λ ending. Leaves ending 0 0 0 0 0 0) }
+{
+    match seed {
+        None => match choices_of(alloc, choices, MOST_CHOICES) {
+            Ok(choices) => Ok(Given::Listed(choices)),
+            Err(ending) => Err(ending),
+        },
+        Some(seed) => match choices {
+            None => Ok(Given::seeded(alloc, seed)),
+            Some(_) => Err(Ending::usage(Notice::ChoicesAndSeed)),
+        },
+    }
+}
+
+/// Reads the input, which is empty if no file is named. Without it the work ends.
+fn input_of<F: Files>(alloc: Global, name: Option<&str>, files: &mut F) -> Result<Vec<u8>, Ending>
+    requires { F.failed files.old + 1 < 2 ^ 64 }
+    ensures ok { IfOk result (λ _. F.failed files.new ≡ F.failed files.old) }
+    ensures err { IfErr result (λ ending.
+        Leaves ending (F.failed files.old) (F.failed files.new) 0 0 0 0) }
+{
+    let Some(name) = name else {
+        return Ok(Vec::new(alloc));
+    };
+    match read_file(alloc, name, files) {
+        Ok(input) if input.len() <= LONGEST => Ok(input),
+        Ok(_) => Err(Ending::InputTooLong),
+        Err(ending) => Err(ending),
+    }
+}
+
+/// Does a job up to its error text. The source is in the file that the job names, and the reader
+/// has the commands. If the job names no file, the reader has the source, and there are no
+/// commands.
+pub fn perform<F: Files, R: ByteSource, W: ByteSink>(
+    alloc: Global,
+    job: &Job<'_>,
+    files: &mut F,
+    reader: &mut R,
+    writer: &mut W,
+) -> Ending
+    requires files_sound { F.failed files.old + 1 < 2 ^ 64 }
+    requires reader_sound { R.failed reader.old + 1 < 2 ^ 64 }
+    requires writer_sound { W.failed writer.old + 1 < 2 ^ 64 }
+    ensures { Leaves result (F.failed files.old) (F.failed files.new)
+        (R.failed reader.old) (R.failed reader.new) (W.failed writer.old) (W.failed writer.new) }
+{
+    let given = match given_by(alloc, job.choices, job.seed) {
+        Ok(given) => given,
+        Err(ending) => return ending,
+    };
+    let wanted = Wanted {
+        given,
+        limit: job.limit,
+        trace: job.trace,
+    };
+    match job.file {
+        Some(name) => match read_file(alloc, name, files) {
+            Ok(source) => {
+                answer_source(alloc, job.input, wanted, &source, files, reader, writer)
+            }
+            Err(ending) => ending,
+        },
+        None => match read_front(alloc, reader) {
+            Ok(source) => {
+                let mut nothing = SliceSource::new(&[]);
+                answer_source(
+                    alloc,
+                    job.input,
+                    wanted,
+                    &source,
+                    files,
+                    &mut nothing,
+                    writer,
+                )
+            }
+            Err(ending) => ending,
+        },
+    }
+}
+
+/// Answers a source: it is refused, or its program is compiled, and the input is read.
+fn answer_source<F: Files, R: ByteSource, W: ByteSink>(
+    alloc: Global,
+    input: Option<&str>,
+    wanted: Wanted,
+    source: &[u8],
+    files: &mut F,
+    reader: &mut R,
+    writer: &mut W,
+) -> Ending
+    requires files_sound { F.failed files.old + 1 < 2 ^ 64 }
+    requires reader_sound { R.failed reader.old + 1 < 2 ^ 64 }
+    requires writer_sound { W.failed writer.old + 1 < 2 ^ 64 }
+    ensures { Leaves result (F.failed files.old) (F.failed files.new)
+        (R.failed reader.old) (R.failed reader.new) (W.failed writer.old) (W.failed writer.new) }
+{
+    let program = match read_source(alloc, source) {
+        Ok(program) => program,
+        Err(refusal) => return refused(alloc, refusal),
+    };
+    let code = match compile(alloc, &program) {
+        Ok(code) => code,
+        Err(NoMemory) => return Ending::NoMemory,
+    };
+    match input_of(alloc, input, files) {
+        Ok(input) => answer_code(alloc, &code, source, &input, wanted, reader, writer),
+        Err(ending) => ending,
+    }
+}
+
+/// Traces a run of code over an input, or steps through it.
+fn answer_code<R: ByteSource, W: ByteSink>(
+    alloc: Global,
+    code: &Code<'_>,
+    source: &[u8],
+    input: &[u8],
+    wanted: Wanted,
+    reader: &mut R,
+    writer: &mut W,
+) -> Ending
+    requires reader_sound { R.failed reader.old + 1 < 2 ^ 64 }
+    requires writer_sound { W.failed writer.old + 1 < 2 ^ 64 }
+    ensures { LeavesStreams result (R.failed reader.old) (R.failed reader.new)
+        (W.failed writer.old) (W.failed writer.new) }
+{
+    let positions = match positions_of(alloc, source, code) {
+        Ok(positions) => positions,
+        Err(NoMemory) => return Ending::NoMemory,
+    };
+    if wanted.trace {
+        return answer_trace(alloc, code, &positions, input, wanted, writer);
+    }
+    let machine = match Trailed::new(alloc, code, input, 0) {
+        Ok(machine) => machine,
+        Err(NoMemory) => return Ending::NoMemory,
+    };
+    let mut stepper = Stepper::new(alloc, machine, wanted.given, wanted.limit);
+    talk(alloc, &positions, &mut stepper, reader, writer)
+}
+
+/// Traces a run of code over an input.
+fn answer_trace<W: ByteSink>(
+    alloc: Global,
+    code: &Code<'_>,
+    positions: &[Position],
+    input: &[u8],
+    wanted: Wanted,
+    writer: &mut W,
+) -> Ending
+    requires sound { W.failed writer.old + 1 < 2 ^ 64 }
+    requires positions { length positions.now ≡ length (code_program code.now) }
+    ensures { LeavesWriter result (W.failed writer.old) (W.failed writer.new) }
+{
+    let ran = traced(alloc, code, positions, input, wanted, writer);
+    ended(alloc, ran)
+}
+
+/// Traces a run of code over an input. Returns how the run stopped.
+fn traced<W: ByteSink>(
+    alloc: Global,
+    code: &Code<'_>,
+    positions: &[Position],
+    input: &[u8],
+    wanted: Wanted,
+    writer: &mut W,
+) -> Result<Streamed, RunsError>
+    requires sound { W.failed writer.old + 1 < 2 ^ 64 }
+    requires positions { length positions.now ≡ length (code_program code.now) }
+    ensures writes { W.failed writer.new ≡ W.failed writer.old + write_failures result }
+    ensures errors { IfErr result IsTraceError }
+{
+    let mut machines = Pair {
+        before: Trailed::new(alloc, code, input, 0)?,
+        after: Trailed::new(alloc, code, input, 0)?,
+    };
+    let Wanted {
+        mut given,
+        limit,
+        trace: _,
+    } = wanted;
+    let mut out = Text::new(alloc);
+    let stopped = trace(
+        &mut machines,
+        positions,
+        &mut given,
+        limit,
+        &mut out,
+        writer,
+    )?;
+    Ok(streamed(alloc, stopped)?)
+}
+
+/// Returns how a traced run stopped, as a streamed run stops.
+fn streamed(alloc: Global, stopped: Stopped<'_>) -> Result<Streamed, NoMemory> {
+    let mut message = Vec::new(alloc);
+    let end = match stopped.end {
+        None => EndKind::Wants,
+        Some(End::GiveUp) => EndKind::GiveUp,
+        Some(End::Limit) => EndKind::Limit,
+        Some(End::Fault(fault)) => {
+            append_message(&mut message, &fault)?;
+            EndKind::Fault(fault.kind, fault.statement)
+        }
+    };
+    Ok(Streamed {
+        end,
+        message,
+        choices: Vec::new(alloc),
+        steps: stopped.steps,
+    })
+}

@@ -1,0 +1,78 @@
+//! The whole of the program over its devices.
+
+ghost use Rattle.std.specs.Prelude.{◌≡◌, ◌≢◌, ◌+◌, ◌<◌, ◌^◌, []};
+ghost use Rattle.clap.specs.Walk.{texts};
+ghost use Rattle.clap.specs.Words.{fault_of};
+ghost use Rattle.ick_cli.specs.Ending.{ending_status, ending_text};
+ghost use Rattle.ick_cli.specs.Serve.{Finishes, FinishesDue, IsDue, IsStatus, counts};
+ghost use Rattle.ick_cli.specs.Usage.{AreMistakes, AreRequests, IsHelped, IsRefused};
+ghost use Rattle.ick_step_cli.specs.Words.{step_app};
+
+use crate::dispatch::perform;
+use crate::words::read_job;
+use ick_cli::{Ending, Files, Status, answer_words, finish};
+use ick_runs::{ByteSink, ByteSource};
+use std::alloc::Global;
+
+/// Does the job that the arguments ask for, and returns the exit status.
+///
+/// The arguments are without the program's own name. If they name a file, `files` opens it, its
+/// bytes are the source, and `reader` has the commands. Without a file the source comes from
+/// `reader`, and there are no commands. If they name an input, `files` opens it, after the source
+/// compiles. The answers go to `writer`, each before the next command is read. The text of a
+/// refusal or a failure goes to `errors`, after the output. The arguments, the statuses and the
+/// texts are this profile's.
+///
+/// The counts of failures of all devices must be below their greatest values.
+pub fn serve_step<F: Files, R: ByteSource, W: ByteSink, E: ByteSink>(
+    alloc: Global,
+    words: &[&str],
+    files: &mut F,
+    reader: &mut R,
+    writer: &mut W,
+    errors: &mut E,
+) -> Status
+    requires files_sound { F.failed files.old + 1 < 2 ^ 64 }
+    requires reader_sound { R.failed reader.old + 1 < 2 ^ 64 }
+    requires writer_sound { W.failed writer.old + 1 < 2 ^ 64 }
+    requires errors_sound { E.failed errors.old + 1 < 2 ^ 64 }
+
+    // Words that ask for no job: a mistake in them, or a request for help.
+    ensures usage { AreMistakes (fault_of step_app (texts words.entry.now))
+        → (writer.new ≡ writer.old) × FinishesDue IsRefused
+        E.told (E.failed errors.old) (E.failed errors.new)
+        (E.written errors.old) (E.written errors.new) result }
+    ensures help { AreRequests (fault_of step_app (texts words.entry.now)) → FinishesDue
+        (IsHelped W.told (W.failed writer.old) (W.failed writer.new)
+        (W.written writer.old) (W.written writer.new))
+        E.told (E.failed errors.old) (E.failed errors.new)
+        (E.written errors.old) (E.written errors.new) result }
+    ensures untouched { (fault_of step_app (texts words.entry.now) ≢ [])
+        → (files.new ≡ files.old) × (reader.new ≡ reader.old) }
+
+    // Any words, over any devices.
+    ensures said { FinishesDue (IsDue
+        (counts (F.failed files.old) (R.failed reader.old) (W.failed writer.old))
+        (counts (F.failed files.new) (R.failed reader.new) (W.failed writer.new)))
+        E.told (E.failed errors.old) (E.failed errors.new)
+        (E.written errors.old) (E.written errors.new) result }
+    ensures status { IsStatus result }
+{
+    match read_job(alloc, words) {
+        Ok(job) => {
+            let ending = perform(alloc, &job, files, reader, writer);
+            report(&ending, errors)
+        }
+        Err(error) => answer_words(alloc, &error, writer, errors),
+    }
+}
+
+/// Writes the error text of an ending, and returns its status.
+fn report<E: ByteSink>(ending: &Ending, errors: &mut E) -> Status
+    requires { E.failed errors.old + 1 < 2 ^ 64 }
+    ensures { Finishes E.told (ending_status ending.now) (ending_text ending.now)
+        (E.failed errors.old) (E.failed errors.new)
+        (E.written errors.old) (E.written errors.new) result }
+{
+    finish(ending.status(), ending.text(), errors)
+}
