@@ -11,7 +11,7 @@ TOP = os.path.dirname(os.path.dirname(os.path.realpath(__file__)))
 SECONDS = 600
 SHOWN = 1000
 # The environment variable that names a crate's program.
-VARIABLES = {"ick": "ICK", "outcomes": "ICK_OUTCOMES"}
+VARIABLES = {"ick": "ICK", "outcomes": "ICK_OUTCOMES", "step": "ICK_STEP"}
 
 
 class Tally:
@@ -83,7 +83,8 @@ def programs(named, crate="ick"):
 
 def installed_programs(named):
     """Returns the first of the programs to try under each name by which it is installed."""
-    return {"ick": programs(named)[0], "ick-outcomes": programs(None, "outcomes")[0]}
+    return {"ick": programs(named)[0], "ick-outcomes": programs(None, "outcomes")[0],
+            "ick-step": programs(None, "step")[0]}
 
 
 def try_programs(part, named, crate="ick"):

@@ -1,5 +1,5 @@
-# Completes in bash the commands, options and files of ick and ick-outcomes, and the options of the tools ick-NAME as their
-# --help lists them.
+# Completes in bash the commands, options and files of ick, ick-outcomes and ick-step, and the options of the tools
+# ick-NAME as their --help lists them.
 
 _ick_words() { mapfile -t COMPREPLY < <(compgen -W "$1" -- "$2"); }
 
@@ -49,6 +49,17 @@ _ick_outcomes() {
     esac
 }
 
+_ick_step() {
+    local word=${COMP_WORDS[COMP_CWORD]} before=${COMP_WORDS[COMP_CWORD - 1]}
+    case $before in
+        --choices | --seed | --limit) return ;;
+    esac
+    case $word in
+        -*) _ick_words '-b --input --choices --seed --limit --trace --help' "$word" ;;
+        *) _ick_files "$word" ;;
+    esac
+}
+
 _ick_tool() {
     local word=${COMP_WORDS[COMP_CWORD]} commands='' command=''
     case ${1##*/} in
@@ -67,3 +78,4 @@ complete -F _ick ick ick72
 for _ick_name in $(compgen -c ick-); do complete -F _ick_tool "$_ick_name"; done
 unset _ick_name
 complete -F _ick_outcomes ick-outcomes
+complete -F _ick_step ick-step
