@@ -5,7 +5,6 @@
 #![tactic(auto)]
 
 ghost use Rattle.std.specs.Prelude.{◌≡◌, ◌+◌, ◌<◌, ◌^◌, IfErr};
-ghost use Rattle.std.specs.Process.{exit_status};
 ghost use Rattle.ick_cli.specs.Notice.{notice_text};
 ghost use Rattle.ick_cli.specs.Serve.{Finishes};
 ghost use Rattle.ick_cli.specs.Usage.{words_notice, words_status};
@@ -14,7 +13,7 @@ mod serving;
 
 use ick_cli::{Status, WordsFault, refuse_words};
 use ick_runs::ByteSink;
-use ick_system::{DiskFiles, InStream, OutStream, arguments};
+use ick_system::{DiskFiles, InStream, OutStream, arguments, exit_code};
 use serving::serve_arguments;
 use std::io::Lock;
 use std::process::ExitCode;
@@ -52,11 +51,4 @@ fn answer<E: ByteSink>(
         }
         Err(fault) => refuse_words(fault, errors),
     }
-}
-
-/// Returns the status in the system's form.
-fn exit_code(status: Status) -> ExitCode
-    ensures { exit_status result ≡ status }
-{
-    ExitCode::from(status.code())
 }

@@ -14,7 +14,7 @@ pub fn input_argument<'a>(alloc: Global) -> Arg<'a>
     Arg::new(alloc, "input")
         .long("input")
         .value_name("FILE")
-        .help("The file with the input of the run; the input is empty where none is named")
+        .help("The file with the input of the run; the input is empty if none is given")
 }
 
 /// Returns the option by which a line is printed for each step.

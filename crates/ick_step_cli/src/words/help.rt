@@ -5,7 +5,7 @@ pub const STEP: &str =
     "Reads commands from standard input, one a line, and prints the answer to each. The command
 `help` lists the commands. With --trace it reads no commands, and prints a line for each step:
 STEP STATEMENT LINE:COLUMN TEXT. The lines below that begin with two blanks say what the step
-changed. STEP counts the steps before this one. The run is cut short after 1000000 steps where no
+changed. STEP counts the steps before this one. The run is cut short after 1000000 steps if no
 limit is given.
 
 Exit status:
@@ -14,7 +14,7 @@ Exit status:
   2   the source is refused
   3   with --trace, the run was cut short, or wants a choice
   4   a file, a stream or memory failed, or the input is too long
-  64  the words ask for nothing
+  64  wrong arguments
 
 Example:
   ick-step --trace examples/hello.i";
