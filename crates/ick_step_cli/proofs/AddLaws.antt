@@ -1,7 +1,9 @@
 -- Pieces that are added one after another.
 use Rattle.std.proofs.Common.{◌≡◌, ◌<◌, ◌+◌, Bool, true, false, List, ℕ, ◌++◌, length, ap, refl, ◌∙◌, arith}
-use Rattle.std.proofs.Common.{append_assoc, subst, vec_capacity, vec_len}
-use Rattle.std.proofs.lemmas.List.{length-append}
+use Rattle.std.proofs.Common.{append_assoc, subst, vec_capacity, vec_len, zero, suc, [], ◌∷◌, sym, add-one, get_or, take}
+use Rattle.std.specs.List.{flat_map, range_with_len}
+use Rattle.std.proofs.lemmas.List.{append-nil, length-append, take_more}
+use Rattle.std.proofs.lemmas.Grind.{flat_map-append}
 use Rattle.ick_inspect.specs.Text.{Adds}
 use Rattle.ick_inspect.specs.declared.text.Text.{Text}
 
@@ -27,3 +29,34 @@ then {a} {b} {c} {x} {y} p q = record {
 
 pub same : {a b : Text} {x y : List ℕ} → x ≡ y → Adds a b x → Adds a b y
 same {a} {b} e p = subst (λ t. Adds a b t) e p
+
+pub nothing : (a : Text) → Adds a a []
+nothing a = record {
+  sound = λ e. e;
+  bytes = λ e. sym (append-nil a.bytes.items);
+  full = λ e f. absurd (cc);
+  capacity = omega arith;
+}
+
+-- the pieces of one more element
+pub pieces_more : {A : Type 0} (f : A → List ℕ) (xs : List A) (x : A) →
+    flat_map f (xs ++ x ∷ []) ≡ flat_map f xs ++ f x
+pieces_more f xs x = flat_map-append f xs (x ∷ []) ∙ ap (λ t. flat_map f xs ++ t) (append-nil (f x))
+
+pub pieces_taken : {A : Type 0} (f : A → List ℕ) (xs : List A) (k : ℕ) (d : A) → k < length xs →
+    flat_map f (take (k + 1) xs) ≡ flat_map f (take k xs) ++ f (get_or xs k d)
+pieces_taken f xs k d lt = ap (flat_map f) (take_more xs k d lt) ∙ pieces_more f (take k xs) (get_or xs k d)
+
+counted_more : (a n : ℕ) → range_with_len a (suc n) ≡ range_with_len a n ++ (a + n) ∷ []
+counted_more a zero = let same : a ≡ a + 0 = omega arith in ap (λ k. k ∷ []) same
+counted_more a (suc n) =
+    let same : a + 1 + n ≡ a + suc n = omega arith in
+    ap (λ l. a ∷ l) (counted_more (a + 1) n ∙ ap (λ k. range_with_len (a + 1) n ++ k ∷ []) same)
+
+-- the pieces of one more number, from 1 on
+pub numbered_more : (f : ℕ → List ℕ) (n : ℕ) →
+    flat_map f (range_with_len 1 (n + 1)) ≡ flat_map f (range_with_len 1 n) ++ f (n + 1)
+numbered_more f n =
+    let alike : 1 + n ≡ n + 1 = omega arith in
+    ap (flat_map f) (rw add-one (counted_more 1 n) ∙ ap (λ k. range_with_len 1 n ++ k ∷ []) alike)
+    ∙ pieces_more f (range_with_len 1 n) (n + 1)

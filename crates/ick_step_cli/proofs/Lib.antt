@@ -2,3 +2,4 @@ pub mod WordLaws
 pub mod GivenLaws
 pub mod AddLaws
 pub mod ShownLaws
+pub mod ChangeLaws

@@ -3,5 +3,6 @@ pub mod Job
 pub mod Commands
 pub mod Given
 pub mod Shown
+pub mod Changes
 pub mod Trace
 pub mod Stepper

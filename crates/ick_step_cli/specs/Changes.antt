@@ -1,0 +1,125 @@
+-- What a step has changed, as a text.
+use Rattle.std.specs.Prelude.{ℕ, ◌-◌, ◌==◌, ◌&&◌, nat_lt, Bool, true, false, not, List, [], ◌∷◌, ◌++◌, length, take}
+use Rattle.std.specs.Prelude.{bytes_eq, drop, codes, decimal, Option, Some, None, slice_get, if◌then◌else◌}
+use Rattle.std.specs.Bool.{beq}
+use Rattle.std.specs.List.{flat_map, range_with_len}
+use Rattle.ick_bits.specs.Quoted.{quoted}
+use Rattle.ick_syntax.specs.declared.tree.Name.{Name}
+use Rattle.ick_code.specs.declared.code.Code.{Code}
+use Rattle.ick_code.specs.declared.op.Op.{Op}
+use Rattle.ick_code.specs.declared.op.Op.TheVariants as op
+use Rattle.ick_code.specs.declared.op.SlotName.{SlotName}
+use Rattle.ick_code.specs.declared.op.SlotName.TheVariants.{Scalar, Array}
+use Rattle.ick_code.specs.Compiled.{code_ops, code_program, code_slots}
+use Rattle.ick_code.specs.Effects.{Slots}
+use Rattle.ick_code.specs.meaning.State.{State}
+use Rattle.ick_inspect.specs.Names.{variable_text}
+use Rattle.ick_inspect.specs.Summary.{stack_text}
+
+-- what a state has at a name; of stashed values the number
+pub record Had : Type 0 where
+  pub number : ℕ
+  pub ignored : Bool
+  pub numbers : ℕ
+  pub arrays : ℕ
+  pub dimensions : List ℕ
+  pub elements : List ℕ
+
+abbrev pub had_at : State → Name → Had
+had_at s name = record {
+  number = s.scalars name;
+  ignored = s.ignored name;
+  numbers = length (s.stashed_scalars name);
+  arrays = length (s.stashed_arrays name);
+  dimensions = (s.arrays name).dimensions;
+  elements = (s.arrays name).elements;
+}
+
+-- whether it is the same
+abbrev pub alike : Had → Had → Bool
+alike a b =
+    a.number == b.number && beq a.ignored b.ignored && a.numbers == b.numbers && a.arrays == b.arrays
+    && bytes_eq a.dimensions b.dimensions && bytes_eq a.elements b.elements
+
+-- bytes in quotes behind a word, unless there are none
+abbrev pub bytes_text : List ℕ → List ℕ → List ℕ
+bytes_text word [] = []
+bytes_text word (b ∷ bytes) = word ++ quoted (b ∷ bytes) ++ codes "\n"
+
+-- what was read
+abbrev pub read_text : State → State → List ℕ
+read_text s t = bytes_text (codes "  reads ") (take (length s.input - length t.input) s.input)
+
+-- what was printed behind so many bytes
+abbrev pub printed_text : ℕ → State → List ℕ
+printed_text n t = bytes_text (codes "  prints ") (drop n t.output)
+
+-- the name that an operation may change, if it may change one
+abbrev pub slot_name : Slots → SlotName → Option Name
+slot_name slots (Scalar slot) = slice_get slots.scalars slot
+slot_name slots (Array slot) = slice_get slots.arrays slot
+
+abbrev pub changed_name : Slots → Op → Option Name
+changed_name slots (op.Store slot) = slice_get slots.scalars slot
+changed_name slots (op.ReadTo slot) = slice_get slots.scalars slot
+changed_name slots (op.StoreAt slot count) = slice_get slots.arrays slot
+changed_name slots (op.Resize slot count) = slice_get slots.arrays slot
+changed_name slots (op.ReadAt slot count) = slice_get slots.arrays slot
+changed_name slots (op.ReadArray slot) = slice_get slots.arrays slot
+changed_name slots (op.Save name) = slot_name slots name
+changed_name slots (op.Restore name) = slot_name slots name
+changed_name slots (op.Hide name) = slot_name slots name
+changed_name slots (op.Show name) = slot_name slots name
+changed_name slots _ = None
+
+-- whether it may change which statements are abstained from
+abbrev pub is_of_abstaining : Op → Bool
+is_of_abstaining (op.AbstainOne n) = true
+is_of_abstaining (op.ReinstateOne n) = true
+is_of_abstaining (op.AbstainKind gerund) = true
+is_of_abstaining (op.ReinstateKind gerund) = true
+is_of_abstaining _ = false
+
+-- the line of a name that has changed
+abbrev pub name_line : State → State → Name → List ℕ
+name_line s t name =
+    if alike (had_at s name) (had_at t name) then [] else codes "  " ++ variable_text t name ++ codes "\n"
+
+-- a line for each statement that the second state abstains from and the first doesn't
+abbrev pub newly_line : List ℕ → State → State → ℕ → List ℕ
+newly_line word s t n =
+    if t.abstained n && not (s.abstained n) then word ++ decimal n ++ codes "\n" else []
+
+abbrev pub newly_text : List ℕ → State → State → ℕ → List ℕ
+newly_text word s t count = flat_map (newly_line word s t) (range_with_len 1 count)
+
+-- what an operation has changed
+abbrev pub option_line : State → State → Option Name → List ℕ
+option_line s t None = []
+option_line s t (Some name) = name_line s t name
+
+abbrev pub abstained_lines : ℕ → State → State → Bool → List ℕ
+abstained_lines count s t false = []
+abstained_lines count s t true =
+    newly_text (codes "  abstains from ") s t count ++ newly_text (codes "  reinstates ") t s count
+
+abbrev pub op_text : Code → State → State → Op → List ℕ
+op_text code s t op =
+    option_line s t (changed_name (code_slots code) op)
+    ++ abstained_lines (length (code_program code)) s t (is_of_abstaining op)
+
+-- the return addresses, if they have changed
+abbrev pub returned_text : State → State → List ℕ
+returned_text s t = if bytes_eq s.returns t.returns then [] else codes "  " ++ stack_text t
+
+-- the operations of a statement, if there is one of this number
+abbrev pub ops_at : Code → ℕ → List Op
+ops_at code n =
+    if nat_lt n 1 then [] else if nat_lt (length (code_program code)) n then [] else code_ops code n
+
+-- what a step at a statement has changed: what it read, the names and the abstentions of its operations, the return
+-- addresses, and what it printed
+abbrev pub changes_text : Code → (statement : ℕ) → (before after : State) → List ℕ
+changes_text code n s t =
+    read_text s t ++ flat_map (op_text code s t) (ops_at code n) ++ returned_text s t
+    ++ printed_text (length s.output) t
