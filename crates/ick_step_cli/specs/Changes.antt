@@ -10,11 +10,14 @@ use Rattle.ick_code.specs.declared.op.Op.{Op}
 use Rattle.ick_code.specs.declared.op.Op.TheVariants as op
 use Rattle.ick_code.specs.declared.op.SlotName.{SlotName}
 use Rattle.ick_code.specs.declared.op.SlotName.TheVariants.{Scalar, Array}
-use Rattle.ick_code.specs.Compiled.{code_ops, code_program, code_slots}
+use Rattle.ick_code.specs.Compiled.{IsCompiled, code_ops, code_program, code_slots}
+use Rattle.ick_backtrack.specs.Machine.{Program}
 use Rattle.ick_code.specs.Effects.{Slots}
 use Rattle.ick_code.specs.meaning.State.{State}
 use Rattle.ick_inspect.specs.Names.{variable_text}
 use Rattle.ick_inspect.specs.Summary.{stack_text}
+use Rattle.ick_inspect.specs.Text.{Adds}
+use Rattle.ick_inspect.specs.declared.text.Text.{Text}
 
 -- what a state has at a name; of stashed values the number
 pub record Had : Type 0 where
@@ -123,3 +126,7 @@ abbrev pub changes_text : Code → (statement : ℕ) → (before after : State) 
 changes_text code n s t =
     read_text s t ++ flat_map (op_text code s t) (ops_at code n) ++ returned_text s t
     ++ printed_text (length s.output) t
+
+-- the lines of a step from one state to another, by code that does what the program does
+abbrev pub ShowsStep : Program → (before after : State) → (old new : Text) → Type 0
+ShowsStep p s t old new = (code : Code) × IsCompiled p code × Adds old new (changes_text code s.place s t)

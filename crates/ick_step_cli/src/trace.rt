@@ -5,6 +5,7 @@ ghost use Rattle.ick_code.specs.meaning.Move.{advance, ask};
 ghost use Rattle.ick_backtrack.specs.Asked.{IsGoing};
 ghost use Rattle.ick_explorer.specs.Writes.{write_failures};
 ghost use Rattle.ick_machine.specs.Seen.{trailed_machine};
+ghost use Rattle.ick_step_cli.specs.Changes.{ShowsStep};
 ghost use Rattle.ick_step_cli.specs.Trace.{IsTraceError};
 
 use crate::changes::append_changes;
@@ -48,9 +49,12 @@ fn append_answered(out: &mut Text, chance: u8, done: bool) {
 /// Appends what a step changed, from the states before it and after it.
 fn append_step(out: &mut Text, before: &Trailed<'_, '_>, after: &Trailed<'_, '_>)
     requires { (trailed_machine after.now).program ≡ (trailed_machine before.now).program }
+    ensures { ShowsStep (trailed_machine after.now).program (trailed_machine before.now).state
+        (trailed_machine after.now).state out.old out.new }
 {
     let old = before.present();
     let new = after.present();
+    new.lowered.code.law();
     append_changes(out, place(&old), &old, &new);
 }
 
@@ -66,6 +70,8 @@ fn trace_step(machines: &mut Pair<'_, '_>, out: &mut Text, done: bool) -> Result
           state = advance seen.program seen.state done;
           work = seen.work + 1;
         }) }
+    ensures shows { let seen = trailed_machine machines.old.before in OnOk result (
+        ShowsStep seen.program seen.state (advance seen.program seen.state done) out.old out.new) }
 {
     machines.after.step(done)?;
     append_step(out, &machines.before, &machines.after);
