@@ -1,6 +1,6 @@
 -- What is served of outcomes over memory.
 use Rattle.std.proofs.Common.{◌≡◌, inl, inr, ℕ, List, Option, Some, None, arith, refl, subst}
-use Rattle.std.specs.Prelude.{true, false, if◌then◌else◌, is_some, option_map}
+use Rattle.std.specs.Prelude.{true, if◌then◌else◌, is_some, option_map}
 use Rattle.clap.specs.Words.{Text}
 use Rattle.ick_explorer.specs.Written.{Written}
 use Rattle.ick_cli.specs.Ending.{source_of}
