@@ -1,4 +1,4 @@
-/* ick, the proved INTERCAL-72 compiler and explorer, as two calls over memory.
+/* ick, the proved INTERCAL-72 compiler and explorer, as three calls over memory.
  *
  *     cc program.c libick.a        bindings/build makes libick.a, and libick.so
  *
@@ -51,6 +51,18 @@ uint8_t ick_outcomes_serve(const uint8_t *arguments, size_t arguments_length, co
                            const uint8_t *listing, size_t listing_length, const uint8_t *input, size_t input_length,
                            uint8_t *output, size_t output_room, uint8_t *errors, size_t errors_room,
                            struct ick_lengths *lengths);
+
+/* Does what the program ick-step does with these arguments, and returns the exit status: 0 to 4, or 64.
+ *
+ * input       The bytes of the file of the name input: --input input opens it. Each other name opens the call's file.
+ * commands    The bytes of standard input: the commands of the session, one a line.
+ *
+ * All else is as for ick_serve. To go on with a session, a call gives all its commands again and those that follow: the
+ * output begins with the output before. Each call makes the steps of all its commands anew. */
+uint8_t ick_step_serve(const uint8_t *arguments, size_t arguments_length, const uint8_t *file, size_t file_length,
+                       const uint8_t *input, size_t input_length, const uint8_t *commands, size_t commands_length,
+                       uint8_t *output, size_t output_room, uint8_t *errors, size_t errors_room,
+                       struct ick_lengths *lengths);
 
 #ifdef __cplusplus
 }

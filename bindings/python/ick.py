@@ -7,10 +7,12 @@
         print(run.choices, run.end, run.output)
     for outcome in ick.outcomes("DO %30 READ OUT #5\\nPLEASE GIVE UP"):
         print(outcome.count, outcome.weight, outcome.output)
+    print(ick.steps("DO .1 <- #5\\nPLEASE GIVE UP", ["step", "print .1"]).decode())
 
 A source and an input are bytes, or a text that is written in UTF-8. An option that isn't given is the program's own.
-Each call but `serve` raises Refused if ick doesn't do what was asked: the source is refused (status 2), memory runs out
-(4), or an argument is wrong (64). A run that ends by a fault (1), or for want of steps or choices (3), is an answer.
+Each call but `serve`, `serve_outcomes` and `serve_step` raises Refused if ick doesn't do what was asked: the source is
+refused (status 2), memory runs out (4), or an argument is wrong (64). A run that ends by a fault (1), or for want of
+steps or choices (3), is an answer.
 Ctrl-C ends a call in the main thread by KeyboardInterrupt.
 
 As a program, `python3 ick.py ARGUMENT..` does what ick does. If its last argument names a file that can be read, that
@@ -29,7 +31,7 @@ import threading
 from typing import NamedTuple
 
 __all__ = ["Answer", "Asker", "Outcome", "Refused", "Run", "Statement", "Summary", "asked", "check", "list", "outcomes",
-           "run", "runs", "serve", "serve_outcomes"]
+           "run", "runs", "serve", "serve_outcomes", "serve_step", "steps", "trace"]
 
 ROOM = 1 << 16
 RUN = re.compile(rb'(\S+) (\S+) "(.*)"')
@@ -105,14 +107,14 @@ class Lengths(ctypes.Structure):
 
 @functools.lru_cache(maxsize=None)
 def library():
-    """Returns the library's functions `serve` and `serve_outcomes`. Raises OSError if there is no library."""
+    """Returns the library with its functions. Raises OSError if there is no library."""
     here = os.path.dirname(os.path.realpath(__file__))
     places = [os.path.join(here, "libick.so"), os.path.join(here, "..", "out", "libick.so")]
     named = os.environ.get("ICK_LIBRARY") or next(filter(os.path.exists, places), "libick.so")
     loaded = ctypes.CDLL(named)
     text = [ctypes.c_char_p, ctypes.c_size_t]
     room = [ctypes.c_void_p, ctypes.c_size_t]
-    for function, texts in ((loaded.ick_serve, 3), (loaded.ick_outcomes_serve, 4)):
+    for function, texts in ((loaded.ick_serve, 3), (loaded.ick_outcomes_serve, 4), (loaded.ick_step_serve, 4)):
         function.argtypes = text * texts + room * 2 + [ctypes.POINTER(Lengths)]
         function.restype = ctypes.c_uint8
     return loaded
@@ -126,6 +128,14 @@ def serve(arguments, file=b"", input=b""):
 def serve_outcomes(arguments, file=b"", listing=b"", input=b""):
     """Returns what `ick-outcomes ARGUMENT..` leaves if each FILE and each LISTING has these bytes."""
     return served(library().ick_outcomes_serve, arguments, file, listing, input)
+
+
+def serve_step(arguments, file=b"", input=b"", commands=b""):
+    """Returns what `ick-step ARGUMENT..` leaves if standard input has these commands.
+
+    The file of the name `input` has this input, and each other file has these bytes.
+    """
+    return served(library().ick_step_serve, arguments, file, input, commands)
 
 
 def served(function, arguments, *contents):
@@ -193,6 +203,24 @@ def asked(source, listing, input=b"", limit=None):
     given = [*options(limit=limit, asked="listing"), "program"]
     lines = answered(serve_outcomes(given, source, listing, input)).output.splitlines()
     return [[Asker(*map(int, asker.split(b":"))) for asker in line.split()] for line in lines]
+
+
+def steps(source, commands=(), input=b"", choices=None, seed=None, limit=None):
+    """Returns what a session prints: first where the run begins, then the answer to each command.
+
+    Nothing is kept from one call to the next. To go on with a session, give all its commands again, and those that
+    follow: the text begins with the text before. Raises Refused if ick refuses the source, the choices or the input, or
+    if memory runs out.
+    """
+    given = [*options(input="input", choices=choices, seed=seed, limit=limit), "program"]
+    lines = b"".join(bytes_of(command) + b"\n" for command in commands)
+    return answered(serve_step(given, source, input, lines)).output
+
+
+def trace(source, input=b"", choices=None, seed=None, limit=None):
+    """Returns what a trace leaves: a line for each step and what it changed, and the status of `run`."""
+    given = ["--trace", *options(input="input", choices=choices, seed=seed, limit=limit), "program"]
+    return answered(serve_step(given, source, input), (0, 1, 3))
 
 
 def check(source):

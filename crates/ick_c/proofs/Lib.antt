@@ -1,3 +1,4 @@
 pub mod ArgumentLemmas
 pub mod CallLemmas
 pub mod OutcomesLemmas
+pub mod StepLemmas

@@ -2,3 +2,4 @@ pub mod Arguments
 pub mod Call
 pub mod OutcomesCall
 pub mod Room
+pub mod StepCall

@@ -1,10 +1,11 @@
-//! The command lines of `ick` and `ick-outcomes` for programs in C. One call takes arguments, files
-//! and an input in memory, and gives output, error text and exit status.
+//! The command lines of `ick`, `ick-outcomes` and `ick-step` for programs in C. One call takes
+//! arguments, files and an input in memory, and gives output, error text and exit status.
 //!
 //! - `arguments`: the arguments that bytes hold
-//! - `one_file`: a file in memory
+//! - `one_file`, `two_files`: files in memory
 //! - `call`: the answer of `ick` to arguments
 //! - `outcomes_call`: the answer of `ick-outcomes`
+//! - `step_call`: the answer of `ick-step`
 //! - `room`: the front of a text, in a caller's memory
 //! - `laws`: bytes hold at most one list of arguments
 #![tactic(auto)]
@@ -15,6 +16,7 @@ ghost use Rattle.ick_cli.specs.Serve.{IsStatus};
 ghost use Rattle.ick_c.specs.Call.{ServesBytes, nothing};
 ghost use Rattle.ick_c.specs.OutcomesCall.{OutcomesOfBytes};
 ghost use Rattle.ick_c.specs.Room.{filled};
+ghost use Rattle.ick_c.specs.StepCall.{StepOfBytes};
 
 mod arguments;
 mod call;
@@ -22,6 +24,8 @@ mod laws;
 mod one_file;
 mod outcomes_call;
 mod room;
+mod step_call;
+mod two_files;
 
 use call::answer;
 use ick_runs::VecSink;
@@ -29,6 +33,7 @@ pub use laws::one_list;
 use outcomes_call::answer_outcomes;
 use room::fill;
 use std::alloc::Global;
+use step_call::answer_step;
 
 /// The lengths of the two texts that a call wrote, in bytes.
 #[repr(C)]
@@ -124,6 +129,46 @@ pub extern "C" fn ick_outcomes_serve(
         file,
         listing,
         input,
+        &mut writer,
+        &mut said,
+    );
+    hand_over(&writer, &said, output, errors, lengths);
+    status.code()
+}
+
+/// Does what the program `ick-step` does with these arguments, and returns the exit status. A file
+/// named `input` has the bytes `input`, each other file has the bytes `file`, and standard input
+/// has the bytes `commands`. The rest is as for `ick_serve`.
+///
+/// Nothing is kept from one call to the next. To go on with a session, the caller gives all its
+/// commands again, and those that follow: the front of the output is the output before.
+#[unsafe(no_mangle)]
+pub extern "C" fn ick_step_serve(
+    alloc: Global,
+    arguments: &[u8],
+    file: &[u8],
+    input: &[u8],
+    commands: &[u8],
+    output: &mut [u8],
+    errors: &mut [u8],
+    lengths: &mut Lengths,
+) -> u8
+    ensures served { (writer : Written) × (said : Written)
+        × (output.new ≡ filled writer.bytes output.old)
+        × (lengths.new.output ≡ length writer.bytes)
+        × (errors.new ≡ filled said.bytes errors.old)
+        × (lengths.new.errors ≡ length said.bytes)
+        × StepOfBytes arguments.now nothing writer nothing said result }
+    ensures status { IsStatus result }
+{
+    let mut writer = VecSink::new(alloc);
+    let mut said = VecSink::new(alloc);
+    let status = answer_step(
+        alloc,
+        arguments,
+        file,
+        input,
+        commands,
         &mut writer,
         &mut said,
     );

@@ -1,0 +1,21 @@
+-- What is served of steps over memory.
+use Rattle.std.proofs.Common.{ℕ, List, refl}
+use Rattle.std.specs.Prelude.{true}
+use Rattle.clap.specs.Words.{Text}
+use Rattle.ick_explorer.specs.Written.{Written}
+use Rattle.ick_cli.specs.Notice.{notice_text}
+use Rattle.ick_cli.specs.Serve.{Finishes, memory_failed}
+use Rattle.ick_cli.specs.Usage.{help_without_memory, refused_without_memory, words_notice}
+use Rattle.ick_cli.specs.declared.driver.WordsFault.TheVariants.{NoMemory}
+use Rattle.ick_c.specs.StepCall.{ServesStep}
+
+-- what any arguments leave if memory ran out before they were read
+pub no_step : (arguments : List Text) (writer errors errors' : Written) (status : ℕ)
+    → Finishes true 4 (notice_text (words_notice NoMemory))
+    errors.failures errors'.failures errors.bytes errors'.bytes status
+    → ServesStep arguments writer writer errors errors' status
+no_step arguments writer errors errors' status done = record {
+  usage = λ mistakes. (refl, (_, _, refused_without_memory, done));
+  help = λ requests. (_, _, help_without_memory refl refl, done);
+  said = (_, _, memory_failed refl, done);
+}
