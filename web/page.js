@@ -14,7 +14,7 @@ const LIMIT_OF_RUNS = '10000'; // the default of `ick runs`, which is another on
 const FIRST = 'quiet'; // the example that the page begins with
 const FIELDS = ['source', 'input', 'choices', 'seed', 'limit', 'count'];
 const STORE = 'ick.form'; // where the tab keeps the form
-const PARTS = ['drawn', 'written', 'said', 'question', 'weighed', 'listed'];
+const PARTS = ['drawn', 'written', 'said', 'question', 'stepped', 'weighed', 'listed'];
 const ASKED = 2000; // runs in a listing whose tree says what asks
 const HEADLINES = {
   0: ['ok', 'Done'], 1: ['bad', 'The run ends by a fault'], 2: ['bad', 'The program is refused'],
@@ -31,10 +31,12 @@ const editor = new Editor($('source'), $('numbers'), $('shown'));
 let engine = null; // null if this browser can't run the module
 let listing = null; // the runs that are shown, and what was asked for them
 let weighed = null; // what was asked for the outcomes that are shown
+let session = null; // the commands of the session that is shown, and what it has printed so far
 let isBusy = false;
 let filled = ''; // the form as it was last filled, as text: what differs was typed
 let kept = null; // the form that was typed before an example or a file took its place
 let failing = null; // the line of the last fault or refusal, and what is to be said of it
+let meeting = null; // the statement that a session meets next, and its line
 
 /* The form */
 
@@ -99,7 +101,7 @@ let looking = 0;
 
 // Draws the program anew, and looks it over when no key was pressed for a while.
 function changed() {
-  failing = null;
+  [failing, meeting] = [null, null];
   editor.draw();
   clearTimeout(looking);
   looking = setTimeout(() => {
@@ -120,6 +122,7 @@ function lookOver() {
     const before = marks.get(line);
     marks.set(line, { kind: before?.kind === 'bad' ? 'bad' : kind, text: before ? `${before.text}\n${text}` : text });
   }
+  if (meeting) marks.set(meeting.line, { kind: 'here', text: `Statement ${meeting.number} is met next` });
   editor.mark(marks);
   $('advice').replaceChildren(...all.map(adviceItem));
 }
@@ -204,7 +207,10 @@ function say([kind, text], more = '') {
 function clear() {
   for (const id of PARTS) $(id).hidden = true;
   $('status').replaceChildren();
-  [listing, weighed] = [null, null];
+  [listing, weighed, session] = [null, null, null];
+  if (meeting === null) return;
+  meeting = null;
+  lookOver();
 }
 
 // Shows a text, or hides its part if there is none.
@@ -271,6 +277,35 @@ function showOutcomes(answer, request, output, errors) {
   if (request.file === sourceOf(form())) markFailing(request.file, errors);
 }
 
+// Shows where a session is after its last command, with what the command changed in the state.
+function showSession(answer, request, errors) {
+  const before = request.session ?? { printed: 0, asks: false, state: '' };
+  put('said', 'errors', errors);
+  const more = `status ${answer.status}, ${took(answer.milliseconds)}`;
+  if (answer.status !== 0 || answer.written > MOST) {
+    if (request.file === sourceOf(form())) markFailing(request.file, errors);
+    return say(answer.status === 0 ? ['bad', 'The session printed more than 4 MiB'] : HEADLINES[answer.status], more);
+  }
+  const found = readSession(answer.output, before.printed);
+  const met = metIn(found.around), asks = asksBehind(found.answer, before.asks);
+  session = { request, asks, state: found.state, printed: found.printed };
+  const known = new Set(before.state.split('\n'));
+  $('told').textContent = found.answer;
+  $('around').replaceChildren(...linesOfText(found.around, (line) => line.startsWith('>')));
+  $('state').replaceChildren(...linesOfText(found.state, (line) => before.state !== '' && !known.has(line)));
+  $('stepped').hidden = false;
+  put('written', 'output', found.output);
+  const isDecided = $('question').contains(document.activeElement) && !asks;
+  $('question').hidden = !asks;
+  $('back').hidden = true;
+  if (isDecided) $('stepped').querySelector('[data-step=step]').focus();
+  meeting = met && request.file === sourceOf(form()) ? met : null;
+  lookOver();
+  const end = /^ended: (.)/m.exec(found.state);
+  if (end) return say(end[1] === 'G' ? GAVE_UP : HEADLINES[1], more);
+  return say(asks ? ['wait', 'The run asks for a choice'] : ['ok', `Statement ${met?.number} is met next`], more);
+}
+
 function drawTree() {
   const { runs, isWhole, tree } = listing;
   $('drawn').hidden = runs.length === 0 || runs[0].choices === '-';
@@ -307,12 +342,13 @@ function keepFocus() {
 function show(answer, request, askers) {
   const [output, errors] = [answer.output, answer.errors].map((bytes) => new TextDecoder().decode(bytes));
   const isOfTree = request.job === 'run' && request.isOfTree;
-  if (!isOfTree && request.from === undefined) clear();
+  if (!isOfTree && request.from === undefined && !request.session) clear();
   if (request.job === 'runs') showListing(answer, request, output, errors, askers);
   else if (request.job === 'outcomes') showOutcomes(answer, request, output, errors);
+  else if (request.job === 'step') showSession(answer, request, errors);
   else showRun(answer, request, output, errors);
   if (isOfTree) $(output ? 'written' : 'said').scrollIntoView({ block: 'nearest' });
-  else if (request.from === undefined) reveal($('status'));
+  else if (request.from === undefined && !request.session) reveal($('status'));
   keepFocus();
 }
 
@@ -320,9 +356,9 @@ function show(answer, request, askers) {
 
 function argumentsOf({ job, choices, seed, limit, count, from }) {
   const options = { run: { choices, seed, limit }, runs: { from, count, limit }, outcomes: { limit },
-    asked: { limit, asked: 'listing' } }[job] ?? {};
+    asked: { limit, asked: 'listing' }, step: { input: 'input', choices, seed, limit } }[job] ?? {};
   const given = Object.entries(options).filter(([, value]) => value).map(([name, value]) => `--${name}=${value}`);
-  return [...(isOfOutcomes(job) ? [] : [job]), ...given, 'program.i'];
+  return [...(isOfOutcomes(job) || job === 'step' ? [] : [job]), ...given, 'program.i'];
 }
 
 // Tells whether a job is one of `ick-outcomes`.
@@ -333,6 +369,7 @@ function callFor(request, lines = new Uint8Array()) {
   return engine.call({
     argv: argvOf(argumentsOf(request)), file: bytesOf(request.file), input: bytesOf(request.input), most: MOST,
     listing: isOfOutcomes(request.job) ? lines : null,
+    commands: request.job === 'step' ? bytesOf(linesOf(request.commands)) : null,
   });
 }
 
@@ -350,7 +387,7 @@ async function askersOf(answer, request) {
 function setBusy(busy) {
   isBusy = busy;
   $('answer').setAttribute('aria-busy', busy);
-  for (const button of document.querySelectorAll('[data-job], [data-choice], #back, #more')) {
+  for (const button of document.querySelectorAll('[data-job], [data-step], [data-choice], #back, #more')) {
     button.setAttribute('aria-disabled', busy || engine === null);
   }
   $('stop').setAttribute('aria-disabled', !busy);
@@ -376,7 +413,25 @@ async function ask(request) {
 function askForm(job) {
   const fields = form();
   for (const name of ['choices', 'seed', 'limit', 'count']) fields[name] = fields[name].trim();
-  return ask({ ...fields, job, file: sourceOf(fields) });
+  return ask({ ...fields, job, file: sourceOf(fields), commands: [] });
+}
+
+// Gives the session that is shown one more command.
+function command(line) {
+  const { request } = session;
+  return ask({ ...request, session, commands: [...request.commands, line] });
+}
+
+// Gives the command of a button, with the name that it needs.
+function commandOf({ dataset: { step } }) {
+  const name = $('watched').value.trim();
+  return command(step === 'why' || step === 'watch' ? `${step} ${name}` : step);
+}
+
+// Answers the question, for the session that is shown or for a run from its beginning.
+function decide(choice) {
+  if (session) return command(`choose ${choice}`);
+  return goOn(withChoice($('choices').value.trim(), choice));
 }
 
 function goOn(choices) {
@@ -464,8 +519,9 @@ function listen() {
     button.onclick = () => askForm(button.dataset.job);
   }
   for (const button of document.querySelectorAll('[data-choice]')) {
-    button.onclick = () => goOn(withChoice($('choices').value.trim(), button.dataset.choice));
+    button.onclick = () => decide(button.dataset.choice);
   }
+  for (const button of document.querySelectorAll('[data-step]')) button.onclick = () => commandOf(button);
   $('back').onclick = () => goOn(withoutLast($('choices').value.trim()));
   $('more').onclick = () => ask({ ...listing.request, from: listing.runs.at(-1).choices });
   $('stop').onclick = stop;

@@ -1,4 +1,4 @@
-// Runs `ick` beside the page: the module, its memory, and a call of one of its two functions for each message.
+// Runs `ick` beside the page: the module, its memory, and a call of one of its functions for each message.
 'use strict';
 
 const QUOTED = 1 << 16; // a message has at most so many bytes besides the statement that it quotes
@@ -31,15 +31,21 @@ function copyIn(bytes) {
 const copyOut = (address, length) =>
   new Uint8Array(ick.memory.buffer).slice(Number(address), Number(address) + length);
 
-// Calls `ick` with its arguments, where FILE has the bytes `file` and standard input has `input`; or `ick-outcomes` if
-// there are bytes for its LISTING. Returns the status, at most `most` bytes of the output, the length of the whole
-// output, and the error text.
-function serve({ argv, file, listing, input, most }) {
-  const mostErrors = file.length + QUOTED;
-  const given = listing ? [argv, file, listing, input] : [argv, file, input], places = given.map(copyIn);
+// Returns the function for a message, and its texts: `ick-outcomes` if there are bytes for its LISTING, `ick-step` if
+// there are commands, or else `ick`.
+function callOf({ argv, file, listing, input, commands }) {
+  if (listing) return [ick.ick_outcomes_serve, [argv, file, listing, input]];
+  if (commands) return [ick.ick_step_serve, [argv, file, input, commands]];
+  return [ick.ick_serve, [argv, file, input]];
+}
+
+// Calls a program with its arguments, where FILE has the bytes `file`. Returns the status, at most `most` bytes of the
+// output, the length of the whole output, and the error text.
+function serve(message) {
+  const { file, most } = message, mostErrors = file.length + QUOTED;
+  const [call, given] = callOf(message), places = given.map(copyIn);
   const output = room(most), errors = room(mostErrors), lengths = room(16);
   const slices = given.flatMap((bytes, at) => [places[at], BigInt(bytes.length)]);
-  const call = listing ? ick.ick_outcomes_serve : ick.ick_serve;
   const status = call(...slices, output, BigInt(most), errors, BigInt(mostErrors), lengths);
   const counts = new DataView(ick.memory.buffer, Number(lengths), 16);
   const [written, said] = [0, 8].map((at) => Number(counts.getBigUint64(at, true)));

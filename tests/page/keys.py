@@ -13,7 +13,7 @@ def tab_to(browser, selector, most=40):
 
 
 def by_keyboard(tally, page):
-    """Chooses an example, lists its runs, runs an end again, writes a program, answers its questions, and stops one."""
+    """Chooses an example, lists and runs it, writes a program, answers its questions, steps, and stops a run."""
     browser, name = page.browser, type(page.browser).__name__
     page.open()
 
@@ -55,6 +55,18 @@ def by_keyboard(tally, page):
     browser.wait("document.getElementById('status').textContent.startsWith('The program gave up')")
     tally.equal(f"{name}: the run by two choices", page.text("output"), "\nV\n\nI\n")
     tally.equal(f"{name}: the focus behind the last choice", browser.evaluate("document.activeElement.id"), "status")
+
+    page.open()
+    reach("[data-job=step]")
+    browser.press("Enter")
+    browser.wait("document.getElementById('status').textContent.startsWith('The run asks for a choice')")
+    reach("[data-choice='1']")
+    browser.press("Enter")
+    browser.wait("document.getElementById('output').textContent.includes('V')")
+    page.idle()
+    browser.press("Enter")
+    browser.wait("document.activeElement.matches('[data-step=step]')")
+    tally.check(page.status().startswith("Statement 3 is met next"), f"{name}: the status {page.status()!r} of a step")
 
     page.open()
     reach("#source")

@@ -199,6 +199,54 @@ def outcomes(tally, page):
     tally.check("is refused" in page.status() and page.text("weighed-name") is None, "a refusal has outcomes")
 
 
+def stepping(tally, page):
+    """A session goes forwards and backwards, asks for choices, and marks the statement that is met next."""
+    marked = "[...document.querySelectorAll('#{} mark')].map((it) => it.textContent).join('')"
+    page.set(source=STEPPED, input="NINE\n", choices="", seed="", limit="", watched=".1")
+    page.job("step")
+    for button, said, place, change, printed in STEPS:
+        if button:
+            page.press(button)
+        name = f"after {button}"
+        tally.check(page.status().startswith(said), f"the status {page.status()!r} {name}")
+        tally.equal(f"the statement {name}", page.browser.evaluate(marked.format("around")), place and f"> {place}\n")
+        tally.equal(f"the changes {name}", page.browser.evaluate(marked.format("state")), change)
+        tally.equal(f"the output {name}", page.text("output"), printed)
+        line = page.browser.evaluate("document.querySelector('#numbers .here')?.textContent ?? ''")
+        tally.equal(f"the line {name}", line, place and place.split(":")[0].split()[1])
+        asks = page.text("question-name") is not None
+        tally.equal(f"a question {name}", asks, said.endswith("choice"))
+    page.set(watched="x")
+    page.press("[data-step=why]")
+    tally.equal("no name", page.text("told"), "unknown command; help lists all commands\n")
+    page.job("run")
+    tally.equal("a session behind a run", (page.text("told"), page.value("choices")), (None, ""))
+    page.press("[data-choice='0']")
+    tally.equal("a choice of a run behind a session", page.value("choices"), "0")
+    page.set(source="DO X", choices="")
+    page.job("step")
+    page.press("[data-step=step]")
+    tally.check(page.status().startswith("The run ends by a fault"), f"the status {page.status()!r} of a fault")
+    page.set(source=REFUSED)
+    page.job("step")
+    tally.check("is refused" in page.status() and page.text("told") is None, "a refusal has a session")
+
+
+STEPPED = "DO .1 <- #5\nDO %50 READ OUT .1\nDO WRITE IN .1\nPLEASE GIVE UP\n"
+ONE, TWO, THREE, FOUR = [f'{number} {number}:1 "{line}"' for number, line in enumerate(STEPPED.split("\n")[:-1], 1)]
+# A button, and what the page shows: the status, the next statement, what changed in the state, and the output.
+STEPS = [
+    (None, "Statement 1 is met next", ONE, "", None),
+    ("[data-step=step]", "The run asks for a choice", TWO, "next statement: 2 of 4\n.1 = 5\n", None),
+    ("[data-choice='1']", "Statement 3 is met next", THREE, "next statement: 3 of 4\noutput: 3\n", "\nV\n"),
+    ("[data-step=next]", "Statement 4 is met next", FOUR, "next statement: 4 of 4\n.1 = 9\ninput left: 0\n", "\nV\n"),
+    ("[data-step=why]", "Statement 3 is met next", THREE, "next statement: 3 of 4\n.1 = 5\ninput left: 5\n", "\nV\n"),
+    ("[data-step=back]", "The run asks for a choice", TWO, "next statement: 2 of 4\noutput: 0\n", None),
+    ("[data-choice='0']", "Statement 3 is met next", THREE, "next statement: 3 of 4\n", None),
+    ("[data-step=watch]", "Statement 4 is met next", FOUR, "next statement: 4 of 4\n.1 = 9\ninput left: 0\n", None),
+    ("[data-step=run]", "The program gave up", "", "next statement: 5 of 4\nended: GIVE UP\n", None),
+]
+
 # One of 300 parts fails, by 1 in 100 for each: the counts are 2^300 - 1 and 1.
 COUNTED = "".join(f"{'DO' if at % 4 else 'PLEASE'} %1 .1 <- #1\n" for at in range(300)) + "DO READ OUT .1\nDO GIVE UP\n"
 REFUSED = "DO READ OUT #70000\n"
@@ -479,6 +527,10 @@ def contrast(tally, page):
         page.choose("die")
         page.job("outcomes")
         page.press("#bars button")
+        check_contrast(tally, page, scheme)
+        page.choose("die")
+        page.job("step")
+        page.press("[data-step=step]")
         check_contrast(tally, page, scheme)
 
 
