@@ -16,6 +16,7 @@ import sys
 PROGRAMS = {
     "ick": ("ICK", "../crates/ick/out/ick", "check", b"0 STATEMENTS, 0 POLITE\n"),
     "ick-outcomes": ("ICK_OUTCOMES", "../crates/outcomes/out/outcomes", "--total", b"1 OUTCOMES, 1 RUNS\n"),
+    "ick-step": ("ICK_STEP", "../crates/step/out/step", "-b", b"0 1 past the last statement\n"),
 }
 HERE = os.path.dirname(os.path.realpath(__file__))
 NAME = os.path.basename(sys.argv[0])

@@ -5,7 +5,7 @@ import subprocess
 import sys
 
 sys.path.insert(0, os.path.join(os.path.dirname(os.path.realpath(__file__)), ".."))
-from tally import SECONDS, TOP, Tally, called, content, text_of, write  # noqa: E402
+from tally import SECONDS, TOP, Tally, called, content, programs, text_of, write  # noqa: E402
 
 TOOLS = os.path.join(TOP, "tools")
 EXAMPLES = sorted(glob.glob(os.path.join(TOP, "examples", "*.i")))
@@ -15,17 +15,19 @@ sys.path.insert(0, TOOLS)
 
 
 class ToolTally(Tally):
-    """A tally of the tests of tools, with the programs `ick` and `ick-outcomes`."""
+    """A tally of the tests of tools, with the programs `ick`, `ick-outcomes` and `ick-step`."""
 
-    def __init__(self, program, outcomes):
+    def __init__(self, program):
         super().__init__()
-        self.program, self.outcomes = os.path.realpath(program), os.path.realpath(outcomes)
+        self.program = os.path.realpath(program)
+        self.outcomes, self.step = (os.path.realpath(programs(None, crate)[0]) for crate in ("outcomes", "step"))
 
     def ick(self, *arguments, given=b""):
         return called([self.program, *arguments], given)
 
     def tool(self, name, *arguments, given=b"", path=None):
-        environment = dict(os.environ, ICK_OUTCOMES=self.outcomes, **({"PATH": path} if path is not None else {}))
+        environment = dict(os.environ, ICK_OUTCOMES=self.outcomes, ICK_STEP=self.step,
+                           **({"PATH": path} if path is not None else {}))
         return called([sys.executable, "-W", "error", os.path.join(TOOLS, name), *arguments], given, environment)
 
 

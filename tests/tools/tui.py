@@ -1,0 +1,102 @@
+"""Tries ick-tui on terminals of several sizes: what it shows after each key. The first program is the manual's."""
+import fcntl
+import os
+import pty
+import re
+import select
+import struct
+import subprocess
+import sys
+import termios
+import time
+
+from common import SECONDS, TOOLS, help_and_mistakes, write
+
+DOUBLE = b"""DO ,1 <- #3
+DO ,1SUB#2 <- #20
+DO .1 <- #2
+DO (20) NEXT
+PLEASE READ OUT .3
+DO READ OUT ,1SUB.1
+PLEASE GIVE UP
+(20) DO STASH .1 + .2
+DO .1 <- '.1$#0'~'#32767$#1'
+DO .3 <- .1
+DO RETRIEVE .2
+PLEASE RESUME #1
+"""
+LINES = b"DO .1 <- #1\nPLEASE FOO\n5 BAR\n  at 9 X\n"
+ASKS = b"DO %50 READ OUT #1\nPLEASE WRITE IN .1\nDO GIVE UP\n"
+REDRAW = "\f"
+CODES = re.compile(rb"\x1b(?:\[[0-9;?]*[A-Za-z]|[()][0-9A-Za-z]|.)|[\x0e\x0f]")
+
+# keys, and what the screen then has
+FAULT = (
+    ("", ["steps: 0", "> 1 DO ,1 <- #3", "NEXT stack: none"]),
+    ("s", ["steps: 1", "> 2 DO ,1SUB#2 <- #20", ",1 = 3: 0 0 0"]),
+    ("r", ["steps: 11", "! 6 DO READ OUT ,1SUB.1", ".1 = 4 (1 stashed)", "ended: ICL241I", "IV"]),
+    ("y.1\n", ["steps: 5", "> 9 DO .1 <- '.1$#0'~'#32767$#1'", "NEXT stack: 5"]),
+    ("b", ["steps: 4", "> 8 (20) DO STASH .1 + .2", ".1 = 2"]),
+    ("b", ["steps: 3", "> 4 DO (20) NEXT"]),
+    ("n", ["steps: 9", "> 5 PLEASE READ OUT .3", ".1 = 4 (1 stashed)"]),
+    ("bbbbbbbbb", ["steps: 0", "> 1 DO ,1 <- #3"]),
+    ("w.3\n", ["steps: 7", "> 11 DO RETRIEVE .2", ".3 = 4"]),
+    ("w.x\n", ["steps: 7"]),
+    ("w.1\033", ["steps: 7"]),
+    ("bbbbbbb\033OB\033OB\033OB\033OAu", ["steps: 2", "> 3 DO .1 <- #2"]),
+)
+TEXT = (("r", ["steps: 2", "! 2 PLEASE FOO 5 BAR at 9 X", "ended: ICL000I"]), ("b", ["steps: 1", "> 2 PLEASE FOO"]))
+CHOICES = (
+    ("", ["steps: 0", "asks %50"]),
+    ("1", ["steps: 1", "> 2 PLEASE WRITE IN .1", "input left: 4"]),
+    ("b0s", ["steps: 2", ".1 = 6", "input left: 0"]),
+)
+
+
+def seen(terminal, wanted):
+    """Reads what is written until all wanted texts are there. Returns whether they came."""
+    written, end = b"", time.monotonic() + SECONDS / 10
+    while time.monotonic() < end:
+        if all(text in CODES.sub(b"", written).decode() for text in wanted):
+            return True
+        if select.select([terminal], [], [], 1)[0]:
+            try:
+                written += os.read(terminal, 65536)
+            except OSError:  # the tool has ended
+                return False
+    return False
+
+
+def try_keys(tally, rows, words, size):
+    terminal, other = pty.openpty()
+    fcntl.ioctl(other, termios.TIOCSWINSZ, struct.pack("HHHH", *size, 0, 0))
+    with subprocess.Popen([sys.executable, os.path.join(TOOLS, "ick-tui"), *words], stdin=other, stdout=other,
+                          stderr=subprocess.PIPE, env=dict(os.environ, TERM="vt100", ICK_STEP=tally.step)) as tool:
+        os.close(other)
+        for keys, wanted in rows:
+            os.write(terminal, (keys + REDRAW).encode())
+            if not tally.check(seen(terminal, wanted), f"ick-tui of {size}, keys {keys!r}: no {wanted}"):
+                break
+        os.write(terminal, b"q")
+        while select.select([terminal], [], [], 0.1)[0] or tool.poll() is None:
+            try:
+                os.read(terminal, 65536)
+            except OSError:  # the tool has closed its terminal
+                break
+        tally.equal("the end of ick-tui", (tool.wait(SECONDS), tool.stderr.read()), (0, b""))
+    os.close(terminal)
+
+
+def try_all(tally):
+    help_and_mistakes(tally, "ick-tui")
+    double, asks, lines, entered = (os.path.join(tally.folder, name) for name in ("double.i", "asks.i", "lines.i", "input"))
+    for path, text in ((double, DOUBLE), (asks, ASKS), (lines, LINES), (entered, b"SIX\n")):
+        write(path, text)
+    for size in ((24, 80), (40, 200)):
+        try_keys(tally, FAULT, [double], size)
+    try_keys(tally, CHOICES, ["--input", entered, asks], (12, 60))
+    try_keys(tally, TEXT, [lines], (24, 80))
+    status, out, err = tally.tool("ick-tui", "--seed", "x", double)
+    tally.check(status == 4 and not out and err.startswith(b"ick-tui: ick-step: "), f"ick-tui --seed x: {status} {err!r}")
+    status, out, err = tally.tool("ick-tui", double)
+    tally.check(status == 1 and err.startswith(b"ick-tui: no terminal"), f"ick-tui without a terminal: {status} {err!r}")
