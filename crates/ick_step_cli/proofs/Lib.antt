@@ -3,3 +3,4 @@ pub mod GivenLaws
 pub mod AddLaws
 pub mod ShownLaws
 pub mod ChangeLaws
+pub mod TravelLaws

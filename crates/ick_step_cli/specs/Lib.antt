@@ -4,5 +4,7 @@ pub mod Commands
 pub mod Given
 pub mod Shown
 pub mod Changes
+pub mod Held
+pub mod Travel
 pub mod Trace
 pub mod Stepper

@@ -1,5 +1,10 @@
 //! What a state has at a name.
 
+ghost use Rattle.std.specs.Prelude.{◌≡◌, IfOk};
+ghost use Rattle.ick_machine.specs.Present.{present_state};
+ghost use Rattle.ick_step_cli.specs.Changes.{alike, had_at};
+ghost use Rattle.ick_step_cli.specs.Held.{Keeps, had};
+
 use ick_bits::NoMemory;
 use ick_inspect::{
     Present, dimensions, elements, is_ignored, number, stashed_arrays, stashed_numbers,
@@ -22,7 +27,9 @@ pub struct Held {
 
 impl Held {
     /// Returns what a state has at a name. `NoMemory` is the only refusal.
-    pub fn of(alloc: Global, present: &Present<'_, '_, '_>, name: Name) -> Result<Held, NoMemory> {
+    pub fn of(alloc: Global, present: &Present<'_, '_, '_>, name: Name) -> Result<Held, NoMemory>
+        ensures { IfOk result (λ held. Keeps held (present_state present.now) name) }
+    {
         Ok(Held {
             name,
             number: number(present, name),
@@ -35,7 +42,9 @@ impl Held {
     }
 
     /// Returns whether a state has the same at the name.
-    pub fn is_in(&self, present: &Present<'_, '_, '_>) -> bool {
+    pub fn is_in(&self, present: &Present<'_, '_, '_>) -> bool
+        ensures { result ≡ alike (had self.now) (had_at (present_state present.now) self.now.name) }
+    {
         self.number == number(present, self.name)
             && self.ignored == is_ignored(present, self.name)
             && self.numbers == stashed_numbers(present, self.name).len()

@@ -1,9 +1,19 @@
 //! A session with the choices that its run is given, and the answer to each command.
 
-ghost use Rattle.std.specs.Prelude.{◌≡◌, ◌≤◌, ◌<◌, IfErr, IfOk, [], length};
+ghost use Rattle.std.specs.Prelude.{◌≡◌, ◌≤◌, ◌<◌, ◌-◌, ◌++◌, ℕ, Bool, true, false, Option, Some};
+ghost use Rattle.std.specs.Prelude.{None, IfErr, IfOk, OnOk, [], codes, length, min};
+ghost use Rattle.ick_code.specs.meaning.Move.{ask};
+ghost use Rattle.ick_backtrack.specs.Steps.{IsPlain};
 ghost use Rattle.ick_machine.specs.Seen.{trailed_machine};
+ghost use Rattle.ick_inspect.specs.Names.{variable_text};
+ghost use Rattle.ick_inspect.specs.Text.{Adds};
+ghost use Rattle.ick_step.specs.History.{Answers, IsHistory};
+ghost use Rattle.ick_step.specs.Session.{present, with_answer};
 ghost use Rattle.ick_step.specs.Sessions.{session};
+ghost use Rattle.ick_step_cli.specs.Changes.{had_at, printed_text};
 ghost use Rattle.ick_step_cli.specs.Stepper.{IsStepError};
+ghost use Rattle.ick_step_cli.specs.Travel.{IsAt, IsLastChange, StopsFirst, differs, has_come};
+ghost use Rattle.ick_step_cli.specs.Travel.{steps_left, way_text, where_text};
 
 use crate::changes::append_printed;
 use crate::commands::{Command, name_of, next_word};
@@ -69,12 +79,16 @@ impl<'c, 'a> Stepper<'c, 'a> {
     }
 
     /// Returns how many steps were made.
-    fn steps(&self) -> usize {
+    fn steps(&self) -> usize
+        ensures { result ≡ length (session self.now.session).answers }
+    {
         self.session.answers().len()
     }
 
     /// Returns how many further steps may be made.
-    fn left(&self) -> u32 {
+    fn left(&self) -> u32
+        ensures { result ≡ steps_left self.now.limit (session self.now.session) }
+    {
         let limit = self.limit as usize;
         let left = limit.saturating_sub(self.steps());
         left as u32
@@ -83,7 +97,10 @@ impl<'c, 'a> Stepper<'c, 'a> {
     /// Takes steps back.
     fn back(&mut self, steps: usize) -> Result<(), RunsError>
         ensures program { (session self.new.session).program ≡ (session self.old.session).program }
+        ensures limit { self.new.limit ≡ self.old.limit }
         ensures errors { IfErr result IsStepError }
+        ensures back { let s = session self.old.session in
+            OnOk result (IsAt s (session self.new.session) (length s.answers - steps)) }
     {
         self.session.back(steps)?;
         self.chosen = count_choices(self.session.answers());
@@ -93,7 +110,12 @@ impl<'c, 'a> Stepper<'c, 'a> {
     /// Makes the step at which a choice is asked. Returns whether one is asked.
     fn choose(&mut self, done: bool) -> Result<bool, RunsError>
         ensures program { (session self.new.session).program ≡ (session self.old.session).program }
+        ensures limit { self.new.limit ≡ self.old.limit }
         ensures errors { IfErr result IsStepError }
+        ensures chosen { IfOk result (λ chosen. chosen ≡ true → (answer : Option Bool)
+            × (session self.new.session ≡ with_answer answer (session self.old.session))) }
+        ensures not_chosen { IfOk result (λ chosen. chosen ≡ false →
+            session self.new.session ≡ session self.old.session) }
     {
         let chosen = self.session.choose(done)?;
         if chosen {
@@ -106,7 +128,12 @@ impl<'c, 'a> Stepper<'c, 'a> {
     /// it is.
     fn choose_given(&mut self) -> Result<bool, RunsError>
         ensures program { (session self.new.session).program ≡ (session self.old.session).program }
+        ensures limit { self.new.limit ≡ self.old.limit }
         ensures errors { IfErr result IsStepError }
+        ensures made { IfOk result (λ made. made ≡ true → (answer : Option Bool)
+            × (session self.new.session ≡ with_answer answer (session self.old.session))) }
+        ensures not_made { IfOk result (λ made. made ≡ false →
+            session self.new.session ≡ session self.old.session) }
     {
         let Ask::Choice(chance) = self.session.machine().asks() else {
             return Ok(false);
@@ -122,7 +149,11 @@ impl<'c, 'a> Stepper<'c, 'a> {
     /// limit on its steps.
     fn travel(&mut self, target: &Target<'_>, most: u32) -> Result<(), RunsError>
         ensures program { (session self.new.session).program ≡ (session self.old.session).program }
+        ensures limit { self.new.limit ≡ self.old.limit }
         ensures errors { IfErr result IsStepError }
+        ensures stops { let s = session self.old.session in OnOk result (StopsFirst
+            (has_come target.now) (min most (steps_left self.old.limit s)) s
+            (session self.new.session)) }
     {
         let limit = most.min(self.left());
         for _made in 0..limit {
@@ -140,7 +171,14 @@ impl<'c, 'a> Stepper<'c, 'a> {
     /// was made.
     fn step(&mut self) -> Result<bool, RunsError>
         ensures program { (session self.new.session).program ≡ (session self.old.session).program }
+        ensures limit { self.new.limit ≡ self.old.limit }
         ensures errors { IfErr result IsStepError }
+        ensures made { IfOk result (λ made. made ≡ true → (answer : Option Bool)
+            × (session self.new.session ≡ with_answer answer (session self.old.session))) }
+        ensures not_made { IfOk result (λ made. made ≡ false →
+            session self.new.session ≡ session self.old.session) }
+        ensures stops { IfOk result (λ made. made ≡ false →
+            ¬ IsPlain (session self.new.session).program (present (session self.new.session))) }
     {
         let made = self.session.step(1)?;
         if made > 0 {
@@ -150,7 +188,9 @@ impl<'c, 'a> Stepper<'c, 'a> {
     }
 
     /// Returns whether the session has come to a target.
-    fn has_come(&self, target: &Target<'_>) -> bool {
+    fn has_come(&self, target: &Target<'_>) -> bool
+        ensures { result ≡ has_come target.now (present (session self.now.session)) }
+    {
         let present = self.session.machine().present();
         match target {
             Target::Nowhere => false,
@@ -161,23 +201,32 @@ impl<'c, 'a> Stepper<'c, 'a> {
     }
 
     /// Returns how many return addresses there are.
-    fn depth(&self) -> usize {
+    fn depth(&self) -> usize
+        ensures { result ≡ length (present (session self.now.session)).returns }
+    {
         return_addresses(&self.session.machine().present()).len()
     }
 
     /// Returns how many bytes were printed.
-    fn printed(&self) -> usize {
+    fn printed(&self) -> usize
+        ensures { result ≡ length (present (session self.now.session)).output }
+    {
         self.session.machine().output().len()
     }
 
     /// Appends what was printed behind so many bytes.
-    fn append_printed(&self, printed: usize, out: &mut Text) {
+    fn append_printed(&self, printed: usize, out: &mut Text)
+        ensures { Adds out.old out.new
+            (printed_text printed (present (session self.now.session))) }
+    {
         append_printed(out, printed, &self.session.machine().present());
     }
 
     /// Appends where the run is, or how it has ended, and whether it has come to its limit.
     pub fn append_here(&self, positions: &[Position], out: &mut Text)
         requires { length positions.now ≡ length (session self.now.session).program }
+        ensures { Adds out.old out.new
+            (where_text self.now.limit positions.now (session self.now.session)) }
     {
         append_here(out, positions, self.steps(), self.session.machine());
         if self.left() == 0 {
@@ -195,7 +244,13 @@ impl<'c, 'a> Stepper<'c, 'a> {
     ) -> Result<(), RunsError>
         requires { length positions.now ≡ length (session self.old.session).program }
         ensures program { (session self.new.session).program ≡ (session self.old.session).program }
+        ensures limit { self.new.limit ≡ self.old.limit }
         ensures errors { IfErr result IsStepError }
+        ensures stops { let s = session self.old.session in OnOk result (StopsFirst
+            (has_come target.now) (min most (steps_left self.old.limit s)) s
+            (session self.new.session)) }
+        ensures text { OnOk result (Adds out.old out.new (way_text self.old.limit positions.now
+            (session self.old.session) (session self.new.session))) }
     {
         let printed = self.printed();
         self.travel(target, most)?;
@@ -214,6 +269,7 @@ impl<'c, 'a> Stepper<'c, 'a> {
     ) -> Result<(), RunsError>
         requires { length positions.now ≡ length (session self.old.session).program }
         ensures program { (session self.new.session).program ≡ (session self.old.session).program }
+        ensures limit { self.new.limit ≡ self.old.limit }
         ensures errors { IfErr result IsStepError }
     {
         let printed = self.printed();
@@ -231,7 +287,10 @@ impl<'c, 'a> Stepper<'c, 'a> {
     }
 
     /// Appends the line of a name.
-    fn append_name(&self, name: Name, out: &mut Text) {
+    fn append_name(&self, name: Name, out: &mut Text)
+        ensures { Adds out.old out.new
+            (variable_text (present (session self.now.session)) name ++ codes "\n") }
+    {
         append_variable(out, &self.session.machine().present(), name);
         out.push(b"\n");
     }
@@ -258,7 +317,15 @@ impl<'c, 'a> Stepper<'c, 'a> {
     ) -> Result<(), RunsError>
         requires { length positions.now ≡ length (session self.old.session).program }
         ensures program { (session self.new.session).program ≡ (session self.old.session).program }
+        ensures limit { self.new.limit ≡ self.old.limit }
         ensures errors { IfErr result IsStepError }
+        ensures stops { let s = session self.old.session in OnOk result (StopsFirst
+            (differs (had_at (present s) name) name)
+            (min 4294967295 (steps_left self.old.limit s)) s
+            (session self.new.session)) }
+        ensures text { OnOk result (Adds out.old out.new (way_text self.old.limit positions.now
+            (session self.old.session) (session self.new.session)
+            ++ (variable_text (present (session self.new.session)) name ++ codes "\n"))) }
     {
         let held = Held::of(alloc, &self.session.machine().present(), name)?;
         self.forward(positions, &Target::Change(&held), u32::MAX, out)?;
@@ -274,14 +341,22 @@ impl<'c, 'a> Stepper<'c, 'a> {
         answers: &[Option<bool>],
         name: Name,
     ) -> Result<Option<usize>, RunsError>
+        requires answers { (session self.old.session).answers ≡ answers.now }
+        requires history { let s = session self.old.session in
+            IsHistory s.program s.start answers.now }
         ensures program { (session self.new.session).program ≡ (session self.old.session).program }
+        ensures limit { self.new.limit ≡ self.old.limit }
         ensures errors { IfErr result IsStepError }
+        ensures same { let s = session self.old.session in
+            OnOk result (IsAt s (session self.new.session) (length s.answers)) }
+        ensures last { let s = session self.old.session in
+            IfOk result (IsLastChange s name (length s.answers)) }
     {
         self.session.restart()?;
         let mut held = Held::of(alloc, &self.session.machine().present(), name)?;
         let mut last = None;
-        for (at, answer) in answers.iter().enumerate() {
-            self.repeat(*answer)?;
+        for at in 0..answers.len() {
+            self.repeat(answers[at])?;
             if !held.is_in(&self.session.machine().present()) {
                 last = Some(at);
                 held = Held::of(alloc, &self.session.machine().present(), name)?;
@@ -292,8 +367,13 @@ impl<'c, 'a> Stepper<'c, 'a> {
 
     /// Makes a step again, by its answer.
     fn repeat(&mut self, answer: Option<bool>) -> Result<(), RunsError>
+        requires { let s = session self.old.session in
+            Answers (ask s.program (present s)) answer }
         ensures program { (session self.new.session).program ≡ (session self.old.session).program }
+        ensures limit { self.new.limit ≡ self.old.limit }
         ensures errors { IfErr result IsStepError }
+        ensures made { OnOk result (session self.new.session
+            ≡ with_answer answer (session self.old.session)) }
     {
         match answer {
             Some(done) => {
@@ -310,7 +390,14 @@ impl<'c, 'a> Stepper<'c, 'a> {
     /// there is such a step. If there is none, the state is as before.
     fn before_change(&mut self, alloc: Global, name: Name) -> Result<bool, RunsError>
         ensures program { (session self.new.session).program ≡ (session self.old.session).program }
+        ensures limit { self.new.limit ≡ self.old.limit }
         ensures errors { IfErr result IsStepError }
+        ensures found { let s = session self.old.session in IfOk result (λ found. found ≡ true →
+            (at : ℕ) × IsLastChange s name (length s.answers) (Some at)
+            × IsAt s (session self.new.session) at) }
+        ensures none { let s = session self.old.session in IfOk result (λ found. found ≡ false →
+            IsLastChange s name (length s.answers) None
+            × IsAt s (session self.new.session) (length s.answers)) }
     {
         let answers = Vec::from_slice(alloc, self.session.answers())?;
         match self.last_change(alloc, &answers, name)? {
@@ -332,6 +419,7 @@ impl<'c, 'a> Stepper<'c, 'a> {
     ) -> Result<(), RunsError>
         requires { length positions.now ≡ length (session self.old.session).program }
         ensures program { (session self.new.session).program ≡ (session self.old.session).program }
+        ensures limit { self.new.limit ≡ self.old.limit }
         ensures errors { IfErr result IsStepError }
     {
         self.append_name(name, out);
@@ -362,6 +450,7 @@ impl<'c, 'a> Stepper<'c, 'a> {
     ) -> Result<(), RunsError>
         requires { length positions.now ≡ length (session self.old.session).program }
         ensures program { (session self.new.session).program ≡ (session self.old.session).program }
+        ensures limit { self.new.limit ≡ self.old.limit }
         ensures errors { IfErr result IsStepError }
     {
         match command {
@@ -392,6 +481,7 @@ impl<'c, 'a> Stepper<'c, 'a> {
     ) -> Result<(), RunsError>
         requires { length positions.now ≡ length (session self.old.session).program }
         ensures program { (session self.new.session).program ≡ (session self.old.session).program }
+        ensures limit { self.new.limit ≡ self.old.limit }
         ensures errors { IfErr result IsStepError }
     {
         self.back(steps as usize)?;
@@ -411,6 +501,7 @@ impl<'c, 'a> Stepper<'c, 'a> {
     ) -> Result<(), RunsError>
         requires { length positions.now ≡ length (session self.old.session).program }
         ensures program { (session self.new.session).program ≡ (session self.old.session).program }
+        ensures limit { self.new.limit ≡ self.old.limit }
         ensures errors { IfErr result IsStepError }
     {
         match command {
