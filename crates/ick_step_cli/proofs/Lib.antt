@@ -4,3 +4,4 @@ pub mod AddLaws
 pub mod ShownLaws
 pub mod ChangeLaws
 pub mod TravelLaws
+pub mod PrintLaws

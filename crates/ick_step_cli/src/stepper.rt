@@ -1,17 +1,21 @@
 //! A session with the choices that its run is given, and the answer to each command.
 
 ghost use Rattle.std.specs.Prelude.{◌≡◌, ◌≤◌, ◌<◌, ◌-◌, ◌++◌, ℕ, Bool, true, false, Option, Some};
-ghost use Rattle.std.specs.Prelude.{None, IfErr, IfOk, OnOk, [], codes, length, min};
+ghost use Rattle.std.specs.Prelude.{None, IfErr, IfOk, OnOk, [], codes, length, min, List};
 ghost use Rattle.ick_code.specs.meaning.Move.{ask};
 ghost use Rattle.ick_backtrack.specs.Steps.{IsPlain};
 ghost use Rattle.ick_machine.specs.Seen.{trailed_machine};
+ghost use Rattle.ick_explorer.specs.ChoiceTexts.{choices_text};
 ghost use Rattle.ick_inspect.specs.Names.{variable_text};
+ghost use Rattle.ick_inspect.specs.Statements.{list_text};
+ghost use Rattle.ick_inspect.specs.Summary.{variables_text};
 ghost use Rattle.ick_inspect.specs.Text.{Adds};
-ghost use Rattle.ick_step.specs.History.{Answers, IsHistory};
+ghost use Rattle.ick_step.specs.History.{Answers, IsHistory, choices_in};
 ghost use Rattle.ick_step.specs.Session.{present, with_answer};
 ghost use Rattle.ick_step.specs.Sessions.{session};
 ghost use Rattle.ick_step_cli.specs.Changes.{had_at, printed_text};
-ghost use Rattle.ick_step_cli.specs.Stepper.{IsStepError};
+ghost use Rattle.ick_step_cli.specs.Stepper.{IsStepError, shown};
+ghost use Rattle.ick_step_cli.specs.Commands.{names_of, order_of};
 ghost use Rattle.ick_step_cli.specs.Travel.{IsAt, IsLastChange, StopsFirst, differs, has_come};
 ghost use Rattle.ick_step_cli.specs.Travel.{steps_left, way_text, where_text};
 
@@ -296,12 +300,19 @@ impl<'c, 'a> Stepper<'c, 'a> {
     }
 
     /// Appends the lines of the names that are the words of a text.
-    fn append_names(&self, names: &[u8], out: &mut Text) {
+    fn append_names(&self, names: &[u8], out: &mut Text)
+        ensures { Adds out.old out.new
+            (variables_text (names_of names.now) (present (session self.now.session))) }
+    {
         let mut rest = names;
         for _at in 0..names.len() {
             let (word, behind) = next_word(rest);
-            if let Some(name) = name_of(word) {
-                self.append_name(name, out);
+            if word.is_empty() {
+                return;
+            }
+            match name_of(word) {
+                Some(name) => self.append_name(name, out),
+                None => {}
             }
             rest = behind;
         }
@@ -432,7 +443,10 @@ impl<'c, 'a> Stepper<'c, 'a> {
     }
 
     /// Appends the choices that were answered.
-    fn append_cursor(&self, alloc: Global, out: &mut Text) -> Result<(), NoMemory> {
+    fn append_cursor(&self, alloc: Global, out: &mut Text) -> Result<(), NoMemory>
+        ensures { OnOk result (Adds out.old out.new
+            (choices_text (choices_in (session self.now.session).answers) ++ codes "\n")) }
+    {
         let mut cursor = Vec::new(alloc);
         self.session.append_cursor(alloc, &mut cursor)?;
         out.push(&cursor);
@@ -489,6 +503,53 @@ impl<'c, 'a> Stepper<'c, 'a> {
         Ok(())
     }
 
+    /// Appends the answer to a command that shows a part of the state, and changes nothing. Returns
+    /// whether the command is one.
+    fn answer_shown(
+        &self,
+        alloc: Global,
+        positions: &[Position],
+        command: Command<'_>,
+        out: &mut Text,
+    ) -> Result<bool, NoMemory>
+        requires { length positions.now ≡ length (session self.now.session).program }
+        ensures text { IfOk result (λ is. (text : List ℕ) →
+            shown positions.now (session self.now.session) (order_of command.entry) ≡ Some text →
+            (is ≡ true) × Adds out.old out.new text) }
+    {
+        match command {
+            Command::Print(names) => {
+                self.append_names(names, out);
+                Ok(true)
+            }
+            Command::Stack => {
+                append_stack(out, &self.session.machine().present());
+                Ok(true)
+            }
+            Command::State => {
+                append_state(out, &self.session.machine().present());
+                Ok(true)
+            }
+            Command::List => {
+                self.append_list(positions, out);
+                Ok(true)
+            }
+            Command::Output => {
+                out.push(self.session.machine().output());
+                Ok(true)
+            }
+            Command::Cursor => {
+                self.append_cursor(alloc, out)?;
+                Ok(true)
+            }
+            Command::Help => {
+                out.push(COMMANDS.as_bytes());
+                Ok(true)
+            }
+            _ => Ok(false),
+        }
+    }
+
     /// Does a command, and appends the answer. `Quit` does nothing and has no answer.
     ///
     /// The refusals are `NoMemory`, and `WorkFull` if too many steps were made in all.
@@ -503,23 +564,21 @@ impl<'c, 'a> Stepper<'c, 'a> {
         ensures program { (session self.new.session).program ≡ (session self.old.session).program }
         ensures limit { self.new.limit ≡ self.old.limit }
         ensures errors { IfErr result IsStepError }
+        ensures shows { (text : List ℕ) →
+            shown positions.now (session self.old.session) (order_of command.entry) ≡ Some text →
+            (self.new ≡ self.old) × OnOk result (Adds out.old out.new text) }
     {
-        match command {
-            Command::Print(names) => self.append_names(names, out),
-            Command::Stack => append_stack(out, &self.session.machine().present()),
-            Command::State => append_state(out, &self.session.machine().present()),
-            Command::List => self.append_list(positions, out),
-            Command::Output => out.push(self.session.machine().output()),
-            Command::Cursor => self.append_cursor(alloc, out)?,
-            Command::Help => out.push(COMMANDS.as_bytes()),
-            _ => self.answer_move(alloc, positions, command, out)?,
+        if self.answer_shown(alloc, positions, command, out)? {
+            return Ok(());
         }
-        Ok(())
+        self.answer_move(alloc, positions, command, out)
     }
 
     /// Appends the statements around the one that is met next.
     fn append_list(&self, positions: &[Position], out: &mut Text)
         requires { length positions.now ≡ length (session self.now.session).program }
+        ensures { let s = session self.now.session in Adds out.old out.new
+            (list_text s.program positions.now (present s).place 5) }
     {
         append_list(out, &self.session.machine().present(), positions, AROUND);
     }
