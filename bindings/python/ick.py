@@ -68,7 +68,7 @@ class Outcome(NamedTuple):
 
 
 class Asker(NamedTuple):
-    """What a choice was asked by: the number of a statement, and its chance in hundredths."""
+    """The statement that asked for a choice: its number, and its chance in hundredths."""
 
     statement: int
     chance: int
@@ -139,7 +139,7 @@ def serve_step(arguments, file=b"", input=b"", commands=b""):
 
 
 def served(function, arguments, *contents):
-    """Returns what a function of the library leaves, over rooms that its texts fit in."""
+    """Calls a function of the library with rooms that its texts fit in. Returns its status and its texts."""
     words = [bytes_of(argument) for argument in arguments]
     if any(b"\0" in word for word in words):
         raise ValueError("an argument has a byte 0")
@@ -199,7 +199,7 @@ def outcomes(source, input=b"", limit=None, most=None):
 
 
 def asked(source, listing, input=b"", limit=None):
-    """Returns what the choices of each run of a listing were asked by, for the first 10,000 choices of a run."""
+    """Returns, for each run of a listing, the statements that asked for its first 10,000 choices."""
     given = [*options(limit=limit, asked="listing"), "program"]
     lines = answered(serve_outcomes(given, source, listing, input)).output.splitlines()
     return [[Asker(*map(int, asker.split(b":"))) for asker in line.split()] for line in lines]
