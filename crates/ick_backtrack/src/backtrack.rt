@@ -28,9 +28,9 @@ pub trait Backtrack: Drop {
     fn marks(&self) -> usize
         ensures { result ≡ length (seen self.now).marks };
 
-    /// Makes one step: does or passes over the statement that is met (Revised Manual, 4.3). Past the
-    /// last statement it ends the run by fault 633 (this profile). The count of work rises by one.
-    /// Beside this call only `Asks::run` changes the count.
+    /// Makes one step: does or passes over the statement that is met (Revised Manual, 4.3). Past
+    /// the last statement it ends the run by fault 633 (this profile). The count of work rises by
+    /// one. Beside this call only `Asks::run` changes the count.
     ///
     /// If the machine asks for a choice, `done` says whether the statement is done. Else `done`
     /// changes nothing. The run must not have ended, and the count must be below 2^64 - 1. After
@@ -72,8 +72,8 @@ pub trait Backtrack: Drop {
 /// lifetime of the code: the message of a fault shows a text of it.
 pub trait Asks<'c>: Backtrack {
     /// Returns what is asked before the next step (Revised Manual, 4.3). A choice is asked if the
-    /// statement that is met has a chance from 1 to 99 and isn't abstained from. If there is one way
-    /// to go on, nothing is asked. If the run has ended, the answer says how.
+    /// statement that is met has a chance from 1 to 99 and isn't abstained from. If there is one
+    /// way to go on, nothing is asked. If the run has ended, the answer says how.
     fn asks(&self) -> Ask<'c>
         ensures { let machine = Self.seen self.now in
             asked_of result ≡ Some (ask machine.program machine.state) };

@@ -1,5 +1,5 @@
-//! Defines why a feed of input answers nothing. The type is here, below all of its users, because an
-//! `impl` of `From` must be in the crate of one of its two types.
+//! Defines why a feed of input answers nothing. The type is here, below all of its users, because
+//! an `impl` of `From` must be in the crate of one of its two types.
 
 ghost use Rattle.std.specs.Prelude.{◌≡◌};
 ghost use Rattle.ick_backtrack.specs.declared.feed_fault.FeedFault.TheVariants.{NoMemory as OutOfMemory};

@@ -40,7 +40,8 @@ pub record Serves (arguments : List Text) (file input : List ℕ)
       errors errors' status
   pub no_job : fault_of ick_app arguments ≢ [] → ((writer' ≡ writer) × Reports IsRefused errors errors' status)
       ⊎ Reports (IsHelped true writer.failures writer'.failures writer.bytes writer'.bytes) errors errors' status
-  pub usage : AreMistakes (fault_of ick_app arguments) → (writer' ≡ writer) × Reports IsRefused errors errors' status
+  pub usage : AreMistakes (fault_of ick_app arguments)
+      → (writer' ≡ writer) × Reports IsRefused errors errors' status
   pub help : AreRequests (fault_of ick_app arguments)
       → Reports (IsHelped true writer.failures writer'.failures writer.bytes writer'.bytes) errors errors' status
   pub said : Reports (IsDue (failures_of writer) (failures_of writer')) errors errors' status
@@ -54,7 +55,8 @@ pub record OfBytes (Leaves : List Text → Type 0) (bytes : List ℕ)
       × Finishes true 64 (notice_text WordsNotRead)
       errors.failures errors'.failures errors.bytes errors'.bytes status
 
-abbrev pub ServesBytes : (bytes file input : List ℕ) (writer writer' errors errors' : Written) (status : ℕ) → Type 0
+abbrev pub ServesBytes : (bytes file input : List ℕ) (writer writer' errors errors' : Written) (status : ℕ)
+    → Type 0
 ServesBytes bytes file input writer writer' errors errors' status =
     OfBytes (λ arguments. Serves arguments file input writer writer' errors errors' status) bytes
     writer writer' errors errors' status

@@ -18,12 +18,12 @@ abbrev pub listing_in : Wanted → List ℕ → Option (List ℕ)
 listing_in job listing = option_map (λ name. listing) job.listing
 
 -- a job is served: an answer that it has is, or there are more states than it allows
-abbrev pub JobServed : Wanted → Option (List ℕ) → Option (List ℕ) → List ℕ → (writer writer' errors errors' : Written)
-    → ℕ → Type 0
+abbrev pub JobServed : Wanted → Option (List ℕ) → Option (List ℕ) → List ℕ
+    → (writer writer' errors errors' : Written) → ℕ → Type 0
 JobServed job source listing input writer writer' errors errors' status =
     Reports (IsOutcomesServed (IsOutcomesAnswer job (input_of job.file input) listing source)
-    (MayStop job (input_of job.file input) source) (failures_of writer) (failures_of writer') writer.bytes writer'.bytes)
-    errors errors' status
+    (MayStop job (input_of job.file input) source) (failures_of writer) (failures_of writer')
+    writer.bytes writer'.bytes) errors errors' status
 
 -- What `serve_outcomes` leaves of arguments. If they ask for a job, it is served. If not, they get a text of clap. The
 -- error text is due, and the status is 4 if memory ran out for a text.
@@ -38,8 +38,8 @@ pub record ServesOutcomes (arguments : List Text) (file listing input : List ℕ
   pub said : Reports (IsOutcomesDue (failures_of writer) (failures_of writer')) errors errors' status
   pub failed : (writer.failures < writer'.failures) ⊎ (errors.failures < errors'.failures) → status ≡ 4
 
-abbrev pub OutcomesOfBytes : (bytes file listing input : List ℕ) (writer writer' errors errors' : Written) (status : ℕ)
-    → Type 0
+abbrev pub OutcomesOfBytes : (bytes file listing input : List ℕ) (writer writer' errors errors' : Written)
+    (status : ℕ) → Type 0
 OutcomesOfBytes bytes file listing input writer writer' errors errors' status =
     OfBytes (λ arguments. ServesOutcomes arguments file listing input writer writer' errors errors' status) bytes
     writer writer' errors errors' status

@@ -7,10 +7,11 @@ use Rattle.ick_cli.specs.Usage.{AreMistakes, AreRequests, IsHelped, IsRefused}
 use Rattle.ick_step_cli.specs.Words.{step_app}
 use Rattle.ick_c.specs.Call.{OfBytes, Reports, failures_of}
 
--- What `serve_step` leaves of arguments. If they ask for no job, they get a text of clap. The error text is due, and the
--- status is 4 if memory ran out for a text.
+-- What a call of `ick_step` with arguments leaves. If they ask for no job, it writes a text of clap. The error text is
+-- due, and the status is 4 if memory ran out for a text.
 pub record ServesStep (arguments : List Text) (writer writer' errors errors' : Written) (status : ℕ) : Type 0 where
-  pub usage : AreMistakes (fault_of step_app arguments) → (writer' ≡ writer) × Reports IsRefused errors errors' status
+  pub usage : AreMistakes (fault_of step_app arguments)
+      → (writer' ≡ writer) × Reports IsRefused errors errors' status
   pub help : AreRequests (fault_of step_app arguments)
       → Reports (IsHelped true writer.failures writer'.failures writer.bytes writer'.bytes) errors errors' status
   pub said : Reports (IsDue (failures_of writer) (failures_of writer')) errors errors' status

@@ -28,14 +28,16 @@ pub record Performs {F R W : Type 0} (asked : Asked) (old new : Failures)
   pub files_kept : has_file asked ≡ false → files' ≡ files
   -- A job without a plan leaves files, reader and writer unchanged, and ends by its line.
   pub unplanned : (line : Notice) → IsUnplanned asked.task line
-      → (files' ≡ files) × (reader' ≡ reader) × (writer' ≡ writer) × (ending ≡ Answered 64 (message.Notice line))
+      → (files' ≡ files) × (reader' ≡ reader) × (writer' ≡ writer)
+      × (ending ≡ Answered 64 (message.Notice line))
   -- If the source comes from the reader, and a read of it fails, the writer is unchanged.
   pub source_first : has_file asked ≡ false → old.reads < new.reads → writer' ≡ writer
   -- If files and reader do what they say, an answered job leaves in the reader what such a job leaves.
   pub left : files_told ≡ true → reader_told ≡ true → WhereAnswered ending (IsLeft asked named rest rest')
   -- If the writer does so too, each answer that the job may have is the ending's, behind what was written before.
   pub answer : files_told ≡ true → reader_told ≡ true → writer_told ≡ true → (answer : Answer)
-      → IsToolAnswer asked.task (source_of asked.file named old.files new.files rest) (input_of asked.file rest) answer
+      → IsToolAnswer asked.task (source_of asked.file named old.files new.files rest)
+      (input_of asked.file rest) answer
       → Answers answer ending written written'
 
 -- What an answer to a source leaves in the reader and in the writer.
@@ -49,6 +51,6 @@ pub record AnswersSource {R : Type 0} (plan : Plan) (source input : List ℕ) (e
   pub reader_kept : reads_input plan ≡ false → reader' ≡ reader
 
 -- An answer to code is work that has the answer of its runs, and leaves of the input what these runs leave.
-abbrev pub AnswersCode : Program → Runs → List ℕ → Ending → Bool → ℕ → ℕ → List ℕ → Bool → ℕ → ℕ
-    → List ℕ → List ℕ → Type 0
+abbrev pub AnswersCode : Program → Runs → List ℕ → Ending → Bool → ℕ → ℕ → List ℕ
+    → Bool → ℕ → ℕ → List ℕ → List ℕ → Type 0
 AnswersCode program runs input = Works (IsExecuted program input runs) (IsLeftByRuns program input runs)

@@ -68,8 +68,8 @@ pub fn serve<F: Files, R: ByteSource, W: ByteSink, E: ByteSink>(
         → has_file (job_of (texts words.entry.now)) ≡ true
         → takes_input (job_of (texts words.entry.now)).task ≡ false
         → reader.new ≡ reader.old }
-    ensures left { HasJob (texts words.entry.now) → F.told ≡ true → R.told ≡ true → result ≢ 4
-        → IsLeft (job_of (texts words.entry.now)) (F.named files.old)
+    ensures left { HasJob (texts words.entry.now) → F.told ≡ true → R.told ≡ true
+        → result ≢ 4 → IsLeft (job_of (texts words.entry.now)) (F.named files.old)
         (R.left reader.old) (R.left reader.new) }
     ensures source_first { HasJob (texts words.entry.now)
         → has_file (job_of (texts words.entry.now)) ≡ false

@@ -51,8 +51,8 @@ place_after from None = from
 place_after from (Some (b, to)) = to
 
 -- bytes that were read from a place on into as many elements as were counted, unless these stay as they are
-pub record HasRead (stays : Bool) (count lastin from : ℕ) (old new : List ℕ) (last to : ℕ) (before after : Input) :
-    Type 0 where
+pub record HasRead (stays : Bool) (count lastin from : ℕ) (old new : List ℕ) (last to : ℕ)
+    (before after : Input) : Type 0 where
   pub elements_are : new ≡ (if stays then old else tape_numbers count lastin (before.left from) ++ drop count old)
   pub last_is : last ≡ last_read count lastin (before.left from)
   pub rest_is : after.left to ≡ drop count (before.left from)

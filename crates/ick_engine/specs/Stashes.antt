@@ -21,7 +21,8 @@ pub record IsTakenOff {A : Type 0} (x : A) (old new : Stash A) : Type 0 where
   pub back : StashLike old (put_on x new)
 
 -- one stash of many was changed
-pub record ChangesAt {A : Type 0} (slot : ℕ) (P : Stash A → Stash A → Type 0) (old new : List (Stash A)) : Type 0 where
+pub record ChangesAt {A : Type 0} (slot : ℕ) (P : Stash A → Stash A → Type 0)
+    (old new : List (Stash A)) : Type 0 where
   pub others : new ≡ slice_set old slot (get_or new slot no_stash)
   pub here : P (get_or old slot no_stash) (get_or new slot no_stash)
 

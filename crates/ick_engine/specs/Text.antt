@@ -42,7 +42,8 @@ array_read slot before to parts =
     }
 
 -- the array in a slot was read, or it hasn't one dimension
-abbrev pub IsArrayRead : Result (Unit {0}) Halt → (slot : ℕ) → (old new : Parts) → (before after : Input) → Type 0
+abbrev pub IsArrayRead : Result (Unit {0}) Halt → (slot : ℕ) → (old new : Parts) →
+    (before after : Input) → Type 0
 IsArrayRead (Ok u) slot old new before after =
     (length (array_at old slot).dimensions ≡ 1) × (new ≡ array_read slot before new.taken old)
     × (after.left new.taken ≡ drop (length (array_at old slot).elements) (before.left old.taken))

@@ -207,30 +207,37 @@ RewindsMarked fixed changes low k v m = (k ≤ length fixed.kept) × Rewinds fix
 -- what undoing is, for notes of these changes: if somebody is told of changes, they can be rewound
 pub record Means {N : Type 0} (Undoes : N → ℕ → View → View → Type 0) (tells : Bool) (notes : N)
     (changes : List Change) (fixed : Fixed) (low : ℕ) : Type 0 where
-  pub rewinds : tells ≡ true → (k : ℕ) (v m : View) → Undoes notes k v m → Rewinds fixed.base changes low k v m
-  pub undoes : (k : ℕ) (v m : View) → (tells ≡ true → RewindsMarked fixed changes low k v m) → Undoes notes k v m
+  pub rewinds : tells ≡ true → (k : ℕ) (v m : View) → Undoes notes k v m
+      → Rewinds fixed.base changes low k v m
+  pub undoes : (k : ℕ) (v m : View) → (tells ≡ true → RewindsMarked fixed changes low k v m)
+      → Undoes notes k v m
 
 -- what can be undone from a view can be undone from each one like it
 abbrev pub AlikeUndo : {N : Type 0} → (N → ℕ → View → View → Type 0) → N → (base low : ℕ) → Type 0
-AlikeUndo Undoes notes base low = (k : ℕ) (v w m : View) → Like base low v w → Undoes notes k v m → Undoes notes k w m
+AlikeUndo Undoes notes base low =
+    (k : ℕ) (v w m : View) → Like base low v w → Undoes notes k v m → Undoes notes k w m
 
 -- what can be undone before a change can be undone after it
-abbrev pub NotesRegister : {N : Type 0} → (N → ℕ → View → View → Type 0) → N → N → ℕ → List ℕ → Type 0
+abbrev pub NotesRegister : {N : Type 0} → (N → ℕ → View → View → Type 0) → N → N →
+    ℕ → List ℕ → Type 0
 NotesRegister Undoes old new at registers =
     (k number : ℕ) (v m : View) → v.registers ≡ registers → Undoes old k v m →
     Undoes new k (record v { registers = slice_set registers at number }) m
 
-abbrev pub NotesHome : {N : Type 0} → (N → ℕ → View → View → Type 0) → N → N → ℕ → List ℕ → Type 0
+abbrev pub NotesHome : {N : Type 0} → (N → ℕ → View → View → Type 0) → N → N →
+    ℕ → List ℕ → Type 0
 NotesHome Undoes old new at home =
     (k number : ℕ) (v m : View) → v.home ≡ home → Undoes old k v m →
     Undoes new k (record v { home = slice_set home at number }) m
 
-abbrev pub NotesStatus : {N : Type 0} → (N → ℕ → View → View → Type 0) → N → N → ℕ → List ℕ → Type 0
+abbrev pub NotesStatus : {N : Type 0} → (N → ℕ → View → View → Type 0) → N → N →
+    ℕ → List ℕ → Type 0
 NotesStatus Undoes old new at statuses =
     (k number : ℕ) (v m : View) → v.statuses ≡ statuses → Undoes old k v m →
     Undoes new k (record v { statuses = slice_set statuses at number }) m
 
-abbrev pub NotesElement : {N : Type 0} → (N → ℕ → View → View → Type 0) → N → N → (slot at : ℕ) → List Array → Type 0
+abbrev pub NotesElement : {N : Type 0} → (N → ℕ → View → View → Type 0) → N → N →
+    (slot at : ℕ) → List Array → Type 0
 NotesElement Undoes old new slot at arrays =
     (k number : ℕ) (v m : View) → v.parts.arrays ≡ arrays → Undoes old k v m →
     Undoes new k (with_arrays (with_number arrays slot at number) v) m
@@ -239,12 +246,14 @@ abbrev pub NotesReturns : {N : Type 0} → (N → ℕ → View → View → Type
 NotesReturns Undoes old new returns =
     (k : ℕ) (v m : View) → v.returns ≡ returns → Undoes old k v m → Undoes new k v m
 
-abbrev pub NotesChange : {N : Type 0} → (N → ℕ → View → View → Type 0) → N → N → (base : ℕ) → Change → Type 0
+abbrev pub NotesChange : {N : Type 0} → (N → ℕ → View → View → Type 0) → N → N →
+    (base : ℕ) → Change → Type 0
 NotesChange Undoes old new base change =
     (k : ℕ) (v m : View) → IsUndoable base change v → Undoes old k (undone change v) m → Undoes new k v m
 
 -- a number of a stash becomes the number of its scalar
-abbrev pub NotesRestored : {N : Type 0} → (N → ℕ → View → View → Type 0) → N → N → (slot number : ℕ) → List ℕ → Type 0
+abbrev pub NotesRestored : {N : Type 0} → (N → ℕ → View → View → Type 0) → N → N →
+    (slot number : ℕ) → List ℕ → Type 0
 NotesRestored Undoes old new slot number registers =
     (k n : ℕ) (v m : View) (p : Parts) →
     v.registers ≡ registers →

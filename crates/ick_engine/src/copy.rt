@@ -60,7 +60,8 @@ pub fn copy_into(place: &mut Array, array: &Array) -> Result<(), NoMemory>
 
 /// Copies arrays.
 pub fn copy_arrays(alloc: Global, arrays: &[Array]) -> Result<Vec<Array>, NoMemory>
-    ensures arrays { IfOk result (λ copies. map array_of copies.items ≡ map array_of arrays.now) }
+    ensures arrays { IfOk result (λ copies. map array_of copies.items
+        ≡ map array_of arrays.now) }
     ensures hidden { IfOk result (λ copies. map is_hidden copies.items
         ≡ map is_hidden arrays.now) }
 {

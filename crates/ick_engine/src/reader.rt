@@ -32,8 +32,8 @@ pub trait Reader: Drop {
     /// What every call keeps: the text that is read, or the name of a reference to the source.
     ghost held: { Self → Self.Held };
 
-    /// Whether the loop waits before a statement of input or output that is sure to be done, by what
-    /// every call keeps.
+    /// Whether the loop waits before a statement of input or output that is sure to be done, by
+    /// what every call keeps.
     ghost waits: { Self.Held → Bool };
 
     /// Some input may be left.

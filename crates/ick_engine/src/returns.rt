@@ -17,7 +17,8 @@ pub fn dropped(depth: usize, number: u32) -> usize
 /// Returns whether so many can be popped, and at least one.
 #[inline(always)]
 pub fn is_there(number: usize, depth: usize) -> bool
-    ensures { MatchBool result ((0 < number) × (number ≤ depth)) ((number ≡ 0) ⊎ (depth < number)) }
+    ensures { MatchBool result ((0 < number) × (number ≤ depth))
+        ((number ≡ 0) ⊎ (depth < number)) }
 {
     number.wrapping_sub(1) < depth
 }

@@ -229,7 +229,8 @@ impl<M: Backtrack> Explorer<M> {
         }
     }
 
-    /// Moves to the next run, and returns its number of steps. Returns `None` if no run is left. The refusals, and the state after each of them, are those of `next`.
+    /// Moves to the next run, and returns its number of steps. Returns `None` if no run is left.
+    /// The refusals, and the state after each of them, are those of `next`.
     pub(crate) fn advance<'c>(&mut self) -> Result<Option<u32>, RunsError>
     where
         M: Asks<'c>,

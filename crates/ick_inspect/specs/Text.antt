@@ -7,7 +7,8 @@ use Rattle.ick_inspect.specs.declared.text.Text.{Text}
 pub record Adds (old new : Text) (piece : List ℕ) : Type 0 where
   pub sound : new.refused ≡ false → old.refused ≡ false
   pub bytes : new.refused ≡ false → new.bytes.items ≡ old.bytes.items ++ piece
-  pub full : new.refused ≡ true → old.refused ≡ false → vec_capacity old.bytes < vec_len old.bytes + length piece
+  pub full : new.refused ≡ true → old.refused ≡ false
+      → vec_capacity old.bytes < vec_len old.bytes + length piece
   pub capacity : vec_capacity old.bytes ≤ vec_capacity new.bytes
 
 -- numbers, each behind the same bytes

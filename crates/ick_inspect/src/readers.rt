@@ -143,7 +143,8 @@ pub fn stashed_numbers<'m>(present: &Present<'m, '_, '_>, name: Name) -> &'m [u3
 /// Returns the arrays on the stash of an array, the newest last.
 #[tactic(auto, unfolding(ick_machine::specs::Present::present_state))]
 pub fn stashed_arrays<'m>(present: &Present<'m, '_, '_>, name: Name) -> &'m [Array]
-    ensures { (present_state present.now).stashed_arrays name ≡ reverse (map array_of result.now) }
+    ensures { (present_state present.now).stashed_arrays name
+        ≡ reverse (map array_of result.now) }
 {
     present.law();
     match array_slot(present.lowered.code, name) {

@@ -29,7 +29,8 @@ marked_states code lowered input changes v (newest ∷ older) =
 -- what could be undone from a view by an old trail can be undone from another one by a new trail
 abbrev pub Carries : Trail → Trail → View → View → Type 0
 Carries old new v w =
-    (k : ℕ) (m : View) → Rewinds old.base (history old) old.low k v m → Rewinds new.base (history new) new.low k w m
+    (k : ℕ) (m : View) → Rewinds old.base (history old) old.low k v m →
+    Rewinds new.base (history new) new.low k w m
 
 -- a mark was made on a trail, of which nothing else has changed
 pub record IsMarked (old new : Trail) (v : View) : Type 0 where

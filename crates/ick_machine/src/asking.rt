@@ -108,7 +108,8 @@ pub fn answer<'c, 'a>(
 /// (Revised Manual, 4.3).
 pub fn is_plain(lowered: &Lowered<'_, '_>, memory: &Memory, end: Option<Ended>) -> bool
     requires { IsReady lowered.now.code.now lowered.now.parts (view_in memory.now) }
-    ensures plain { (input : Input) → result ≡ true → IsPlain (code_program lowered.now.code.now)
+    ensures plain { (input : Input) → result ≡ true →
+        IsPlain (code_program lowered.now.code.now)
         (run_state lowered.now.code.now lowered.now.parts input (view_in memory.now) end) }
     ensures asked { (input : Input) → result ≡ false →
         ¬ IsPlain (code_program lowered.now.code.now)

@@ -47,7 +47,8 @@ fn plain_within<'c>(left: u32) -> Ask<'c>
 
 /// Returns that a choice is asked, or the end `Limit` if no step is left.
 fn choice_within<'c>(chance: u8, left: u32) -> Ask<'c>
-    ensures { (p : Program) (s : State) → ask p s ≡ choice chance → AsksWithin p s left result }
+    ensures { (p : Program) (s : State) → ask p s ≡ choice chance
+        → AsksWithin p s left result }
 {
     if left == 0 {
         return Ask::Ended(End::Limit);

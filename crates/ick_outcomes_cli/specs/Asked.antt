@@ -21,7 +21,8 @@ pub data Explains (p : Program) (s : State) (limit : ℕ) : List ℕ → List �
 -- the first line of a listing that no listing of the program has, by its number
 pub data ForeignAt (p : Program) (s : State) (limit : ℕ) : List ℕ → ℕ → Type 0 where
   foreign_here : (listing : List ℕ) → (listing ≡ [] → ⊥)
-      → ((line rest : List ℕ) → LacksByte 10 line → listing ≡ line ++ 10 ∷ rest → IsListed p s limit line → ⊥)
+      → ((line rest : List ℕ) → LacksByte 10 line → listing ≡ line ++ 10 ∷ rest
+      → IsListed p s limit line → ⊥)
       → ForeignAt p s limit listing 1
   foreign_later : (line rest : List ℕ) (n : ℕ) → LacksByte 10 line → IsListed p s limit line
       → ForeignAt p s limit rest n → ForeignAt p s limit (line ++ 10 ∷ rest) (suc n)

@@ -16,8 +16,8 @@ pub data IsOutcomesDue (old new : Failures) : List ℕ → ℕ → Type 0 where
 -- The error text and the status that are due to a job, behind what was written. They are those of an answer that the
 -- job has, and all of its output is written, or the writer failed and a prefix of it is. Or nothing is written: the
 -- reader or memory failed, or more states would be kept than may be, and there are more runs than that.
-pub data IsOutcomesServed (IsAnswer : Answer → Type 0) (More : Type 0) (old new : Failures) (before after : List ℕ) :
-    List ℕ → ℕ → Type 0 where
+pub data IsOutcomesServed (IsAnswer : Answer → Type 0) (More : Type 0) (old new : Failures)
+    (before after : List ℕ) : List ℕ → ℕ → Type 0 where
   answered : (answer : Answer) → IsAnswer answer → new.reads ≡ old.reads → new.writes ≡ old.writes
       → after ≡ before ++ answer.output
       → IsOutcomesServed IsAnswer More old new before after answer.errors answer.status

@@ -28,7 +28,8 @@ IsTextOf exact true outcomes text = IsTotal outcomes text
 IsTextOf exact false outcomes text = IsSummaryText exact outcomes text
 
 -- the text is that of the summary of all runs of a program over an input
-pub record IsOutcomes (program : Program) (input : List ℕ) (limit : ℕ) (q : Question) (text : List ℕ) : Type 0 where
+pub record IsOutcomes (program : Program) (input : List ℕ) (limit : ℕ) (q : Question)
+    (text : List ℕ) : Type 0 where
   pub outcomes : List Outcome
   pub summary : IsSummary program (first_state program input) limit (rows_of outcomes)
   pub text_is : IsTextOf q.exact q.total outcomes text
@@ -50,7 +51,8 @@ pub data IsSummed (program : Program) (input : List ℕ) (limit : ℕ) (q : Ques
   summed : (text : List ℕ) → IsOutcomes program input limit q text → IsSummed program input limit q (shown text)
 
 -- the answer by what the choices of a listing were asked by; there is no listing where it was not read
-pub data IsExplained (program : Program) (input : List ℕ) (limit : ℕ) : Option (List ℕ) → Answer → Type 0 where
+pub data IsExplained (program : Program) (input : List ℕ) (limit : ℕ) :
+    Option (List ℕ) → Answer → Type 0 where
   listing_not_read : IsExplained program input limit None (refusal 4 (notice_text notice.FileNotRead))
   listing_too_long : (listing : List ℕ) → longest_listing < length listing
       → IsExplained program input limit (Some listing) (refusal 4 (notice_text notice.ListingTooLong))
@@ -62,8 +64,8 @@ pub data IsExplained (program : Program) (input : List ℕ) (limit : ℕ) : Opti
       → IsExplained program input limit (Some listing) (refusal 64 (foreign_text n))
 
 -- the answer to a program over an input, by whether a listing is named
-pub data IsProgramAnswer (program : Program) (input : List ℕ) (limit : ℕ) (q : Question) (listing : Option (List ℕ)) :
-    Option Text → Answer → Type 0 where
+pub data IsProgramAnswer (program : Program) (input : List ℕ) (limit : ℕ) (q : Question)
+    (listing : Option (List ℕ)) : Option Text → Answer → Type 0 where
   input_too_long : (named : Option Text) → longest_input < length input
       → IsProgramAnswer program input limit q listing named (refusal 4 (notice_text notice.InputTooLong))
   by_outcomes : (answer : Answer) → length input ≤ longest_input → IsSummed program input limit q answer
@@ -83,8 +85,8 @@ pub data IsSourceAnswer (w : Wanted) (source input : List ℕ) (listing : Option
       → IsSourceAnswer w source input listing answer
 
 -- the answer to a job whose source is none where the file did not open or a read of it failed
-pub data IsOutcomesAnswer (w : Wanted) (input : List ℕ) (listing : Option (List ℕ)) : Option (List ℕ) → Answer →
-    Type 0 where
+pub data IsOutcomesAnswer (w : Wanted) (input : List ℕ) (listing : Option (List ℕ)) :
+    Option (List ℕ) → Answer → Type 0 where
   not_read : IsOutcomesAnswer w input listing None (refusal 4 (notice_text notice.FileNotRead))
   read : (source : List ℕ) (answer : Answer) → IsSourceAnswer w source input listing answer
       → IsOutcomesAnswer w input listing (Some source) answer

@@ -89,7 +89,8 @@ fn answer_source<L: Files, R: ByteSource, W: ByteSink>(
     requires writer_sound { W.failed writer.old + 1 < 2 ^ 64 }
     ensures leaves { LeavesAll result (L.failed listings.old) (L.failed listings.new)
         (R.failed reader.old) (R.failed reader.new) (W.failed writer.old) (W.failed writer.new) }
-    ensures gives { L.told ≡ true → R.told ≡ true → W.told ≡ true → let job = wanted job.now in
+    ensures gives { L.told ≡ true → R.told ≡ true → W.told ≡ true →
+        let job = wanted job.now in
         Gives (IsSourceAnswer job source.now (R.left reader.old)
         (listing_of job.listing (L.named listings.old)
         (L.failed listings.old) (L.failed listings.new)))
@@ -120,7 +121,8 @@ fn answer_code<L: Files, R: ByteSource, W: ByteSink>(
     requires writer_sound { W.failed writer.old + 1 < 2 ^ 64 }
     ensures leaves { LeavesAll result (L.failed listings.old) (L.failed listings.new)
         (R.failed reader.old) (R.failed reader.new) (W.failed writer.old) (W.failed writer.new) }
-    ensures gives { L.told ≡ true → R.told ≡ true → W.told ≡ true → let job = wanted job.now in
+    ensures gives { L.told ≡ true → R.told ≡ true → W.told ≡ true →
+        let job = wanted job.now in
         Gives (IsProgramAnswer (code_program code.now) (R.left reader.old) job.limit job.question
         (listing_of job.listing (L.named listings.old)
         (L.failed listings.old) (L.failed listings.new)) job.listing)

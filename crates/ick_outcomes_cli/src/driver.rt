@@ -45,8 +45,8 @@ pub fn serve_outcomes<F: Files, L: Files, R: ByteSource, W: ByteSink, E: ByteSin
     requires errors_sound { E.failed errors.old + 1 < 2 ^ 64 }
 
     // Words that ask for a job, over devices that do what they say.
-    ensures job { HasJob (texts words.entry.now) → F.told ≡ true → L.told ≡ true → R.told ≡ true
-        → W.told ≡ true → let job = job_of (texts words.entry.now) in
+    ensures job { HasJob (texts words.entry.now) → F.told ≡ true → L.told ≡ true
+        → R.told ≡ true → W.told ≡ true → let job = job_of (texts words.entry.now) in
         let input = input_of job.file (R.left reader.old) in
         let source = source_of job.file (F.named files.old) (F.failed files.old)
         (F.failed files.new) (R.left reader.old) in
@@ -72,7 +72,8 @@ pub fn serve_outcomes<F: Files, L: Files, R: ByteSource, W: ByteSink, E: ByteSin
         E.told (E.failed errors.old) (E.failed errors.new)
         (E.written errors.old) (E.written errors.new) result }
     ensures untouched { (fault_of outcomes_app (texts words.entry.now) ≢ [])
-        → (files.new ≡ files.old) × (listings.new ≡ listings.old) × (reader.new ≡ reader.old) }
+        → (files.new ≡ files.old) × (listings.new ≡ listings.old)
+        × (reader.new ≡ reader.old) }
 
     // Any words, over any devices.
     ensures said { FinishesDue (IsOutcomesDue

@@ -21,7 +21,8 @@ pub enum Found {
 
 /// Returns the text that a question wants of outcomes.
 fn text_of(alloc: Global, outcomes: &[Outcome], question: Question) -> Result<Vec<u8>, NoMemory>
-    ensures { IfOk result (λ text. IsTextOf question.exact question.total outcomes.now text.items) }
+    ensures { IfOk result (λ text. IsTextOf question.exact question.total
+        outcomes.now text.items) }
 {
     if question.total {
         return total_text(outcomes, alloc);

@@ -130,8 +130,8 @@ fn run_on<R: ByteSource, W: ByteSink>(
 /// a refusal is a prefix of the run's output. The refusals are:
 ///
 /// - `NoMemory` if the run, its choices or its message can't grow.
-/// - `Read` if the reader fails. It fails once, when the run needs input for a WRITE IN. Exactly the
-///   output of the steps before this WRITE IN is written.
+/// - `Read` if the reader fails. It fails once, when the run needs input for a WRITE IN. Exactly
+///   the output of the steps before this WRITE IN is written.
 /// - `Write` if the writer fails. It fails once.
 pub fn run_stream<R: ByteSource, W: ByteSink>(
     alloc: Global,

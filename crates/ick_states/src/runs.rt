@@ -215,7 +215,8 @@ impl<'c, 'a> States<'c> for Runs<'c, 'a> {
 impl<'c, 'a> Runs<'c, 'a> {
     /// Returns a memory in which steps can be made. `NoMemory` is the only refusal.
     pub fn tools(&self) -> Result<Memory, NoMemory>
-        ensures { IfOk result (λ memory. ⟦<Runs<'c, 'a> as States<'c>>⟧.serves self.now memory) }
+        ensures { IfOk result (λ memory. ⟦<Runs<'c, 'a> as States<'c>>⟧.serves
+            self.now memory) }
     {
         fresh_memory(self.alloc, &self.lowered)
     }

@@ -110,7 +110,8 @@ impl<M: Backtrack> Session<M> {
     where
         M: Asks<'c>,
         ensures work_full { result ≡ Err RunsError.WorkFull ↔ IsFull (session self.old) 1 }
-        ensures errors { IfErr result (λ e. (e ≡ RunsError.NoMemory) ⊎ (e ≡ RunsError.WorkFull)) }
+        ensures errors { IfErr result (λ e. (e ≡ RunsError.NoMemory)
+            ⊎ (e ≡ RunsError.WorkFull)) }
         ensures refused { IfErr result (λ _. session self.new ≡ session self.old) }
         ensures chosen { IfOk result (λ chosen. chosen ≡ true →
             session self.new ≡ with_answer (Some done) (session self.old)) }

@@ -36,8 +36,8 @@ pub fn serve_arguments<F: Files, L: Files, R: ByteSource, W: ByteSink, E: ByteSi
     requires errors_sound { E.failed errors.old + 1 < 2 ^ 64 }
 
     // Arguments that ask for a job.
-    ensures job { HasJob (after_name arguments.now) → F.told ≡ true → L.told ≡ true → R.told ≡ true
-        → W.told ≡ true → let job = job_of (after_name arguments.now) in
+    ensures job { HasJob (after_name arguments.now) → F.told ≡ true → L.told ≡ true
+        → R.told ≡ true → W.told ≡ true → let job = job_of (after_name arguments.now) in
         let input = input_of job.file (R.left reader.old) in
         let source = source_of job.file (F.named files.old) (F.failed files.old)
         (F.failed files.new) (R.left reader.old) in
@@ -63,7 +63,8 @@ pub fn serve_arguments<F: Files, L: Files, R: ByteSource, W: ByteSink, E: ByteSi
         E.told (E.failed errors.old) (E.failed errors.new)
         (E.written errors.old) (E.written errors.new) result }
     ensures untouched { (fault_of outcomes_app (after_name arguments.now) ≢ [])
-        → (files.new ≡ files.old) × (listings.new ≡ listings.old) × (reader.new ≡ reader.old) }
+        → (files.new ≡ files.old) × (listings.new ≡ listings.old)
+        × (reader.new ≡ reader.old) }
 
     // Any arguments.
     ensures said { FinishesDue (IsOutcomesDue
