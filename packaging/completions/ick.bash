@@ -8,9 +8,21 @@ _ick_files() {
     mapfile -t COMPREPLY < <(compgen -f -- "$1")
 }
 
+# Completes one of these options, or a file. The second list has the options whose values are no files.
+_ick_arguments() {
+    local word=${COMP_WORDS[COMP_CWORD]} before=${COMP_WORDS[COMP_CWORD - 1]}
+    case " $2 " in
+        *" $before "*) return ;;
+    esac
+    case $word in
+        -*) _ick_words "$1" "$word" ;;
+        *) _ick_files "$word" ;;
+    esac
+}
+
 # The command is the first argument that is no option, or `run` if there is none.
 _ick() {
-    local word=${COMP_WORDS[COMP_CWORD]} before=${COMP_WORDS[COMP_CWORD - 1]} command='' options argument
+    local word=${COMP_WORDS[COMP_CWORD]} command='' options argument
     for argument in "${COMP_WORDS[@]:1:COMP_CWORD-1}"; do
         case $argument in
             run | runs | list | check | help) command=$argument && break ;;
@@ -29,36 +41,12 @@ _ick() {
             ;;
         *) options='--help' ;;
     esac
-    case $before in
-        --choices | --from | --seed | --count | --limit) return ;;
-    esac
-    case $word in
-        -*) _ick_words "$options" "$word" ;;
-        *) _ick_files "$word" ;;
-    esac
+    _ick_arguments "$options" '--choices --from --seed --count --limit'
 }
 
-_ick_outcomes() {
-    local word=${COMP_WORDS[COMP_CWORD]} before=${COMP_WORDS[COMP_CWORD - 1]}
-    case $before in
-        --limit | --most) return ;;
-    esac
-    case $word in
-        -*) _ick_words '-b --limit --most --exact --total --asked --help' "$word" ;;
-        *) _ick_files "$word" ;;
-    esac
-}
+_ick_outcomes() { _ick_arguments '-b --limit --most --exact --total --asked --help' '--limit --most'; }
 
-_ick_step() {
-    local word=${COMP_WORDS[COMP_CWORD]} before=${COMP_WORDS[COMP_CWORD - 1]}
-    case $before in
-        --choices | --seed | --limit) return ;;
-    esac
-    case $word in
-        -*) _ick_words '-b --input --choices --seed --limit --trace --help' "$word" ;;
-        *) _ick_files "$word" ;;
-    esac
-}
+_ick_step() { _ick_arguments '-b --input --choices --seed --limit --trace --help' '--choices --seed --limit'; }
 
 _ick_tool() {
     local word=${COMP_WORDS[COMP_CWORD]} commands='' command=''
