@@ -29,8 +29,8 @@ abbrev pub Reports : (List ℕ → ℕ → Type 0) → Written → Written → �
 Reports Due errors errors' status =
     FinishesDue Due true errors.failures errors'.failures errors.bytes errors'.bytes status
 
--- What `serve` leaves of arguments. If they ask for a job, there is an answer that is the tool's, and it is served. If
--- not, they get a text of clap. The error text is due, and the status is 4 if memory ran out for a text.
+-- What a call with these arguments leaves. If they ask for a job, the tool's answer is served. If not, a text of clap
+-- is written, and the status is 4 if memory runs out for it. The error text and the status are those that are due.
 pub record Serves (arguments : List Text) (file input : List ℕ)
     (writer writer' errors errors' : Written) (status : ℕ) : Type 0 where
   pub job : HasJob arguments → (answer : Answer)
@@ -47,7 +47,8 @@ pub record Serves (arguments : List Text) (file input : List ℕ)
   pub said : Reports (IsDue (failures_of writer) (failures_of writer')) errors errors' status
   pub failed : (writer.failures < writer'.failures) ⊎ (errors.failures < errors'.failures) → status ≡ 4
 
--- What bytes leave: what a call leaves of the arguments that they hold; or one line, if they hold none.
+-- What a call with bytes leaves: what one with the arguments leaves that the bytes hold. If they hold no arguments, the
+-- call writes one line.
 pub record OfBytes (Leaves : List Text → Type 0) (bytes : List ℕ)
     (writer writer' errors errors' : Written) (status : ℕ) : Type 0 where
   pub held : (arguments : List Text) → Holds bytes arguments → Leaves arguments

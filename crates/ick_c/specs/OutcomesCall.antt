@@ -17,7 +17,7 @@ source_in job file input = if has_file job then file else input
 abbrev pub listing_in : Wanted → List ℕ → Option (List ℕ)
 listing_in job listing = option_map (λ name. listing) job.listing
 
--- a job is served: an answer that it has is, or there are more states than it allows
+-- a job is served: one of its answers is, or more states would be kept than it allows
 abbrev pub JobServed : Wanted → Option (List ℕ) → Option (List ℕ) → List ℕ
     → (writer writer' errors errors' : Written) → ℕ → Type 0
 JobServed job source listing input writer writer' errors errors' status =
@@ -25,8 +25,8 @@ JobServed job source listing input writer writer' errors errors' status =
     (MayStop job (input_of job.file input) source) (failures_of writer) (failures_of writer')
     writer.bytes writer'.bytes) errors errors' status
 
--- What `serve_outcomes` leaves of arguments. If they ask for a job, it is served. If not, they get a text of clap. The
--- error text is due, and the status is 4 if memory ran out for a text.
+-- What a call with these arguments leaves. If they ask for a job, the job is served. If not, a text of clap is written,
+-- and the status is 4 if memory runs out for it. The error text and the status are those that are due.
 pub record ServesOutcomes (arguments : List Text) (file listing input : List ℕ)
     (writer writer' errors errors' : Written) (status : ℕ) : Type 0 where
   pub job : HasJob arguments → JobServed (job_of arguments) (Some (source_in (job_of arguments) file input))

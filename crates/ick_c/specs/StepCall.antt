@@ -7,8 +7,8 @@ use Rattle.ick_cli.specs.Usage.{AreMistakes, AreRequests, IsHelped, IsRefused}
 use Rattle.ick_step_cli.specs.Words.{step_app}
 use Rattle.ick_c.specs.Call.{OfBytes, Reports, failures_of}
 
--- What a call of `ick_step` with arguments leaves. If they ask for no job, it writes a text of clap. The error text is
--- due, and the status is 4 if memory ran out for a text.
+-- What a call with these arguments leaves. If they ask for no job, a text of clap is written, and the status is 4 if
+-- memory runs out for it. The error text and the status are those that are due.
 pub record ServesStep (arguments : List Text) (writer writer' errors errors' : Written) (status : ℕ) : Type 0 where
   pub usage : AreMistakes (fault_of step_app arguments)
       → (writer' ≡ writer) × Reports IsRefused errors errors' status
