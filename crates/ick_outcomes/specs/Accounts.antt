@@ -1,4 +1,4 @@
--- Defines what the search for outcomes keeps the same: the runs of its rows and those of its nodes are all runs.
+-- Defines the invariant of the search for outcomes: each run is in one of its rows, or goes on from one of its nodes.
 use Rattle.std.specs.Prelude.{◌≡◌, ◌⊎◌, ℕ, suc, ◌*◌, ◌^◌, ◌-◌, ◌<◌, ◌≤◌, Bool, true, false, List, [], ◌∷◌, ◌++◌, Some}
 use Rattle.std.specs.List.{Contains}
 use Rattle.ick_code.specs.meaning.State.{State}
@@ -29,12 +29,12 @@ pub record Pending : Type 0 where
 abbrev pub ahead : Test → Pending → Tally
 ahead q n = after n.count n.weight n.choices (tally n.place.program n.place.state n.left q)
 
--- and from each of these nodes
+-- the tally of the runs that go on from these nodes
 abbrev pub all_ahead : Test → List Pending → Tally
 all_ahead q [] = none
 all_ahead q (n ∷ ns) = join (ahead q n) (all_ahead q ns)
 
--- these runs, if they pass
+-- the tally of these runs if they pass, and of no run if not
 abbrev pub counted_if : Bool → ℕ → ℕ → List Bool → Tally
 counted_if true count weight first = record { count = count; weight = weight; first = Some first }
 counted_if false count weight first = none
@@ -43,7 +43,7 @@ counted_if false count weight first = none
 abbrev pub counted : Test → Row → Tally
 counted q r = counted_if (q r.output r.end) r.count r.weight r.first
 
--- and of these rows
+-- the tally of the runs of these rows
 abbrev pub all_counted : Test → List Row → Tally
 all_counted q [] = none
 all_counted q (r ∷ rs) = join (counted q r) (all_counted q rs)
@@ -52,7 +52,7 @@ all_counted q (r ∷ rs) = join (counted q r) (all_counted q rs)
 abbrev pub any_outcome : Test
 any_outcome = λ output end. true
 
--- the number of the runs that go on from these nodes, and of those of these rows
+-- the number of runs that go on from these nodes or are in these rows
 abbrev pub runs_in : List Pending → List Row → ℕ
 runs_in ns rs = (join (all_ahead any_outcome ns) (all_counted any_outcome rs)).count
 
@@ -65,12 +65,12 @@ abbrev pub AreDistinct : List Row → Type 0
 AreDistinct [] = Unit {0}
 AreDistinct (r ∷ rs) = ((x : Row) → Contains rs x → AreApart r x) × AreDistinct rs
 
--- the first run of a row doesn't come after that of a later row
+-- no row has its first run behind the first run of a later row
 abbrev pub AreOrdered : List Row → Type 0
 AreOrdered [] = Unit {0}
 AreOrdered (r ∷ rs) = ((x : Row) → Contains rs x → lesser r.first x.first ≡ r.first) × AreOrdered rs
 
--- each node has less than so many steps left
+-- each node has fewer than `most` steps left
 abbrev pub AreBelow : ℕ → List Pending → Type 0
 AreBelow most [] = Unit {0}
 AreBelow most (n ∷ ns) = (n.left < most) × AreBelow most ns
@@ -98,7 +98,7 @@ pub record Settles (n : Pending) (ns : List Pending) (rs : List Row) (ns' : List
   pub apart : AreDistinct rs → AreDistinct rs'
   pub below : (most : ℕ) → n.left < most → AreBelow most ns → AreBelow most ns'
 
--- the same, and if n has at most so many steps left, the nodes that were added have less
+-- the same; and if n has at most `most` steps left, each node that was added has fewer
 pub record Makes (most : ℕ) (n : Pending) (ns : List Pending) (rs : List Row) (ns' : List Pending)
     (rs' : List Row) : Type 0 where
   pub settled : (q : Test) → join (all_ahead q ns') (all_counted q rs')
@@ -106,8 +106,8 @@ pub record Makes (most : ℕ) (n : Pending) (ns : List Pending) (rs : List Row) 
   pub apart : AreDistinct rs → AreDistinct rs'
   pub fewer : n.left ≤ most → AreBelow most ns → AreBelow most ns'
 
--- all runs from these nodes were added to nodes and rows; if the nodes have at most so many steps left, those that
--- were added have less
+-- all runs from the nodes `ms` were added to nodes and rows; and if each of `ms` has at most `most` steps left, each
+-- node that was added has fewer
 pub record SettlesAll (most : ℕ) (ms : List Pending) (ns : List Pending) (rs : List Row) (ns' : List Pending)
     (rs' : List Row) : Type 0 where
   pub settled : (q : Test) → join (all_ahead q ns') (all_counted q rs')
@@ -136,7 +136,7 @@ pub record SameRow (x r : Row) : Type 0 where
   pub same_output : x.output ≡ r.output
   pub same_end : x.end ≡ r.end
 
--- the runs from n are those of these nodes and rows, and each node has less than so many steps left
+-- the runs from n are those of these nodes and rows, and each node has fewer than `most` steps left
 pub record IsAccount (n : Pending) (ns : List Pending) (rs : List Row) (most : ℕ) : Type 0 where
   pub whole : (q : Test) → ahead q n ≡ join (all_ahead q ns) (all_counted q rs)
   pub apart : AreDistinct rs

@@ -40,6 +40,6 @@ rows_of os = map row_of os
 abbrev pub nodes_of : {S : Type 0} → (S → Place) → List (Node S) → List Pending
 nodes_of seen ns = map (pending_of seen) ns
 
--- each node has a state that suits
+-- the state of each node suits
 abbrev pub AreSound : {S : Type 0} → (S → Type 0) → List (Node S) → Type 0
 AreSound suits ns = All (λ n. suits n.state) ns

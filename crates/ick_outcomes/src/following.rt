@@ -1,4 +1,4 @@
-//! Follows one run, and says what its choices were asked by.
+//! Follows one run, and says which statements asked for its choices.
 
 ghost use Rattle.std.specs.Prelude.{◌≡◌, ◌++◌, ◌<◌, ◌≤◌, codes, length, None, Ok};
 ghost use Rattle.std.specs.Prelude.{IfOk, IfSome, OnOk};
@@ -17,7 +17,7 @@ use ick_bits::{NoMemory, append_decimal, append_quoted};
 use ick_explorer::append_choices;
 use std::alloc::Global;
 
-/// Limits the choices of a line that says what they were asked by.
+/// Limits the choices of a line that says which statements asked for them.
 const MOST_ASKED: usize = 10_000;
 
 /// The statement that asked for a choice: its number, and its chance in hundredths.
@@ -27,7 +27,8 @@ pub struct AskedBy {
     pub chance: u8,
 }
 
-/// A run that was followed to its end: its last state, its end, and what its choices were asked by.
+/// A run that was followed to its end: its last state, its end, and the statements that asked for
+/// its choices.
 #[derive(Drop)]
 pub struct Followed<'c, S: Drop> {
     pub state: S,
@@ -165,8 +166,8 @@ fn append_asker(out: &mut Vec<u8>, asker: AskedBy) -> Result<(), NoMemory>
     append_decimal(out, u64::from(asker.chance))
 }
 
-/// Returns the line of what choices were asked by: `STATEMENT:CHANCE` for each of the first 10,000,
-/// with a blank between two. The only refusal is out of memory.
+/// Returns the line of the statements that asked for choices: `STATEMENT:CHANCE` for each of the
+/// first 10,000, with a blank between two. The only refusal is out of memory.
 pub fn asked_text(alloc: Global, asked: &[AskedBy]) -> Result<Vec<u8>, NoMemory>
     ensures { IfOk result (λ text. text.items ≡ asked_line asked.now) }
 {

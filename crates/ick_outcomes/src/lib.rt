@@ -11,7 +11,7 @@
 //! | `pending`, `node`, `hints` | nodes, their steps, and how equal ones are found and merged |
 //! | `outcome`, `table`, `filing`, `index` | outcomes, and how runs are added to them |
 //! | `comparing` | the order of lists of choices |
-//! | `following` | one run, and what its choices were asked by |
+//! | `following` | one run, and the statements that asked for its choices |
 //! | `natural`, `fraction`, `text`, `cut` | counts and weights of any length, and their texts |
 //! | `lines` | the text of a summary |
 //! | `laws` | laws of all summaries |
