@@ -216,6 +216,7 @@ pub fn back(trail: &mut Trail, mark: Mark, memory: &mut Memory, program: &Lowere
     ensures base { trail.new.base ≡ trail.old.base }
     ensures kept { trail.new.kept ≡ length (history trail.new) }
 {
+    // `back` needs that the instructions are those of the code.
     program.law();
     let code = program.code;
     code.law();

@@ -186,7 +186,6 @@ impl Notes for Nobody {
 
     #[inline(always)]
     fn has_room(&self, more: usize) -> bool {
-        let _ = more;
         true
     }
 
@@ -194,51 +193,28 @@ impl Notes for Nobody {
     fn law(&self) {}
 
     #[inline(always)]
-    fn note_register(&mut self, registers: &[u32], at: u32) {
-        let _ = registers;
-        let _ = at;
-    }
+    fn note_register(&mut self, registers: &[u32], at: u32) {}
 
     #[inline(always)]
-    fn note_home(&mut self, home: &[u32], at: u32) {
-        let _ = home;
-        let _ = at;
-    }
+    fn note_home(&mut self, home: &[u32], at: u32) {}
 
     #[inline(always)]
-    fn note_status(&mut self, statuses: &[u8], at: u32) {
-        let _ = statuses;
-        let _ = at;
-    }
+    fn note_status(&mut self, statuses: &[u8], at: u32) {}
 
     #[inline(always)]
-    fn note_element(&mut self, arrays: &[Array], slot: u32, at: u32) {
-        let _ = arrays;
-        let _ = slot;
-        let _ = at;
-    }
+    fn note_element(&mut self, arrays: &[Array], slot: u32, at: u32) {}
 
     #[inline(always)]
-    fn note_dropped(&mut self, returns: &[u32], depth: usize) {
-        let _ = returns;
-        let _ = depth;
-    }
+    fn note_dropped(&mut self, returns: &[u32], depth: usize) {}
 
     #[inline(always)]
-    fn note(&mut self, entry: Entry) {
-        let _ = entry;
-    }
+    fn note(&mut self, entry: Entry) {}
 
     #[inline(always)]
-    fn note_restored(&mut self, registers: &[u32], slot: u32, number: u32) {
-        let _ = registers;
-        let _ = slot;
-        let _ = number;
-    }
+    fn note_restored(&mut self, registers: &[u32], slot: u32, number: u32) {}
 
     #[inline(always)]
     fn make_room(&mut self, more: usize) -> Result<(), NoMemory> {
-        let _ = more;
         Ok(())
     }
 
@@ -249,15 +225,11 @@ impl Notes for Nobody {
         slot: u32,
         array: &Array,
     ) -> Result<(), NoMemory> {
-        let _ = change;
-        let _ = slot;
-        let _ = array;
         Ok(())
     }
 
     #[inline(always)]
     fn note_statuses(&mut self, statuses: &[u8]) -> Result<(), NoMemory> {
-        let _ = statuses;
         Ok(())
     }
 }

@@ -20,6 +20,7 @@ impl Memory {
             (state_of program.now.code.now program.now.parts input (view_in self.now)).scalars name
             ≡ result }
     {
+        // The index needs that each slot has a register, and the answer that no two have one name.
         program.law();
         let code = program.code;
         code.law();
@@ -35,6 +36,7 @@ impl Memory {
             (state_of program.now.code.now program.now.parts input (view_in self.now)).ignored name
             ≡ result }
     {
+        // The index needs that each slot has a register, and the answer that no two have one name.
         program.law();
         let code = program.code;
         code.law();
@@ -58,7 +60,6 @@ impl Memory {
             (state_of program.now.code.now program.now.parts input (view_in self.now)).place
             ≡ result }
     {
-        let _ = program;
         self.cursor.place
     }
 
@@ -69,7 +70,6 @@ impl Memory {
             (state_of program.now.code.now program.now.parts input (view_in self.now)).returns
             ≡ reverse result.now }
     {
-        let _ = program;
         &self.returns[..self.cursor.depth]
     }
 
@@ -82,6 +82,7 @@ impl Memory {
             ((state_of program.now.code.now program.now.parts input (view_in self.now)).arrays
             name).dimensions ≡ result.now }
     {
+        // The answer needs that no two slots have one name.
         let code = program.code;
         code.law();
         &self.rest.arrays[slot as usize].dimensions
@@ -96,6 +97,7 @@ impl Memory {
             ((state_of program.now.code.now program.now.parts input (view_in self.now)).arrays
             name).elements ≡ result.now }
     {
+        // The answer needs that no two slots have one name.
         let code = program.code;
         code.law();
         &self.rest.arrays[slot as usize].elements
@@ -110,6 +112,7 @@ impl Memory {
             (state_of program.now.code.now program.now.parts input (view_in self.now)).ignored name
             ≡ result }
     {
+        // The answer needs that no two slots have one name.
         let code = program.code;
         code.law();
         self.rest.arrays[slot as usize].hidden
@@ -124,6 +127,7 @@ impl Memory {
             (state_of program.now.code.now program.now.parts input (view_in
             self.now)).stashed_scalars name ≡ reverse result.now }
     {
+        // The answer needs that no two slots have one name.
         let code = program.code;
         code.law();
         let stash = &self.rest.scalar_stashes[slot as usize];
@@ -139,6 +143,7 @@ impl Memory {
             (state_of program.now.code.now program.now.parts input (view_in
             self.now)).stashed_arrays name ≡ reverse (map array_of result.now) }
     {
+        // The answer needs that no two slots have one name.
         let code = program.code;
         code.law();
         let stash = &self.rest.array_stashes[slot as usize];
@@ -151,7 +156,6 @@ impl Memory {
             (state_of program.now.code.now program.now.parts input (view_in self.now)).input
             ≡ input.left result }
     {
-        let _ = program;
         self.rest.taken
     }
 
@@ -161,7 +165,6 @@ impl Memory {
             (state_of program.now.code.now program.now.parts input (view_in self.now)).output
             ≡ result.now }
     {
-        let _ = program;
         &self.rest.output
     }
 
@@ -171,7 +174,6 @@ impl Memory {
             (state_of program.now.code.now program.now.parts input (view_in self.now)).last
             ≡ result }
     {
-        let _ = program;
         self.rest.last
     }
 
@@ -181,7 +183,6 @@ impl Memory {
             (state_of program.now.code.now program.now.parts input (view_in self.now)).lastin
             ≡ result }
     {
-        let _ = program;
         self.rest.lastin
     }
 }

@@ -132,6 +132,7 @@ impl Saved {
         requires ready { IsReady program.now.code.now program.now.parts (view_in memory.now) }
         ensures { IfOk result (λ saved. IsSaved program.now.parts saved (view_in memory.now)) }
     {
+        // `copy_first` needs that a memory has a register for each scalar.
         program.law();
         Ok(Saved {
             place: memory.cursor.place,
@@ -157,6 +158,7 @@ impl Saved {
             (saved_view self.now) (view_in memory.new)) }
         ensures err { OnErr result (memory.new ≡ memory.old) }
     {
+        // `loaded` needs that the instructions are those of the code.
         program.law();
         let code = program.code;
         code.law();
@@ -174,6 +176,7 @@ impl Saved {
         ensures { IsLoaded program.now.code.now program.now.parts (saved_view self)
             (view_in memory.new) }
     {
+        // The clause needs that the instructions are those of the code.
         program.law();
         let code = program.code;
         code.law();
@@ -210,6 +213,7 @@ impl Saved {
             state_of program.now.code.now program.now.parts input (saved_view self.now)
             ≡ state_of program.now.code.now program.now.parts input m }
     {
+        // The clause needs how many scalars a layout has.
         program.law();
     }
 
@@ -258,6 +262,7 @@ impl Saved {
             state_of program.now.code.now program.now.parts input (saved_view self.now)
             ≡ state_of program.now.code.now program.now.parts input (saved_view other.now) }
     {
+        // The clause needs that the instructions are those of the code.
         program.law();
         let code = program.code;
         code.law();

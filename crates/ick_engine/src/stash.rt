@@ -201,6 +201,7 @@ pub fn save_scalar<N: Notes>(
         N.Undoes notes.new k (with_scalar_stashes (map numbers_of stashes.new.items) v) m }
 {
     stashes[slot as usize].save(number)?;
+    // `notes` needs that views that are alike are undone alike.
     notes.law();
     notes.note(Entry::ScalarSaved(slot));
     Ok(())
@@ -230,6 +231,7 @@ pub fn save_array<N: Notes>(
         v.parts.array_stashes ≡ map arrays_of stashes.old.items → N.Undoes notes.old k v m →
         N.Undoes notes.new k (with_array_stashes (map arrays_of stashes.new.items) v) m }
 {
+    // `notes` needs that views that are alike are undone alike.
     notes.law();
     stashes[slot as usize].save(&arrays[slot as usize])?;
     notes.note(Entry::ArraySaved(slot));
@@ -269,6 +271,7 @@ pub fn restore_scalar<N: Notes>(
     let Some(number) = stashes[slot as usize].take_newest() else {
         return false;
     };
+    // `notes` needs that views that are alike are undone alike.
     notes.law();
     if home[slot as usize] != slot {
         notes.note(Entry::ScalarTaken(slot, number));
@@ -301,6 +304,7 @@ fn drop_stashed<N: Notes>(
         v.parts.array_stashes ≡ map arrays_of stashes.old.items → N.Undoes notes.old k v m →
         N.Undoes notes.new k (with_array_stashes (map arrays_of stashes.new.items) v) m }
 {
+    // `notes` needs that views that are alike are undone alike.
     notes.law();
     let stash = &stashes[slot as usize];
     notes.note_array(ArrayChange::Taken, slot, &stash.items[stash.depth - 1])?;
@@ -337,6 +341,7 @@ fn exchange_stashed<N: Notes>(
         N.Undoes notes.new k (with_array_stashes (map arrays_of stashes.new.items)
         (with_arrays (map array_of arrays.new.items) v)) m }
 {
+    // `notes` needs that views that are alike are undone alike.
     notes.law();
     notes.note_array(ArrayChange::Restored, slot, &arrays[slot as usize])?;
     stashes[slot as usize].exchange(&mut arrays[slot as usize]);
@@ -368,7 +373,6 @@ pub fn restore_array<N: Notes>(
         N.Undoes notes.new k (with_array_stashes (map arrays_of stashes.new.items)
         (with_arrays (map array_of arrays.new.items) v)) m }
 {
-    notes.law();
     if stashes[slot as usize].depth == 0 {
         return Err(Halt::Fault(FaultKind::NothingStashed));
     }

@@ -1,6 +1,8 @@
 //! Readers of a state. Each returns a part of the present state of a machine, and changes nothing.
 //! A name that the program doesn't have is that of a variable that is 0, or of an array that has no
 //! dimensions; nothing is stashed of it, and it isn't ignored.
+//!
+//! The readers call `Present::law`, because those of a memory require that it can be read.
 
 ghost use Rattle.std.specs.Prelude.{◌≡◌, ◌≢◌, ◌≤◌, ℕ, drop, length, map, reverse, slice_get};
 ghost use Rattle.std.specs.Prelude.{MatchOption, Some};

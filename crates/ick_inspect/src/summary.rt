@@ -45,6 +45,7 @@ fn append_scalars(text: &mut Text, present: &Present<'_, '_, '_>)
         (slots_of (present_program present.now)).scalars (present_state present.now)) }
 {
     let code = present.lowered.code;
+    // The line of a slot needs that the slots of the code are those of its program.
     code.law();
     for slot in 0..code.scalars() {
         append_variable(text, present, code.scalar(slot));
@@ -58,6 +59,7 @@ fn append_arrays(text: &mut Text, present: &Present<'_, '_, '_>)
         (slots_of (present_program present.now)).arrays (present_state present.now)) }
 {
     let code = present.lowered.code;
+    // The line of a slot needs that the slots of the code are those of its program.
     code.law();
     for slot in 0..code.arrays() {
         append_variable(text, present, code.array(slot));

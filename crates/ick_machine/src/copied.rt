@@ -83,7 +83,8 @@ impl<'c, 'a> Copied<'c, 'a> {
         Present::new(&self.lowered, &self.running.memory, end, self.input)
     }
 
-    /// States that the run can go on.
+    /// States that the run can go on. Each method calls it: the functions that it calls require
+    /// this, and after them the type has to keep it.
     fn law(&self)
         ensures can { CanRun self.now.lowered self.now.running }
         ensures ready { CanGoOn self.now.lowered self.now.running.memory }
@@ -115,6 +116,7 @@ impl<'c, 'a> Backtrack for Copied<'c, 'a> {
     fn mark(&mut self) -> Result<(), NoMemory> {
         self.law();
         let saved = Saved::save(self.alloc, &self.running.memory, &self.lowered)?;
+        // `ok` of `mark` needs that the kept state is the machine's.
         saved.law(&self.lowered);
         self.copies.push(Copy {
             saved,

@@ -33,6 +33,7 @@ pub(crate) fn asked_in<'c>(lowered: &Lowered<'_, '_>, saved: &Saved) -> Ask<'c>
     ensures { (input : Input) → asked_of result ≡ Some (ask (code_program lowered.now.code.now)
         (run_state lowered.now.code.now lowered.now.parts input (saved_view saved.now) None)) }
 {
+    // The clause needs which state is kept, since its status is that of the memory.
     saved.law(lowered);
     asked_at(saved.statuses()[saved.place() as usize])
 }

@@ -68,6 +68,7 @@ impl<'c, 'a> Runs<'c, 'a> {
             (view_in memory.now) end) }
     {
         let saved = Saved::save(self.alloc, memory, &self.lowered)?;
+        // `states` needs that the kept state is that of the memory.
         saved.law(&self.lowered);
         Ok(KeptRun { saved, end })
     }

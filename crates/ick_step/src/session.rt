@@ -50,7 +50,8 @@ impl<M: Backtrack> Session<M> {
         }
     }
 
-    /// States that the machine has made the steps with these answers, and where its marks are.
+    /// States that the machine has made the steps with these answers, and where its marks are. Each
+    /// method calls it, because the answer or a call is about these steps.
     fn law(&self)
         ensures { IsKept (M.seen self.now.machine) self.now.answers.items }
     {}
