@@ -181,7 +181,7 @@ leaves_refused refusal.TooLong ending f r w ends =
 leaves_refused refusal.NoMemory ending f r w ends =
     subst (λ (e : Ending). Leaves e f f r r w w) (sym ends) (leaves_nothing f r w)
 
--- an ending by status 64 or want of memory
+-- an ending by status 64, or because memory ran out
 pub leaves_usage : (text : List ℕ) (ending : Ending) (f r w : ℕ) → EndsBy 64 text ending
     → LeavesAll (By ending) f f r r w w
 leaves_usage text (Answered status said) f r w h = record {

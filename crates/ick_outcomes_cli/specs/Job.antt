@@ -43,7 +43,7 @@ wanted_in rows = record {
   file = text_in (codes "file") rows;
 }
 
--- the arguments ask for a job: by the law of clap their parse fails for want of memory alone
+-- the arguments ask for a job: by the law of clap their parse fails only if memory runs out
 abbrev pub HasJob : List Text → Type 0
 HasJob words = fault_of outcomes_app words ≡ []
 
