@@ -50,7 +50,7 @@ parsed_number bits text =
     let digits = without_leading_plus text in
     if is_numeral digits && nat_lt (digits_value 10 digits) (2 ^ bits) then Some (digits_value 10 digits) else None
 
--- what the matches of a command have: a text, a number, or what stands in place of a number that isn't given
+-- what the matches of a command have: a text, a number, or the usual number if none is given
 abbrev pub text_in : Text → List Row → Option Text
 text_in id rows = first_of id rows
 

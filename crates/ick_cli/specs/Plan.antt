@@ -12,7 +12,7 @@ use Rattle.ick_cli.specs.declared.plan.Plan.{Plan}
 use Rattle.ick_cli.specs.declared.plan.Plan.TheVariants.{Check, List as ListStatements, Execute}
 use Rattle.ick_cli.specs.declared.plan.Runs.TheVariants.{Given, Drawn, Listed}
 
--- the choices that a text has, at most so many; none where there is no text
+-- the choices that a text has, at most so many; no choices if there is no text
 abbrev pub AreChoices : Option Text → ℕ → Option (List Bool) → Type 0
 AreChoices None most choices = choices ≡ None
 AreChoices (Some text) most None = ⊥

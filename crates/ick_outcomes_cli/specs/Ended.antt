@@ -53,7 +53,7 @@ Gives IsAnswer More (Refused ListingTooLong) before after =
     HasSome IsAnswer (λ answer. (answer ≡ refusal 4 (notice_text ListingTooLong)) × (after ≡ before))
 Gives IsAnswer More (Refused _) before after = ⊥
 
--- the listing of a name: none where the count of the listings' failures rose
+-- the listing of a name, if the count of the listings' failures did not rise
 abbrev pub listing_of : Option (List ℕ) → (List ℕ → List ℕ) → ℕ → ℕ → Option (List ℕ)
 listing_of None named before after = None
 listing_of (Some name) named before after = if before == after then Some (named name) else None

@@ -27,7 +27,7 @@ wanted j = record {
 abbrev pub flag_in : Text → List Row → Bool
 flag_in id rows = option_map_or (λ t. bytes_eq t (codes "true")) (text_in id rows) false
 
--- what the matches have, with what is usual where a number isn't given
+-- what the matches have, with the usual number if none is given
 abbrev pub question_in : List Row → Question
 question_in rows = record {
   most = number_or (codes "most") rows 1000000;

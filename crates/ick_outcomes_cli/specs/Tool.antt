@@ -50,7 +50,7 @@ longest_listing = 1073741824
 pub data IsSummed (program : Program) (input : List ℕ) (limit : ℕ) (q : Question) : Answer → Type 0 where
   summed : (text : List ℕ) → IsOutcomes program input limit q text → IsSummed program input limit q (shown text)
 
--- the answer by what the choices of a listing were asked by; there is no listing where it was not read
+-- the answer by the statements that asked for the choices of a listing; there is no listing if it was not read
 pub data IsExplained (program : Program) (input : List ℕ) (limit : ℕ) :
     Option (List ℕ) → Answer → Type 0 where
   listing_not_read : IsExplained program input limit None (refusal 4 (notice_text notice.FileNotRead))
@@ -84,7 +84,7 @@ pub data IsSourceAnswer (w : Wanted) (source input : List ℕ) (listing : Option
       → IsProgramAnswer trees input w.limit w.question listing w.listing answer
       → IsSourceAnswer w source input listing answer
 
--- the answer to a job whose source is none where the file did not open or a read of it failed
+-- the answer to a job, which has no source if the file did not open or a read of it failed
 pub data IsOutcomesAnswer (w : Wanted) (input : List ℕ) (listing : Option (List ℕ)) :
     Option (List ℕ) → Answer → Type 0 where
   not_read : IsOutcomesAnswer w input listing None (refusal 4 (notice_text notice.FileNotRead))
