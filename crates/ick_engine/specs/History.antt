@@ -2,7 +2,7 @@
 use Rattle.std.specs.Prelude.{ℕ, ◌≡◌, ◌≤◌, List, [], ◌∷◌, ◌++◌, length, map, reverse, take}
 use Rattle.ick_engine.specs.declared.change.Entry.{Entry}
 use Rattle.ick_engine.specs.declared.trail.Trail.{Trail}
-use Rattle.ick_engine.specs.Undo.{Change, Fixed, Rewinds, changes_of, fixed_of, register_was, undone}
+use Rattle.ick_engine.specs.Undo.{Change, Fixed, HighSame, Like, Rewinds, changes_of, fixed_of, register_was, undone}
 use Rattle.ick_engine.specs.View.{View, array_of, bytes_of}
 
 -- the changes of entries, the newest first, with the arrays and statuses of a trail
@@ -34,3 +34,10 @@ pub record IsUndone (entry : Entry) (old new : Trail) (v w : View) : Type 0 wher
   pub change : Change
   pub off : (older : List Entry) → changes_by old (entry ∷ older) ≡ change ∷ changes_by new older
   pub view_is : w ≡ undone change v
+
+-- all changes behind the first ones were undone and taken off a trail, which led from a view to another one
+pub record AreUndone (old new : Trail) (changes : ℕ) (v w : View) : Type 0 where
+  pub kept : history new ≡ take changes (history old)
+  pub base_same : new.base ≡ old.base
+  pub leads : (m : View) → Rewinds old.base (history old) old.low changes v m → Like old.base m.depth m w
+  pub stays : (m : View) → Rewinds old.base (history old) old.low changes v m → HighSame old.base v w

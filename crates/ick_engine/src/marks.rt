@@ -4,7 +4,7 @@ ghost use Rattle.std.specs.Prelude.{◌≡◌, ◌<◌, ◌≤◌, ℕ, List, �
 ghost use Rattle.std.specs.Prelude.{true};
 ghost use Rattle.std.proofs.Common.{get_or};
 ghost use Rattle.ick_code.specs.meaning.State.{no_array};
-ghost use Rattle.ick_engine.specs.History.{history, IsUndone};
+ghost use Rattle.ick_engine.specs.History.{history, AreUndone, IsUndone};
 ghost use Rattle.ick_engine.specs.Memory.{view_in};
 ghost use Rattle.ick_engine.specs.Steady.{IsReady, IsSteady};
 ghost use Rattle.ick_engine.specs.Undo.{change_of, stands_apart, undone, undone_array};
@@ -201,8 +201,34 @@ fn undo_newest(trail: &mut Trail, memory: &mut Memory, entry: Entry)
     }
 }
 
+/// Undoes all changes behind the first ones, and takes them off the trail. It stands apart from the
+/// test whether there is any, because going back from one choice to another often finds none.
+#[inline(never)]
+fn undo_changes(trail: &mut Trail, changes: usize, memory: &mut Memory)
+    ensures { AreUndone trail.old trail.new changes (view_in memory.old) (view_in memory.new) }
+{
+    trail.kept = 0;
+    'changes: while trail.entries.len() > changes {
+        if let Some(entry) = trail.entries.pop() {
+            undo_newest(trail, memory, entry);
+        }
+    }
+}
+
+/// Undoes all changes behind the first ones, if there are any, and takes them off the trail.
+#[inline(always)]
+fn undo_newer(trail: &mut Trail, changes: usize, memory: &mut Memory)
+    ensures { AreUndone trail.old trail.new changes (view_in memory.old) (view_in memory.new) }
+{
+    if trail.entries.len() <= changes {
+        return;
+    }
+    undo_changes(trail, changes, memory);
+}
+
 /// Goes back to a mark: undoes all changes noted since, and takes them off the trail. The mark
 /// stays, and newer marks are gone. The number of steps left stays.
+#[inline(always)]
 pub fn back(trail: &mut Trail, mark: Mark, memory: &mut Memory, program: &Lowered<'_, '_>)
     requires base { trail.old.base ≡ program.now.parts.layout.base }
     requires steady { IsSteady program.now.code.now program.now.parts (view_in memory.old) }
@@ -220,12 +246,7 @@ pub fn back(trail: &mut Trail, mark: Mark, memory: &mut Memory, program: &Lowere
     program.law();
     let code = program.code;
     code.law();
-    trail.kept = 0;
-    'changes: while trail.entries.len() > mark.changes {
-        if let Some(entry) = trail.entries.pop() {
-            undo_newest(trail, memory, entry);
-        }
-    }
+    undo_newer(trail, mark.changes, memory);
     trail.kept = trail.entries.len();
     trail.low = mark.depth;
     memory.cursor.place = mark.place;

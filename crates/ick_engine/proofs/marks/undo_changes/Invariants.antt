@@ -4,23 +4,23 @@ use Rattle.ick_engine.specs.History.{history}
 use Rattle.ick_engine.specs.Memory.{view_in}
 use Rattle.ick_engine.specs.Undo.{HighSame, Like, Rewinds, rewound}
 use Rattle.ick_engine.specs.View.{View}
-use Rattle.ick_engine.proofs.marks.back.Given as goal
+use Rattle.ick_engine.proofs.marks.undo_changes.Given as goal
 
 abbrev pub invariant-changes : goal.invariant-changes
 invariant-changes l = record {
   base : l.trail.base ≡ l.initial.trail.base;
   none : l.trail.kept ≡ 0;
-  kept : take l.mark.changes (history l.trail) ≡ take l.mark.changes (history l.initial.trail);
+  kept : take l.changes (history l.trail) ≡ take l.changes (history l.initial.trail);
   leads : (m : View) →
-      Rewinds l.initial.trail.base (history l.initial.trail) l.initial.trail.low l.mark.changes
+      Rewinds l.initial.trail.base (history l.initial.trail) l.initial.trail.low l.changes
       (view_in l.initial.memory) m →
       Like l.initial.trail.base m.depth m
-      (rewound (reverse (drop l.mark.changes (history l.trail))) (view_in l.memory));
+      (rewound (reverse (drop l.changes (history l.trail))) (view_in l.memory));
   stays : (m : View) →
-      Rewinds l.initial.trail.base (history l.initial.trail) l.initial.trail.low l.mark.changes
+      Rewinds l.initial.trail.base (history l.initial.trail) l.initial.trail.low l.changes
       (view_in l.initial.memory) m →
       HighSame l.initial.trail.base (view_in l.initial.memory)
-      (rewound (reverse (drop l.mark.changes (history l.trail))) (view_in l.memory));
+      (rewound (reverse (drop l.changes (history l.trail))) (view_in l.memory));
 }
 
 abbrev pub decreases-changes : goal.decreases-changes
