@@ -1,9 +1,9 @@
 #!/usr/bin/env python3
-"""Measures how long a step takes on each machine: the programs of workloads.py, by the built program `bench_steps`.
+"""Measures how long a step takes on each machine: the programs of workloads.py, by the built program `test_runs`.
 
   machines.py [--instructions] [PROGRAM]
 
-It needs that program (`rt run` in crates/bench_steps builds it), Python 3.8 and Linux, and callgrind (Valgrind) for
+It needs that program (`rt run` in crates/test_runs builds it), Python 3.8 and Linux, and callgrind (Valgrind) for
 --instructions.
 
 The script prints the nanoseconds a step, for each program and machine. The program makes a run once, and then so many
@@ -36,7 +36,7 @@ def run(program, machine, source, runs):
     with tempfile.TemporaryFile() as text:
         text.write(source.encode())
         text.seek(0)
-        child = subprocess.Popen([program, LIMIT] + [machine] * runs, stdin=text, stdout=subprocess.PIPE,
+        child = subprocess.Popen([program, "measure", LIMIT] + [machine] * runs, stdin=text, stdout=subprocess.PIPE,
                                  stderr=subprocess.PIPE)
         words, refusal = (stream.read().decode() for stream in (child.stdout, child.stderr))
         words = words.split()
@@ -77,7 +77,8 @@ def instructions(program, source):
         with tempfile.TemporaryFile() as text:
             text.write(source.encode())
             text.seek(0)
-            count, printed = measuring.counted([program, str(limit), machine], stdin=text, stdout=subprocess.PIPE)
+            count, printed = measuring.counted([program, "measure", str(limit), machine], stdin=text,
+                                               stdout=subprocess.PIPE)
         return count, int(printed.split()[1])
 
     counts = {machine: (counted(machine, 0)[0], *counted(machine, COUNTED)) for machine in MACHINES}
@@ -91,7 +92,7 @@ def main():
     counts = sys.argv[1:2] == ["--instructions"]
     if counts:
         del sys.argv[1]
-    program = program_to_measure(__doc__, "bench_steps")
+    program = program_to_measure(__doc__, "test_runs")
     print_heading("Program", "steps", *[f"`{name}`" if counts else f"`{name}`, ns" for name in MACHINES.values()])
     for name in sorted(WORKLOADS):
         found, steps = (instructions if counts else least)(program, WORKLOADS[name])

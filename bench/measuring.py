@@ -6,7 +6,7 @@ import subprocess
 import sys
 
 TOP = os.path.dirname(os.path.dirname(os.path.realpath(__file__)))
-BUILDS = {"ick": "a call of ./ick builds ick", "bench_steps": "`rt run` in crates/bench_steps builds it"}
+BUILDS = {"ick": "a call of ./ick builds ick", "test_runs": "`rt run` in crates/test_runs builds it"}
 
 # What a command used: its processor time and the system's share of it in seconds, its resident memory in KiB, and its
 # exit status, which is negative if a signal ended it.

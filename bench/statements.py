@@ -3,7 +3,7 @@
 
   statements.py [--program PROGRAM] [MACHINE..]
 
-PROGRAM is the program `bench_steps`. Without --program the script takes the one that `dev/build_unproved.py . bench_steps
+PROGRAM is the program `test_runs`. Without --program the script takes the one that `dev/build_unproved.py . test_runs
 bare` builds in a minute, which is neither proved nor checked. A MACHINE is copied, trailed or live. Without a MACHINE
 the script counts on all three. It needs callgrind (Valgrind), Python 3.8 and Linux.
 
@@ -23,7 +23,7 @@ import tempfile
 import measuring
 from measuring import TOP, print_heading, print_row, stop
 
-PROGRAM = f"{TOP}/crates/bench_steps/out/preview/bench_steps.bare"
+PROGRAM = f"{TOP}/crates/test_runs/out/preview/test_runs.bare"
 MACHINES = ["copied", "trailed", "live"]
 COUNT = 3000
 STEPS = 480_000
@@ -88,9 +88,9 @@ def collected(words, source=""):
 
 def instructions(program, machine, source, limit):
     """Returns the instructions that the processor made for a run of at most so many steps."""
-    count, printed = collected([program, str(limit), machine], source)
+    count, printed = collected([program, "measure", str(limit), machine], source)
     if printed.split() != [machine, str(limit)]:
-        stop(f"{program} {limit} {machine} printed {printed}")
+        stop(f"{program} measure {limit} {machine} printed {printed}")
     return count
 
 
@@ -121,7 +121,7 @@ def main():
     if any(machine not in MACHINES for machine in machines):
         sys.exit(__doc__)
     if not os.access(program, os.X_OK) or os.path.isdir(program):
-        stop(f"{program} is no program that can be run: `dev/build_unproved.py . bench_steps bare` builds it")
+        stop(f"{program} is no program that can be run: `dev/build_unproved.py . test_runs bare` builds it")
     heading = [f"`{machine}`" for machine in machines]
     print_heading("Statement", *heading)
     for name, kind in KINDS.items():

@@ -8,6 +8,7 @@ use crate::interleaving::interleaving;
 use crate::listings::runs;
 use crate::many::many;
 use crate::seeds::{draw, later_draws, listed_draws, streamed_draws, words};
+use crate::steps::steps;
 use crate::stop::Stop;
 use crate::streams::stream;
 use crate::texts::append_stop;
@@ -81,6 +82,8 @@ fn answer_on_one(alloc: Global, code: &Code<'_>, row: &Row, out: &mut Vec<u8>) -
         stream(alloc, code, row, out)
     } else if row.calls(b"interleaving") {
         interleaving(alloc, code, row, out)
+    } else if row.calls(b"steps") {
+        steps(alloc, code, row, out)
     } else if row.calls(b"later draws") {
         later_draws(alloc, code, row, out)
     } else if row.calls(b"listed draws") {

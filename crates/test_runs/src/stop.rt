@@ -13,8 +13,10 @@ pub enum Stop {
     Source,
     /// A field that must be a number is none.
     Number,
-    /// No call has the name that the row gives.
+    /// No call has the name that is given.
     Call,
+    /// No machine has the name that is given.
+    Machine,
 }
 
 impl From<RunsError> for Stop {

@@ -13,6 +13,7 @@ pub fn append_stop(alloc: Global, out: &mut Vec<u8>, stop: Stop) -> Result<(), N
         Stop::Source => Ok(out.extend_from_slice(b"the source is refused")?),
         Stop::Number => Ok(out.extend_from_slice(b"a field is no number")?),
         Stop::Call => Ok(out.extend_from_slice(b"no such call")?),
+        Stop::Machine => Ok(out.extend_from_slice(b"no such machine")?),
     }
 }
 

@@ -6,7 +6,7 @@ ghost use Rattle.ick_code.specs.Compiled.{code_program};
 ghost use Rattle.ick_code.specs.meaning.Move.{first_state};
 ghost use Rattle.ick_explorer.specs.Runs.{Execution, run};
 ghost use Rattle.ick_runs.specs.Ordinary.{IsRan};
-ghost use Rattle.bench_steps.specs.Machines.{name_of};
+ghost use Rattle.test_runs.specs.Machines.{name_of};
 
 use ick_bits::NoMemory;
 use ick_code::Code;

@@ -4,7 +4,7 @@ use Rattle.ick_code.specs.meaning.Move.{first_state}
 use Rattle.ick_backtrack.specs.Machine.{Machine}
 use Rattle.ick_explorer.specs.Runs.{Execution, run}
 use Rattle.ick_runs.specs.Ordinary.{IsRan}
-use Rattle.bench_steps.proofs.machine.Machine.run.Goals as goal
+use Rattle.test_runs.proofs.machine.Machine.run.Goals as goal
 
 pub returns-in-Copied : goal.returns-in-Copied
 returns-in-Copied c =
