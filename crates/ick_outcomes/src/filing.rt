@@ -3,6 +3,7 @@
 ghost use Rattle.std.specs.Prelude.{◌≡◌, ◌<◌, [], slice_index_or, length, OnOk, IfSome, IfNone};
 ghost use Rattle.std.specs.List.{Contains};
 ghost use Rattle.ick_outcomes.specs.Accounts.{AreApart, Counts, SameRow};
+ghost use Rattle.ick_outcomes.specs.Keys.{key_of};
 ghost use Rattle.ick_outcomes.specs.Seen.{row_of, rows_of};
 ghost use Rattle.ick_outcomes.specs.Summaries.{Row};
 
@@ -25,14 +26,15 @@ pub(crate) fn no_rows(alloc: Global) -> Table
 
 /// Returns the index of the row that has this outcome, or `None` if there is none.
 #[tactic(auto, using(crate::proofs::KeyLaws::apart_by_key))]
-fn find_outcome(table: &Table, more: &Outcome) -> Option<usize>
+fn find_outcome(table: &Table, key: u64, more: &Outcome) -> Option<usize>
+    requires { key ≡ key_of more.now.output.items more.now.end.items }
     ensures some { IfSome result (λ i. (d : Outcome) →
         SameRow (row_of (slice_index_or table.now.rows.items i d)) (row_of more.now)) }
     ensures within { IfSome result (λ i. i < length table.now.rows.items) }
     ensures no_row { IfNone result ((x : Row) → Contains (rows_of table.now.rows.items) x →
         AreApart x (row_of more.now)) }
 {
-    match table.index.place(outcome_key(more)) {
+    match table.index.place(key) {
         Some(at) => {
             if at < table.rows.len() && is_row(&table.rows[at], more) {
                 return Some(at);
@@ -50,7 +52,7 @@ pub(crate) fn add_outcome(alloc: Global, table: &mut Table, more: Outcome) -> Re
         (rows_of table.new.rows.items)) }
 {
     let key = outcome_key(&more);
-    match find_outcome(table, &more) {
+    match find_outcome(table, key, &more) {
         Some(at) => {
             add_runs(alloc, &mut table.rows[at], more)?;
             Ok(())

@@ -1,23 +1,24 @@
 //! Finds rows by keys.
 
-ghost use Rattle.std.specs.Prelude.{◌≡◌, ◌<◌, ℕ, OnOk, IfNone};
-ghost use Rattle.ick_outcomes.specs.Keys.{mix, key_of, Lacks};
+ghost use Rattle.std.specs.Prelude.{◌≡◌, ℕ, OnOk, IfNone};
+ghost use Rattle.ick_outcomes.specs.Keys.{key_of, Lacks};
 
 use ick_bits::NoMemory;
 use std::alloc::Global;
-use std::collections::BTreeMap;
+use std::collections::HashMap;
+use std::hash::{FoldHasher, Hasher};
 
 /// Keeps for each key the index of the last row that has it.
 #[derive(Drop)]
 pub(crate) struct Index {
-    pub(crate) places: BTreeMap<u64, usize>,
+    pub(crate) places: HashMap<u64, usize>,
 }
 
 impl Index {
     /// Returns an index of no row.
     pub(crate) fn new(alloc: Global) -> Index {
         Index {
-            places: BTreeMap::new(alloc),
+            places: HashMap::new(alloc),
         }
     }
 
@@ -41,23 +42,12 @@ impl Index {
     }
 }
 
-/// Mixes bytes into a key.
-#[tactic(auto, using(crate::proofs::KeyLaws::mixes))]
-fn mixed(start: u64, bytes: &[u8]) -> u64
-    requires { start < 1000000000039 }
-    ensures value { result ≡ mix start bytes.now }
-    ensures small { result < 1000000000039 }
-{
-    let mut hash = start;
-    for at in 0..bytes.len() {
-        hash = (hash * 1_000_003 + u64::from(bytes[at])) % 1_000_000_000_039;
-    }
-    hash
-}
-
 /// Returns the key of an outcome, by its output and the text of its end.
 pub(crate) fn row_key(output: &[u8], end: &[u8]) -> u64
     ensures { result ≡ key_of output.now end.now }
 {
-    mixed(mixed(7, output), end)
+    let mut hasher = FoldHasher::default();
+    hasher.write(output);
+    hasher.write(end);
+    hasher.finish()
 }
