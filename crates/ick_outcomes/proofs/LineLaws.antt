@@ -1,26 +1,31 @@
 -- Proves that texts are those of a summary.
 use Prim.Native.Nat.{suc}
 use Rattle.std.proofs.Common.{◌≡◌, ℕ, ◌+◌, ◌<◌, ◌≤◌, length, take, Bool, List, [], ◌∷◌, ◌++◌}
-use Rattle.std.proofs.Common.{ap, sym, ◌∙◌, subst, arith, slice_index_or}
+use Rattle.std.proofs.Common.{ap, sym, ◌∙◌, subst, append_assoc, arith, slice_index_or}
 use Rattle.std.specs.Prelude.{codes}
-use Rattle.ick_outcomes.specs.Lines.{IsLine, AreLines, no_line, one_more, IsSummaryText}
+use Rattle.ick_outcomes.specs.Buffered.{AppendsLine}
+use Rattle.ick_outcomes.specs.Lines.{AreLines, no_line, one_more, IsSummaryText}
 use Rattle.ick_outcomes.specs.Seen.{natural, rows_of}
 use Rattle.ick_outcomes.specs.Summaries.{count_of}
 use Rattle.ick_outcomes.specs.declared.outcome.Outcome.{Outcome}
 use Rattle.ick_outcomes.proofs.Lists.{take-more, take-all}
 
+-- what is appended to a text that was appended
+pub appended : (x b y r z : List ℕ) → y ≡ x ++ b → z ≡ y ++ r → z ≡ x ++ (b ++ r)
+appended x b y r z e f = f ∙ (ap (λ w. w ++ r) e ∙ append_assoc x b r)
+
 -- the lines of outcomes up to an index
 pub lines_start : (exact : Bool) (os : List Outcome) → AreLines exact (take 0 os) []
 lines_start exact os = no_line
 
-pub lines_more : (exact : Bool) (os : List Outcome) (i : ℕ) (o : Outcome) (text line new : List ℕ) → i < length os →
-    o ≡ slice_index_or os i o → AreLines exact (take i os) text → IsLine exact o line → new ≡ text ++ line →
+pub lines_more : (exact : Bool) (os : List Outcome) (i : ℕ) (o : Outcome) (text new : List ℕ) → i < length os →
+    o ≡ slice_index_or os i o → AreLines exact (take i os) text → AppendsLine exact o text new →
     AreLines exact (take (i + 1) os) new
-lines_more exact os i o text line new lt e h k n =
+lines_more exact os i o text new lt e h k =
     let next : i + 1 ≡ suc i = omega arith in
     let same = ap (λ z. take z os) next ∙ (take-more os i o lt ∙ ap (λ z. take i os ++ z ∷ []) (sym e)) in
     subst (λ z. AreLines exact z new) (sym same)
-    (subst (AreLines exact (take i os ++ o ∷ [])) (sym n) (one_more (take i os) o text line h k))
+    (subst (AreLines exact (take i os ++ o ∷ [])) (sym k.same) (one_more (take i os) o text k.line h k.is_line))
 
 pub lines_end : (exact : Bool) (os : List Outcome) (i : ℕ) (lines text : List ℕ) → length os ≤ i →
     AreLines exact (take i os) lines → text ≡ lines ++ codes "DONE\n" → IsSummaryText exact os text

@@ -10,3 +10,4 @@ pub mod Keys
 pub mod Laws
 pub mod Lines
 pub mod Askers
+pub mod Buffered

@@ -1,36 +1,85 @@
 //! Builds the text of a summary.
 
-ghost use Rattle.std.specs.Prelude.{◌≡◌, IfOk};
-ghost use Rattle.ick_outcomes.specs.Lines.{IsLine, IsSummaryText, IsTotal};
+ghost use Rattle.std.specs.Prelude.{◌≡◌, Bool, IfOk, IfSome, OnOk};
+ghost use Rattle.ick_outcomes.specs.Buffered.{AppendsLine, AreTexts};
+ghost use Rattle.ick_outcomes.specs.Lines.{IsSummaryText, IsTotal};
 ghost use Rattle.ick_outcomes.specs.Seen.{natural, rows_of};
 ghost use Rattle.ick_outcomes.specs.Summaries.{count_of};
 
-use crate::cut::weight_text;
+use crate::cut::{renew_weight, write_weight};
 use crate::natural::Natural;
 use crate::outcome::Outcome;
-use crate::text::number_text;
+use crate::text::{Buffers, number_text};
 use ick_bits::{NoMemory, append_decimal, append_quoted};
 use ick_explorer::append_choices;
 use std::alloc::Global;
 
-/// Returns the line of an outcome: `COUNT WEIGHT FIRST END OUTPUT`. The weight is exact, or cut.
-fn line_text(outcome: &Outcome, exact: bool, alloc: Global) -> Result<Vec<u8>, NoMemory>
-    ensures { IfOk result (λ line. IsLine exact outcome.now line.items) }
+/// The texts of the count and of the weight of an outcome.
+#[derive(Drop)]
+struct Texts {
+    count: Buffers,
+    weight: Buffers,
+}
+
+/// Writes the texts of an outcome. The weight is exact, or cut.
+fn write_texts(texts: &mut Texts, outcome: &Outcome, exact: bool) -> Result<(), NoMemory>
+    ensures { OnOk result (AreTexts exact outcome.now texts.new.count.text.items
+        texts.new.weight.text.items) }
 {
-    let count = number_text(&outcome.count, alloc)?;
-    let weight = weight_text(&outcome.weight, exact, alloc)?;
-    let mut line = Vec::new(alloc);
-    line.extend_from_slice(&count)?;
-    line.push(b' ')?;
-    line.extend_from_slice(&weight)?;
-    line.push(b' ')?;
-    append_choices(&mut line, &outcome.first)?;
-    line.push(b' ')?;
-    line.extend_from_slice(&outcome.end)?;
-    line.push(b' ')?;
-    append_quoted(&mut line, &outcome.output)?;
-    line.push(b'\n')?;
-    Ok(line)
+    texts.count.write_number(&outcome.count)?;
+    write_weight(&mut texts.weight, &outcome.weight, exact)
+}
+
+/// Writes the texts of an outcome in place of those of the last one. A text that is the same stays.
+fn renew_texts(
+    texts: &mut Texts,
+    last: &Outcome,
+    outcome: &Outcome,
+    exact: bool,
+) -> Result<(), NoMemory>
+    requires { AreTexts exact last.now texts.old.count.text.items texts.old.weight.text.items }
+    ensures { OnOk result (AreTexts exact outcome.now texts.new.count.text.items
+        texts.new.weight.text.items) }
+{
+    texts.count.renew_number(&last.count, &outcome.count)?;
+    renew_weight(&mut texts.weight, &last.weight, &outcome.weight, exact)
+}
+
+/// Writes the texts of an outcome. The last outcome, if there was one, has the texts before.
+fn put_texts(
+    texts: &mut Texts,
+    last: Option<&Outcome>,
+    outcome: &Outcome,
+    exact: bool,
+) -> Result<(), NoMemory>
+    requires { IfSome last (λ o. AreTexts exact o.now texts.old.count.text.items
+        texts.old.weight.text.items) }
+    ensures { OnOk result (AreTexts exact outcome.now texts.new.count.text.items
+        texts.new.weight.text.items) }
+{
+    match last {
+        Some(last) => renew_texts(texts, last, outcome, exact),
+        None => write_texts(texts, outcome, exact),
+    }
+}
+
+/// Appends the line of an outcome: `COUNT WEIGHT FIRST END OUTPUT`. The outcome must have the texts.
+fn append_line(out: &mut Vec<u8>, outcome: &Outcome, texts: &Texts) -> Result<(), NoMemory>
+    ensures { OnOk result ((exact : Bool) →
+        AreTexts exact outcome.now texts.now.count.text.items texts.now.weight.text.items →
+        AppendsLine exact outcome.now out.old.items out.new.items) }
+{
+    out.extend_from_slice(&texts.count.text)?;
+    out.push(b' ')?;
+    out.extend_from_slice(&texts.weight.text)?;
+    out.push(b' ')?;
+    append_choices(out, &outcome.first)?;
+    out.push(b' ')?;
+    out.extend_from_slice(&outcome.end)?;
+    out.push(b' ')?;
+    append_quoted(out, &outcome.output)?;
+    out.push(b'\n')?;
+    Ok(())
 }
 
 /// Returns the text of a summary: a line `COUNT WEIGHT FIRST END OUTPUT` for each outcome, and then
@@ -41,9 +90,15 @@ pub fn summary_text(outcomes: &[Outcome], exact: bool, alloc: Global) -> Result<
     ensures { IfOk result (λ text. IsSummaryText exact outcomes.now text.items) }
 {
     let mut text = Vec::new(alloc);
+    let mut texts = Texts {
+        count: Buffers::new(alloc),
+        weight: Buffers::new(alloc),
+    };
+    let mut last = None;
     'outcomes: for outcome in outcomes {
-        let line = line_text(outcome, exact, alloc)?;
-        text.extend_from_slice(&line)?;
+        put_texts(&mut texts, last, outcome, exact)?;
+        append_line(&mut text, outcome, &texts)?;
+        last = Some(outcome);
     }
     text.extend_from_slice(b"DONE\n")?;
     Ok(text)

@@ -1,0 +1,17 @@
+-- Defines what buffers hold while the text of a summary is written.
+use Rattle.std.specs.Prelude.{◌≡◌, ℕ, Bool, List, ◌++◌}
+use Rattle.ick_outcomes.specs.Lines.{IsLine}
+use Rattle.ick_outcomes.specs.Seen.{natural}
+use Rattle.ick_outcomes.specs.Texts.{IsNumberText, IsWeightText}
+use Rattle.ick_outcomes.specs.declared.outcome.Outcome.{Outcome}
+
+-- the texts of the count and of the weight of an outcome
+pub record AreTexts (exact : Bool) (o : Outcome) (count weight : List ℕ) : Type 0 where
+  pub counted : IsNumberText (natural o.count) count
+  pub weighed : IsWeightText exact o.weight weight
+
+-- the line of an outcome was appended
+pub record AppendsLine (exact : Bool) (o : Outcome) (old new : List ℕ) : Type 0 where
+  pub line : List ℕ
+  pub is_line : IsLine exact o line
+  pub same : new ≡ old ++ line
