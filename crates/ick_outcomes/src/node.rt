@@ -210,7 +210,6 @@ fn hundredths(chance: u8, done: bool) -> u8
 /// is that of the statement that is met.
 #[tactic(auto, using(crate::proofs::Uses::part_fits))]
 fn choose<'c, P: States<'c>>(
-    alloc: Global,
     program: &P,
     tools: &mut P::Tools,
     node: Node<P::State>,
@@ -233,7 +232,7 @@ fn choose<'c, P: States<'c>>(
     let (state, made) = program.step(tools, node.state, done, left)?;
     let mut choices = node.choices;
     choices.push(done)?;
-    let weight = node.weight.part(hundredths(chance, done), alloc)?;
+    let weight = node.weight.part(hundredths(chance, done))?;
     Ok(Node {
         state,
         left: left - made,
@@ -286,8 +285,8 @@ fn branch<'c, P: States<'c>>(
     ensures tools { P.serves program.now tools.new }
 {
     let other = copy_node(program, &node)?;
-    let zero = choose(alloc, program, tools, node, chance, false)?;
-    let one = choose(alloc, program, tools, other, chance, true)?;
+    let zero = choose(program, tools, node, chance, false)?;
+    let one = choose(program, tools, other, chance, true)?;
     put(alloc, program, zero, pending, rows)?;
     put(alloc, program, one, pending, rows)?;
     Ok(())
