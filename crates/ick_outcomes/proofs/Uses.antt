@@ -4,6 +4,7 @@ use Rattle.std.proofs.Common.{◌⊎◌, take}
 use Rattle.std.proofs.Common.{◌≡◌, inl, inr, ℕ, ◌+◌, ◌*◌, ◌-◌, ◌^◌, ◌<◌, ◌≤◌, Bool, true, false, length, List, []}
 use Rattle.std.proofs.Common.{◌∷◌, ◌++◌, Option, Some, None}
 use Rattle.std.proofs.Common.{refl, ap, sym, ◌∙◌, subst, arith, slice_index_or, slice_set}
+use Rattle.std.proofs.Common.{Result, Ok, Err, OnOk}
 use Rattle.std.specs.List.{Contains}
 use Rattle.std.proofs.lemmas.List.{map-append}
 use Rattle.ick_code.specs.meaning.State.{State}
@@ -102,6 +103,11 @@ pub going_choice : (k : ℕ) (a : Asking) → (let x : Option Asking = Some (cho
 going_choice k plain e = tt
 going_choice k (choice j) e = tt
 going_choice k (ended x) e = cc
+
+-- what holds after a success follows from what else holds then
+pub on_ok : {T E : Type 0} {P Q : Type 0} (r : Result T E) → (P → Q) → OnOk r P → OnOk r Q
+on_ok (Ok x) f p = f p
+on_ok (Err e) f p = tt
 
 pub settles_waiting : (n : Pending) (ns ns' : List Pending) (rs : List Row) → Admits ns n ns' →
     Settles n ns rs ns' rs
@@ -236,6 +242,14 @@ pub part_fits : (n l k : ℕ) (f r : Fraction) → IsPart n f r → l + f.places
     l - 1 - k + r.places ≤ 4294967295
 part_fits n l k f r h le lt = let w = h.within in omega (arith, w, le, lt)
 
+-- hundredths of a copy
+pub part_of_copy : (n : ℕ) (f g r : Fraction) → top_of g ≡ top_of f → g.places ≡ f.places → IsPart n g r → IsPart n f r
+part_of_copy n f g r t p h = record {
+  within = subst (λ z. r.places ≤ suc z) p h.within;
+  same = subst (λ z. top_of r * 1000000000 ^ (suc z - r.places) ≡ top_of f * (n * 10000000)) p
+      (h.same ∙ ap (λ z. z * (n * 10000000)) t);
+}
+
 pub chosen_part : (n l : ℕ) (f r : Fraction) → IsPart n f r → l + f.places ≤ 4294967295 → 0 < l →
     amount (top_of r) r.places (l - 1) ≡ n * amount (top_of f) f.places l
 chosen_part n l f r h le lt =
@@ -272,6 +286,19 @@ chosen_goes_on n m chance k b f r some fits h was runs p le s c v w =
     (v ∙ (moved_on r k (n.left - 1) (omega (arith, all)) le
     ∙ ap (λ z. z * 100 ^ k) (chosen_part (part chance b) n.left f r h fits some
     ∙ ap (λ z. part chance b * z) (sym was)))) w
+
+-- the node that a search begins with
+pub first_node : (p : Place) (l count : ℕ) (f : Fraction) (cs : List Bool) → count ≡ 1 → top_of f ≡ 1 →
+    f.places ≡ 0 → cs ≡ [] →
+    (let m : Pending = record { place = p; left = l; count = 1; weight = amount 1 0 l; choices = [] } in m)
+    ≡ record { place = p; left = l; count = count; weight = amount (top_of f) f.places l; choices = cs }
+first_node p l count f cs a b d e =
+    ap {B = Pending} (λ z. record { place = p; left = l; count = z; weight = amount 1 0 l; choices = [] }) (sym a)
+    ∙ (ap {B = Pending} (λ z. record { place = p; left = l; count = count; weight = amount z 0 l; choices = [] }) (sym b)
+    ∙ (ap {B = Pending}
+    (λ z. record { place = p; left = l; count = count; weight = amount (top_of f) z l; choices = [] }) (sym d)
+    ∙ ap {B = Pending}
+    (λ z. record { place = p; left = l; count = count; weight = amount (top_of f) f.places l; choices = z }) (sym e)))
 
 pub counts_start : (n m : Pending) (ns : List Pending) (rs : List Row) (most : ℕ) → Settles n [] [] ns rs →
     m ≡ n → n.left < most → IsAccount m ns rs most

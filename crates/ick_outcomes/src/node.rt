@@ -19,6 +19,7 @@ use crate::states::States;
 use crate::table::Table;
 use ick_backtrack::{Ask, End};
 use ick_bits::NoMemory;
+use smallvec::SmallVec;
 use std::alloc::Global;
 
 /// Returns whether two nodes can be merged.
@@ -78,6 +79,8 @@ fn merge<S: Drop>(alloc: Global, one: &mut Node<S>, more: Node<S>) -> Result<(),
 
 /// Adds a node to those that wait, or merges it into one of them.
 #[tactic(auto, using(crate::proofs::Uses::admits))]
+// A node is large, and a call of its own would copy it once more.
+#[inline(always)]
 fn admit<'c, P: States<'c>>(
     alloc: Global,
     program: &P,
@@ -158,6 +161,8 @@ fn close<'c, P: States<'c>>(
 }
 
 /// Adds a node at which its runs end to the rows.
+// A node is large, and a call of its own would copy it once more.
+#[inline(always)]
 fn file<'c, P: States<'c>>(
     alloc: Global,
     program: &P,
@@ -242,22 +247,41 @@ fn choose<'c, P: States<'c>>(
     })
 }
 
-/// Returns a copy of a node.
-fn copy_node<'c, P: States<'c>>(
+/// Returns the node after a choice, and after the steps behind it while nothing is asked. The node
+/// before it stays. `chance` is that of the statement that is met.
+#[tactic(auto, using(crate::proofs::Uses::part_fits))]
+fn choose_from<'c, P: States<'c>>(
+    alloc: Global,
     program: &P,
+    tools: &mut P::Tools,
     node: &Node<P::State>,
+    chance: u8,
+    done: bool,
 ) -> Result<Node<P::State>, NoMemory>
-    requires { P.suits program.now node.now.state }
-    ensures same { IfOk result (λ n. pending_of (P.place program.now) n
-        ≡ pending_of (P.place program.now) node.now) }
+    requires tools { P.serves program.now tools.old }
+    requires node { P.suits program.now node.now.state }
+    requires going { IsGoing (ask (P.place program.now node.now.state).program
+        (P.place program.now node.now.state).state) }
+    requires chance { chance ≤ 100 }
+    requires left { 0 < node.now.left }
+    ensures goes_on { IfOk result (λ n. GoesOn
+        (chosen chance (pending_of (P.place program.now) node.now) done)
+        (pending_of (P.place program.now) n)) }
     ensures node { IfOk result (λ n. P.suits program.now n.state) }
+    ensures tools { P.serves program.now tools.new }
 {
+    let left = node.left - 1;
+    let (state, made) = program.step_from(tools, &node.state, done, left)?;
+    let mut choices = SmallVec::from_slice(alloc, &node.choices)?;
+    choices.push(done)?;
+    let copy = node.weight.copy()?;
+    let weight = copy.part(hundredths(chance, done))?;
     Ok(Node {
-        state: program.copy(&node.state)?,
-        left: node.left,
+        state,
+        left: left - made,
         count: node.count.copy()?,
-        weight: node.weight.copy()?,
-        choices: node.choices.clone()?,
+        weight,
+        choices,
     })
 }
 
@@ -284,9 +308,8 @@ fn branch<'c, P: States<'c>>(
     ensures pending { OnOk result (AreSound (P.suits program.now) pending.new.nodes.items) }
     ensures tools { P.serves program.now tools.new }
 {
-    let other = copy_node(program, &node)?;
-    let zero = choose(program, tools, node, chance, false)?;
-    let one = choose(program, tools, other, chance, true)?;
+    let zero = choose_from(alloc, program, tools, &node, chance, false)?;
+    let one = choose(program, tools, node, chance, true)?;
     put(alloc, program, zero, pending, rows)?;
     put(alloc, program, one, pending, rows)?;
     Ok(())

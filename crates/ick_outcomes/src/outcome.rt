@@ -17,6 +17,7 @@ use crate::index::row_key;
 use crate::natural::Natural;
 use ick_backtrack::End;
 use ick_bits::{NoMemory, append_decimal};
+use smallvec::SmallVec;
 use std::alloc::Global;
 
 /// An outcome of a program, with the runs that have it. Contracts see it as a `Row`.
@@ -25,31 +26,31 @@ pub struct Outcome {
     /// What each of the runs wrote.
     pub output: Vec<u8>,
     /// How each of them ended, as a listing shows it.
-    pub end: Vec<u8>,
+    pub end: SmallVec<u8, 16>,
     /// The number of the runs.
     pub count: Natural,
     /// The sum of their weights.
     pub weight: Fraction,
     /// The choices of the first of them in the listing.
-    pub first: Vec<bool>,
+    pub first: SmallVec<bool, 24>,
 }
 
 /// Returns the text of an end.
-pub(crate) fn end_word(alloc: Global, end: End<'_>) -> Result<Vec<u8>, NoMemory>
+pub(crate) fn end_word(alloc: Global, end: End<'_>) -> Result<SmallVec<u8, 16>, NoMemory>
     ensures { IfOk result (λ word. word.items ≡ end_text (finish_of end.entry)) }
 {
-    let mut out = Vec::new(alloc);
     match end {
-        End::GiveUp => out.extend_from_slice(b"GIVE-UP")?,
-        End::Limit => out.extend_from_slice(b"LIMIT")?,
+        End::GiveUp => Ok(SmallVec::from_slice(alloc, b"GIVE-UP")?),
+        End::Limit => Ok(SmallVec::from_slice(alloc, b"LIMIT")?),
         End::Fault(fault) => {
+            let mut out = Vec::new(alloc);
             out.push(b'E')?;
             out.extend_from_slice(&fault.kind.digits())?;
             out.push(b'@')?;
             append_decimal(&mut out, u64::from(fault.statement))?;
+            Ok(SmallVec::from_vec(out))
         }
     }
-    Ok(out)
 }
 
 /// Adds the runs of an outcome to the row that has the same outcome.
@@ -76,7 +77,7 @@ pub(crate) fn is_row(row: &Outcome, more: &Outcome) -> bool
     ensures yes { result ≡ true → SameRow (row_of row.now) (row_of more.now) }
     ensures no { result ≡ false → AreApart (row_of row.now) (row_of more.now) }
 {
-    row.output == more.output && row.end == more.end
+    row.output == more.output && row.end.as_slice() == more.end.as_slice()
 }
 
 /// Returns the index of the row that has this outcome, by looking at each row.

@@ -6,6 +6,7 @@ ghost use Rattle.ick_outcomes.specs.Naturals.{value_of};
 use crate::fraction::Fraction;
 use crate::hints::Hints;
 use crate::natural::Natural;
+use smallvec::SmallVec;
 
 /// A state, how many steps it has left, how many runs lead to it, their weight together, and the
 /// choices of the first of them.
@@ -15,7 +16,7 @@ pub(crate) struct Node<S: Drop> {
     pub(crate) left: u32,
     pub(crate) count: Natural,
     pub(crate) weight: Fraction,
-    pub(crate) choices: Vec<bool>,
+    pub(crate) choices: SmallVec<bool, 24>,
     pub(crate) ghost fits: { left + weight.places ≤ 4294967295 },
     pub(crate) ghost some: { 0 < value_of count.digits.items },
 }

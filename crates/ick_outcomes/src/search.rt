@@ -15,6 +15,7 @@ use crate::outcome::Outcome;
 use crate::pending::{Node, Waiting};
 use crate::states::States;
 use crate::table::Table;
+use smallvec::SmallVec;
 use std::alloc::Global;
 
 /// Returns an empty list of nodes.
@@ -118,7 +119,7 @@ pub(crate) fn count_outcomes<'c, P: States<'c>>(
         left: limit,
         count: Natural::one(alloc)?,
         weight: Fraction::one(alloc)?,
-        choices: Vec::new(alloc),
+        choices: SmallVec::new(alloc),
     };
     put(alloc, program, node, &mut pending, &mut rows)?;
     'rounds: for gone in 0..u64::from(limit) + 1 {

@@ -18,7 +18,7 @@ use std::alloc::Global;
 fn sort_rows(rows: &mut Vec<Outcome>) -> Result<(), NoMemory>
     ensures { OnOk result (Sorts (rows_of rows.old.items) (rows_of rows.new.items)) }
 {
-    rows.sort_by(|one, other| one.first.cmp(&other.first))?;
+    rows.sort_by(|one, other| one.first.as_slice().cmp(other.first.as_slice()))?;
     Ok(())
 }
 

@@ -64,6 +64,27 @@ pub trait States<'c>: Drop {
         ensures state { IfOk result (λ p. suits self.now p.0) }
         ensures tools { serves self.now tools.new };
 
+    /// Makes the steps that `step` makes, from a copy of the state: the state stays.
+    fn step_from(
+        &self,
+        tools: &mut Self::Tools,
+        state: &Self::State,
+        done: bool,
+        limit: u32,
+    ) -> Result<(Self::State, u32), NoMemory>
+        requires tools { serves self.now tools.old }
+        requires state { suits self.now state.now }
+        requires going { IsGoing (ask (place self.now state.now).program
+            (place self.now state.now).state) }
+        ensures runs { IfOk result (λ p. RunsOn IsPlain (place self.now state.now).program
+            (advance (place self.now state.now).program (place self.now state.now).state done)
+            p.1 (place self.now p.0).state) }
+        ensures program { IfOk result (λ p. (place self.now p.0).program
+            ≡ (place self.now state.now).program) }
+        ensures within { IfOk result (λ p. p.1 ≤ limit) }
+        ensures state { IfOk result (λ p. suits self.now p.0) }
+        ensures tools { serves self.now tools.new };
+
     /// Returns a copy of a state.
     fn copy(&self, state: &Self::State) -> Result<Self::State, NoMemory>
         requires { suits self.now state.now }

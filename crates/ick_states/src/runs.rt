@@ -32,7 +32,7 @@ pub struct Runs<'c, 'a> {
 }
 
 impl<'c, 'a> Runs<'c, 'a> {
-    ghost use Rattle.std.specs.Prelude.{◌≡◌, ◌≤◌, IfOk, OnOk};
+    ghost use Rattle.std.specs.Prelude.{◌≡◌, ◌≤◌, IfOk, None, OnOk};
     ghost use Rattle.ick_code.specs.meaning.Move.{ask, advance};
     ghost use Rattle.ick_backtrack.specs.Asked.{IsGoing};
     ghost use Rattle.ick_backtrack.specs.Steps.{IsPlain, RunsOn};
@@ -105,9 +105,45 @@ impl<'c, 'a> Runs<'c, 'a> {
         }
     }
 
-    /// Makes one step of a state whose run hasn't ended, and then further steps while nothing is
-    /// asked, at most as many as the limit. Returns the state after them, and the number of the
-    /// further steps.
+    /// Makes one step of a run that hasn't ended, and then further steps while nothing is asked, at
+    /// most as many as the limit. Returns the state after them, and the number of the further steps.
+    /// The memory represents the state before the first step.
+    fn step_in(
+        &self,
+        memory: &mut Memory,
+        done: bool,
+        limit: u32,
+    ) -> Result<(KeptRun, u32), NoMemory>
+        requires { IsReady self.now.lowered.code.now self.now.lowered.parts (view_in memory.old) }
+        ensures steady { IsSteady self.now.lowered.code.now self.now.lowered.parts
+            (view_in memory.new) }
+        ensures kept { IfOk result (λ p. IsKept self.now.lowered.code.now
+            self.now.lowered.parts p.0.saved) }
+        ensures runs { IfOk result (λ p. RunsOn IsPlain (code_program self.now.lowered.code.now)
+            (advance (code_program self.now.lowered.code.now)
+            (run_state self.now.lowered.code.now self.now.lowered.parts
+            (input_of self.now.input.now) (view_in memory.old) None) done) p.1
+            (place_of self.now.lowered.code.now self.now.lowered.parts self.now.input.now
+            p.0.saved p.0.end).state) }
+        ensures within { IfOk result (λ p. p.1 ≤ limit) }
+    {
+        // It has a length, so `Nobody` has room for the changes of any statement.
+        let _longest = self.lowered.longest();
+        let mut end = None;
+        let mut reader = TextReader::new(self.input);
+        step_once(
+            &self.lowered,
+            memory,
+            &mut end,
+            &mut Nobody,
+            &mut reader,
+            done,
+        )?;
+        let made = self.go_on(memory, &mut end, limit)?;
+        Ok((self.keep(memory, end)?, made))
+    }
+
+    /// Makes the steps of `step_in` from a kept state, which is put into the memory.
     fn make_steps(
         &self,
         memory: &mut Memory,
@@ -134,20 +170,37 @@ impl<'c, 'a> Runs<'c, 'a> {
         ensures within { IfOk result (λ p. p.1 ≤ limit) }
     {
         state.saved.restore(memory, &self.lowered);
-        // It has a length, so `Nobody` has room for the changes of any statement.
-        let _longest = self.lowered.longest();
-        let mut end = None;
-        let mut reader = TextReader::new(self.input);
-        step_once(
-            &self.lowered,
-            memory,
-            &mut end,
-            &mut Nobody,
-            &mut reader,
-            done,
-        )?;
-        let made = self.go_on(memory, &mut end, limit)?;
-        Ok((self.keep(memory, end)?, made))
+        self.step_in(memory, done, limit)
+    }
+
+    /// Makes the steps of `step_in` from a copy of a kept state.
+    fn make_steps_from(
+        &self,
+        memory: &mut Memory,
+        state: &KeptRun,
+        done: bool,
+        limit: u32,
+    ) -> Result<(KeptRun, u32), NoMemory>
+        requires steady { IsSteady self.now.lowered.code.now self.now.lowered.parts
+            (view_in memory.old) }
+        requires kept { IsKept self.now.lowered.code.now self.now.lowered.parts state.now.saved }
+        requires going { IsGoing (ask (code_program self.now.lowered.code.now)
+            (place_of self.now.lowered.code.now self.now.lowered.parts self.now.input.now
+            state.now.saved state.now.end).state) }
+        ensures steady { IsSteady self.now.lowered.code.now self.now.lowered.parts
+            (view_in memory.new) }
+        ensures kept { IfOk result (λ p. IsKept self.now.lowered.code.now
+            self.now.lowered.parts p.0.saved) }
+        ensures runs { IfOk result (λ p. RunsOn IsPlain (code_program self.now.lowered.code.now)
+            (advance (code_program self.now.lowered.code.now)
+            (place_of self.now.lowered.code.now self.now.lowered.parts self.now.input.now
+            state.now.saved state.now.end).state done) p.1
+            (place_of self.now.lowered.code.now self.now.lowered.parts self.now.input.now
+            p.0.saved p.0.end).state) }
+        ensures within { IfOk result (λ p. p.1 ≤ limit) }
+    {
+        state.saved.load(self.alloc, memory, &self.lowered)?;
+        self.step_in(memory, done, limit)
     }
 }
 
@@ -192,6 +245,16 @@ impl<'c, 'a> States<'c> for Runs<'c, 'a> {
         limit: u32,
     ) -> Result<(KeptRun, u32), NoMemory> {
         self.make_steps(tools, state, done, limit)
+    }
+
+    fn step_from(
+        &self,
+        tools: &mut Memory,
+        state: &KeptRun,
+        done: bool,
+        limit: u32,
+    ) -> Result<(KeptRun, u32), NoMemory> {
+        self.make_steps_from(tools, state, done, limit)
     }
 
     fn copy(&self, state: &KeptRun) -> Result<KeptRun, NoMemory> {

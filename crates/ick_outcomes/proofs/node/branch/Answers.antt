@@ -1,5 +1,5 @@
-use Rattle.std.proofs.Common.{false, refl, subst, true}
-use Rattle.ick_outcomes.specs.Accounts.{GoesOn, chosen}
+use Rattle.std.proofs.Common.{false, refl, true}
+use Rattle.ick_outcomes.specs.Accounts.{chosen}
 use Rattle.ick_outcomes.specs.Seen.{pending_of, rows_of, nodes_of}
 use Rattle.ick_outcomes.proofs.Uses.{makes_choice, settles_on}
 use Rattle.ick_outcomes.proofs.node.branch.Goals as goal
@@ -16,10 +16,8 @@ returns-clause-makes g c =
     let rs = rows_of c.args.rows.now.rows.items in
     let rs' = rows_of c.put.new.rows.rows.items in
     let rs'' = rows_of c.put-2.new.rows.rows.items in
-    let other = subst (λ n. GoesOn (chosen c.args.chance n true) one) c.in_ok-other.ensures.same
-    c.in_ok-one.ensures.goes_on in
     makes_choice node (chosen c.args.chance node false) (chosen c.args.chance node true) c.args.chance ns ns' ns'' rs rs'
     rs'' c.requires.asks c.requires.left refl refl
     (settles_on (chosen c.args.chance node false) zero ns ns' rs rs' c.in_ok-zero.ensures.goes_on
     c.in_ok-put.ensures.settles)
-    (settles_on (chosen c.args.chance node true) one ns' ns'' rs' rs'' other c.in_ok-put-2.ensures.settles)
+    (settles_on (chosen c.args.chance node true) one ns' ns'' rs' rs'' c.in_ok-one.ensures.goes_on c.in_ok-put-2.ensures.settles)

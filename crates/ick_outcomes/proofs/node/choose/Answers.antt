@@ -22,4 +22,4 @@ returns-clause-goes_on g c =
     })
     c.args.chance c.in_ok-state.made c.args.done f r c.requires.left c.args.node.fits
     (subst (λ k. IsPart k f r) c.hundredths.ensures.is_part c.in_ok-weight.ensures) refl step.runs step.program
-    step.within refl refl refl c.in_ok-push.ensures.items
+    step.within refl refl refl c.in_ok-push.ensures.ok

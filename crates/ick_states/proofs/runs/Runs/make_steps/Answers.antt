@@ -1,11 +1,11 @@
-use Rattle.std.proofs.Common.{◌≡◌, None, ap, sym, ◌∙◌}
+use Rattle.std.proofs.Common.{None, refl, ap, sym, ◌∙◌}
 use Rattle.ick_code.specs.Compiled.{code_program}
 use Rattle.ick_code.specs.meaning.Move.{advance}
 use Rattle.ick_engine.specs.Memory.{view_in}
 use Rattle.ick_engine.specs.Saved.{saved_view}
 use Rattle.ick_engine.specs.View.{input_of}
 use Rattle.ick_machine.specs.Run.{run_state}
-use Rattle.ick_states.proofs.Keeping.{by_text, going_on, run_same, same_steps}
+use Rattle.ick_states.proofs.Keeping.{going_on, if_ok, run_same, same_steps}
 use Rattle.ick_states.proofs.runs.Runs.make_steps.Goals as goal
 
 pub returns-clause-runs : goal.returns-clause-runs
@@ -13,17 +13,12 @@ returns-clause-runs c =
     let code = c.args.self.now.lowered.code.now in
     let parts = c.args.self.now.lowered.parts in
     let program = code_program code in
-    let text = c.args.self.now.input.now in
-    let input = input_of text in
+    let input = input_of c.args.self.now.input.now in
     let old = c.args.state in
     let saved = saved_view old.saved in
-    let memory = view_in c.restore.new.memory in
     let none = going_on code parts input saved old.end c.requires.going in
-    let step = by_text c.new-reader.result c.step_once.new.reader text
-    (λ before after. run_state code parts after (view_in c.step_once.new.memory) c.step_once.new.end
-    ≡ advance program (run_state code parts before memory None) c.args.done)
-    c.new-reader.ensures c.in_ok-step_once.ensures.held c.in_ok-step_once.ensures.steps in
-    same_steps program _ _ _ _ c.in_ok-made.made
-    (step ∙ ap (λ s. advance program s c.args.done)
-    (run_same code parts input memory saved None (c.restore.ensures.states input)
-    ∙ ap (run_state code parts input saved) (sym none))) (c.in_ok-keep.ensures.states input) c.in_ok-made.ensures.runs
+    let same = run_same code parts input (view_in c.restore.new.memory) saved None (c.restore.ensures.states input)
+    ∙ ap (run_state code parts input saved) (sym none) in
+    if_ok _ _ c.step_in.result
+    (λ p runs. same_steps program _ _ _ _ p.1 (ap (λ s. advance program s c.args.done) same) refl runs)
+    c.step_in.ensures.runs
