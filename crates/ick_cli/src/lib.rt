@@ -1,7 +1,7 @@
 //! The command line. `serve` does the job that arguments ask for, over devices of the caller.
 //!
 //! - `files`: files that are opened by name
-//! - `words`: commands and options, and the job that arguments ask for
+//! - `words`: commands and options, the job that arguments ask for, and the texts of help
 //! - `plan`: what is done with a program, after texts of choices are read
 //! - `notice`: error texts
 //! - `ending`: how the work of a job ends

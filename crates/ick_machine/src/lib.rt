@@ -4,7 +4,7 @@
 //! | Module | What it has |
 //! |---|---|
 //! | `steps` | steps of a run: as many as it makes by itself, or one |
-//! | `asking` | what a machine asks before a step |
+//! | `asking` | what a machine asks before a step, and how its run has ended, with the fault |
 //! | `whole` | steps that are made whole or not at all |
 //! | `trailed` | a machine with marks that notes each change |
 //! | `copied` | a machine with marks that copies its state |
