@@ -49,6 +49,7 @@ pub fn asked_argument<'a>(alloc: Global) -> Arg<'a>
         .long("asked")
         .value_name("LISTING")
         .help(
-            "Prints what the choices of each run were asked by; LISTING is what `ick runs` printed",
+            "Prints which statements asked in each run of LISTING, a file that `ick runs` wrote, \
+             and no outcomes",
         )
 }
