@@ -4,7 +4,8 @@
 
 ghost use Rattle.ick_engine.specs.Memory.{view_in};
 ghost use Rattle.ick_engine.specs.Steady.{IsReady};
-ghost use Rattle.ick_traces.specs.Traces.{AreAllowed, AreTraces};
+ghost use Rattle.ick_traces.specs.Fixed.{AreAllowed};
+ghost use Rattle.ick_traces.specs.Traces.{AreTraces};
 
 use ick_code::{Code, compile};
 use ick_engine::{Memory, fresh_memory};
@@ -76,8 +77,7 @@ fn print_run(
 ) -> io::Result<()>
     requires traces { AreTraces lowered.now.code.now lowered.now.parts traces.now }
     requires ready { IsReady lowered.now.code.now lowered.now.parts (view_in memory) }
-    requires allowed { AreAllowed lowered.now.code.now traces.now.fixed.items
-        memory.statuses.items }
+    requires allowed { AreAllowed lowered.now.code.now traces.now.fixed memory.statuses.items }
 {
     memory.cursor.left = 1000;
     follow_traces(
