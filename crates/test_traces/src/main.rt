@@ -1,5 +1,6 @@
-//! The program `test_traces`: reads programs that stand between lines of `====`. It prints the
-//! traces of each, follows them from the first statement on, and prints where the run is then.
+//! The program `test_traces`: reads programs that stand between lines of `====`, each behind a line
+//! with a number. It makes so many steps of each without traces. It prints the traces, follows them
+//! from there on, and prints where the run is then.
 #![tactic(auto)]
 
 ghost use Rattle.ick_engine.specs.Memory.{view_in};
@@ -8,7 +9,7 @@ ghost use Rattle.ick_traces.specs.Fixed.{AreAllowed};
 ghost use Rattle.ick_traces.specs.Traces.{AreTraces};
 
 use ick_code::{Code, compile};
-use ick_engine::{Memory, fresh_memory};
+use ick_engine::{Exit, Memory, Nobody, TextReader, fresh_memory};
 use ick_instructions::Lowered;
 use ick_lowering::lower;
 use ick_source::read_source;
@@ -18,30 +19,40 @@ use std::io::ErrorKind;
 
 fn main(rt: HostRuntime) -> io::Result<()> {
     let text = io::read_to_string(rt.alloc(), rt.stdin())?;
-    for source in text.split("====\n") {
-        show(&rt, source.as_bytes())?;
+    for part in text.split("====\n") {
+        let Some((count, source)) = part.split_once('\n') else {
+            return Err(ErrorKind::InvalidData.into());
+        };
+        let Ok(steps) = count.parse::<u32>() else {
+            return Err(ErrorKind::InvalidData.into());
+        };
+        show(&rt, source.as_bytes(), steps)?;
     }
     Ok(())
 }
 
-/// Shows the traces of a source text.
-fn show(rt: &HostRuntime, source: &[u8]) -> io::Result<()> {
+/// Shows the traces of a source text, after so many steps.
+fn show(rt: &HostRuntime, source: &[u8], steps: u32) -> io::Result<()> {
     let Ok(program) = read_source(rt.alloc(), source) else {
         return Err(ErrorKind::InvalidData.into());
     };
     let Ok(code) = compile(rt.alloc(), &program) else {
         return Err(ErrorKind::OutOfMemory.into());
     };
-    show_code(rt, &code)
+    show_code(rt, &code, steps)
 }
 
-/// Shows the traces of a code.
-fn show_code(rt: &HostRuntime, code: &Code<'_>) -> io::Result<()> {
+/// Shows the traces of a code, after so many steps.
+fn show_code(rt: &HostRuntime, code: &Code<'_>, steps: u32) -> io::Result<()> {
     let Ok(lowered) = lower(rt.alloc(), code) else {
         return Err(ErrorKind::OutOfMemory.into());
     };
-    let Ok(memory) = fresh_memory(rt.alloc(), &lowered) else {
+    let Ok(mut memory) = fresh_memory(rt.alloc(), &lowered) else {
         return Err(ErrorKind::OutOfMemory.into());
+    };
+    memory.cursor.left = steps;
+    let Exit::Limit = memory.run_steps(&lowered, &mut Nobody, &mut TextReader::new(b"")) else {
+        return Err(ErrorKind::InvalidData.into());
     };
     let Ok(fixed) = fixed_statements(rt.alloc(), &lowered, &memory.statuses) else {
         return Err(ErrorKind::OutOfMemory.into());
@@ -87,7 +98,7 @@ fn print_run(
         memory.home.as_slice(),
         memory.statuses.as_slice(),
         memory.returns.as_mut_slice(),
-        &memory.rest,
+        &mut memory.rest,
         &mut memory.cursor,
     );
     let cursor = memory.cursor;
