@@ -38,7 +38,8 @@ apart_by_key places rs more h n x m =
 pub indexed_none : {S : Type 0} (places : HashMap ℕ ℕ S) → IsIndexed places []
 indexed_none places i d lt = absurd (omega (arith, lt))
 
-pub indexed_push : {S : Type 0} (places places' : HashMap ℕ ℕ S) (rs rs' : List Outcome) (more : Outcome) → IsIndexed places rs →
+pub indexed_push : {S : Type 0} (places places' : HashMap ℕ ℕ S) (rs rs' : List Outcome) (more : Outcome) →
+    IsIndexed places rs →
     ((k : ℕ) → Lacks places' k → Lacks places k) → (Lacks places' (key_of more.output.items more.end.items) → ⊥) →
     rs' ≡ rs ++ more ∷ [] → IsIndexed places' rs'
 indexed_push places places' rs rs' more h f n e =
@@ -46,7 +47,8 @@ indexed_push places places' rs rs' more h f n e =
     (λ i d lt. at-pushed (λ o. Lacks places' (key_of o.output.items o.end.items) → ⊥) rs more i d lt
     (λ u v. h i d u (f _ v)) n)
 
-pub indexed_set : {S : Type 0} (places : HashMap ℕ ℕ S) (rs : List Outcome) (j : ℕ) (old new : Outcome) → IsIndexed places rs →
+pub indexed_set : {S : Type 0} (places : HashMap ℕ ℕ S) (rs : List Outcome) (j : ℕ) (old new : Outcome) →
+    IsIndexed places rs →
     j < length rs → old ≡ slice_index_or rs j old →
     new.output.items ≡ old.output.items → new.end.items ≡ old.end.items →
     IsIndexed places (slice_set rs j new)

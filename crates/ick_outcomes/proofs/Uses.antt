@@ -294,7 +294,8 @@ pub first_node : (p : Place) (l count : ℕ) (f : Fraction) (cs : List Bool) →
     ≡ record { place = p; left = l; count = count; weight = amount (top_of f) f.places l; choices = cs }
 first_node p l count f cs a b d e =
     ap {B = Pending} (λ z. record { place = p; left = l; count = z; weight = amount 1 0 l; choices = [] }) (sym a)
-    ∙ (ap {B = Pending} (λ z. record { place = p; left = l; count = count; weight = amount z 0 l; choices = [] }) (sym b)
+    ∙ (ap {B = Pending}
+    (λ z. record { place = p; left = l; count = count; weight = amount z 0 l; choices = [] }) (sym b)
     ∙ (ap {B = Pending}
     (λ z. record { place = p; left = l; count = count; weight = amount (top_of f) z l; choices = [] }) (sym d)
     ∙ ap {B = Pending}

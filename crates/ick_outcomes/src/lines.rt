@@ -63,7 +63,8 @@ fn put_texts(
     }
 }
 
-/// Appends the line of an outcome: `COUNT WEIGHT FIRST END OUTPUT`. The outcome must have the texts.
+/// Appends the line of an outcome: `COUNT WEIGHT FIRST END OUTPUT`. The texts must be those of the
+/// outcome.
 fn append_line(out: &mut Vec<u8>, outcome: &Outcome, texts: &Texts) -> Result<(), NoMemory>
     ensures { OnOk result ((exact : Bool) →
         AreTexts exact outcome.now texts.now.count.text.items texts.now.weight.text.items →

@@ -106,8 +106,8 @@ impl<'c, 'a> Runs<'c, 'a> {
     }
 
     /// Makes one step of a run that hasn't ended, and then further steps while nothing is asked, at
-    /// most as many as the limit. Returns the state after them, and the number of the further steps.
-    /// The memory represents the state before the first step.
+    /// most as many as the limit. Returns the state after them, and the number of the further
+    /// steps. The memory represents the state before the first step.
     fn step_in(
         &self,
         memory: &mut Memory,

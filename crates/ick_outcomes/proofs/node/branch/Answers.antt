@@ -16,8 +16,9 @@ returns-clause-makes g c =
     let rs = rows_of c.args.rows.now.rows.items in
     let rs' = rows_of c.put.new.rows.rows.items in
     let rs'' = rows_of c.put-2.new.rows.rows.items in
-    makes_choice node (chosen c.args.chance node false) (chosen c.args.chance node true) c.args.chance ns ns' ns'' rs rs'
-    rs'' c.requires.asks c.requires.left refl refl
+    makes_choice node (chosen c.args.chance node false) (chosen c.args.chance node true) c.args.chance ns ns' ns''
+    rs rs' rs'' c.requires.asks c.requires.left refl refl
     (settles_on (chosen c.args.chance node false) zero ns ns' rs rs' c.in_ok-zero.ensures.goes_on
     c.in_ok-put.ensures.settles)
-    (settles_on (chosen c.args.chance node true) one ns' ns'' rs' rs'' c.in_ok-one.ensures.goes_on c.in_ok-put-2.ensures.settles)
+    (settles_on (chosen c.args.chance node true) one ns' ns'' rs' rs'' c.in_ok-one.ensures.goes_on
+    c.in_ok-put-2.ensures.settles)

@@ -17,7 +17,8 @@ returns-clause-runs c =
     let old = c.args.state.now in
     let saved = saved_view old.saved in
     let none = going_on code parts input saved old.end c.requires.going in
-    let same = run_same code parts input (view_in c.load.new.memory) saved None (c.in_ok-load.ensures.loaded.states input)
+    let loaded = c.in_ok-load.ensures.loaded in
+    let same = run_same code parts input (view_in c.load.new.memory) saved None (loaded.states input)
     ∙ ap (run_state code parts input saved) (sym none) in
     if_ok _ _ c.step_in.result
     (λ p runs. same_steps program _ _ _ _ p.1 (ap (λ s. advance program s c.args.done) same) refl runs)
