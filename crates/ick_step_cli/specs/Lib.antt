@@ -1,10 +1,3 @@
 pub mod Words
 pub mod Job
-pub mod Commands
-pub mod Given
-pub mod Shown
-pub mod Changes
-pub mod Held
-pub mod Travel
 pub mod Trace
-pub mod Stepper

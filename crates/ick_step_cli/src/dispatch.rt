@@ -7,10 +7,8 @@ ghost use Rattle.ick_explorer.specs.Writes.{write_failures};
 ghost use Rattle.ick_cli.specs.Ending.{Leaves, LeavesStreams, LeavesWriter};
 ghost use Rattle.ick_step_cli.specs.Trace.{IsTraceError};
 
-use crate::given::Given;
-use crate::stepper::Stepper;
 use crate::talk::talk;
-use crate::trace::{Pair, Stopped, trace};
+use crate::trace::{Stopped, trace};
 use crate::words::Job;
 use ick_bits::{NoMemory, append_message};
 use ick_cli::{Ending, Files, Notice, choices_of, ended, read_file, read_front, refused};
@@ -18,6 +16,7 @@ use ick_code::{Code, compile};
 use ick_inspect::{Position, Text, positions_of};
 use ick_machine::{End, EndKind, Trailed};
 use ick_runs::{ByteSink, ByteSource, RunsError, SliceSource, Streamed};
+use ick_session::{Given, Pair, Stepper};
 use ick_source::read_source;
 use std::alloc::Global;
 

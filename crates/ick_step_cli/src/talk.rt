@@ -3,15 +3,14 @@
 ghost use Rattle.std.specs.Prelude.{◌≡◌, ◌+◌, ◌<◌, ◌^◌, IfErr, IfOk, None, OnOk, length};
 ghost use Rattle.ick_explorer.specs.Whole.{read_failures};
 ghost use Rattle.ick_cli.specs.Ending.{LeavesStreams, LeavesWriter};
-ghost use Rattle.ick_step.specs.Sessions.{session};
-ghost use Rattle.ick_step_cli.specs.Commands.{order_in};
+ghost use Rattle.ick_session.specs.Commands.{order_in};
+ghost use Rattle.ick_session.specs.Stepper.{seen};
 
-use crate::commands::{Command, next_word, read_command};
-use crate::stepper::Stepper;
 use ick_bits::NoMemory;
 use ick_cli::{Ending, Message};
 use ick_inspect::{Position, Text};
 use ick_runs::{ByteSink, ByteSource, ReadFault, RunsError, write_whole};
+use ick_session::{Command, Stepper, next_word, read_command};
 use std::alloc::Global;
 
 /// Reads a line without its end. Returns whether there is one: the text behind the last line end is
@@ -67,9 +66,9 @@ fn answer_line(
     line: &[u8],
     out: &mut Text,
 ) -> Result<bool, NoMemory>
-    requires { length positions.now ≡ length (session stepper.old.session).program }
-    ensures program { (session stepper.new.session).program
-        ≡ (session stepper.old.session).program }
+    requires { length positions.now ≡ length (seen stepper.old).program }
+    ensures program { (seen stepper.new).program
+        ≡ (seen stepper.old).program }
     ensures unknown { order_in line.now ≡ None → stepper.new ≡ stepper.old }
 {
     match read_command(line) {
@@ -100,7 +99,7 @@ pub fn talk<R: ByteSource, W: ByteSink>(
     reader: &mut R,
     writer: &mut W,
 ) -> Ending
-    requires positions { length positions.now ≡ length (session stepper.old.session).program }
+    requires positions { length positions.now ≡ length (seen stepper.old).program }
     requires reads { R.failed reader.old + 1 < 2 ^ 64 }
     requires writes { W.failed writer.old + 1 < 2 ^ 64 }
     ensures { LeavesStreams result (R.failed reader.old) (R.failed reader.new)

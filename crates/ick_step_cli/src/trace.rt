@@ -1,31 +1,17 @@
-//! A line for each step of a run, and what the step changed.
+//! The lines of all steps of a run.
 
-ghost use Rattle.std.specs.Prelude.{◌≡◌, ◌+◌, ◌-◌, ◌<◌, ◌≤◌, ◌^◌, IfErr, IfOk, OnOk, length};
-ghost use Rattle.ick_code.specs.meaning.Move.{advance, ask};
-ghost use Rattle.ick_backtrack.specs.Asked.{IsGoing};
+ghost use Rattle.std.specs.Prelude.{◌≡◌, ◌+◌, ◌<◌, ◌^◌, IfErr, IfOk, length};
 ghost use Rattle.ick_explorer.specs.Writes.{write_failures};
 ghost use Rattle.ick_machine.specs.Seen.{trailed_machine};
-ghost use Rattle.ick_step_cli.specs.Changes.{ShowsStep};
 ghost use Rattle.ick_step_cli.specs.Trace.{IsTraceError};
 
-use crate::changes::append_changes;
-use crate::given::Given;
-use crate::shown::{append_here, append_place};
-use ick_bits::NoMemory;
-use ick_inspect::{Position, Text, place};
-use ick_machine::{Ask, Asks, Backtrack, End, Trailed};
+use ick_inspect::{Position, Text};
+use ick_machine::{Ask, Asks, End, Trailed};
 use ick_runs::{ByteSink, RunsError, write_whole};
+use ick_session::{Given, Pair, append_answered, append_here, append_place, trace_step};
 
 /// How many bytes of lines are written at a time, or a few more.
 const BLOCK: usize = 65_536;
-
-/// Two machines in one state. One makes each step before the other, so that what the step changes
-/// can be seen.
-#[derive(Drop)]
-pub struct Pair<'c, 'a> {
-    pub before: Trailed<'c, 'a>,
-    pub after: Trailed<'c, 'a>,
-}
 
 /// How a traced run stopped, and after how many steps.
 #[derive(Clone, Copy, Debug)]
@@ -33,49 +19,6 @@ pub struct Stopped<'c> {
     /// The end of the run, or `None` if a choice was asked and none was left.
     pub end: Option<End<'c>>,
     pub steps: u32,
-}
-
-/// Appends which choice was answered at a chance.
-fn append_answered(out: &mut Text, chance: u8, done: bool) {
-    out.push(b"  asks %");
-    out.push_decimal(u64::from(chance));
-    if done {
-        out.push(b": 1\n");
-    } else {
-        out.push(b": 0\n");
-    }
-}
-
-/// Appends what a step changed, from the states before it and after it.
-fn append_step(out: &mut Text, before: &Trailed<'_, '_>, after: &Trailed<'_, '_>)
-    requires { (trailed_machine after.now).program ≡ (trailed_machine before.now).program }
-    ensures { ShowsStep (trailed_machine after.now).program (trailed_machine before.now).state
-        (trailed_machine after.now).state out.old out.new }
-{
-    let old = before.present();
-    let new = after.present();
-    new.lowered.code.law();
-    append_changes(out, place(&old), &old, &new);
-}
-
-/// Makes a step with both machines, and appends what it changed.
-fn trace_step(machines: &mut Pair<'_, '_>, out: &mut Text, done: bool) -> Result<(), NoMemory>
-    requires same { trailed_machine machines.old.after ≡ trailed_machine machines.old.before }
-    requires going { IsGoing (ask (trailed_machine machines.old.before).program
-        (trailed_machine machines.old.before).state) }
-    requires room { (trailed_machine machines.old.before).work < 2 ^ 64 - 1 }
-    ensures same { OnOk result (trailed_machine machines.new.after ≡ trailed_machine machines.new.before) }
-    ensures step { let seen = trailed_machine machines.old.before in OnOk result (
-        trailed_machine machines.new.before ≡ record seen {
-          state = advance seen.program seen.state done;
-          work = seen.work + 1;
-        }) }
-    ensures shows { let seen = trailed_machine machines.old.before in OnOk result (
-        ShowsStep seen.program seen.state (advance seen.program seen.state done) out.old out.new) }
-{
-    machines.after.step(done)?;
-    append_step(out, &machines.before, &machines.after);
-    machines.before.step(done)
 }
 
 /// Writes the lines and clears them.

@@ -5,5 +5,4 @@ mod command;
 mod help;
 mod job;
 
-pub use help::COMMANDS;
 pub use job::{Job, read_job};

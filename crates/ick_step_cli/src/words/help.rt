@@ -18,24 +18,3 @@ Exit status:
 
 Example:
   ick-step --trace examples/hello.i";
-
-/// The answer to the command `help`.
-pub const COMMANDS: &str = "step [N]      makes N steps, or 1
-back [N]      takes N steps back, or 1
-next          makes a step, and if it is a NEXT, all steps until it comes back
-until N       makes steps until statement N is met next
-run           makes steps until a choice, the end or the limit
-choose 0|1    passes over the statement that asks, or does it
-print NAME..  shows variables and arrays, such as .1 or ,2
-stack         shows the NEXT stack
-state         shows the whole state
-list          shows the statements around the one that is met next
-watch NAME    makes steps until one changes the name
-why NAME      goes back to the step that last changed the name
-output        shows what the run has printed
-cursor        shows the choices so far, as `ick run --choices` takes them
-help          shows this list
-quit          ends the session
-Each command may be cut short: s is step, b is back, sta is stack, stat is state, wh is why.
-A step prints STEPS STATEMENT LINE:COLUMN TEXT: the steps so far, and the statement met next.
-";

@@ -1,0 +1,79 @@
+-- The texts of what has changed.
+use Rattle.std.proofs.Common.{◌≡◌, ◌<◌, ◌≤◌, ℕ, ◌++◌, List, Bool, true, false, not, ap, sym, refl, ◌∙◌, arith, codes, length}
+use Rattle.std.proofs.Common.{[], subst}
+use Rattle.std.specs.Prelude.{Result, Ok, Err, OnOk}
+use Rattle.ick_backtrack.specs.Machine.{Program}
+use Rattle.ick_inspect.specs.declared.text.Text.{Text}
+use Rattle.std.proofs.lemmas.Bool.Decides.{nat_tests}
+use Rattle.std.specs.Prelude.{bytes_eq, decimal, reverse}
+use Rattle.std.proofs.lemmas.List.{reverse-reverse}
+use Rattle.std.proofs.lemmas.Slice.Eq.{bytes_eq-Decides}
+use Rattle.ick_code.specs.declared.code.Code.{Code}
+use Rattle.ick_code.specs.Compiled.{code_ops, code_program}
+use Rattle.ick_code.specs.meaning.State.{State}
+use Rattle.ick_inspect.specs.Summary.{stack_text}
+use Rattle.ick_session.specs.Changes.{ShowsStep, abstained_lines, changes_text, newly_line, newly_text, ops_at, printed_text}
+use Rattle.ick_session.specs.Changes.{returned_text}
+
+pub newly_is : (word : List ℕ) (s t : State) (n k : ℕ) → t.abstained n ≡ true → s.abstained n ≡ false → k ≡ n →
+    word ++ decimal k ++ codes "\n" ≡ newly_line word s t n
+newly_is word s t n k is was e = rw (is, was, e) refl
+
+reversed : (xs ys : List ℕ) → reverse xs ≡ reverse ys → xs ≡ ys
+reversed xs ys e = sym (reverse-reverse xs) ∙ (ap reverse e ∙ reverse-reverse ys)
+
+other_returns : (s t : State) (xs ys : List ℕ) (b : Bool) → s.returns ≡ reverse xs → t.returns ≡ reverse ys →
+    bytes_eq xs ys ≡ false → bytes_eq s.returns t.returns ≡ b → b ≡ false
+other_returns s t xs ys false e f differ h = refl
+other_returns s t xs ys true e f differ h =
+    let same = (bytes_eq-Decides s.returns t.returns).0 h in
+    let equal = (bytes_eq-Decides xs ys).1 (reversed xs ys (sym e ∙ (same ∙ f))) in
+    absurd (cc)
+
+not_true : (b : Bool) → not b ≡ true → b ≡ false
+not_true true e = absurd (cc)
+not_true false e = refl
+
+not_false : (b : Bool) → not b ≡ false → b ≡ true
+not_false true e = refl
+not_false false e = absurd (cc)
+
+pub returned_is : (s t : State) (xs ys : List ℕ) (r : Bool) → s.returns ≡ reverse xs → t.returns ≡ reverse ys →
+    r ≡ not (bytes_eq xs ys) → r ≡ true → codes "  " ++ stack_text t ≡ returned_text s t
+returned_is s t xs ys r e f h is =
+    let differ = not_true (bytes_eq xs ys) (sym h ∙ is) in
+    rw (other_returns s t xs ys (bytes_eq s.returns t.returns) e f differ refl) refl
+
+pub none_returned : (s t : State) (xs ys : List ℕ) (r : Bool) → s.returns ≡ reverse xs → t.returns ≡ reverse ys →
+    r ≡ not (bytes_eq xs ys) → r ≡ false → [] ≡ returned_text s t
+none_returned s t xs ys r e f h is =
+    let equal = (bytes_eq-Decides xs ys).0 (not_false (bytes_eq xs ys) (sym h ∙ is)) in
+    let both = (bytes_eq-Decides s.returns t.returns).1 (e ∙ (ap reverse equal ∙ sym f)) in
+    rw both refl
+
+pub abstained_is : (s t : State) (n a b : ℕ) (is : Bool) → a ≡ n → b ≡ n → is ≡ true →
+    newly_text (codes "  abstains from ") s t a ++ newly_text (codes "  reinstates ") t s b
+    ≡ abstained_lines n s t is
+abstained_is s t n a b is e f h = rw (e, f, h) refl
+
+pub printed_same : (s t : State) (xs : List ℕ) → s.output ≡ xs →
+    printed_text (length xs) t ≡ printed_text (length s.output) t
+printed_same s t xs e = ap (λ l. printed_text (length l) t) (sym e)
+
+pub ops_are : (code : Code) (n : ℕ) → 1 ≤ n → n ≤ length (code_program code) → ops_at code n ≡ code_ops code n
+ops_are code n low high = grind (arith, nat_tests)
+
+pub changes_same : (code : Code) (n : ℕ) (s t u v : State) → u ≡ s → v ≡ t → u.place ≡ n →
+    changes_text code n u v ≡ changes_text code s.place s t
+changes_same code n s t u v e f h =
+    let m : n ≡ s.place = sym h ∙ ap (λ w. w.place) e in
+    rw (e, f, m) refl
+
+-- a step by a machine that was in the state of another one
+pub step_shown : (p : Program) (s t u : State) (out old : Text) (q : Program) → q ≡ p → u ≡ t →
+    ShowsStep q s u old out → ShowsStep p s t old out
+step_shown p s t u out old q e f h = subst (λ v. ShowsStep p s v old out) f (subst (λ r. ShowsStep r s u old out) e h)
+
+pub on_ok : {A E P : Type 0} (r : Result A E) → P → OnOk r P
+on_ok (Ok x) h = h
+on_ok (Err e) h = tt

@@ -1,0 +1,312 @@
+-- Steps that go on, one by one.
+use Rattle.std.proofs.Common.{◌≡◌, ℕ, zero, suc, ◌+◌, ◌-◌, ◌<◌, ◌≤◌, ◌⊎◌, inl, inr, Bool, true, false, List, [], ◌∷◌, ◌++◌}
+use Rattle.std.specs.Prelude.{codes, Result, Ok, Err, OnOk}
+use Rattle.ick_inspect.specs.declared.positions.Position.{Position}
+use Rattle.ick_session.specs.Shown.{here_text}
+use Rattle.std.proofs.Common.{length, take, get_or, Option, Some, None, refl, ap, ap₂, sym, ◌∙◌, subst, arith, not}
+use borrow.Author.Count.{below_more}
+use Rattle.std.proofs.lemmas.List.{append-nil, length-append, take-append-le, take_all, take_more}
+use Rattle.ick_syntax.specs.declared.tree.Name.{Name}
+use Rattle.ick_code.specs.meaning.State.{State}
+use Rattle.ick_code.specs.meaning.Move.{Asking, plain, choice, ended, ask, advance}
+use Rattle.ick_backtrack.specs.Machine.{Program}
+use Rattle.ick_backtrack.specs.Steps.{IsPlain}
+use Rattle.ick_step.specs.History.{Answers, IsHistory, after, asks_choice, done_by}
+use Rattle.ick_step.specs.Session.{Seen, later, present, with_answer}
+use Rattle.std.specs.Prelude.{◌&&◌, ◌==◌, bytes_eq}
+use Rattle.std.proofs.lemmas.Bool.Decides.{nat_tests}
+use Rattle.std.proofs.lemmas.Slice.Eq.{bytes_eq-Decides}
+use Rattle.std.specs.Bool.{beq}
+use Rattle.ick_session.specs.Changes.{Had, alike, had_at}
+use Rattle.ick_session.specs.Held.{Keeps, had}
+use Rattle.ick_session.specs.declared.held.Held.{Held}
+use Rattle.ick_session.specs.Travel.{AreKept, GoesOn, IsAt, IsLastChange, LastChange, Passes, StopsFirst}
+use Rattle.ick_session.specs.Travel.{differs, is_kept, state_after, steps_left, where_text}
+
+-- one step, or none
+pub later_one : (s : Seen) (k : ℕ) → k ≤ 1 → 0 < k → later k s ≡ with_answer None s
+later_one s k low high = let e : k ≡ 1 = omega arith in rw e refl
+
+pub later_none : (s : Seen) (k : ℕ) → k ≡ 0 → later k s ≡ s
+later_none s k e =
+    let work : s.work + 0 ≡ s.work = omega arith in
+    rw e (ap₂ (λ l w. record s { answers = l; work = w }) (append-nil s.answers) work)
+
+-- the states behind the steps so far stay the same
+kept_state : (t : Seen) (a : Option Bool) (k : ℕ) → k ≤ length t.answers →
+    state_after (with_answer a t) k ≡ state_after t k
+kept_state t a k le = ap (after t.program t.start) (take-append-le k t.answers (a ∷ []) le)
+
+last_state : (t : Seen) (k : ℕ) → length t.answers ≤ k → state_after t k ≡ present t
+last_state t k le = ap (after t.program t.start) (take_all k t.answers le)
+
+longer : (t : Seen) (a : Option Bool) → length (with_answer a t).answers ≡ length t.answers + 1
+longer t a = length-append t.answers (a ∷ [])
+
+-- so many steps were made, and none of them came to a state of the kind
+pub record Made (here : State → Bool) (made : ℕ) (s t : Seen) : Type 0 where
+  pub program : t.program ≡ s.program
+  pub start : t.start ≡ s.start
+  pub answers : take (length s.answers) t.answers ≡ s.answers
+  pub count : length t.answers ≡ length s.answers + made
+  pub before : (k : ℕ) → k < length t.answers + 1 → length s.answers < k → here (state_after t k) ≡ false
+
+pub none_made : (here : State → Bool) (s : Seen) → Made here 0 s s
+none_made here s = record {
+  program = refl;
+  start = refl;
+  answers = take_all (length s.answers) s.answers (omega arith);
+  count = omega arith;
+  before = λ k low high. absurd (omega arith);
+}
+
+kept_answers : (s t : Seen) (a : Option Bool) → length s.answers ≤ length t.answers →
+    take (length s.answers) t.answers ≡ s.answers → take (length s.answers) (with_answer a t).answers ≡ s.answers
+kept_answers s t a le e = take-append-le (length s.answers) t.answers (a ∷ []) le ∙ e
+
+passed : (here : State → Bool) (made : ℕ) (s t : Seen) (a : Option Bool) → Made here made s t → (k : ℕ) →
+    k < length t.answers + 1 → length s.answers < k → here (state_after (with_answer a t) k) ≡ false
+passed here made s t a h k low high = ap here (kept_state t a k (omega arith)) ∙ h.before k low high
+
+one_more : (here : State → Bool) (made : ℕ) (s t : Seen) (a : Option Bool) → Made here made s t →
+    here (present (with_answer a t)) ≡ false → Made here (made + 1) s (with_answer a t)
+one_more here made s t a h away =
+    let size = longer t a in
+    let count = h.count in
+    record {
+      program = h.program;
+      start = h.start;
+      answers = kept_answers s t a (omega arith) h.answers;
+      count = omega arith;
+      before = λ k low high. below_more (λ i. length s.answers < i → here (state_after (with_answer a t) i) ≡ false)
+          (length t.answers + 1) (λ i lt. passed here made s t a h i lt)
+          (λ _. ap here (last_state (with_answer a t) (length t.answers + 1) (omega arith)) ∙ away)
+          k (subst (λ n. k < n + 1) size low) high;
+    }
+
+pub made_more : (here : State → Bool) (made : ℕ) (s t u : Seen) (a : Option Bool) → Made here made s t →
+    u ≡ with_answer a t → here (present u) ≡ false → Made here (made + 1) s u
+made_more here made s t u a h e away =
+    subst (λ v. Made here (made + 1) s v) (sym e) (one_more here made s t a h (ap (λ v. here (present v)) (sym e) ∙ away))
+
+-- steps that stop
+pub stops_over : (here : State → Bool) (made most : ℕ) (s t : Seen) → Made here made s t → made ≡ most →
+    StopsFirst here most s t
+stops_over here made most s t h e =
+    let count = h.count in
+    record {
+      on = record { program = h.program; start = h.start; answers = h.answers; further = omega arith; within = omega arith };
+      before = record { before = λ k low high. h.before k (omega arith) low };
+      stops = inl (omega arith);
+    }
+
+pub stops_stuck : (here : State → Bool) (made most : ℕ) (s t u : Seen) → Made here made s t → made < most → u ≡ t →
+    ¬ IsPlain u.program (present u) → StopsFirst here most s u
+stops_stuck here made most s t u h lt e stuck =
+    let count = h.count in
+    let on : StopsFirst here most s t = record {
+      on = record { program = h.program; start = h.start; answers = h.answers; further = omega arith; within = omega arith };
+      before = record { before = λ k low high. h.before k (omega arith) low };
+      stops = inr (inl (subst (λ v. ¬ IsPlain v.program (present v)) e stuck));
+    } in
+    subst (λ v. StopsFirst here most s v) (sym e) on
+
+pub stops_come : (here : State → Bool) (made most : ℕ) (s t u : Seen) (a : Option Bool) → Made here made s t →
+    made < most → u ≡ with_answer a t → here (present u) ≡ true → StopsFirst here most s u
+stops_come here made most s t u a h lt e come =
+    let count = h.count in
+    let size = longer t a in
+    let on : StopsFirst here most s (with_answer a t) = record {
+      on = record {
+        program = h.program;
+        start = h.start;
+        answers = kept_answers s t a (omega arith) h.answers;
+        further = omega arith;
+        within = omega arith;
+      };
+      before = record { before = λ k low high. passed here made s t a h k (omega arith) low };
+      stops = inr (inr ((omega arith), (ap (λ v. here (present v)) (sym e) ∙ come)));
+    } in
+    subst (λ v. StopsFirst here most s v) (sym e) on
+
+-- a step by its answer
+pub history_at : (p : Program) (s : State) (xs : List (Option Bool)) (n : ℕ) (d : Option Bool) → n < length xs →
+    IsHistory p s xs → Answers (ask p (after p s (take n xs))) (get_or xs n d)
+history_at p s [] n d lt h = absurd (omega arith)
+history_at p s (a ∷ xs) zero d lt h = h.0
+history_at p s (a ∷ xs) (suc n) d lt h = history_at p (advance p s (done_by a)) xs n d (omega arith) h.1
+
+pub answers_choice : (x : Asking) (b : Bool) → Answers x (Some b) → asks_choice x ≡ true
+answers_choice plain b h = absurd h
+answers_choice (choice chance) b h = refl
+answers_choice (ended end) b h = absurd h
+
+pub answers_none : (x : Asking) → Answers x None → x ≡ plain
+answers_none plain h = refl
+answers_none (choice chance) h = absurd h
+answers_none (ended end) h = absurd h
+
+pub plain_step : (s t : Seen) (k : ℕ) → k ≤ 1 → t ≡ later k s → Answers (ask s.program (present s)) None →
+    (k ≡ 1) ⊎ (¬ IsPlain t.program (present t)) → t ≡ with_answer None s
+plain_step s t k low e h (inl one) = e ∙ later_one s k low (omega arith)
+plain_step s t zero low e h (inr stuck) =
+    absurd (subst (λ v. ¬ IsPlain v.program (present v)) (e ∙ later_none s 0 refl) stuck
+    (answers_none (ask s.program (present s)) h))
+plain_step s t (suc k) low e h (inr stuck) = e ∙ later_one s (suc k) low (omega arith)
+
+-- the session has made its first steps again
+pub at_more : (s t u : Seen) (n : ℕ) (d : Option Bool) → IsAt s t n → n < length s.answers →
+    u ≡ with_answer (get_or s.answers n d) t → IsAt s u (n + 1)
+at_more s t u n d h lt e = record {
+  program = ap (λ v. v.program) e ∙ h.program;
+  start = ap (λ v. v.start) e ∙ h.start;
+  answers = ap (λ v. v.answers) e
+      ∙ (ap (λ l. l ++ get_or s.answers n d ∷ []) h.answers ∙ sym (take_more s.answers n d lt));
+}
+
+at_state : (s t : Seen) (n : ℕ) → IsAt s t n → present t ≡ state_after s n
+at_state s t n h = rw (h.program, h.start, h.answers) refl
+
+pub at_asks : (s t : Seen) (n : ℕ) (xs : List (Option Bool)) (d : Option Bool) → IsAt s t n → s.answers ≡ xs →
+    n < length xs → IsHistory s.program s.start xs → Answers (ask t.program (present t)) (get_or xs n d)
+at_asks s t n xs d h e lt history =
+    let state : present t ≡ after s.program s.start (take n xs) =
+    at_state s t n h ∙ ap (λ l. after s.program s.start (take n l)) e in
+    subst (λ q. Answers q (get_or xs n d)) (sym (ap₂ ask h.program state))
+    (history_at s.program s.start xs n d lt history)
+
+pub at_next : (s t u : Seen) (n : ℕ) (xs : List (Option Bool)) (d : Option Bool) → IsAt s t n → s.answers ≡ xs →
+    n < length xs → u ≡ with_answer (get_or xs n d) t → IsAt s u (n + 1)
+at_next s t u n xs d h e lt f =
+    at_more s t u n d h (subst (λ l. n < length l) (sym e) lt) (f ∙ ap (λ l. with_answer (get_or l n d) t) (sym e))
+
+-- the test of what was kept is that of the step
+pub kept_is : (s t u : Seen) (n : ℕ) (name : Name) (held : Held) (r : Bool) → IsAt s t n → IsAt s u (n + 1) →
+    Keeps held (present t) name →
+    r ≡ alike (had held) (had_at (present u) held.name) → r ≡ is_kept s name n
+kept_is s t u n name held r h g keeps e =
+    e ∙ ap₂ alike (keeps.had_is ∙ ap (λ v. had_at v name) (at_state s t n h))
+    (ap₂ had_at (at_state s u (n + 1) g) keeps.name_is)
+
+pub last_is : (s : Seen) (name : Name) (n : ℕ) → is_kept s name n ≡ false → IsLastChange s name (n + 1) (Some n)
+last_is s name n e = record {
+  within = omega arith;
+  changes = e;
+  later = λ k low high. absurd (omega arith);
+}
+
+pub last_stays : (s : Seen) (name : Name) (n : ℕ) (last : Option ℕ) → is_kept s name n ≡ true →
+    IsLastChange s name n last → IsLastChange s name (n + 1) last
+last_stays s name n None e h = λ k low high. below_more (λ i. is_kept s name i ≡ true) n (λ i lt. h i (omega arith) lt) e
+    k high
+last_stays s name n (Some at) e h =
+    let within = h.within in
+    record {
+      within = omega arith;
+      changes = h.changes;
+      later = λ k low high. below_more (λ i. at + 1 ≤ i → is_kept s name i ≡ true) n (λ i lt le. h.later i le lt)
+          (λ _. e) k high low;
+    }
+
+pub none_changes : (s : Seen) (name : Name) → IsLastChange s name 0 None
+none_changes s name = λ k low high. absurd (omega arith)
+
+pub back_at : (s t u : Seen) (at steps n : ℕ) → IsAt s t (length s.answers) → at < length s.answers →
+    steps ≡ n - at → n ≡ length s.answers → IsAt t u (length t.answers - steps) → IsAt s u at
+back_at s t u at steps n h lt e f g =
+    let all : t.answers ≡ s.answers = h.answers ∙ take_all (length s.answers) s.answers (omega arith) in
+    let long : length t.answers ≡ length s.answers = ap length all in
+    let size : length t.answers - steps ≡ at = omega arith in
+    record {
+      program = g.program ∙ h.program;
+      start = g.start ∙ h.start;
+      answers = g.answers ∙ ap₂ take size all;
+    }
+
+pub last_some : (s : Seen) (name : Name) (n : ℕ) (last : Option ℕ) (at : ℕ) → last ≡ Some at →
+    IsLastChange s name n last → LastChange s name n at
+last_some s name n last at e h = subst (IsLastChange s name n) e h
+
+pub where_over : (limit : ℕ) (positions : List Position) (s : Seen) (p : Program) (n : ℕ) (t : State) (left : ℕ) →
+    p ≡ s.program → n ≡ length s.answers → t ≡ present s → left ≡ steps_left limit s → left ≡ 0 →
+    here_text p positions n t ++ codes "  limit reached\n" ≡ where_text limit positions s
+where_over limit positions s p n t left e f g h z =
+    let none : limit - length s.answers ≡ 0 = sym h ∙ z in
+    rw (e, f, g, none) refl
+
+pub on_ok : {A E P : Type 0} (r : Result A E) → P → OnOk r P
+on_ok (Ok x) h = h
+on_ok (Err e) h = tt
+
+pub fewer : (here : State → Bool) (m most : ℕ) (s t : Seen) → m ≡ most → StopsFirst here m s t → StopsFirst here most s t
+fewer here m most s t e h = subst (λ n. StopsFirst here n s t) e h
+
+-- a kept name is that of the state that it was kept of
+pub stops_at : (held : Held) (name : Name) (m most : ℕ) (s t : Seen) → Keeps held (present s) name →
+    m ≡ most → StopsFirst (λ v. differs (had held) held.name v) m s t →
+    StopsFirst (differs (had_at (present s) name) name) most s t
+stops_at held name m most s t keeps e h =
+    subst (λ n. StopsFirst (differs (had_at (present s) name) name) n s t) e
+    (subst (λ v. StopsFirst (differs (had_at (present s) name) v) m s t) keeps.name_is
+    (subst (λ v. StopsFirst (differs v held.name) m s t) keeps.had_is h))
+
+record AllTrue (a b c d e f : Bool) : Type 0 where
+  pub first : a ≡ true
+  pub second : b ≡ true
+  pub third : c ≡ true
+  pub fourth : d ≡ true
+  pub fifth : e ≡ true
+  pub sixth : f ≡ true
+
+all_true : (a b c d e f : Bool) → (a && b && c && d && e && f) ≡ true → AllTrue a b c d e f
+all_true false b c d e f h = absurd (cc)
+all_true true false c d e f h = absurd (cc)
+all_true true true false d e f h = absurd (cc)
+all_true true true true false e f h = absurd (cc)
+all_true true true true true false f h = absurd (cc)
+all_true true true true true true false h = absurd (cc)
+all_true true true true true true true h = record {
+  first = refl;
+  second = refl;
+  third = refl;
+  fourth = refl;
+  fifth = refl;
+  sixth = refl;
+}
+
+equal : (x y : ℕ) → (x == y) ≡ true → x ≡ y
+equal x y e = grind (arith, nat_tests)
+
+alike_bools : (x y : Bool) → beq x y ≡ true → x ≡ y
+alike_bools true true e = refl
+alike_bools true false e = absurd (cc)
+alike_bools false true e = absurd (cc)
+alike_bools false false e = refl
+
+pub alike_same : (a b : Had) → alike a b ≡ true → a ≡ b
+alike_same a b h =
+    let p = all_true _ _ _ _ _ _ h in
+    had_same a b (equal _ _ p.first) (alike_bools a.ignored b.ignored p.second) (equal _ _ p.third)
+    (equal _ _ p.fourth) ((bytes_eq-Decides a.dimensions b.dimensions).0 p.fifth)
+    ((bytes_eq-Decides a.elements b.elements).0 p.sixth)
+  where
+    had_same : (a b : Had) → a.number ≡ b.number → a.ignored ≡ b.ignored → a.numbers ≡ b.numbers → a.arrays ≡ b.arrays →
+        a.dimensions ≡ b.dimensions → a.elements ≡ b.elements → a ≡ b
+    had_same a b e f g h i j =
+        ap (λ x. record a { number = x }) e
+        ∙ (ap (λ x. record a { number = b.number; ignored = x }) f
+        ∙ (ap (λ x. record a { number = b.number; ignored = b.ignored; numbers = x }) g
+        ∙ (ap (λ x. record b { arrays = x; dimensions = a.dimensions; elements = a.elements }) h
+        ∙ (ap (λ x. record b { dimensions = x; elements = a.elements }) i
+        ∙ ap (λ x. record b { elements = x }) j))))
+
+pub keeps_in : (held : Held) (s t : State) (name : Name) → s ≡ t → Keeps held s name → Keeps held t name
+keeps_in held s t name e h = subst (λ v. Keeps held v name) e h
+
+-- a name that is as it was kept
+pub keeps_on : (held : Held) (s t : State) (name : Name) (r : Bool) → Keeps held s name →
+    r ≡ alike (had held) (had_at t held.name) → r ≡ true → Keeps held t name
+keeps_on held s t name r h e is = record {
+  name_is = h.name_is;
+  had_is = alike_same (had held) (had_at t held.name) (sym e ∙ is) ∙ ap (had_at t) h.name_is;
+}

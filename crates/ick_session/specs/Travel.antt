@@ -1,0 +1,86 @@
+-- Where steps stop that lead to a state of some kind, and which step last changed a name.
+use Rattle.std.specs.Prelude.{◌≡◌, ℕ, suc, ◌+◌, ◌-◌, ◌==◌, ◌<◌, ◌≤◌, ◌⊎◌, Bool, true, false, not, nat_lt, min, List, [], ◌++◌}
+use Rattle.std.specs.Prelude.{codes, length, take, if◌then◌else◌, Option, None, Some}
+use Rattle.ick_syntax.specs.declared.tree.Name.{Name}
+use Rattle.ick_code.specs.meaning.State.{State}
+use Rattle.ick_backtrack.specs.Steps.{IsPlain}
+use Rattle.ick_inspect.specs.declared.positions.Position.{Position}
+use Rattle.ick_step.specs.History.{after}
+use Rattle.ick_step.specs.Session.{Seen, present, with_answer}
+use Rattle.ick_session.specs.Changes.{Had, alike, had_at, printed_text}
+use Rattle.ick_session.specs.Held.{had}
+use Rattle.ick_session.specs.Shown.{here_text}
+use Rattle.ick_session.specs.declared.stepper.Target.{Target}
+use Rattle.ick_session.specs.declared.stepper.Target.TheVariants.{Nowhere, Statement, Depth, Change}
+
+-- a state has something else at a name
+abbrev pub differs : Had → Name → State → Bool
+differs held name s = not (alike held (had_at s name))
+
+abbrev pub has_come : Target → State → Bool
+has_come Nowhere s = false
+has_come (Statement n) s = s.place == n
+has_come (Depth n) s = not (nat_lt n (length s.returns))
+has_come (Change held) s = differs (had held.now) held.now.name s
+
+-- the state behind the first steps of a session
+abbrev pub state_after : Seen → ℕ → State
+state_after s k = after s.program s.start (take k s.answers)
+
+-- how many further steps a session may make
+abbrev pub steps_left : (limit : ℕ) → Seen → ℕ
+steps_left limit s = limit - length s.answers
+
+-- a session has gone on by further steps, at most so many
+pub record GoesOn (most : ℕ) (s t : Seen) : Type 0 where
+  pub program : t.program ≡ s.program
+  pub start : t.start ≡ s.start
+  pub answers : take (length s.answers) t.answers ≡ s.answers
+  pub further : length s.answers ≤ length t.answers
+  pub within : length t.answers ≤ length s.answers + most
+
+-- it has passed no state of a kind before its last one
+pub record Passes (here : State → Bool) (s t : Seen) : Type 0 where
+  pub before : (k : ℕ) → length s.answers < k → k < length t.answers → here (state_after t k) ≡ false
+
+-- further steps lead to the first state of the kind, unless so many steps, a choice or the end of the run come before
+pub record StopsFirst (here : State → Bool) (most : ℕ) (s t : Seen) : Type 0 where
+  pub on : GoesOn most s t
+  pub before : Passes here s t
+  pub stops : (length t.answers ≡ length s.answers + most)
+      ⊎ ((¬ IsPlain t.program (present t)) ⊎ ((length s.answers < length t.answers) × (here (present t) ≡ true)))
+
+-- the step behind so many steps leaves a name as it was
+abbrev pub is_kept : Seen → Name → ℕ → Bool
+is_kept s name k = alike (had_at (state_after s k) name) (had_at (state_after s (k + 1)) name)
+
+-- no step of these changes the name
+abbrev pub AreKept : Seen → Name → (from to : ℕ) → Type 0
+AreKept s name from to = (k : ℕ) → from ≤ k → k < to → is_kept s name k ≡ true
+
+-- the step that is the last one of the first steps to change the name
+pub record LastChange (s : Seen) (name : Name) (count at : ℕ) : Type 0 where
+  pub within : at < count
+  pub changes : is_kept s name at ≡ false
+  pub later : AreKept s name (at + 1) count
+
+abbrev pub IsLastChange : Seen → Name → (count : ℕ) → Option ℕ → Type 0
+IsLastChange s name count None = AreKept s name 0 count
+IsLastChange s name count (Some at) = LastChange s name count at
+
+-- a session has gone back to its first steps
+pub record IsAt (s t : Seen) (steps : ℕ) : Type 0 where
+  pub program : t.program ≡ s.program
+  pub start : t.start ≡ s.start
+  pub answers : t.answers ≡ take steps s.answers
+
+-- where a session is, and that it has come to its limit
+abbrev pub where_text : (limit : ℕ) → List Position → Seen → List ℕ
+where_text limit positions s =
+    here_text s.program positions (length s.answers) (present s)
+    ++ (if steps_left limit s == 0 then codes "  limit reached\n" else [])
+
+-- what was printed on the way from one session's state to another's, and where that is
+abbrev pub way_text : (limit : ℕ) → List Position → (s t : Seen) → List ℕ
+way_text limit positions s t =
+    printed_text (length (present s).output) (present t) ++ where_text limit positions t

@@ -1,0 +1,336 @@
+//! The commands of a session.
+
+ghost use Rattle.std.specs.Prelude.{◌≡◌, ◌≤◌, None, Some, if◌then◌else◌, length, option_map};
+ghost use Rattle.std.specs.List.{prefix_len};
+ghost use Rattle.ick_bits.specs.White.{is_white_byte};
+ghost use Rattle.ick_session.specs.Commands.{alone, are_names, behind_word, choice_in, count_in};
+ghost use Rattle.ick_session.specs.Commands.{first_word, is_blank, is_solid, kind_in, name_alone};
+ghost use Rattle.ick_session.specs.Commands.{name_in, number_alone, number_in, order_by, order_in};
+ghost use Rattle.ick_session.specs.Commands.{order_of, verb_in, verb_word};
+
+use ick_bits::is_white;
+use ick_syntax::{Name, NameKind};
+
+/// A command of a session. The names of `Print` are the words of a text.
+#[derive(Clone, Copy)]
+pub enum Command<'l> {
+    Step(u32),
+    Back(u32),
+    Next,
+    Until(u32),
+    Run,
+    Choose(bool),
+    Print(&'l [u8]),
+    Stack,
+    State,
+    List,
+    Watch(Name),
+    Why(Name),
+    Output,
+    Cursor,
+    Help,
+    Quit,
+}
+
+/// The first word of a command.
+#[derive(Clone, Copy)]
+pub enum Verb {
+    Step,
+    Back,
+    Next,
+    Until,
+    Run,
+    Choose,
+    Print,
+    Stack,
+    State,
+    List,
+    Watch,
+    Why,
+    Output,
+    Cursor,
+    Help,
+    Quit,
+}
+
+/// All verbs. If a word is the front of two verbs, it means the earlier one.
+static VERBS: [Verb; 16] = [
+    Verb::Step,
+    Verb::Back,
+    Verb::Next,
+    Verb::Until,
+    Verb::Run,
+    Verb::Choose,
+    Verb::Print,
+    Verb::Stack,
+    Verb::State,
+    Verb::List,
+    Verb::Watch,
+    Verb::Why,
+    Verb::Output,
+    Verb::Cursor,
+    Verb::Help,
+    Verb::Quit,
+];
+
+impl Verb {
+    /// Returns the word.
+    pub fn word(self) -> &'static [u8]
+        ensures { result.now ≡ verb_word self }
+    {
+        match self {
+            Verb::Step => b"step",
+            Verb::Back => b"back",
+            Verb::Next => b"next",
+            Verb::Until => b"until",
+            Verb::Run => b"run",
+            Verb::Choose => b"choose",
+            Verb::Print => b"print",
+            Verb::Stack => b"stack",
+            Verb::State => b"state",
+            Verb::List => b"list",
+            Verb::Watch => b"watch",
+            Verb::Why => b"why",
+            Verb::Output => b"output",
+            Verb::Cursor => b"cursor",
+            Verb::Help => b"help",
+            Verb::Quit => b"quit",
+        }
+    }
+}
+
+/// Returns the first verb that begins with a word.
+fn verb_of(word: &[u8]) -> Option<Verb>
+    ensures { result ≡ verb_in word.now }
+{
+    VERBS
+        .iter()
+        .copied()
+        .find(|verb| verb.word().starts_with(word))
+}
+
+/// Returns how many white bytes a text begins with.
+fn white_length(text: &[u8]) -> usize
+    ensures within { result ≤ length text.now }
+    ensures is { result ≡ prefix_len is_white_byte text.now }
+{
+    let mut size = 0;
+    while size < text.len() {
+        if !is_white(text[size]) {
+            return size;
+        }
+        size += 1;
+    }
+    size
+}
+
+/// Returns how many bytes a text begins with that aren't white.
+fn solid_length(text: &[u8]) -> usize
+    ensures within { result ≤ length text.now }
+    ensures is { result ≡ prefix_len is_solid text.now }
+{
+    let mut size = 0;
+    while size < text.len() {
+        if is_white(text[size]) {
+            return size;
+        }
+        size += 1;
+    }
+    size
+}
+
+/// Returns the first word of a text, and the rest behind it. The word is empty if the text has no
+/// word.
+pub fn next_word(text: &[u8]) -> (&[u8], &[u8])
+    ensures word { result.0.now ≡ first_word text.now }
+    ensures rest { result.1.now ≡ behind_word text.now }
+{
+    let begun = &text[white_length(text)..];
+    let size = solid_length(begun);
+    (&begun[..size], &begun[size..])
+}
+
+/// Returns whether a text has no word.
+fn has_no_word(text: &[u8]) -> bool
+    ensures { result ≡ is_blank text.now }
+{
+    text.iter().all(|b| is_white(*b))
+}
+
+/// Returns the number that a word writes in decimal digits, if it has 32 bits.
+fn number_of(word: &[u8]) -> Option<u32>
+    ensures { result ≡ number_in word.now }
+{
+    if word.is_empty() {
+        return None;
+    }
+    let mut number: u32 = 0;
+    for byte in word {
+        if !byte.is_ascii_digit() {
+            return None;
+        }
+        let next = u64::from(number) * 10 + u64::from(*byte - b'0');
+        if next > u64::from(u32::MAX) {
+            return None;
+        }
+        number = next as u32;
+    }
+    Some(number)
+}
+
+/// Returns the kind that a sigil stands for.
+fn kind_of(sigil: u8) -> Option<NameKind>
+    ensures { result ≡ kind_in sigil }
+{
+    match sigil {
+        b'.' => Some(NameKind::Onespot),
+        b':' => Some(NameKind::Twospot),
+        b',' => Some(NameKind::Tail),
+        b';' => Some(NameKind::Hybrid),
+        _ => None,
+    }
+}
+
+/// Returns the name that a word writes.
+pub fn name_of(word: &[u8]) -> Option<Name>
+    ensures { result ≡ name_in word.now }
+{
+    if word.is_empty() {
+        return None;
+    }
+    let kind = kind_of(word[0])?;
+    let number = number_of(&word[1..])?;
+    if number == 0 || number > 65_535 {
+        return None;
+    }
+    Some(Name {
+        kind,
+        number: number as u16,
+    })
+}
+
+/// Returns the only word of a text, which is empty if the text has none.
+fn only_word(text: &[u8]) -> Option<&[u8]>
+    ensures { option_map (λ word. word.now) result ≡ alone text.now }
+{
+    let (word, rest) = next_word(text);
+    if has_no_word(rest) { Some(word) } else { None }
+}
+
+/// Returns the number that is the only word of a text.
+fn only_number(text: &[u8]) -> Option<u32>
+    ensures { result ≡ number_alone text.now }
+{
+    let word = only_word(text)?;
+    number_of(word)
+}
+
+/// Returns the name that is the only word of a text.
+fn only_name(text: &[u8]) -> Option<Name>
+    ensures { result ≡ name_alone text.now }
+{
+    let word = only_word(text)?;
+    name_of(word)
+}
+
+/// Returns the number that is the only word of a text, or 1 if it has no word.
+fn count_of(text: &[u8]) -> Option<u32>
+    ensures { result ≡ count_in text.now }
+{
+    if has_no_word(text) {
+        return Some(1);
+    }
+    only_number(text)
+}
+
+/// Returns the choice that is the only word of a text.
+fn choice_of(text: &[u8]) -> Option<bool>
+    ensures { result ≡ choice_in text.now }
+{
+    let number = only_number(text)?;
+    match number {
+        0 => Some(false),
+        1 => Some(true),
+        _ => None,
+    }
+}
+
+/// Returns whether a text has a word, and all its words are names.
+fn has_names(text: &[u8]) -> bool
+    ensures { result ≡ are_names text.now }
+{
+    if next_word(text).0.is_empty() {
+        return false;
+    }
+    let mut rest = text;
+    for _at in 0..text.len() {
+        let (word, behind) = next_word(rest);
+        if word.is_empty() {
+            return true;
+        }
+        if name_of(word).is_none() {
+            return false;
+        }
+        rest = behind;
+    }
+    true
+}
+
+/// Returns the command of a verb, by the rest of its line.
+fn command_of(verb: Verb, rest: &[u8]) -> Option<Command<'_>>
+    ensures { option_map order_of result ≡ order_by verb rest.now }
+{
+    match verb {
+        Verb::Step => count_of(rest).map(|n| Command::Step(n)),
+        Verb::Back => count_of(rest).map(|n| Command::Back(n)),
+        Verb::Until => only_number(rest).map(|n| Command::Until(n)),
+        Verb::Choose => choice_of(rest).map(|done| Command::Choose(done)),
+        Verb::Watch => only_name(rest).map(|name| Command::Watch(name)),
+        Verb::Why => only_name(rest).map(|name| Command::Why(name)),
+        Verb::Print => names_command(rest),
+        Verb::Next => without_words(Command::Next, rest),
+        Verb::Run => without_words(Command::Run, rest),
+        Verb::Stack => without_words(Command::Stack, rest),
+        Verb::State => without_words(Command::State, rest),
+        Verb::List => without_words(Command::List, rest),
+        Verb::Output => without_words(Command::Output, rest),
+        Verb::Cursor => without_words(Command::Cursor, rest),
+        Verb::Help => without_words(Command::Help, rest),
+        Verb::Quit => without_words(Command::Quit, rest),
+    }
+}
+
+/// Returns the command that prints the names that are the words of a text.
+fn names_command(text: &[u8]) -> Option<Command<'_>>
+    ensures { option_map order_of result ≡ order_by Verb.Print text.now }
+{
+    if has_names(text) {
+        return Some(Command::Print(text));
+    }
+    None
+}
+
+/// Returns a command that takes no words, unless there are words.
+fn without_words<'l>(command: Command<'l>, text: &[u8]) -> Option<Command<'l>>
+    ensures { result ≡ (if is_blank text.now then Some command.entry else None) }
+{
+    if has_no_word(text) {
+        Some(command)
+    } else {
+        None
+    }
+}
+
+/// Reads the command of a line: a verb, cut short or whole, and the words that the verb takes. A
+/// verb that is cut short means the first verb in the order of `help` that begins with it. Returns
+/// `None` if the line is that of no command.
+pub fn read_command(line: &[u8]) -> Option<Command<'_>>
+    ensures { option_map order_of result ≡ order_in line.now }
+{
+    let (word, rest) = next_word(line);
+    if word.is_empty() {
+        return None;
+    }
+    let verb = verb_of(word)?;
+    command_of(verb, rest)
+}

@@ -1,0 +1,108 @@
+//! Where a run is, and how it has ended.
+
+ghost use Rattle.std.specs.Prelude.{◌≡◌, length};
+ghost use Rattle.ick_backtrack.specs.Asked.{finish_of};
+ghost use Rattle.ick_inspect.specs.Text.{Adds};
+ghost use Rattle.ick_machine.specs.Present.{present_program, present_state};
+ghost use Rattle.ick_machine.specs.Seen.{trailed_machine};
+ghost use Rattle.ick_session.specs.Shown.{asked_text, here_text, met_text, over_text, past_text};
+ghost use Rattle.ick_session.specs.Shown.{place_text};
+
+use ick_inspect::{Position, Present, Text, append_stack, append_statement, place};
+use ick_machine::{Ask, Asks, End, Trailed};
+
+/// Appends that a number is that of no statement.
+fn append_past(out: &mut Text, n: u32)
+    ensures { Adds out.old out.new (past_text n) }
+{
+    out.push_decimal(u64::from(n));
+    out.push(b" past the last statement");
+}
+
+/// Appends a statement by its number, with its position and its text, or that the number is that of
+/// no statement. There is a position for each statement.
+#[tactic(auto, unfolding(ick_machine::specs::Present::present_program))]
+fn append_met(out: &mut Text, positions: &[Position], present: &Present<'_, '_, '_>, n: u32)
+    requires { length positions.now ≡ length (present_program present.now) }
+    ensures { Adds out.old out.new (met_text (present_program present.now) positions.now n) }
+{
+    if n < 1 {
+        append_past(out, n);
+        return;
+    }
+    if present.lowered.code.count() < n {
+        append_past(out, n);
+        return;
+    }
+    append_statement(out, present.lowered.code, positions, n);
+}
+
+/// Appends the line of a run that has made so many steps: the number, and the statement that is met
+/// next with its line, its column and its text.
+pub fn append_place(
+    out: &mut Text,
+    positions: &[Position],
+    steps: usize,
+    present: &Present<'_, '_, '_>,
+)
+    requires { length positions.now ≡ length (present_program present.now) }
+    ensures { Adds out.old out.new (place_text (present_program present.now) positions.now steps
+        (present_state present.now)) }
+{
+    out.push_decimal(steps as u64);
+    out.push(b" ");
+    append_met(out, positions, present, place(present));
+    out.push(b"\n");
+}
+
+/// Appends that a choice is asked.
+fn append_asked(out: &mut Text, chance: u8)
+    ensures { Adds out.old out.new (asked_text chance) }
+{
+    out.push(b"  asks %");
+    out.push_decimal(u64::from(chance));
+    out.push(b"\n");
+}
+
+/// Appends how a run has ended: by GIVE UP, or by a fault with its message, its statement and the
+/// NEXT stack.
+fn append_over(out: &mut Text, positions: &[Position], end: End<'_>, present: &Present<'_, '_, '_>)
+    requires { length positions.now ≡ length (present_program present.now) }
+    ensures { Adds out.old out.new (over_text (present_program present.now) positions.now
+        (finish_of end.entry) (present_state present.now)) }
+{
+    match end {
+        End::GiveUp => out.push(b"ended: GIVE UP\n"),
+        End::Limit => {}
+        End::Fault(fault) => {
+            out.push(b"ended: ");
+            out.push_message(&fault);
+            out.push(b"  at ");
+            append_met(out, positions, present, fault.statement);
+            out.push(b"\n  ");
+            append_stack(out, present);
+        }
+    }
+}
+
+/// Appends where a machine's run is that has made so many steps, or how it has ended: the number of
+/// steps, and the statement that is met next, or the end. If a choice is asked, that follows.
+pub fn append_here(out: &mut Text, positions: &[Position], steps: usize, machine: &Trailed<'_, '_>)
+    requires { length positions.now ≡ length (trailed_machine machine.now).program }
+    ensures { Adds out.old out.new (here_text (trailed_machine machine.now).program positions.now
+        steps (trailed_machine machine.now).state) }
+{
+    let present = machine.present();
+    match machine.asks() {
+        Ask::Plain => append_place(out, positions, steps, &present),
+        Ask::Choice(chance) => {
+            append_place(out, positions, steps, &present);
+            append_asked(out, chance);
+        }
+        Ask::Ended(end) => {
+            out.push_decimal(steps as u64);
+            out.push(b" ");
+            append_over(out, positions, end, &present);
+        }
+    }
+}

@@ -1,0 +1,63 @@
+//! The lines of a traced step.
+
+ghost use Rattle.std.specs.Prelude.{◌≡◌, ◌+◌, ◌-◌, ◌<◌, ◌^◌, OnOk};
+ghost use Rattle.ick_code.specs.meaning.Move.{advance, ask};
+ghost use Rattle.ick_backtrack.specs.Asked.{IsGoing};
+ghost use Rattle.ick_machine.specs.Seen.{trailed_machine};
+ghost use Rattle.ick_session.specs.Changes.{ShowsStep};
+
+use crate::changes::append_changes;
+use ick_bits::NoMemory;
+use ick_inspect::{Text, place};
+use ick_machine::{Backtrack, Trailed};
+
+/// Two machines in one state. One makes each step before the other, so that what the step changes
+/// can be seen.
+#[derive(Drop)]
+pub struct Pair<'c, 'a> {
+    pub before: Trailed<'c, 'a>,
+    pub after: Trailed<'c, 'a>,
+}
+
+/// Appends which choice was answered at a chance.
+pub fn append_answered(out: &mut Text, chance: u8, done: bool) {
+    out.push(b"  asks %");
+    out.push_decimal(u64::from(chance));
+    if done {
+        out.push(b": 1\n");
+    } else {
+        out.push(b": 0\n");
+    }
+}
+
+/// Appends what a step changed, from the states before it and after it.
+fn append_step(out: &mut Text, before: &Trailed<'_, '_>, after: &Trailed<'_, '_>)
+    requires { (trailed_machine after.now).program ≡ (trailed_machine before.now).program }
+    ensures { ShowsStep (trailed_machine after.now).program (trailed_machine before.now).state
+        (trailed_machine after.now).state out.old out.new }
+{
+    let old = before.present();
+    let new = after.present();
+    new.lowered.code.law();
+    append_changes(out, place(&old), &old, &new);
+}
+
+/// Makes a step with both machines, and appends what it changed.
+pub fn trace_step(machines: &mut Pair<'_, '_>, out: &mut Text, done: bool) -> Result<(), NoMemory>
+    requires same { trailed_machine machines.old.after ≡ trailed_machine machines.old.before }
+    requires going { IsGoing (ask (trailed_machine machines.old.before).program
+        (trailed_machine machines.old.before).state) }
+    requires room { (trailed_machine machines.old.before).work < 2 ^ 64 - 1 }
+    ensures same { OnOk result (trailed_machine machines.new.after ≡ trailed_machine machines.new.before) }
+    ensures step { let seen = trailed_machine machines.old.before in OnOk result (
+        trailed_machine machines.new.before ≡ record seen {
+          state = advance seen.program seen.state done;
+          work = seen.work + 1;
+        }) }
+    ensures shows { let seen = trailed_machine machines.old.before in OnOk result (
+        ShowsStep seen.program seen.state (advance seen.program seen.state done) out.old out.new) }
+{
+    machines.after.step(done)?;
+    append_step(out, &machines.before, &machines.after);
+    machines.before.step(done)
+}

@@ -1,9 +1,0 @@
-use Rattle.std.proofs.Common.{◌++◌, ap, codes}
-use Rattle.std.specs.Prelude.{decimal}
-use Rattle.ick_step_cli.proofs.AddLaws.{same, then}
-use Rattle.ick_step_cli.proofs.shown.append_asked.Goals as goal
-
-pub returns : goal.returns
-returns c =
-    same (ap (λ k. codes "  asks %" ++ decimal k ++ codes "\n") c.from.ensures)
-    (then (then c.push.ensures c.push_decimal.ensures) c.push-2.ensures)

@@ -1,9 +1,0 @@
-use Rattle.std.proofs.Common.{◌++◌, ap, codes}
-use Rattle.std.specs.Prelude.{decimal}
-use Rattle.ick_step_cli.proofs.AddLaws.{same, then}
-use Rattle.ick_step_cli.proofs.shown.append_past.Goals as goal
-
-pub returns : goal.returns
-returns c =
-    same (ap (λ k. decimal k ++ codes " past the last statement") c.from.ensures)
-    (then c.push_decimal.ensures c.push.ensures)
