@@ -1,3 +1,5 @@
+pub mod CountLaws
+pub mod AnswerLaws
 pub mod WordLaws
 pub mod GivenLaws
 pub mod AddLaws

@@ -1,6 +1,6 @@
 -- The texts of places and ends.
 use Rattle.std.proofs.Common.{◌≡◌, ℕ, ◌++◌, List, codes, ap, sym}
-use Rattle.std.specs.Prelude.{Option, Some, decimal}
+use Rattle.std.specs.Prelude.{Some, decimal}
 use Rattle.ick_code.specs.meaning.State.{State}
 use Rattle.ick_code.specs.meaning.Move.{ended, ask}
 use Rattle.ick_backtrack.specs.Asked.{Finish, asked_at_end, finished, at_limit}

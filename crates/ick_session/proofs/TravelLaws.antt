@@ -3,25 +3,28 @@ use Rattle.std.proofs.Common.{◌≡◌, ℕ, zero, suc, ◌+◌, ◌-◌, ◌<�
 use Rattle.std.specs.Prelude.{codes, Result, Ok, Err, OnOk}
 use Rattle.ick_inspect.specs.declared.positions.Position.{Position}
 use Rattle.ick_session.specs.Shown.{here_text}
-use Rattle.std.proofs.Common.{length, take, get_or, Option, Some, None, refl, ap, ap₂, sym, ◌∙◌, subst, arith, not}
+use Rattle.std.proofs.Common.{length, take, get_or, Option, Some, None, refl, ap, ap₂, sym, ◌∙◌, subst, arith}
 use borrow.Author.Count.{below_more}
-use Rattle.std.proofs.lemmas.List.{append-nil, length-append, take-append-le, take_all, take_more}
+use Rattle.std.proofs.lemmas.List.{append-nil, get_or_append_left, length-append, take-append-le, take_all, take_more}
+use Rattle.std.proofs.Math.Seq.{get_or-append_seam}
 use Rattle.ick_syntax.specs.declared.tree.Name.{Name}
 use Rattle.ick_code.specs.meaning.State.{State}
 use Rattle.ick_code.specs.meaning.Move.{Asking, plain, choice, ended, ask, advance}
 use Rattle.ick_backtrack.specs.Machine.{Program}
 use Rattle.ick_backtrack.specs.Steps.{IsPlain}
-use Rattle.ick_step.specs.History.{Answers, IsHistory, after, asks_choice, done_by}
+use Rattle.ick_runs.specs.Chosen.{Chosen}
+use Rattle.ick_step.specs.History.{Answers, IsHistory, after, asks_choice, choices_in, done_by}
 use Rattle.ick_step.specs.Session.{Seen, later, present, with_answer}
-use Rattle.std.specs.Prelude.{◌&&◌, ◌==◌, bytes_eq}
+use Rattle.std.specs.Prelude.{◌&&◌, ◌==◌}
 use Rattle.std.proofs.lemmas.Bool.Decides.{nat_tests}
 use Rattle.std.proofs.lemmas.Slice.Eq.{bytes_eq-Decides}
 use Rattle.std.specs.Bool.{beq}
 use Rattle.ick_session.specs.Changes.{Had, alike, had_at}
 use Rattle.ick_session.specs.Held.{Keeps, had}
 use Rattle.ick_session.specs.declared.held.Held.{Held}
-use Rattle.ick_session.specs.Travel.{AreKept, GoesOn, IsAt, IsLastChange, LastChange, Passes, StopsFirst}
-use Rattle.ick_session.specs.Travel.{differs, is_kept, state_after, steps_left, where_text}
+use Rattle.ick_session.specs.Travel.{IsAt, IsLastChange, LastChange, Steps}
+use Rattle.ick_session.specs.Travel.{StopsFirst, answer_at, answer_to, differs, is_kept, next_answer, state_after}
+use Rattle.ick_session.specs.Travel.{steps_left, where_text}
 
 -- one step, or none
 pub later_one : (s : Seen) (k : ℕ) → k ≤ 1 → 0 < k → later k s ≡ with_answer None s
@@ -43,20 +46,35 @@ last_state t k le = ap (after t.program t.start) (take_all k t.answers le)
 longer : (t : Seen) (a : Option Bool) → length (with_answer a t).answers ≡ length t.answers + 1
 longer t a = length-append t.answers (a ∷ [])
 
+-- and so do the answers that are given to them
+kept_given : (chosen : Chosen) (t : Seen) (a : Option Bool) (k : ℕ) → k ≤ length t.answers →
+    answer_at chosen (with_answer a t) k ≡ answer_at chosen t k
+kept_given chosen t a k le =
+    ap (λ l. answer_to chosen (length (choices_in l)) (ask t.program (after t.program t.start l)))
+    (take-append-le k t.answers (a ∷ []) le)
+
+last_given : (chosen : Chosen) (t : Seen) (k : ℕ) → length t.answers ≤ k → answer_at chosen t k ≡ next_answer chosen t
+last_given chosen t k le =
+    ap (λ l. answer_to chosen (length (choices_in l)) (ask t.program (after t.program t.start l)))
+    (take_all k t.answers le)
+
 -- so many steps were made, and none of them came to a state of the kind
-pub record Made (here : State → Bool) (made : ℕ) (s t : Seen) : Type 0 where
+pub record Made (chosen : Chosen) (here : State → Bool) (made : ℕ) (s t : Seen) : Type 0 where
   pub program : t.program ≡ s.program
   pub start : t.start ≡ s.start
   pub answers : take (length s.answers) t.answers ≡ s.answers
   pub count : length t.answers ≡ length s.answers + made
+  pub each : (k : ℕ) → k < length t.answers → length s.answers ≤ k →
+      answer_at chosen t k ≡ Some (get_or t.answers k None)
   pub before : (k : ℕ) → k < length t.answers + 1 → length s.answers < k → here (state_after t k) ≡ false
 
-pub none_made : (here : State → Bool) (s : Seen) → Made here 0 s s
-none_made here s = record {
+pub none_made : (chosen : Chosen) (here : State → Bool) (s : Seen) → Made chosen here 0 s s
+none_made chosen here s = record {
   program = refl;
   start = refl;
   answers = take_all (length s.answers) s.answers (omega arith);
   count = omega arith;
+  each = λ k low high. absurd (omega arith);
   before = λ k low high. absurd (omega arith);
 }
 
@@ -64,13 +82,29 @@ kept_answers : (s t : Seen) (a : Option Bool) → length s.answers ≤ length t.
     take (length s.answers) t.answers ≡ s.answers → take (length s.answers) (with_answer a t).answers ≡ s.answers
 kept_answers s t a le e = take-append-le (length s.answers) t.answers (a ∷ []) le ∙ e
 
-passed : (here : State → Bool) (made : ℕ) (s t : Seen) (a : Option Bool) → Made here made s t → (k : ℕ) →
-    k < length t.answers + 1 → length s.answers < k → here (state_after (with_answer a t) k) ≡ false
-passed here made s t a h k low high = ap here (kept_state t a k (omega arith)) ∙ h.before k low high
+passed : (chosen : Chosen) (here : State → Bool) (made : ℕ) (s t : Seen) (a : Option Bool) →
+    Made chosen here made s t → (k : ℕ) → k < length t.answers + 1 → length s.answers < k →
+    here (state_after (with_answer a t) k) ≡ false
+passed chosen here made s t a h k low high = ap here (kept_state t a k (omega arith)) ∙ h.before k low high
 
-one_more : (here : State → Bool) (made : ℕ) (s t : Seen) (a : Option Bool) → Made here made s t →
-    here (present (with_answer a t)) ≡ false → Made here (made + 1) s (with_answer a t)
-one_more here made s t a h away =
+-- the answers that were given, with one more
+each_more : (chosen : Chosen) (here : State → Bool) (made : ℕ) (s t : Seen) (a : Option Bool) →
+    Made chosen here made s t → Some a ≡ next_answer chosen t → (k : ℕ) → k < length t.answers + 1 →
+    length s.answers ≤ k → answer_at chosen (with_answer a t) k ≡ Some (get_or (with_answer a t).answers k None)
+each_more chosen here made s t a h given k low high =
+    below_more (λ i. length s.answers ≤ i →
+    answer_at chosen (with_answer a t) i ≡ Some (get_or (with_answer a t).answers i None)) (length t.answers)
+    (λ i lt le. kept_given chosen t a i (omega arith)
+    ∙ (h.each i lt le ∙ ap Some (sym (get_or_append_left t.answers (a ∷ []) None i lt))))
+    (λ _. kept_given chosen t a (length t.answers) (omega arith)
+    ∙ (last_given chosen t (length t.answers) (omega arith)
+    ∙ (sym given ∙ ap Some (sym (get_or-append_seam t.answers a [] None)))))
+    k low high
+
+one_more : (chosen : Chosen) (here : State → Bool) (made : ℕ) (s t : Seen) (a : Option Bool) →
+    Made chosen here made s t → Some a ≡ next_answer chosen t → here (present (with_answer a t)) ≡ false →
+    Made chosen here (made + 1) s (with_answer a t)
+one_more chosen here made s t a h given away =
     let size = longer t a in
     let count = h.count in
     record {
@@ -78,45 +112,50 @@ one_more here made s t a h away =
       start = h.start;
       answers = kept_answers s t a (omega arith) h.answers;
       count = omega arith;
+      each = λ k low high. each_more chosen here made s t a h given k (subst (λ n. k < n) size low) high;
       before = λ k low high. below_more (λ i. length s.answers < i → here (state_after (with_answer a t) i) ≡ false)
-          (length t.answers + 1) (λ i lt. passed here made s t a h i lt)
+          (length t.answers + 1) (λ i lt. passed chosen here made s t a h i lt)
           (λ _. ap here (last_state (with_answer a t) (length t.answers + 1) (omega arith)) ∙ away)
           k (subst (λ n. k < n + 1) size low) high;
     }
 
-pub made_more : (here : State → Bool) (made : ℕ) (s t u : Seen) (a : Option Bool) → Made here made s t →
-    u ≡ with_answer a t → here (present u) ≡ false → Made here (made + 1) s u
-made_more here made s t u a h e away =
-    subst (λ v. Made here (made + 1) s v) (sym e) (one_more here made s t a h (ap (λ v. here (present v)) (sym e) ∙ away))
+pub made_more : (chosen : Chosen) (here : State → Bool) (made : ℕ) (s t u : Seen) → Made chosen here made s t →
+    Steps chosen t u → here (present u) ≡ false → Made chosen here (made + 1) s u
+made_more chosen here made s t u h (a, given, e) away =
+    subst (λ v. Made chosen here (made + 1) s v) (sym e)
+    (one_more chosen here made s t a h given (ap (λ v. here (present v)) (sym e) ∙ away))
 
 -- steps that stop
-pub stops_over : (here : State → Bool) (made most : ℕ) (s t : Seen) → Made here made s t → made ≡ most →
-    StopsFirst here most s t
-stops_over here made most s t h e =
+pub stops_over : (chosen : Chosen) (here : State → Bool) (made most : ℕ) (s t : Seen) → Made chosen here made s t →
+    made ≡ most → StopsFirst chosen here most s t
+stops_over chosen here made most s t h e =
     let count = h.count in
     record {
       on = record { program = h.program; start = h.start; answers = h.answers; further = omega arith; within = omega arith };
+      given = record { each = λ k low high. h.each k high low };
       before = record { before = λ k low high. h.before k (omega arith) low };
       stops = inl (omega arith);
     }
 
-pub stops_stuck : (here : State → Bool) (made most : ℕ) (s t u : Seen) → Made here made s t → made < most → u ≡ t →
-    ¬ IsPlain u.program (present u) → StopsFirst here most s u
-stops_stuck here made most s t u h lt e stuck =
+pub stops_stuck : (chosen : Chosen) (here : State → Bool) (made most : ℕ) (s t u : Seen) →
+    Made chosen here made s t → made < most → u ≡ t → next_answer chosen t ≡ None → StopsFirst chosen here most s u
+stops_stuck chosen here made most s t u h lt e stuck =
     let count = h.count in
-    let on : StopsFirst here most s t = record {
+    let on : StopsFirst chosen here most s t = record {
       on = record { program = h.program; start = h.start; answers = h.answers; further = omega arith; within = omega arith };
+      given = record { each = λ k low high. h.each k high low };
       before = record { before = λ k low high. h.before k (omega arith) low };
-      stops = inr (inl (subst (λ v. ¬ IsPlain v.program (present v)) e stuck));
+      stops = inr (inl stuck);
     } in
-    subst (λ v. StopsFirst here most s v) (sym e) on
+    subst (λ v. StopsFirst chosen here most s v) (sym e) on
 
-pub stops_come : (here : State → Bool) (made most : ℕ) (s t u : Seen) (a : Option Bool) → Made here made s t →
-    made < most → u ≡ with_answer a t → here (present u) ≡ true → StopsFirst here most s u
-stops_come here made most s t u a h lt e come =
+pub stops_come : (chosen : Chosen) (here : State → Bool) (made most : ℕ) (s t u : Seen) →
+    Made chosen here made s t → made < most → Steps chosen t u → here (present u) ≡ true →
+    StopsFirst chosen here most s u
+stops_come chosen here made most s t u h lt (a, given, e) come =
     let count = h.count in
     let size = longer t a in
-    let on : StopsFirst here most s (with_answer a t) = record {
+    let on : StopsFirst chosen here most s (with_answer a t) = record {
       on = record {
         program = h.program;
         start = h.start;
@@ -124,10 +163,13 @@ stops_come here made most s t u a h lt e come =
         further = omega arith;
         within = omega arith;
       };
-      before = record { before = λ k low high. passed here made s t a h k (omega arith) low };
+      given = record {
+        each = λ k low high. each_more chosen here made s t a h given k (subst (λ n. k < n) size high) low;
+      };
+      before = record { before = λ k low high. passed chosen here made s t a h k (omega arith) low };
       stops = inr (inr ((omega arith), (ap (λ v. here (present v)) (sym e) ∙ come)));
     } in
-    subst (λ v. StopsFirst here most s v) (sym e) on
+    subst (λ v. StopsFirst chosen here most s v) (sym e) on
 
 -- a step by its answer
 pub history_at : (p : Program) (s : State) (xs : List (Option Bool)) (n : ℕ) (d : Option Bool) → n < length xs →
@@ -238,17 +280,13 @@ pub on_ok : {A E P : Type 0} (r : Result A E) → P → OnOk r P
 on_ok (Ok x) h = h
 on_ok (Err e) h = tt
 
-pub fewer : (here : State → Bool) (m most : ℕ) (s t : Seen) → m ≡ most → StopsFirst here m s t → StopsFirst here most s t
-fewer here m most s t e h = subst (λ n. StopsFirst here n s t) e h
-
 -- a kept name is that of the state that it was kept of
-pub stops_at : (held : Held) (name : Name) (m most : ℕ) (s t : Seen) → Keeps held (present s) name →
-    m ≡ most → StopsFirst (λ v. differs (had held) held.name v) m s t →
-    StopsFirst (differs (had_at (present s) name) name) most s t
-stops_at held name m most s t keeps e h =
-    subst (λ n. StopsFirst (differs (had_at (present s) name) name) n s t) e
-    (subst (λ v. StopsFirst (differs (had_at (present s) name) v) m s t) keeps.name_is
-    (subst (λ v. StopsFirst (differs v held.name) m s t) keeps.had_is h))
+pub stops_at : (chosen : Chosen) (held : Held) (name : Name) (most : ℕ) (s t : Seen) → Keeps held (present s) name →
+    StopsFirst chosen (λ v. differs (had held) held.name v) most s t →
+    StopsFirst chosen (differs (had_at (present s) name) name) most s t
+stops_at chosen held name most s t keeps h =
+    subst (λ v. StopsFirst chosen (differs (had_at (present s) name) v) most s t) keeps.name_is
+    (subst (λ v. StopsFirst chosen (differs v held.name) most s t) keeps.had_is h)
 
 record AllTrue (a b c d e f : Bool) : Type 0 where
   pub first : a ≡ true

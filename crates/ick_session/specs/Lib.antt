@@ -1,7 +1,12 @@
 pub mod Commands
+pub mod Help
+pub mod Drawn
 pub mod Given
+pub mod Counted
 pub mod Shown
 pub mod Changes
 pub mod Held
 pub mod Travel
 pub mod Stepper
+pub mod Answers
+pub mod Lines

@@ -1,11 +1,12 @@
 -- Where steps stop that lead to a state of some kind, and which step last changed a name.
-use Rattle.std.specs.Prelude.{◌≡◌, ℕ, suc, ◌+◌, ◌-◌, ◌==◌, ◌<◌, ◌≤◌, ◌⊎◌, Bool, true, false, not, nat_lt, min, List, [], ◌++◌}
-use Rattle.std.specs.Prelude.{codes, length, take, if◌then◌else◌, Option, None, Some}
+use Rattle.std.specs.Prelude.{◌≡◌, ℕ, ◌+◌, ◌-◌, ◌==◌, ◌<◌, ◌≤◌, ◌⊎◌, Bool, true, false, not, nat_lt, List, [], ◌++◌}
+use Rattle.std.specs.Prelude.{codes, get_or, length, option_map, take, if◌then◌else◌, Option, None, Some}
 use Rattle.ick_syntax.specs.declared.tree.Name.{Name}
+use Rattle.ick_code.specs.meaning.Move.{Asking, plain, choice, ended, ask}
 use Rattle.ick_code.specs.meaning.State.{State}
-use Rattle.ick_backtrack.specs.Steps.{IsPlain}
 use Rattle.ick_inspect.specs.declared.positions.Position.{Position}
-use Rattle.ick_step.specs.History.{after}
+use Rattle.ick_runs.specs.Chosen.{Chosen, answer_of}
+use Rattle.ick_step.specs.History.{after, choices_in}
 use Rattle.ick_step.specs.Session.{Seen, present, with_answer}
 use Rattle.ick_session.specs.Changes.{Had, alike, had_at, printed_text}
 use Rattle.ick_session.specs.Held.{had}
@@ -27,6 +28,24 @@ has_come (Change held) s = differs (had held.now) held.now.name s
 abbrev pub state_after : Seen → ℕ → State
 state_after s k = after s.program s.start (take k s.answers)
 
+-- the answer of a step, by what is asked before it and how many choices were answered; none if no step can be made,
+-- since the run has ended or the choice isn't given
+abbrev pub answer_to : Chosen → ℕ → Asking → Option (Option Bool)
+answer_to chosen n plain = Some None
+answer_to chosen n (choice chance) = option_map Some (answer_of chosen n chance)
+answer_to chosen n (ended end) = None
+
+-- the answer of the step behind so many steps of a session, and that of its next step
+abbrev pub answer_at : Chosen → Seen → ℕ → Option (Option Bool)
+answer_at chosen s k = answer_to chosen (length (choices_in (take k s.answers))) (ask s.program (state_after s k))
+
+abbrev pub next_answer : Chosen → Seen → Option (Option Bool)
+next_answer chosen s = answer_to chosen (length (choices_in s.answers)) (ask s.program (present s))
+
+-- a session has made one more step, with the answer that was given
+abbrev pub Steps : Chosen → Seen → Seen → Type 0
+Steps chosen s t = (answer : Option Bool) × (Some answer ≡ next_answer chosen s) × (t ≡ with_answer answer s)
+
 -- how many further steps a session may make
 abbrev pub steps_left : (limit : ℕ) → Seen → ℕ
 steps_left limit s = limit - length s.answers
@@ -39,16 +58,22 @@ pub record GoesOn (most : ℕ) (s t : Seen) : Type 0 where
   pub further : length s.answers ≤ length t.answers
   pub within : length t.answers ≤ length s.answers + most
 
+-- each further step had the answer that was given
+pub record AreGiven (chosen : Chosen) (s t : Seen) : Type 0 where
+  pub each : (k : ℕ) → length s.answers ≤ k → k < length t.answers → answer_at chosen t k ≡ Some (get_or t.answers k None)
+
 -- it has passed no state of a kind before its last one
 pub record Passes (here : State → Bool) (s t : Seen) : Type 0 where
   pub before : (k : ℕ) → length s.answers < k → k < length t.answers → here (state_after t k) ≡ false
 
--- further steps lead to the first state of the kind, unless so many steps, a choice or the end of the run come before
-pub record StopsFirst (here : State → Bool) (most : ℕ) (s t : Seen) : Type 0 where
+-- further steps lead to the first state of the kind, unless so many steps, a choice that isn't given, or the end of the
+-- run come before
+pub record StopsFirst (chosen : Chosen) (here : State → Bool) (most : ℕ) (s t : Seen) : Type 0 where
   pub on : GoesOn most s t
+  pub given : AreGiven chosen s t
   pub before : Passes here s t
   pub stops : (length t.answers ≡ length s.answers + most)
-      ⊎ ((¬ IsPlain t.program (present t)) ⊎ ((length s.answers < length t.answers) × (here (present t) ≡ true)))
+      ⊎ ((next_answer chosen t ≡ None) ⊎ ((length s.answers < length t.answers) × (here (present t) ≡ true)))
 
 -- the step behind so many steps leaves a name as it was
 abbrev pub is_kept : Seen → Name → ℕ → Bool

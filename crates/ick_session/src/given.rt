@@ -1,9 +1,6 @@
 //! The choices that a run is given: those of a list, or those that a seed draws.
 
-ghost use Rattle.std.specs.Prelude.{◌≡◌, ◌+◌, ◌<◌, ℕ, IfOk, length};
-ghost use Rattle.ick_runs.specs.Chosen.{Chosen, answer_of, seeded};
-ghost use Rattle.ick_runs.specs.Draws.{word_of};
-ghost use Rattle.ick_session.specs.Given.{AreWords, Gives};
+ghost use Rattle.ick_session.specs.Drawn.{AreWords};
 
 use ick_bits::NoMemory;
 use ick_runs::{Cursor, drawn};
@@ -15,8 +12,10 @@ use std::alloc::Global;
 /// The words of a seed that were drawn so far, and the generator of the next ones.
 #[derive(Drop)]
 pub struct Words {
-    pub(crate) generator: Pcg32,
-    pub(crate) drawn: Vec<u32>,
+    seed: u64,
+    generator: Pcg32,
+    drawn: Vec<u32>,
+    ghost kept: { ∥ AreWords seed generator drawn.items ∥₁ },
 }
 
 /// The choices that a run is given. Each of them can be asked for again, as a run that is set back
@@ -28,11 +27,15 @@ pub enum Given {
 }
 
 impl Words {
+    ghost use Rattle.std.specs.Prelude.{◌≡◌, ◌+◌, IfOk, length};
+    ghost use Rattle.ick_runs.specs.Draws.{word_of};
+
     /// Returns the words of a seed.
     fn new(alloc: Global, seed: u64) -> Words
-        ensures { AreWords seed result }
+        ensures { result.seed ≡ seed }
     {
         Words {
+            seed,
             generator: Pcg32::seed_from_u64(seed),
             drawn: Vec::new(alloc),
         }
@@ -40,9 +43,8 @@ impl Words {
 
     /// Returns a word by its position, the first of which is 0.
     fn word(&mut self, position: usize) -> Result<u32, NoMemory>
-        ensures words { (seed : ℕ) → AreWords seed self.old → AreWords seed self.new }
-        ensures is { (seed : ℕ) → AreWords seed self.old →
-            IfOk result (λ word. word ≡ word_of seed position) }
+        ensures seed { self.new.seed ≡ self.old.seed }
+        ensures is { IfOk result (λ word. word ≡ word_of self.old.seed position) }
     {
         'draw: while self.drawn.len() <= position {
             self.draw()?;
@@ -52,7 +54,7 @@ impl Words {
 
     /// Draws one more word.
     fn draw(&mut self) -> Result<(), NoMemory>
-        ensures words { (seed : ℕ) → AreWords seed self.old → AreWords seed self.new }
+        ensures seed { self.new.seed ≡ self.old.seed }
         ensures more { IfOk result (λ _. length self.new.drawn.items
             ≡ length self.old.drawn.items + 1) }
     {
@@ -64,9 +66,13 @@ impl Words {
 }
 
 impl Given {
+    ghost use Rattle.std.specs.Prelude.{◌≡◌, ◌<◌, IfOk};
+    ghost use Rattle.ick_runs.specs.Chosen.{answer_of, seeded};
+    ghost use Rattle.ick_session.specs.Given.{given_by};
+
     /// Returns the choices that a seed draws.
     pub fn seeded(alloc: Global, seed: u64) -> Given
-        ensures { Gives (seeded seed) result }
+        ensures { given_by result ≡ seeded seed }
     {
         Given::Drawn(Words::new(alloc, seed))
     }
@@ -77,9 +83,9 @@ impl Given {
     pub fn choice(&mut self, position: usize, chance: u8) -> Result<Option<bool>, NoMemory>
         requires low { 0 < chance }
         requires high { chance < 100 }
-        ensures gives { (chosen : Chosen) → Gives chosen self.old → Gives chosen self.new }
-        ensures is { (chosen : Chosen) → Gives chosen self.old →
-            IfOk result (λ found. found ≡ answer_of chosen position chance) }
+        ensures same { given_by self.new ≡ given_by self.old }
+        ensures is { IfOk result (λ found.
+            found ≡ answer_of (given_by self.old) position chance) }
     {
         match self {
             Given::Listed(None) => Ok(None),

@@ -1,7 +1,13 @@
 //! The answer to the command `help`.
 
-/// The list of all commands.
-pub const COMMANDS: &str = "step [N]      makes N steps, or 1
+ghost use Rattle.std.specs.Prelude.{◌≡◌};
+ghost use Rattle.ick_session.specs.Help.{help_text};
+
+/// Returns the list of all commands.
+pub fn help() -> &'static [u8]
+    ensures { result.now ≡ help_text }
+{
+    b"step [N]      makes N steps, or 1
 back [N]      takes N steps back, or 1
 next          makes a step, and if it is a NEXT, all steps until it comes back
 until N       makes steps until statement N is met next
@@ -19,4 +25,5 @@ help          shows this list
 quit          ends the session
 Each command may be cut short: s is step, b is back, sta is stack, stat is state, wh is why.
 A step prints STEPS STATEMENT LINE:COLUMN TEXT: the steps so far, and the statement met next.
-";
+"
+}

@@ -6,26 +6,33 @@
 //! | `commands` | the commands, and the lines that write them |
 //! | `help` | the answer to the command `help` |
 //! | `given` | the choices that a run is given |
+//! | `counted` | how many choices a session has answered |
 //! | `held` | what a state has at a name |
+//! | `last_change` | the last step of a session that changed a name |
 //! | `shown` | where a run is, and how it has ended |
 //! | `changes` | what a step has changed |
 //! | `trace` | the lines of a traced step |
 //! | `stepper` | a session with its choices, and the answer to each command |
+//! | `lines` | the answer to a line |
 #![tactic(auto)]
 
 mod changes;
 mod commands;
+mod counted;
 mod given;
 mod held;
 mod help;
+mod last_change;
+mod lines;
 mod shown;
 mod stepper;
 mod trace;
 
-pub use commands::{Command, Verb, next_word, read_command};
+pub use commands::{Command, Verb, read_command};
 pub use given::{Given, Words};
 pub use ick_inspect::{Position, Text};
 pub use ick_step::RunsError;
+pub use lines::answer_line;
 pub use shown::{append_here, append_place};
 pub use stepper::Stepper;
 pub use trace::{Pair, append_answered, trace_step};

@@ -1,29 +1,14 @@
 //! A session with the choices that its run is given, and the answer to each command.
 
-ghost use Rattle.std.specs.Prelude.{◌≡◌, ◌≤◌, ◌<◌, ◌-◌, ◌++◌, ℕ, Bool, true, false, Option, Some};
-ghost use Rattle.std.specs.Prelude.{None, IfErr, IfOk, OnOk, [], codes, length, min, List};
-ghost use Rattle.ick_code.specs.meaning.Move.{ask};
-ghost use Rattle.ick_backtrack.specs.Steps.{IsPlain};
-ghost use Rattle.ick_machine.specs.Seen.{trailed_machine};
-ghost use Rattle.ick_explorer.specs.ChoiceTexts.{choices_text};
-ghost use Rattle.ick_inspect.specs.Names.{variable_text};
-ghost use Rattle.ick_inspect.specs.Statements.{list_text};
-ghost use Rattle.ick_inspect.specs.Summary.{variables_text};
-ghost use Rattle.ick_inspect.specs.Text.{Adds};
-ghost use Rattle.ick_step.specs.History.{Answers, IsHistory, choices_in};
-ghost use Rattle.ick_step.specs.Session.{present, with_answer};
-ghost use Rattle.ick_step.specs.Sessions.{session};
-ghost use Rattle.ick_session.specs.Changes.{had_at, printed_text};
-ghost use Rattle.ick_session.specs.Stepper.{IsStepError, limit_of, seen, shown};
-ghost use Rattle.ick_session.specs.Commands.{names_of, order_of};
-ghost use Rattle.ick_session.specs.Travel.{IsAt, IsLastChange, StopsFirst, differs, has_come};
-ghost use Rattle.ick_session.specs.Travel.{steps_left, way_text, where_text};
+ghost use Rattle.ick_session.specs.Counted.{Counts};
 
 use crate::changes::append_printed;
 use crate::commands::{Command, name_of, next_word};
+use crate::counted::count_choices;
 use crate::given::Given;
 use crate::held::Held;
-use crate::help::COMMANDS;
+use crate::help::help;
+use crate::last_change::go_before_change;
 use crate::shown::append_here;
 use ick_bits::NoMemory;
 use ick_inspect::{
@@ -41,12 +26,13 @@ const AROUND: u32 = 5;
 /// A session, and the choices that its run is given.
 #[derive(Drop)]
 pub struct Stepper<'c, 'a> {
-    pub(crate) session: Session<Trailed<'c, 'a>>,
+    session: Session<Trailed<'c, 'a>>,
     given: Given,
     /// How many choices the session has answered.
     chosen: usize,
     /// How many steps the session may have made.
     limit: u32,
+    ghost kept: { ∥ Counts session chosen ∥₁ },
 }
 
 /// Where steps lead to.
@@ -62,13 +48,31 @@ pub enum Target<'h> {
     Change(&'h Held),
 }
 
-/// Returns how many of the answers are choices.
-fn count_choices(answers: &[Option<bool>]) -> usize {
-    answers.iter().filter(|answer| answer.is_some()).count()
-}
-
 impl<'c, 'a> Stepper<'c, 'a> {
-    /// Returns a session that begins in the machine's state, which must have no marks.
+    ghost use Rattle.std.specs.Prelude.{◌≡◌, ◌<◌, ◌-◌, ◌++◌, ℕ, Bool, true, false, Option};
+    ghost use Rattle.std.specs.Prelude.{Some, None, IfErr, IfOk, OnOk, [], codes, is_some};
+    ghost use Rattle.std.specs.Prelude.{length, min, List};
+    ghost use Rattle.ick_code.specs.meaning.Move.{ask, choice};
+    ghost use Rattle.ick_machine.specs.Seen.{trailed_machine};
+    ghost use Rattle.ick_explorer.specs.ChoiceTexts.{choices_text};
+    ghost use Rattle.ick_inspect.specs.Names.{variable_text};
+    ghost use Rattle.ick_inspect.specs.Statements.{list_text};
+    ghost use Rattle.ick_inspect.specs.Summary.{variables_text};
+    ghost use Rattle.ick_inspect.specs.Text.{Adds};
+    ghost use Rattle.ick_step.specs.History.{asks_choice, choices_in};
+    ghost use Rattle.ick_step.specs.Session.{present, with_answer};
+    ghost use Rattle.ick_step.specs.Sessions.{session};
+    ghost use Rattle.ick_session.specs.Answers.{AnswersCommand, Chooses, Explains, Goes, any_number};
+    ghost use Rattle.ick_session.specs.Answers.{name_text, shown};
+    ghost use Rattle.ick_session.specs.Changes.{had_at, printed_text};
+    ghost use Rattle.ick_session.specs.Commands.{names_of, order_of};
+    ghost use Rattle.ick_session.specs.Given.{given_by};
+    ghost use Rattle.ick_session.specs.Stepper.{IsStepError, fixed, seen};
+    ghost use Rattle.ick_session.specs.Travel.{IsAt, IsLastChange, Steps, StopsFirst, differs};
+    ghost use Rattle.ick_session.specs.Travel.{has_come, next_answer, steps_left, way_text, where_text};
+
+    /// Returns a session that begins in the machine's state, which must have no marks. It may make
+    /// as many steps as the limit.
     pub fn new(alloc: Global, machine: Trailed<'c, 'a>, given: Given, limit: u32) -> Stepper<'c, 'a>
         requires { (trailed_machine machine).marks ≡ [] }
         ensures session { let m = trailed_machine machine.entry in seen result ≡ record {
@@ -77,7 +81,12 @@ impl<'c, 'a> Stepper<'c, 'a> {
           answers = [];
           work = m.work;
         } }
-        ensures limit { limit_of result ≡ limit }
+        ensures fixed { let m = trailed_machine machine.entry in fixed result ≡ record {
+          program = m.program;
+          start = m.state;
+          given = given_by given;
+          limit = limit;
+        } }
     {
         Stepper {
             session: Session::start(alloc, machine),
@@ -87,16 +96,21 @@ impl<'c, 'a> Stepper<'c, 'a> {
         }
     }
 
+    /// States that the choices are counted.
+    fn law(&self)
+        ensures { self.now.chosen ≡ length (choices_in (seen self.now).answers) }
+    {}
+
     /// Returns how many steps were made.
     fn steps(&self) -> usize
-        ensures { result ≡ length (session self.now.session).answers }
+        ensures { result ≡ length (seen self.now).answers }
     {
         self.session.answers().len()
     }
 
     /// Returns how many further steps may be made.
     fn left(&self) -> u32
-        ensures { result ≡ steps_left self.now.limit (session self.now.session) }
+        ensures { result ≡ steps_left self.now.limit (seen self.now) }
     {
         let limit = self.limit as usize;
         let left = limit.saturating_sub(self.steps());
@@ -105,48 +119,46 @@ impl<'c, 'a> Stepper<'c, 'a> {
 
     /// Takes steps back.
     fn back(&mut self, steps: usize) -> Result<(), RunsError>
-        ensures program { (session self.new.session).program ≡ (session self.old.session).program }
-        ensures limit { self.new.limit ≡ self.old.limit }
-        ensures errors { IfErr result IsStepError }
-        ensures back { let s = session self.old.session in
-            OnOk result (IsAt s (session self.new.session) (length s.answers - steps)) }
+        ensures fixed { fixed self.new ≡ fixed self.old }
+        ensures errors { IfErr result (IsStepError (seen self.new)) }
+        ensures back { let s = seen self.old in
+            OnOk result (IsAt s (seen self.new) (length s.answers - steps)) }
     {
-        self.session.back(steps)?;
+        let gone = self.session.back(steps);
         self.chosen = count_choices(self.session.answers());
-        Ok(())
+        gone
     }
 
     /// Makes the step at which a choice is asked. Returns whether one is asked.
     fn choose(&mut self, done: bool) -> Result<bool, RunsError>
-        ensures program { (session self.new.session).program ≡ (session self.old.session).program }
-        ensures limit { self.new.limit ≡ self.old.limit }
-        ensures errors { IfErr result IsStepError }
-        ensures chosen { IfOk result (λ chosen. chosen ≡ true → (answer : Option Bool)
-            × (session self.new.session ≡ with_answer answer (session self.old.session))) }
-        ensures not_chosen { IfOk result (λ chosen. chosen ≡ false →
-            session self.new.session ≡ session self.old.session) }
+        ensures fixed { fixed self.new ≡ fixed self.old }
+        ensures errors { IfErr result (IsStepError (seen self.new)) }
+        ensures asked { let s = seen self.old in
+            IfOk result (λ chosen. chosen ≡ asks_choice (ask s.program (present s))) }
+        ensures chosen { IfOk result (λ chosen. chosen ≡ true →
+            seen self.new ≡ with_answer (Some done) (seen self.old)) }
+        ensures not_chosen { IfOk result (λ chosen. chosen ≡ false → seen self.new ≡ seen self.old) }
     {
-        let chosen = self.session.choose(done)?;
-        if chosen {
-            self.chosen = self.chosen.saturating_add(1);
+        self.law();
+        if !self.session.choose(done)? {
+            return Ok(false);
         }
-        Ok(chosen)
+        self.chosen = self.chosen.saturating_add(1);
+        Ok(true)
     }
 
-    /// Makes the step at which a choice is asked, if the run is given that choice. Returns whether
-    /// it is.
-    fn choose_given(&mut self) -> Result<bool, RunsError>
-        ensures program { (session self.new.session).program ≡ (session self.old.session).program }
-        ensures limit { self.new.limit ≡ self.old.limit }
-        ensures errors { IfErr result IsStepError }
-        ensures made { IfOk result (λ made. made ≡ true → (answer : Option Bool)
-            × (session self.new.session ≡ with_answer answer (session self.old.session))) }
-        ensures not_made { IfOk result (λ made. made ≡ false →
-            session self.new.session ≡ session self.old.session) }
+    /// Makes the step at which a choice of this chance is asked, if the run is given that choice.
+    /// Returns whether it is.
+    fn choose_given(&mut self, chance: u8) -> Result<bool, RunsError>
+        requires { let s = seen self.old in ask s.program (present s) ≡ choice chance }
+        ensures fixed { fixed self.new ≡ fixed self.old }
+        ensures errors { IfErr result (IsStepError (seen self.new)) }
+        ensures made { IfOk result (λ made. made ≡ true →
+            Steps (given_by self.old.given) (seen self.old) (seen self.new)) }
+        ensures not_made { IfOk result (λ made. made ≡ false → (seen self.new ≡ seen self.old)
+            × (next_answer (given_by self.old.given) (seen self.old) ≡ None)) }
     {
-        let Ask::Choice(chance) = self.session.machine().asks() else {
-            return Ok(false);
-        };
+        self.law();
         let Some(done) = self.given.choice(self.chosen, chance)? else {
             return Ok(false);
         };
@@ -157,12 +169,11 @@ impl<'c, 'a> Stepper<'c, 'a> {
     /// has come to the target by a step, or at a choice that isn't given, the end of the run or the
     /// limit on its steps.
     fn travel(&mut self, target: &Target<'_>, most: u32) -> Result<(), RunsError>
-        ensures program { (session self.new.session).program ≡ (session self.old.session).program }
-        ensures limit { self.new.limit ≡ self.old.limit }
-        ensures errors { IfErr result IsStepError }
-        ensures stops { let s = session self.old.session in OnOk result (StopsFirst
+        ensures fixed { fixed self.new ≡ fixed self.old }
+        ensures errors { IfErr result (IsStepError (seen self.new)) }
+        ensures stops { let s = seen self.old in OnOk result (StopsFirst (given_by self.old.given)
             (has_come target.now) (min most (steps_left self.old.limit s)) s
-            (session self.new.session)) }
+            (seen self.new)) }
     {
         let limit = most.min(self.left());
         for _made in 0..limit {
@@ -179,26 +190,26 @@ impl<'c, 'a> Stepper<'c, 'a> {
     /// Makes a step, if nothing is asked, or a choice that the run is given. Returns whether a step
     /// was made.
     fn step(&mut self) -> Result<bool, RunsError>
-        ensures program { (session self.new.session).program ≡ (session self.old.session).program }
-        ensures limit { self.new.limit ≡ self.old.limit }
-        ensures errors { IfErr result IsStepError }
-        ensures made { IfOk result (λ made. made ≡ true → (answer : Option Bool)
-            × (session self.new.session ≡ with_answer answer (session self.old.session))) }
-        ensures not_made { IfOk result (λ made. made ≡ false →
-            session self.new.session ≡ session self.old.session) }
-        ensures stops { IfOk result (λ made. made ≡ false →
-            ¬ IsPlain (session self.new.session).program (present (session self.new.session))) }
+        ensures fixed { fixed self.new ≡ fixed self.old }
+        ensures errors { IfErr result (IsStepError (seen self.new)) }
+        ensures made { IfOk result (λ made. made ≡ true →
+            Steps (given_by self.old.given) (seen self.old) (seen self.new)) }
+        ensures not_made { IfOk result (λ made. made ≡ false → (seen self.new ≡ seen self.old)
+            × (next_answer (given_by self.old.given) (seen self.old) ≡ None)) }
     {
-        let made = self.session.step(1)?;
-        if made > 0 {
-            return Ok(true);
+        match self.session.machine().asks() {
+            Ask::Plain => {
+                let _made = self.session.step(1)?;
+                Ok(true)
+            }
+            Ask::Choice(chance) => self.choose_given(chance),
+            Ask::Ended(_) => Ok(false),
         }
-        self.choose_given()
     }
 
     /// Returns whether the session has come to a target.
     fn has_come(&self, target: &Target<'_>) -> bool
-        ensures { result ≡ has_come target.now (present (session self.now.session)) }
+        ensures { result ≡ has_come target.now (present (seen self.now)) }
     {
         let present = self.session.machine().present();
         match target {
@@ -211,14 +222,14 @@ impl<'c, 'a> Stepper<'c, 'a> {
 
     /// Returns how many return addresses there are.
     fn depth(&self) -> usize
-        ensures { result ≡ length (present (session self.now.session)).returns }
+        ensures { result ≡ length (present (seen self.now)).returns }
     {
         return_addresses(&self.session.machine().present()).len()
     }
 
     /// Returns how many bytes were printed.
     fn printed(&self) -> usize
-        ensures { result ≡ length (present (session self.now.session)).output }
+        ensures { result ≡ length (present (seen self.now)).output }
     {
         self.session.machine().output().len()
     }
@@ -226,7 +237,7 @@ impl<'c, 'a> Stepper<'c, 'a> {
     /// Appends what was printed behind so many bytes.
     fn append_printed(&self, printed: usize, out: &mut Text)
         ensures { Adds out.old out.new
-            (printed_text printed (present (session self.now.session))) }
+            (printed_text printed (present (seen self.now))) }
     {
         append_printed(out, printed, &self.session.machine().present());
     }
@@ -235,7 +246,7 @@ impl<'c, 'a> Stepper<'c, 'a> {
     pub fn append_here(&self, positions: &[Position], out: &mut Text)
         requires { length positions.now ≡ length (seen self.now).program }
         ensures { Adds out.old out.new
-            (where_text (limit_of self.now) positions.now (seen self.now)) }
+            (where_text (fixed self.now).limit positions.now (seen self.now)) }
     {
         append_here(out, positions, self.steps(), self.session.machine());
         if self.left() == 0 {
@@ -251,15 +262,14 @@ impl<'c, 'a> Stepper<'c, 'a> {
         most: u32,
         out: &mut Text,
     ) -> Result<(), RunsError>
-        requires { length positions.now ≡ length (session self.old.session).program }
-        ensures program { (session self.new.session).program ≡ (session self.old.session).program }
-        ensures limit { self.new.limit ≡ self.old.limit }
-        ensures errors { IfErr result IsStepError }
-        ensures stops { let s = session self.old.session in OnOk result (StopsFirst
+        requires { length positions.now ≡ length (seen self.old).program }
+        ensures fixed { fixed self.new ≡ fixed self.old }
+        ensures errors { IfErr result (IsStepError (seen self.new)) }
+        ensures stops { let s = seen self.old in OnOk result (StopsFirst (given_by self.old.given)
             (has_come target.now) (min most (steps_left self.old.limit s)) s
-            (session self.new.session)) }
+            (seen self.new)) }
         ensures text { OnOk result (Adds out.old out.new (way_text self.old.limit positions.now
-            (session self.old.session) (session self.new.session))) }
+            (seen self.old) (seen self.new))) }
     {
         let printed = self.printed();
         self.travel(target, most)?;
@@ -276,10 +286,12 @@ impl<'c, 'a> Stepper<'c, 'a> {
         done: bool,
         out: &mut Text,
     ) -> Result<(), RunsError>
-        requires { length positions.now ≡ length (session self.old.session).program }
-        ensures program { (session self.new.session).program ≡ (session self.old.session).program }
-        ensures limit { self.new.limit ≡ self.old.limit }
-        ensures errors { IfErr result IsStepError }
+        requires { length positions.now ≡ length (seen self.old).program }
+        ensures fixed { fixed self.new ≡ fixed self.old }
+        ensures errors { IfErr result (IsStepError (seen self.new)) }
+        ensures answers { OnOk result ((text : List ℕ)
+            × Chooses (fixed self.old) positions.now done (seen self.old) (seen self.new) text
+            × Adds out.old out.new text) }
     {
         let printed = self.printed();
         if self.left() == 0 {
@@ -298,7 +310,7 @@ impl<'c, 'a> Stepper<'c, 'a> {
     /// Appends the line of a name.
     fn append_name(&self, name: Name, out: &mut Text)
         ensures { Adds out.old out.new
-            (variable_text (present (session self.now.session)) name ++ codes "\n") }
+            (variable_text (present (seen self.now)) name ++ codes "\n") }
     {
         append_variable(out, &self.session.machine().present(), name);
         out.push(b"\n");
@@ -307,7 +319,7 @@ impl<'c, 'a> Stepper<'c, 'a> {
     /// Appends the lines of the names that are the words of a text.
     fn append_names(&self, names: &[u8], out: &mut Text)
         ensures { Adds out.old out.new
-            (variables_text (names_of names.now) (present (session self.now.session))) }
+            (variables_text (names_of names.now) (present (seen self.now))) }
     {
         let mut rest = names;
         for _at in 0..names.len() {
@@ -331,17 +343,13 @@ impl<'c, 'a> Stepper<'c, 'a> {
         name: Name,
         out: &mut Text,
     ) -> Result<(), RunsError>
-        requires { length positions.now ≡ length (session self.old.session).program }
-        ensures program { (session self.new.session).program ≡ (session self.old.session).program }
-        ensures limit { self.new.limit ≡ self.old.limit }
-        ensures errors { IfErr result IsStepError }
-        ensures stops { let s = session self.old.session in OnOk result (StopsFirst
-            (differs (had_at (present s) name) name)
-            (min 4294967295 (steps_left self.old.limit s)) s
-            (session self.new.session)) }
-        ensures text { OnOk result (Adds out.old out.new (way_text self.old.limit positions.now
-            (session self.old.session) (session self.new.session)
-            ++ (variable_text (present (session self.new.session)) name ++ codes "\n"))) }
+        requires { length positions.now ≡ length (seen self.old).program }
+        ensures fixed { fixed self.new ≡ fixed self.old }
+        ensures errors { IfErr result (IsStepError (seen self.new)) }
+        ensures answers { let s = seen self.old in OnOk result ((way : List ℕ)
+            × Goes (fixed self.old) positions.now (differs (had_at (present s) name) name)
+            any_number s (seen self.new) way
+            × Adds out.old out.new (way ++ name_text name (seen self.new))) }
     {
         let held = Held::of(alloc, &self.session.machine().present(), name)?;
         self.forward(positions, &Target::Change(&held), u32::MAX, out)?;
@@ -349,80 +357,21 @@ impl<'c, 'a> Stepper<'c, 'a> {
         Ok(())
     }
 
-    /// Makes all steps of the session again, and returns the last one that changed what a name has,
-    /// the first step being 0.
-    fn last_change(
-        &mut self,
-        alloc: Global,
-        answers: &[Option<bool>],
-        name: Name,
-    ) -> Result<Option<usize>, RunsError>
-        requires answers { (session self.old.session).answers ≡ answers.now }
-        requires history { let s = session self.old.session in
-            IsHistory s.program s.start answers.now }
-        ensures program { (session self.new.session).program ≡ (session self.old.session).program }
-        ensures limit { self.new.limit ≡ self.old.limit }
-        ensures errors { IfErr result IsStepError }
-        ensures same { let s = session self.old.session in
-            OnOk result (IsAt s (session self.new.session) (length s.answers)) }
-        ensures last { let s = session self.old.session in
-            IfOk result (IsLastChange s name (length s.answers)) }
-    {
-        self.session.restart()?;
-        let mut held = Held::of(alloc, &self.session.machine().present(), name)?;
-        let mut last = None;
-        for at in 0..answers.len() {
-            self.repeat(answers[at])?;
-            if !held.is_in(&self.session.machine().present()) {
-                last = Some(at);
-                held = Held::of(alloc, &self.session.machine().present(), name)?;
-            }
-        }
-        Ok(last)
-    }
-
-    /// Makes a step again, by its answer.
-    fn repeat(&mut self, answer: Option<bool>) -> Result<(), RunsError>
-        requires { let s = session self.old.session in
-            Answers (ask s.program (present s)) answer }
-        ensures program { (session self.new.session).program ≡ (session self.old.session).program }
-        ensures limit { self.new.limit ≡ self.old.limit }
-        ensures errors { IfErr result IsStepError }
-        ensures made { OnOk result (session self.new.session
-            ≡ with_answer answer (session self.old.session)) }
-    {
-        match answer {
-            Some(done) => {
-                let _chosen = self.session.choose(done)?;
-            }
-            None => {
-                let _made = self.session.step(1)?;
-            }
-        }
-        Ok(())
-    }
-
     /// Goes back to the state before the last step that changed what a name has. Returns whether
     /// there is such a step. If there is none, the state is as before.
     fn before_change(&mut self, alloc: Global, name: Name) -> Result<bool, RunsError>
-        ensures program { (session self.new.session).program ≡ (session self.old.session).program }
-        ensures limit { self.new.limit ≡ self.old.limit }
-        ensures errors { IfErr result IsStepError }
-        ensures found { let s = session self.old.session in IfOk result (λ found. found ≡ true →
+        ensures fixed { fixed self.new ≡ fixed self.old }
+        ensures errors { IfErr result (IsStepError (seen self.new)) }
+        ensures found { let s = seen self.old in IfOk result (λ found. found ≡ true →
             (at : ℕ) × IsLastChange s name (length s.answers) (Some at)
-            × IsAt s (session self.new.session) at) }
-        ensures none { let s = session self.old.session in IfOk result (λ found. found ≡ false →
+            × IsAt s (seen self.new) at) }
+        ensures none { let s = seen self.old in IfOk result (λ found. found ≡ false →
             IsLastChange s name (length s.answers) None
-            × IsAt s (session self.new.session) (length s.answers)) }
+            × IsAt s (seen self.new) (length s.answers)) }
     {
-        let answers = Vec::from_slice(alloc, self.session.answers())?;
-        match self.last_change(alloc, &answers, name)? {
-            Some(at) => {
-                self.back(answers.len().saturating_sub(at))?;
-                Ok(true)
-            }
-            None => Ok(false),
-        }
+        let gone = go_before_change(alloc, &mut self.session, name);
+        self.chosen = count_choices(self.session.answers());
+        gone
     }
 
     /// Appends a name's line, goes back to the step that made it so, and appends where that is.
@@ -433,10 +382,12 @@ impl<'c, 'a> Stepper<'c, 'a> {
         name: Name,
         out: &mut Text,
     ) -> Result<(), RunsError>
-        requires { length positions.now ≡ length (session self.old.session).program }
-        ensures program { (session self.new.session).program ≡ (session self.old.session).program }
-        ensures limit { self.new.limit ≡ self.old.limit }
-        ensures errors { IfErr result IsStepError }
+        requires { length positions.now ≡ length (seen self.old).program }
+        ensures fixed { fixed self.new ≡ fixed self.old }
+        ensures errors { IfErr result (IsStepError (seen self.new)) }
+        ensures answers { OnOk result ((text : List ℕ)
+            × Explains (fixed self.old) positions.now name (seen self.old) (seen self.new) text
+            × Adds out.old out.new text) }
     {
         self.append_name(name, out);
         if self.before_change(alloc, name)? {
@@ -450,7 +401,7 @@ impl<'c, 'a> Stepper<'c, 'a> {
     /// Appends the choices that were answered.
     fn append_cursor(&self, alloc: Global, out: &mut Text) -> Result<(), NoMemory>
         ensures { OnOk result (Adds out.old out.new
-            (choices_text (choices_in (session self.now.session).answers) ++ codes "\n")) }
+            (choices_text (choices_in (seen self.now).answers) ++ codes "\n")) }
     {
         let mut cursor = Vec::new(alloc);
         self.session.append_cursor(alloc, &mut cursor)?;
@@ -467,10 +418,14 @@ impl<'c, 'a> Stepper<'c, 'a> {
         command: Command<'_>,
         out: &mut Text,
     ) -> Result<(), RunsError>
-        requires { length positions.now ≡ length (session self.old.session).program }
-        ensures program { (session self.new.session).program ≡ (session self.old.session).program }
-        ensures limit { self.new.limit ≡ self.old.limit }
-        ensures errors { IfErr result IsStepError }
+        requires positions { length positions.now ≡ length (seen self.old).program }
+        requires moves { is_some (shown positions.now (seen self.old) (order_of command)) ≡ false }
+        ensures fixed { fixed self.new ≡ fixed self.old }
+        ensures errors { IfErr result (IsStepError (seen self.new)) }
+        ensures answers { OnOk result ((text : List ℕ)
+            × AnswersCommand (fixed self.old) positions.now (seen self.old)
+            (order_of command.entry) (seen self.new) text
+            × Adds out.old out.new text) }
     {
         match command {
             Command::Step(steps) => self.forward(positions, &Target::Nowhere, steps, out),
@@ -498,10 +453,13 @@ impl<'c, 'a> Stepper<'c, 'a> {
         steps: u32,
         out: &mut Text,
     ) -> Result<(), RunsError>
-        requires { length positions.now ≡ length (session self.old.session).program }
-        ensures program { (session self.new.session).program ≡ (session self.old.session).program }
-        ensures limit { self.new.limit ≡ self.old.limit }
-        ensures errors { IfErr result IsStepError }
+        requires { length positions.now ≡ length (seen self.old).program }
+        ensures fixed { fixed self.new ≡ fixed self.old }
+        ensures errors { IfErr result (IsStepError (seen self.new)) }
+        ensures back { let s = seen self.old in
+            OnOk result (IsAt s (seen self.new) (length s.answers - steps)) }
+        ensures text { OnOk result (Adds out.old out.new
+            (where_text self.old.limit positions.now (seen self.new))) }
     {
         self.back(steps as usize)?;
         self.append_here(positions, out);
@@ -517,10 +475,13 @@ impl<'c, 'a> Stepper<'c, 'a> {
         command: Command<'_>,
         out: &mut Text,
     ) -> Result<bool, NoMemory>
-        requires { length positions.now ≡ length (session self.now.session).program }
-        ensures text { IfOk result (λ is. (text : List ℕ) →
-            shown positions.now (session self.now.session) (order_of command.entry) ≡ Some text →
-            (is ≡ true) × Adds out.old out.new text) }
+        requires { length positions.now ≡ length (seen self.now).program }
+        ensures is { IfOk result (λ is. is
+            ≡ is_some (shown positions.now (seen self.now) (order_of command.entry))) }
+        ensures kept { IfOk result (λ is. is ≡ false → out.new ≡ out.old) }
+        ensures text { OnOk result ((text : List ℕ) →
+            shown positions.now (seen self.now) (order_of command.entry) ≡ Some text →
+            Adds out.old out.new text) }
     {
         match command {
             Command::Print(names) => {
@@ -548,9 +509,10 @@ impl<'c, 'a> Stepper<'c, 'a> {
                 Ok(true)
             }
             Command::Help => {
-                out.push(COMMANDS.as_bytes());
+                out.push(help());
                 Ok(true)
             }
+            Command::Quit => Ok(true),
             _ => Ok(false),
         }
     }
@@ -566,12 +528,14 @@ impl<'c, 'a> Stepper<'c, 'a> {
         out: &mut Text,
     ) -> Result<(), RunsError>
         requires { length positions.now ≡ length (seen self.old).program }
-        ensures program { (seen self.new).program ≡ (seen self.old).program }
-        ensures limit { limit_of self.new ≡ limit_of self.old }
-        ensures errors { IfErr result IsStepError }
-        ensures shows { (text : List ℕ) →
-            shown positions.now (seen self.old) (order_of command.entry) ≡ Some text →
-            (self.new ≡ self.old) × OnOk result (Adds out.old out.new text) }
+        ensures fixed { fixed self.new ≡ fixed self.old }
+        ensures errors { IfErr result (IsStepError (seen self.new)) }
+        ensures shows { is_some (shown positions.now (seen self.old) (order_of command.entry)) ≡ true
+            → (self.new ≡ self.old) × IfErr result (λ e. e ≡ RunsError.NoMemory) }
+        ensures answers { OnOk result ((text : List ℕ)
+            × AnswersCommand (fixed self.old) positions.now (seen self.old)
+            (order_of command.entry) (seen self.new) text
+            × Adds out.old out.new text) }
     {
         if self.answer_shown(alloc, positions, command, out)? {
             return Ok(());
@@ -581,8 +545,8 @@ impl<'c, 'a> Stepper<'c, 'a> {
 
     /// Appends the statements around the one that is met next.
     fn append_list(&self, positions: &[Position], out: &mut Text)
-        requires { length positions.now ≡ length (session self.now.session).program }
-        ensures { let s = session self.now.session in Adds out.old out.new
+        requires { length positions.now ≡ length (seen self.now).program }
+        ensures { let s = seen self.now in Adds out.old out.new
             (list_text s.program positions.now (present s).place 5) }
     {
         append_list(out, &self.session.machine().present(), positions, AROUND);

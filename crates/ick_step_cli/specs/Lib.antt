@@ -1,3 +1,4 @@
 pub mod Words
 pub mod Job
 pub mod Trace
+pub mod Talk

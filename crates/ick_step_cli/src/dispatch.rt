@@ -7,7 +7,7 @@ ghost use Rattle.ick_explorer.specs.Writes.{write_failures};
 ghost use Rattle.ick_cli.specs.Ending.{Leaves, LeavesStreams, LeavesWriter};
 ghost use Rattle.ick_step_cli.specs.Trace.{IsTraceError};
 
-use crate::talk::talk;
+use crate::session::talk;
 use crate::trace::{Stopped, trace};
 use crate::words::Job;
 use ick_bits::{NoMemory, append_message};

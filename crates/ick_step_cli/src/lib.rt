@@ -3,15 +3,16 @@
 //!
 //! - `words`: the options, and the job that arguments ask for
 //! - `trace`: the lines of all steps of a run
-//! - `talk`: commands line by line, and their answers
+//! - `session`: commands line by line, and their answers
 //! - `dispatch`: from a job to its answer, by its source and its input
 //! - `driver`: the whole, from the arguments to the status
 #![tactic(auto)]
 
 mod dispatch;
 mod driver;
-mod talk;
+mod session;
 mod trace;
 mod words;
 
 pub use driver::serve_step;
+pub use session::talk;

@@ -1,4 +1,4 @@
-use Rattle.std.proofs.Common.{◌≡◌, false, true, arith, ◌∙◌}
+use Rattle.std.proofs.Common.{◌≡◌, false, ◌∙◌}
 use Rattle.ick_machine.specs.Present.{present_state}
 use Rattle.ick_session.proofs.AddLaws.{same, then}
 use Rattle.ick_session.proofs.ChangeLaws.{newly_is}

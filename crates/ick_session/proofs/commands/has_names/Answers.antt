@@ -1,4 +1,4 @@
-use Rattle.std.proofs.Common.{◌≡◌, ◌<◌, ◌+◌, ◌-◌, ◌==◌, ◌&&◌, true, false, not, length, is_some, sym, ap, ap₂, ◌∙◌}
+use Rattle.std.proofs.Common.{◌≡◌, ◌+◌, ◌-◌, ◌==◌, ◌&&◌, true, false, not, length, is_some, sym, ap, ap₂, ◌∙◌}
 use Rattle.ick_session.specs.Commands.{all_named, first_word, name_in, words_from, words_of}
 use Rattle.ick_session.proofs.WordLaws.{names_end, names_off, names_on}
 use Rattle.ick_session.proofs.commands.has_names.Goals as goal

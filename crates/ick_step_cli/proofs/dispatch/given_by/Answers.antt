@@ -1,4 +1,3 @@
-use Rattle.std.proofs.Common.{inr, refl, rules}
 use Rattle.ick_cli.proofs.Lines.{leaves_by_line}
 use Rattle.ick_step_cli.proofs.dispatch.given_by.Goals as goal
 

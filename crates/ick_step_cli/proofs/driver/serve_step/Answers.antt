@@ -1,4 +1,4 @@
-use Rattle.std.proofs.Common.{◌≡◌, inl, inr, ap}
+use Rattle.std.proofs.Common.{inl, inr, ap}
 use Rattle.clap.specs.Words.{kind_of}
 use Rattle.ick_cli.specs.Usage.{IsMistake, IsRequest, help_without_memory}
 use Rattle.ick_cli.proofs.ErrorKinds.{among, memory_is_mistake}

@@ -1,18 +1,24 @@
 use Rattle.std.proofs.Common.{◌∙◌, refl}
 use Rattle.std.specs.Prelude.{min}
-use Rattle.ick_step.specs.Sessions.{session}
-use Rattle.ick_session.specs.Travel.{steps_left}
+use Rattle.ick_session.specs.Answers.{any_number}
+use Rattle.ick_session.specs.Given.{given_by}
+use Rattle.ick_session.specs.Stepper.{seen}
+use Rattle.ick_session.specs.Travel.{steps_left, way_text}
 use Rattle.ick_session.proofs.AddLaws.{then}
 use Rattle.ick_session.proofs.TravelLaws.{keeps_in, stops_at}
 use Rattle.ick_session.proofs.stepper.Stepper.answer_watch.Goals as goal
 
-pub returns-clause-stops : goal.returns-clause-stops
-returns-clause-stops c =
-    let s = session c.args.self.now.session in
-    let most = min 4294967295 (steps_left c.args.self.now.limit s) in
-    stops_at c.in_ok-held.held c.args.name most most s (session c.forward.new.self.session)
-    (keeps_in _ _ _ _ (c.present.ensures.state ∙ c.machine.ensures.state) c.in_ok-held.ensures) refl
-    c.in_ok-forward.ensures.stops
-
-pub returns-clause-text : goal.returns-clause-text
-returns-clause-text c = then c.in_ok-forward.ensures.text c.append_name.ensures
+pub returns-clause-answers : goal.returns-clause-answers
+returns-clause-answers c =
+    let s = seen c.args.self.now in
+    let t = seen c.forward.new.self in
+    let limit = c.args.self.now.limit in (
+      way_text limit c.args.positions.now s t,
+      (
+        stops_at (given_by c.args.self.now.given) c.in_ok-held.held c.args.name (min any_number (steps_left limit s)) s t
+            (keeps_in _ _ _ _ (c.present.ensures.state ∙ c.machine.ensures.state) c.in_ok-held.ensures)
+            c.in_ok-forward.ensures.stops,
+        refl,
+      ),
+      then c.in_ok-forward.ensures.text c.append_name.ensures,
+    )

@@ -1,4 +1,4 @@
-use Rattle.std.proofs.Common.{◌≡◌, ◌∙◌, ◌==◌, arith, false, length, sym, true}
+use Rattle.std.proofs.Common.{◌≡◌, ◌∙◌, ◌==◌, false, length, sym, true}
 use Rattle.ick_step.specs.Session.{present}
 use Rattle.ick_step.specs.Sessions.{session}
 use Rattle.ick_session.specs.Commands.{words_of}

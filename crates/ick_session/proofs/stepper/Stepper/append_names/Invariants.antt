@@ -1,6 +1,4 @@
 use Rattle.std.proofs.Common.{◌-◌, length}
-use Rattle.std.specs.Prelude.{filter_map}
-use Rattle.ick_inspect.specs.Summary.{variables_text}
 use Rattle.ick_step.specs.Session.{present}
 use Rattle.ick_step.specs.Sessions.{session}
 use Rattle.ick_session.specs.Commands.{words_from, words_of}

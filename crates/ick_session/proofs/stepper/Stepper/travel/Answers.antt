@@ -1,31 +1,35 @@
-use Rattle.std.proofs.Common.{◌≡◌, ◌<◌, ◌∙◌, arith, sym, true}
+use Rattle.std.proofs.Common.{◌≡◌, ◌<◌, ◌∙◌, arith, subst, sym, true, ap}
 use Rattle.std.specs.Prelude.{min}
-use Rattle.ick_step.specs.Sessions.{session}
-use Rattle.ick_session.specs.Travel.{has_come, steps_left}
+use Rattle.ick_session.specs.Given.{given_by}
+use Rattle.ick_session.specs.Stepper.{seen}
+use Rattle.ick_session.specs.Travel.{Steps, has_come, steps_left}
 use Rattle.ick_session.proofs.TravelLaws.{made_more, stops_come}
 use Rattle.ick_session.proofs.stepper.Stepper.travel.Goals as goal
 
 pub returns-then-has_come-clause-stops : goal.returns-then-has_come-clause-stops
 returns-then-has_come-clause-stops c =
-    let s = session c.args.self.now.session in
+    let s = seen c.args.self.now in
+    let chosen = given_by c.args.self.now.given in
     let most = min c.args.most (steps_left c.args.self.now.limit s) in
     let stepped : c.in_ok-step.field-0 ≡ true = c.if-not-branch.false in
-    let made = c.in_ok-step.ensures.made stepped in
+    let made = subst (λ g. Steps g (seen c.loop-made.self) (seen c.step.new.self))
+    (ap (λ f. f.given) c.loop-made.invariant.fixed) (c.in_ok-step.ensures.made stepped) in
     let lt : c.loop-made._made < most = omega (arith, c.loop-made-test.true, c.min-limit.ensures, c.left.ensures) in
-    stops_come (has_come c.args.target.now) c.loop-made._made most s (session c.loop-made.self.session)
-    (session c.step.new.self.session) made.0 c.loop-made.invariant.made lt made.1
+    stops_come chosen (has_come c.args.target.now) c.loop-made._made most s (seen c.loop-made.self)
+    (seen c.step.new.self) c.loop-made.invariant.made lt made
     (sym c.has_come.ensures ∙ c.if-has_come.true)
 
 pub loop-made-preserved : goal.loop-made-preserved
 loop-made-preserved c =
-    let s = session c.args.self.now.session in
+    let s = seen c.args.self.now in
+    let chosen = given_by c.args.self.now.given in
     let stepped : c.in_ok-step.field-0 ≡ true = c.if-not-branch.false in
-    let made = c.in_ok-step.ensures.made stepped in
+    let made = subst (λ g. Steps g (seen c.loop-made.self) (seen c.step.new.self))
+    (ap (λ f. f.given) c.loop-made.invariant.fixed) (c.in_ok-step.ensures.made stepped) in
     record {
-      program = c.step.ensures.program ∙ c.loop-made.invariant.program;
-      limit = c.step.ensures.limit ∙ c.loop-made.invariant.limit;
+      fixed = c.step.ensures.fixed ∙ c.loop-made.invariant.fixed;
       made =
-          made_more (has_come c.args.target.now) c.loop-made._made s (session c.loop-made.self.session)
-          (session c.step.new.self.session) made.0 c.loop-made.invariant.made made.1
+          made_more chosen (has_come c.args.target.now) c.loop-made._made s (seen c.loop-made.self)
+          (seen c.step.new.self) c.loop-made.invariant.made made
           (sym c.has_come.ensures ∙ c.if-has_come.false);
     }

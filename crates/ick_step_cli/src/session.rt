@@ -1,23 +1,28 @@
 //! A session: commands line by line, and their answers.
 
-ghost use Rattle.std.specs.Prelude.{◌≡◌, ◌+◌, ◌<◌, ◌^◌, IfErr, IfOk, None, OnOk, length};
+ghost use Rattle.std.specs.Prelude.{◌≡◌, ◌+◌, ◌<◌, ◌^◌, ◌++◌, ◌∷◌, ℕ, IfErr, IfOk, OnOk, [], length};
+ghost use Rattle.std.specs.Prelude.{true, false, take};
 ghost use Rattle.ick_explorer.specs.Whole.{read_failures};
 ghost use Rattle.ick_cli.specs.Ending.{LeavesStreams, LeavesWriter};
-ghost use Rattle.ick_session.specs.Commands.{order_in};
-ghost use Rattle.ick_session.specs.Stepper.{seen};
+ghost use Rattle.ick_session.specs.Stepper.{fixed, seen};
+ghost use Rattle.ick_step_cli.specs.Talk.{IsFailure, Writes, lines_of};
 
 use ick_bits::NoMemory;
 use ick_cli::{Ending, Message};
 use ick_inspect::{Position, Text};
-use ick_runs::{ByteSink, ByteSource, ReadFault, RunsError, write_whole};
-use ick_session::{Command, Stepper, next_word, read_command};
+use ick_runs::{ByteSink, ByteSource, ReadFault, write_whole};
+use ick_session::{Stepper, answer_line};
 use std::alloc::Global;
 
 /// Reads a line without its end. Returns whether there is one: the text behind the last line end is
 /// a line unless it is empty.
 fn read_line<R: ByteSource>(reader: &mut R, line: &mut Vec<u8>) -> Result<bool, ReadFault>
     requires { R.failed reader.old + 1 < 2 ^ 64 }
-    ensures { R.failed reader.new ≡ R.failed reader.old + read_failures result }
+    ensures count { R.failed reader.new ≡ R.failed reader.old + read_failures result }
+    ensures line { R.told ≡ true → IfOk result (λ some. some ≡ true →
+        lines_of (R.left reader.old) ≡ line.new.items ∷ lines_of (R.left reader.new)) }
+    ensures end { R.told ≡ true → IfOk result (λ some. some ≡ false →
+        lines_of (R.left reader.old) ≡ []) }
 {
     line.clear();
     for _at in 0..u64::MAX {
@@ -35,7 +40,7 @@ fn read_line<R: ByteSource>(reader: &mut R, line: &mut Vec<u8>) -> Result<bool, 
             return Err(ReadFault::NoMemory);
         }
     }
-    Ok(true)
+    Err(ReadFault::NoMemory)
 }
 
 /// Writes a text and clears it. Without the text the work ends.
@@ -44,6 +49,11 @@ fn say<W: ByteSink>(out: &mut Text, writer: &mut W) -> Result<(), Ending>
     ensures ok { OnOk result (W.failed writer.new ≡ W.failed writer.old) }
     ensures err { IfErr result (λ ending.
         LeavesWriter ending (W.failed writer.old) (W.failed writer.new)) }
+    ensures all { W.told ≡ true → OnOk result ((out.old.refused ≡ false)
+        × (W.written writer.new ≡ W.written writer.old ++ out.old.bytes.items)) }
+    ensures cut { W.told ≡ true → IfErr result (λ ending. IsFailure ending
+        × (n : ℕ) × (W.written writer.new ≡ W.written writer.old ++ take n out.old.bytes.items)
+        × (out.old.refused ≡ true → n ≡ 0)) }
 {
     let Ok(bytes) = out.bytes() else {
         return Err(Ending::NoMemory);
@@ -57,41 +67,11 @@ fn say<W: ByteSink>(out: &mut Text, writer: &mut W) -> Result<(), Ending>
     }
 }
 
-/// Answers a line. Returns whether the session goes on. If the line is that of no command, nothing
-/// has changed.
-fn answer_line(
-    alloc: Global,
-    positions: &[Position],
-    stepper: &mut Stepper<'_, '_>,
-    line: &[u8],
-    out: &mut Text,
-) -> Result<bool, NoMemory>
-    requires { length positions.now ≡ length (seen stepper.old).program }
-    ensures program { (seen stepper.new).program
-        ≡ (seen stepper.old).program }
-    ensures unknown { order_in line.now ≡ None → stepper.new ≡ stepper.old }
-{
-    match read_command(line) {
-        Some(Command::Quit) => Ok(false),
-        Some(command) => match stepper.answer(alloc, positions, command, out) {
-            Ok(()) => Ok(true),
-            Err(RunsError::WorkFull) => {
-                out.push(b"too many steps were made\n");
-                Ok(true)
-            }
-            Err(_) => Err(NoMemory),
-        },
-        None => {
-            if !next_word(line).0.is_empty() {
-                out.push(b"unknown command; help lists all commands\n");
-            }
-            Ok(true)
-        }
-    }
-}
-
 /// Answers the commands that the reader has, one a line, until `quit` or the end. Each answer is
 /// written before the next command is read. Returns how the work ends.
+///
+/// There is a position for each statement. The counts of failures of both devices must be below
+/// their greatest values.
 pub fn talk<R: ByteSource, W: ByteSink>(
     alloc: Global,
     positions: &[Position],
@@ -102,8 +82,11 @@ pub fn talk<R: ByteSource, W: ByteSink>(
     requires positions { length positions.now ≡ length (seen stepper.old).program }
     requires reads { R.failed reader.old + 1 < 2 ^ 64 }
     requires writes { W.failed writer.old + 1 < 2 ^ 64 }
-    ensures { LeavesStreams result (R.failed reader.old) (R.failed reader.new)
+    ensures leaves { LeavesStreams result (R.failed reader.old) (R.failed reader.new)
         (W.failed writer.old) (W.failed writer.new) }
+    ensures writes { R.told ≡ true → W.told ≡ true → Writes (fixed stepper.old) positions.now
+        (seen stepper.old) (lines_of (R.left reader.old)) result
+        (W.written writer.old) (W.written writer.new) }
 {
     let mut out = Text::new(alloc);
     let mut line = Vec::new(alloc);
@@ -124,7 +107,7 @@ pub fn talk<R: ByteSource, W: ByteSink>(
             Err(NoMemory) => return Ending::NoMemory,
         }
     }
-    over()
+    Ending::InputTooLong
 }
 
 /// Returns how a session ends after its last command.

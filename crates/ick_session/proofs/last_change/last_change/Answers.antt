@@ -5,20 +5,20 @@ use Rattle.ick_session.specs.Changes.{alike, had_at}
 use Rattle.ick_session.specs.Held.{had}
 use Rattle.ick_session.specs.Travel.{IsLastChange}
 use Rattle.ick_session.proofs.TravelLaws.{at_asks, at_next, keeps_in, keeps_on, kept_is, last_is, last_stays}
-use Rattle.ick_session.proofs.stepper.Stepper.last_change.Goals.{then-not-is_in+in_ok-held-2, else-not-is_in}
-use Rattle.ick_session.proofs.stepper.Stepper.last_change.Goals as goal
+use Rattle.ick_session.proofs.last_change.last_change.Goals.{then-not-is_in+in_ok-held-2, else-not-is_in}
+use Rattle.ick_session.proofs.last_change.last_change.Goals as goal
 
 pub repeat-requires : goal.repeat-requires
 repeat-requires c =
     let lt : c.loop-at.at < length c.args.answers.now = omega (arith, c.loop-at-test.true) in
-    at_asks (session c.args.self.now.session) (session c.loop-at.self.session) c.loop-at.at c.args.answers.now None
+    at_asks (session c.args.run.now) (session c.loop-at.run) c.loop-at.at c.args.answers.now None
     c.loop-at.invariant.place c.requires.answers lt c.requires.history
 
 pub loop-at-preserved : goal.loop-at-preserved
 loop-at-preserved c =
-    let s = session c.args.self.now.session in
-    let t = session c.loop-at.self.session in
-    let u = session c.repeat.new.self.session in
+    let s = session c.args.run.now in
+    let t = session c.loop-at.run in
+    let u = session c.repeat.new.run in
     let n = c.loop-at.at in
     let held = c.loop-at.held in
     let lt : n < length c.args.answers.now = omega (arith, c.loop-at-test.true) in
@@ -33,7 +33,6 @@ loop-at-preserved c =
       | then-not-is_in+in_ok-held-2 w ↦
           let differs : c.is_in.result ≡ false = w.if-not-is_in.true in
           record {
-            limit = c.repeat.ensures.limit ∙ c.loop-at.invariant.limit;
             place = place;
             held = rw w.held-is (keeps_in _ _ _ _ (w.present-then-not-is_in.ensures.state
                 ∙ w.machine-then-not-is_in.ensures.state) w.in_ok-held-2.ensures);
@@ -42,7 +41,6 @@ loop-at-preserved c =
       | else-not-is_in w ↦
           let same : c.is_in.result ≡ true = w.if-not-is_in.false in
           record {
-            limit = c.repeat.ensures.limit ∙ c.loop-at.invariant.limit;
             place = place;
             held = rw w.held-is (keeps_on held (present t) (present u) c.args.name c.is_in.result
                 c.loop-at.invariant.held tests same);
@@ -52,7 +50,7 @@ loop-at-preserved c =
 
 pub returns-clause-last : goal.returns-clause-last
 returns-clause-last c =
-    let s = session c.args.self.now.session in
+    let s = session c.args.run.now in
     let e : c.loop-at.at ≡ length s.answers =
     omega (arith, c.loop-at-test.false, c.loop-at.auto.at-end, ap length c.requires.answers) in
     subst (λ n. IsLastChange s c.args.name n c.loop-at.last) e c.loop-at.invariant.last

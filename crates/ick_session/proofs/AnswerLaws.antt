@@ -1,0 +1,95 @@
+-- The answers to commands that show something, and the others.
+use Rattle.std.proofs.Common.{◌≡◌, ◌≢◌, ◌==◌, inl, inr, ℕ, Bool, true, false, List, [], Option, Some, None, is_some}
+use Rattle.std.proofs.Common.{refl, ap, sym, subst, ◌∙◌, codes, length}
+use Rattle.std.specs.Prelude.{Result, OnOk, option_map}
+use Rattle.ick_explorer.specs.declared.errors.RunsError.{RunsError}
+use Rattle.ick_explorer.specs.declared.errors.RunsError.TheVariants.{WorkFull}
+use Rattle.ick_inspect.specs.Text.{Adds}
+use Rattle.ick_inspect.specs.declared.text.Text.{Text}
+use Rattle.ick_inspect.specs.declared.positions.Position.{Position}
+use Rattle.ick_step.specs.Session.{Seen, IsFull}
+use Rattle.ick_session.specs.Answers.{AnswersCommand, shown}
+use Rattle.ick_session.specs.Commands.{Order, first_word, order_in, order_of, to_choose, to_explain, to_go_back, to_help, to_list, to_next}
+use Rattle.ick_session.specs.Commands.{to_print, to_quit, to_run, to_run_until, to_show_cursor, to_show_output}
+use Rattle.ick_session.specs.Commands.{to_show_stack, to_show_state, to_step, to_watch}
+use Rattle.ick_session.specs.Lines.{unknown_text}
+use Rattle.ick_session.specs.Stepper.{Fixed, IsStepError}
+use Rattle.ick_session.specs.declared.commands.Command.{Command}
+use Rattle.ick_session.specs.declared.commands.Command.TheVariants as command
+
+pub some_of : {A : Type 0} (o : Option A) → is_some o ≡ true → (x : A) × (o ≡ Some x)
+some_of None e = absurd (cc)
+some_of (Some x) e = (x, refl)
+
+pub shown_answers : (f : Fixed) (positions : List Position) (s : Seen) (order : Order) (text : List ℕ) →
+    shown positions s order ≡ Some text → AnswersCommand f positions s order s text
+shown_answers f positions s (to_step n) text e = absurd (cc)
+shown_answers f positions s (to_go_back n) text e = absurd (cc)
+shown_answers f positions s to_next text e = absurd (cc)
+shown_answers f positions s (to_run_until n) text e = absurd (cc)
+shown_answers f positions s to_run text e = absurd (cc)
+shown_answers f positions s (to_choose done) text e = absurd (cc)
+shown_answers f positions s (to_watch name) text e = absurd (cc)
+shown_answers f positions s (to_explain name) text e = absurd (cc)
+shown_answers f positions s (to_print names) text e = (refl, e)
+shown_answers f positions s to_show_stack text e = (refl, e)
+shown_answers f positions s to_show_state text e = (refl, e)
+shown_answers f positions s to_list text e = (refl, e)
+shown_answers f positions s to_show_output text e = (refl, e)
+shown_answers f positions s to_show_cursor text e = (refl, e)
+shown_answers f positions s to_help text e = (refl, e)
+shown_answers f positions s to_quit text e = (refl, e)
+
+-- a text that is as it was before
+pub answers_from : (f : Fixed) (positions : List Position) (s : Seen) (order : Order) (t : Seen) (was old new : Text)
+    {A E : Type 0} (r : Result A E) → was ≡ old →
+    OnOk r ((text : List ℕ) × AnswersCommand f positions s order t text × Adds was new text) →
+    OnOk r ((text : List ℕ) × AnswersCommand f positions s order t text × Adds old new text)
+answers_from f positions s order t was old new {A} {E} r e h =
+    subst (λ o. OnOk r ((text : List ℕ) × AnswersCommand f positions s order t text × Adds o new text)) e h
+
+-- the command of a line
+pub order_is : (line : List ℕ) (o : Option Command) (x : Command) → option_map order_of o ≡ order_in line →
+    o ≡ Some x → order_in line ≡ Some (order_of x)
+order_is line o x e f = sym e ∙ ap (option_map order_of) f
+
+pub no_order : (line : List ℕ) (o : Option Command) → option_map order_of o ≡ order_in line → o ≡ None →
+    order_in line ≡ None
+no_order line o e f = sym e ∙ ap (option_map order_of) f
+
+pub not_quit : (x : Command) → (x ≡ command.Quit → ⊥) → order_of x ≢ to_quit
+not_quit (command.Step n) h = λ e. cc
+not_quit (command.Back n) h = λ e. cc
+not_quit command.Next h = λ e. cc
+not_quit (command.Until n) h = λ e. cc
+not_quit command.Run h = λ e. cc
+not_quit (command.Choose done) h = λ e. cc
+not_quit (command.Print names) h = λ e. cc
+not_quit command.Stack h = λ e. cc
+not_quit command.State h = λ e. cc
+not_quit command.List h = λ e. cc
+not_quit (command.Watch name) h = λ e. cc
+not_quit (command.Why name) h = λ e. cc
+not_quit command.Output h = λ e. cc
+not_quit command.Cursor h = λ e. cc
+not_quit command.Help h = λ e. cc
+not_quit command.Quit h = absurd (h refl)
+
+pub full_at : (s : Seen) (e : RunsError) → e ≡ WorkFull → IsStepError s e → IsFull s 1000
+full_at s e is (inl memory) = absurd (cc)
+full_at s e is (inr full) = full.1
+
+-- the answer to a line that is no command
+pub unknown_is : (line word : List ℕ) (r : Bool) → word ≡ first_word line → r ≡ (length word == 0) → r ≡ false →
+    codes "unknown command; help lists all commands\n" ≡ unknown_text line
+unknown_is line word r e f g =
+    let some : (length (first_word line) == 0) ≡ false = ap (λ w. length w == 0) (sym e) ∙ (sym f ∙ g) in rw some refl
+
+pub blank_is : (line word : List ℕ) (r : Bool) → word ≡ first_word line → r ≡ (length word == 0) → r ≡ true →
+    [] ≡ unknown_text line
+blank_is line word r e f g =
+    let none : (length (first_word line) == 0) ≡ true = ap (λ w. length w == 0) (sym e) ∙ (sym f ∙ g) in rw none refl
+
+pub none_left : (o : Option Command) → ((x : Command) → o ≡ Some x → ⊥) → o ≡ None
+none_left None h = refl
+none_left (Some x) h = absurd (h x refl)

@@ -1,0 +1,23 @@
+-- The answer to the command `help`.
+use Rattle.std.specs.Prelude.{ℕ, List, ◌++◌, codes}
+
+abbrev pub help_text : List ℕ
+help_text =
+    codes "step [N]      makes N steps, or 1\n"
+    ++ codes "back [N]      takes N steps back, or 1\n"
+    ++ codes "next          makes a step, and if it is a NEXT, all steps until it comes back\n"
+    ++ codes "until N       makes steps until statement N is met next\n"
+    ++ codes "run           makes steps until a choice, the end or the limit\n"
+    ++ codes "choose 0|1    passes over the statement that asks, or does it\n"
+    ++ codes "print NAME..  shows variables and arrays, such as .1 or ,2\n"
+    ++ codes "stack         shows the NEXT stack\n"
+    ++ codes "state         shows the whole state\n"
+    ++ codes "list          shows the statements around the one that is met next\n"
+    ++ codes "watch NAME    makes steps until one changes the name\n"
+    ++ codes "why NAME      goes back to the step that last changed the name\n"
+    ++ codes "output        shows what the run has printed\n"
+    ++ codes "cursor        shows the choices so far, as `ick run --choices` takes them\n"
+    ++ codes "help          shows this list\n"
+    ++ codes "quit          ends the session\n"
+    ++ codes "Each command may be cut short: s is step, b is back, sta is stack, stat is state, wh is why.\n"
+    ++ codes "A step prints STEPS STATEMENT LINE:COLUMN TEXT: the steps so far, and the statement met next.\n"

@@ -1,0 +1,54 @@
+-- What a session writes.
+use Rattle.std.specs.Prelude.{◌≡◌, ℕ, ◌==◌, false, List, [], ◌∷◌, ◌++◌, take, if◌then◌else◌}
+use Rattle.ick_cli.specs.declared.ending.Ending.{Ending}
+use Rattle.ick_cli.specs.declared.ending.Ending.TheVariants.{Answered}
+use Rattle.ick_inspect.specs.declared.positions.Position.{Position}
+use Rattle.ick_step.specs.Session.{Seen}
+use Rattle.ick_session.specs.Lines.{AnswersLine, Talks}
+use Rattle.ick_session.specs.Stepper.{Fixed}
+use Rattle.ick_session.specs.Travel.{where_text}
+
+-- the lines of a text, without their ends; what is behind the last line end is a line unless it is empty
+abbrev pub begun_by : ℕ → List (List ℕ) → List (List ℕ)
+begun_by b [] = (b ∷ []) ∷ []
+begun_by b (line ∷ lines) = (b ∷ line) ∷ lines
+
+abbrev pub lines_of : List ℕ → List (List ℕ)
+lines_of [] = []
+lines_of (b ∷ text) = if b == 10 then [] ∷ lines_of text else begun_by b (lines_of text)
+
+-- the output after these lines: where the run begins, and the answers
+abbrev pub output_text : Fixed → List Position → Seen → List ℕ → List ℕ
+output_text f positions s text = where_text f.limit positions s ++ text
+
+-- The session was over: all lines were answered, or those before the first `quit`. The output was written behind what
+-- was written before.
+pub data IsOver (f : Fixed) (positions : List Position) (s : Seen) (lines : List (List ℕ)) (before after : List ℕ)
+    : Type 0 where
+  at_end : (t : Seen) (text : List ℕ) → Talks f positions s lines t text →
+      after ≡ before ++ output_text f positions s text → IsOver f positions s lines before after
+  at_quit : (done left : List (List ℕ)) (line : List ℕ) (t u : Seen) (text last : List ℕ) →
+      lines ≡ done ++ line ∷ left → Talks f positions s done t text → AnswersLine f positions t line u last false →
+      after ≡ before ++ output_text f positions s text → IsOver f positions s lines before after
+
+-- something failed: a prefix of the answers to the first lines was written
+pub record IsCut (f : Fixed) (positions : List Position) (s : Seen) (lines : List (List ℕ)) (before after : List ℕ)
+    : Type 0 where
+  pub done : List (List ℕ)
+  pub left : List (List ℕ)
+  pub lines_are : lines ≡ done ++ left
+  pub last : Seen
+  pub text : List ℕ
+  pub talks : Talks f positions s done last text
+  pub count : ℕ
+  pub written : after ≡ before ++ take count (output_text f positions s text)
+
+-- an ending by a failure
+abbrev pub IsFailure : Ending → Type 0
+IsFailure (Answered status message) = ⊥
+IsFailure _ = Unit {0}
+
+-- what a session writes, by how it ends
+abbrev pub Writes : Fixed → List Position → Seen → (lines : List (List ℕ)) → Ending → (before after : List ℕ) → Type 0
+Writes f positions s lines (Answered status message) before after = IsOver f positions s lines before after
+Writes f positions s lines _ before after = IsCut f positions s lines before after
