@@ -1,9 +1,7 @@
 -- The texts of what has changed.
-use Rattle.std.proofs.Common.{◌≡◌, ◌<◌, ◌≤◌, ℕ, ◌++◌, List, Bool, true, false, not, ap, sym, refl, ◌∙◌, arith, codes, length}
-use Rattle.std.proofs.Common.{[], subst}
+use Rattle.std.proofs.Common.{◌≡◌, ◌≤◌, ℕ, ◌++◌, List, Bool, true, false, not, ap, sym, refl, ◌∙◌, arith, codes, length}
+use Rattle.std.proofs.Common.{[]}
 use Rattle.std.specs.Prelude.{Result, Ok, Err, OnOk}
-use Rattle.ick_backtrack.specs.Machine.{Program}
-use Rattle.ick_inspect.specs.declared.text.Text.{Text}
 use Rattle.std.proofs.lemmas.Bool.Decides.{nat_tests}
 use Rattle.std.specs.Prelude.{bytes_eq, decimal, reverse}
 use Rattle.std.proofs.lemmas.List.{reverse-reverse}
@@ -12,7 +10,7 @@ use Rattle.ick_code.specs.declared.code.Code.{Code}
 use Rattle.ick_code.specs.Compiled.{code_ops, code_program}
 use Rattle.ick_code.specs.meaning.State.{State}
 use Rattle.ick_inspect.specs.Summary.{stack_text}
-use Rattle.ick_session.specs.Changes.{ShowsStep, abstained_lines, changes_text, newly_line, newly_text, ops_at, printed_text}
+use Rattle.ick_session.specs.Changes.{abstained_lines, changes_text, newly_line, newly_text, ops_at, printed_text}
 use Rattle.ick_session.specs.Changes.{returned_text}
 
 pub newly_is : (word : List ℕ) (s t : State) (n k : ℕ) → t.abstained n ≡ true → s.abstained n ≡ false → k ≡ n →
@@ -68,11 +66,6 @@ pub changes_same : (code : Code) (n : ℕ) (s t u v : State) → u ≡ s → v �
 changes_same code n s t u v e f h =
     let m : n ≡ s.place = sym h ∙ ap (λ w. w.place) e in
     rw (e, f, m) refl
-
--- a step by a machine that was in the state of another one
-pub step_shown : (p : Program) (s t u : State) (out old : Text) (q : Program) → q ≡ p → u ≡ t →
-    ShowsStep q s u old out → ShowsStep p s t old out
-step_shown p s t u out old q e f h = subst (λ v. ShowsStep p s v old out) f (subst (λ r. ShowsStep r s u old out) e h)
 
 pub on_ok : {A E P : Type 0} (r : Result A E) → P → OnOk r P
 on_ok (Ok x) h = h

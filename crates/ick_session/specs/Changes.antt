@@ -4,6 +4,7 @@ use Rattle.std.specs.Prelude.{bytes_eq, drop, codes, decimal, Option, Some, None
 use Rattle.std.specs.Bool.{beq}
 use Rattle.std.specs.List.{flat_map, range_with_len}
 use Rattle.ick_bits.specs.Quoted.{quoted}
+use Rattle.ick_syntax.specs.StatementTree.{StatementTree}
 use Rattle.ick_syntax.specs.declared.tree.Name.{Name}
 use Rattle.ick_code.specs.declared.code.Code.{Code}
 use Rattle.ick_code.specs.declared.op.Op.{Op}
@@ -13,7 +14,8 @@ use Rattle.ick_code.specs.declared.op.SlotName.TheVariants.{Scalar, Array}
 use Rattle.ick_code.specs.Compiled.{IsCompiled, code_ops, code_program, code_slots}
 use Rattle.ick_backtrack.specs.Machine.{Program}
 use Rattle.ick_code.specs.Effects.{Slots}
-use Rattle.ick_code.specs.meaning.State.{State}
+use Rattle.ick_code.specs.meaning.Move.{advance, is_done}
+use Rattle.ick_code.specs.meaning.State.{State, statement_at}
 use Rattle.ick_inspect.specs.Names.{variable_text}
 use Rattle.ick_inspect.specs.Summary.{stack_text}
 use Rattle.ick_inspect.specs.Text.{Adds}
@@ -127,6 +129,18 @@ changes_text code n s t =
     read_text s t ++ flat_map (op_text code s t) (ops_at code n) ++ returned_text s t
     ++ printed_text (length s.output) t
 
--- the lines of a step from one state to another, by code that does what the program does
-abbrev pub ShowsStep : Program → (before after : State) → (old new : Text) → Type 0
-ShowsStep p s t old new = (code : Code) × IsCompiled p code × Adds old new (changes_text code s.place s t)
+-- that a statement is passed over: it is abstained from, or its chance is 0, or a choice wouldn't do it
+abbrev pub passed_line : Bool → List ℕ
+passed_line done = if done then [] else codes "  passed over\n"
+
+abbrev pub passed_text : Option StatementTree → State → (chosen : Bool) → List ℕ
+passed_text None s chosen = []
+passed_text (Some statement) s chosen = passed_line (is_done statement (s.abstained s.place) chosen)
+
+-- the lines of a step by code that does what the program does: that its statement is passed over, and what has changed
+abbrev pub step_text : Program → Code → State → (chosen : Bool) → List ℕ
+step_text p code s chosen =
+    passed_text (statement_at p s.place) s chosen ++ changes_text code s.place s (advance p s chosen)
+
+abbrev pub ShowsStep : Program → State → (chosen : Bool) → (old new : Text) → Type 0
+ShowsStep p s chosen old new = (code : Code) × IsCompiled p code × Adds old new (step_text p code s chosen)

@@ -11,6 +11,7 @@
 //! | `last_change` | the last step of a session that changed a name |
 //! | `shown` | where a run is, and how it has ended |
 //! | `changes` | what a step has changed |
+//! | `passed` | statements that are passed over |
 //! | `trace` | the lines of a traced step |
 //! | `stepper` | a session with its choices, and the answer to each command |
 //! | `lines` | the answer to a line |
@@ -24,6 +25,7 @@ mod held;
 mod help;
 mod last_change;
 mod lines;
+mod passed;
 mod shown;
 mod stepper;
 mod trace;

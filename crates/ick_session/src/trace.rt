@@ -7,6 +7,7 @@ ghost use Rattle.ick_machine.specs.Seen.{trailed_machine};
 ghost use Rattle.ick_session.specs.Changes.{ShowsStep};
 
 use crate::changes::append_changes;
+use crate::passed::append_passed;
 use ick_bits::NoMemory;
 use ick_inspect::{Text, place};
 use ick_machine::{Backtrack, Trailed};
@@ -30,19 +31,25 @@ pub fn append_answered(out: &mut Text, chance: u8, done: bool) {
     }
 }
 
-/// Appends what a step changed, from the states before it and after it.
-fn append_step(out: &mut Text, before: &Trailed<'_, '_>, after: &Trailed<'_, '_>)
-    requires { (trailed_machine after.now).program ≡ (trailed_machine before.now).program }
-    ensures { ShowsStep (trailed_machine after.now).program (trailed_machine before.now).state
-        (trailed_machine after.now).state out.old out.new }
+/// Appends the lines of a step, from the states before it and after it.
+fn append_step(out: &mut Text, before: &Trailed<'_, '_>, after: &Trailed<'_, '_>, done: bool)
+    requires program { (trailed_machine after.now).program
+        ≡ (trailed_machine before.now).program }
+    requires state { let seen = trailed_machine before.now in
+        (trailed_machine after.now).state ≡ advance seen.program seen.state done }
+    ensures { let seen = trailed_machine before.now in
+        ShowsStep seen.program seen.state done out.old out.new }
 {
     let old = before.present();
     let new = after.present();
     new.lowered.code.law();
+    append_passed(out, &old, done);
     append_changes(out, place(&old), &old, &new);
 }
 
-/// Makes a step with both machines, and appends what it changed.
+/// Makes a step with both machines, and appends its lines: that its statement is passed over, and
+/// what the step changed. Both machines must be in the same state, the run must not have ended, and
+/// their count of work must have room for the step. `NoMemory` is the only refusal.
 pub fn trace_step(machines: &mut Pair<'_, '_>, out: &mut Text, done: bool) -> Result<(), NoMemory>
     requires same { trailed_machine machines.old.after ≡ trailed_machine machines.old.before }
     requires going { IsGoing (ask (trailed_machine machines.old.before).program
@@ -55,9 +62,9 @@ pub fn trace_step(machines: &mut Pair<'_, '_>, out: &mut Text, done: bool) -> Re
           work = seen.work + 1;
         }) }
     ensures shows { let seen = trailed_machine machines.old.before in OnOk result (
-        ShowsStep seen.program seen.state (advance seen.program seen.state done) out.old out.new) }
+        ShowsStep seen.program seen.state done out.old out.new) }
 {
     machines.after.step(done)?;
-    append_step(out, &machines.before, &machines.after);
+    append_step(out, &machines.before, &machines.after, done);
     machines.before.step(done)
 }

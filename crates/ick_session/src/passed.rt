@@ -1,0 +1,47 @@
+//! Statements that are passed over.
+
+ghost use Rattle.std.specs.Prelude.{◌≡◌, ◌≤◌, Some, length, option_map};
+ghost use Rattle.ick_code.specs.meaning.Move.{is_done};
+ghost use Rattle.ick_code.specs.meaning.State.{statement_at};
+ghost use Rattle.ick_inspect.specs.Text.{Adds};
+ghost use Rattle.ick_machine.specs.Present.{present_program, present_state};
+ghost use Rattle.ick_session.specs.Changes.{passed_text};
+
+use ick_inspect::{Present, Text, is_abstained_from, place};
+
+/// Returns whether a statement is done, if a choice would do it or not.
+#[tactic(auto, unfolding(ick_machine::specs::Present::present_program))]
+fn is_done(present: &Present<'_, '_, '_>, statement: u32, chosen: bool) -> bool
+    requires first { 1 ≤ statement }
+    requires last { statement ≤ length (present_program present.now) }
+    ensures { option_map (λ tree. is_done tree ((present_state present.now).abstained statement)
+        chosen) (statement_at (present_program present.now) statement) ≡ Some result }
+{
+    let chance = present.lowered.code.chance(statement);
+    if is_abstained_from(present, statement) {
+        return false;
+    }
+    if 0 < chance && chance < 100 {
+        return chosen;
+    }
+    chance == 100
+}
+
+/// Appends that the statement that is met is passed over, unless it is done. `chosen` says whether
+/// a choice would do it.
+#[tactic(auto, unfolding(ick_machine::specs::Present::present_program))]
+pub fn append_passed(out: &mut Text, present: &Present<'_, '_, '_>, chosen: bool)
+    ensures { let s = present_state present.now in Adds out.old out.new
+        (passed_text (statement_at (present_program present.now) s.place) s chosen) }
+{
+    let statement = place(present);
+    if statement < 1 {
+        return;
+    }
+    if present.lowered.code.count() < statement {
+        return;
+    }
+    if !is_done(present, statement, chosen) {
+        out.push(b"  passed over\n");
+    }
+}
