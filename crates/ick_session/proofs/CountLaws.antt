@@ -65,15 +65,15 @@ pub taken_not_some : (xs : List (Option Bool)) (k : ℕ) (d : Option Bool) → k
 taken_not_some xs k d lt h = none_case xs k d (get_or xs k d) lt refl h
 
 -- a step at which nothing is asked answers no choice, whether memory or work are refused for it or not
-pub none_counted : (r : Result ℕ RunsError) (s t : Seen) →
+pub none_counted : (most : ℕ) (r : Result ℕ RunsError) (s t : Seen) →
     IfErr r (λ e. (e ≡ NoMemory) ⊎ ((e ≡ WorkFull) × (t ≡ s))) → IfOk r (λ k. t ≡ later k s) →
-    (r ≡ Err NoMemory → (k : ℕ) × (k ≤ 1) × (t ≡ later k s)) →
+    (r ≡ Err NoMemory → (k : ℕ) × (k ≤ most) × (t ≡ later k s)) →
     length (choices_in t.answers) ≡ length (choices_in s.answers)
-none_counted (Ok k) s t errors ok no_memory = ap (λ v. length (choices_in v.answers)) ok ∙ no_choice s.answers k
-none_counted (Err e) s t (inl memory) ok no_memory =
+none_counted most (Ok k) s t errors ok no_memory = ap (λ v. length (choices_in v.answers)) ok ∙ no_choice s.answers k
+none_counted most (Err e) s t (inl memory) ok no_memory =
     let made = no_memory (ap Err memory) in
     ap (λ v. length (choices_in v.answers)) made.2 ∙ no_choice s.answers made.0
-none_counted (Err e) s t (inr full) ok no_memory = ap (λ v. length (choices_in v.answers)) full.1
+none_counted most (Err e) s t (inr full) ok no_memory = ap (λ v. length (choices_in v.answers)) full.1
 
 -- a fact on numbers that was kept
 pub equal_of : (m n : ℕ) → ∥ m ≡ n ∥₁ → m ≡ n

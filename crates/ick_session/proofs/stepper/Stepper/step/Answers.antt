@@ -8,6 +8,6 @@ pub invariant_of-self : goal.invariant_of-self
 invariant_of-self c =
     let told = c.step.ensures in
     record {
-      kept = ∥∥₁_map c.args.self.now.kept (λ count. count ∙ sym (none_counted c.step.result
+      kept = ∥∥₁_map c.args.self.now.kept (λ count. count ∙ sym (none_counted _ c.step.result
           (session c.args.self.now.session) (session c.step.new.self) told.errors told.ok told.no_memory));
     }
