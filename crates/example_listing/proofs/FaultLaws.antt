@@ -65,7 +65,7 @@ along_next s cs old now new w w' w'' r (rest, a) g p l grown =
         program = p ∙ a.program;
         limit = l ∙ a.limit;
         stands = g.stands;
-        listing = listing_after s now new c after.0 p l g.place after.1;
+        listing = listing_after s now new c after.0 p l g.position after.1;
         text = a.text
             ∙ (ap (λ x. w' ++ lines x) same
             ∙ (ap (λ x. w' ++ (x ++ lines after.0)) own

@@ -3,7 +3,7 @@ use Rattle.std.proofs.Common.{◌≡◌, inl, inr, ℕ, true, List, Some, arith,
 use Rattle.std.proofs.lemmas.List.{append-nil}
 use Rattle.clap.specs.Words.{Text}
 use Rattle.ick_explorer.specs.Written.{Written}
-use Rattle.ick_cli.specs.Ending.{input_of}
+use Rattle.ick_cli.specs.JobEnd.{input_of}
 use Rattle.ick_cli.specs.Job.{job_of}
 use Rattle.ick_cli.specs.Laws.{OneAnswer}
 use Rattle.ick_cli.specs.Notice.{notice_text}

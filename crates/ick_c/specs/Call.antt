@@ -2,7 +2,7 @@
 use Rattle.std.specs.Prelude.{◌≡◌, ◌≢◌, ◌<◌, ◌⊎◌, if◌then◌else◌, ℕ, true, List, [], Some}
 use Rattle.clap.specs.Words.{Text, fault_of}
 use Rattle.ick_explorer.specs.Written.{Written}
-use Rattle.ick_cli.specs.Ending.{input_of}
+use Rattle.ick_cli.specs.JobEnd.{input_of}
 use Rattle.ick_cli.specs.Job.{Asked, HasJob, has_file, job_of}
 use Rattle.ick_cli.specs.Notice.{notice_text}
 use Rattle.ick_cli.specs.Serve.{Failures, Finishes, FinishesDue, IsDue, IsServed, counts}

@@ -1,4 +1,4 @@
--- An answer to a source, and the ending that has it.
+-- An answer to a source, and the job's end that has it.
 use Rattle.std.proofs.Common.{◌≡◌, ◌<◌, ◌≤◌, ◌==◌, ℕ, Bool, List, [], Option, Some, None, ap₂, length}
 use Rattle.std.proofs.Common.{◌+◌, inl, refl, sym, subst, arith, take, if◌then◌else◌, eq-eqb, ne_eqb, true, false}
 use Rattle.std.proofs.lemmas.List.{append-nil, length-take, take_all}
@@ -7,15 +7,15 @@ use Rattle.ick_bits.specs.declared.faults.FaultKind.{FaultKind}
 use Rattle.ick_source.specs.RefusalAnswers.{IsOnlyRefused}
 use Rattle.ick_source.specs.Refusals.{Compiles, IsRefused, longest}
 use Rattle.ick_syntax.specs.StatementTree.{StatementTree}
-use Rattle.ick_cli.specs.Ending.{Answers, EndsBy, Leaves, LeavesStreams, failed_files, input_of, source_of}
+use Rattle.ick_cli.specs.JobEnd.{Answers, EndsBy, Leaves, LeavesStreams, failed_files, input_of, source_of}
 use Rattle.ick_cli.specs.Input.{EndsCut, EndsUnopened}
 use Rattle.ick_cli.specs.Job.{Task}
 use Rattle.ick_cli.specs.Notice.{notice_text}
 use Rattle.ick_cli.specs.Tool.{Answer, IsExecuted, IsProgramAnswer, IsReadAnswer, IsSourceAnswer, IsToolAnswer}
 use Rattle.ick_cli.specs.Tool.{compiled, executed, not_read, read, refusal, refused, too_long}
-use Rattle.ick_cli.specs.declared.ending.Ending.{Ending}
-use Rattle.ick_cli.specs.declared.ending.Ending.TheVariants.{Answered, NoMemory, InputTooLong, FileNotRead, ReadFailed}
-use Rattle.ick_cli.specs.declared.ending.Ending.TheVariants.{WriteFailed}
+use Rattle.ick_cli.specs.declared.job_end.JobEnd.{JobEnd}
+use Rattle.ick_cli.specs.declared.job_end.JobEnd.TheVariants.{Answered, NoMemory, InputTooLong, FileNotRead, ReadFailed}
+use Rattle.ick_cli.specs.declared.job_end.JobEnd.TheVariants.{WriteFailed}
 use Rattle.ick_cli.specs.declared.notice.Notice.TheVariants as notice
 use Rattle.ick_cli.specs.declared.plan.Plan.{Plan}
 use Rattle.ick_cli.specs.declared.plan.Plan.TheVariants.{Execute}
@@ -47,8 +47,8 @@ refused_answer plan source input kind n is answer (refused other m h) =
     let same = is.only other m h in ap₂ (λ k i. refusal 2 (message_of k i [])) (sym same.0) (sym same.1)
 refused_answer plan source input kind n is answer (compiled trees given h program) = absurd (is.no_program trees h)
 
-ends_refused : (status : ℕ) (text : List ℕ) (ending : Ending) (before : List ℕ) → EndsBy status text ending
-    → Answers (refusal status text) ending before before
+ends_refused : (status : ℕ) (text : List ℕ) (job_end : JobEnd) (before : List ℕ) → EndsBy status text job_end
+    → Answers (refusal status text) job_end before before
 ends_refused status text (Answered given message) before h = (h, sym (append-nil before))
 ends_refused status text NoMemory before h = (tt, (0, sym (append-nil before)))
 ends_refused status text InputTooLong before h = absurd h
@@ -56,18 +56,18 @@ ends_refused status text FileNotRead before h = absurd h
 ends_refused status text ReadFailed before h = absurd h
 ends_refused status text WriteFailed before h = absurd h
 
-pub answered_refusal : (plan : Plan) (source input : List ℕ) (kind : FaultKind) (n : ℕ) (ending : Ending)
+pub answered_refusal : (plan : Plan) (source input : List ℕ) (kind : FaultKind) (n : ℕ) (job_end : JobEnd)
     (before : List ℕ) → IsOnlyRefused source kind n
-    → EndsBy 2 (message_of kind n []) ending
-    → (answer : Answer) → IsSourceAnswer plan source input answer → Answers answer ending before before
-answered_refusal plan source input kind n ending before is ends answer h =
-    subst (λ (a : Answer). Answers a ending before before) (refused_answer plan source input kind n is answer h)
-    (ends_refused 2 (message_of kind n []) ending before ends)
+    → EndsBy 2 (message_of kind n []) job_end
+    → (answer : Answer) → IsSourceAnswer plan source input answer → Answers answer job_end before before
+answered_refusal plan source input kind n job_end before is ends answer h =
+    subst (λ (a : Answer). Answers a job_end before before) (refused_answer plan source input kind n is answer h)
+    (ends_refused 2 (message_of kind n []) job_end before ends)
 
--- an ending by a status of answers leaves the devices unfailed
-pub leaves_by : (status : ℕ) (text : List ℕ) (ending : Ending) (reads reads' writes writes' : ℕ) → status ≤ 3
-    → EndsBy status text ending → reads' ≡ reads → writes' ≡ writes
-    → LeavesStreams ending reads reads' writes writes'
+-- a job's end by a status of answers leaves the devices unfailed
+pub leaves_by : (status : ℕ) (text : List ℕ) (job_end : JobEnd) (reads reads' writes writes' : ℕ) → status ≤ 3
+    → EndsBy status text job_end → reads' ≡ reads → writes' ≡ writes
+    → LeavesStreams job_end reads reads' writes writes'
 leaves_by status text (Answered given message) reads reads' writes writes' small h calm_reads calm_writes =
     record { proper = inl (omega (arith, h.0)); opened = refl; read = omega arith; wrote = omega arith }
 leaves_by status text NoMemory reads reads' writes writes' small h calm_reads calm_writes =
@@ -77,10 +77,10 @@ leaves_by status text FileNotRead reads reads' writes writes' small h calm_reads
 leaves_by status text ReadFailed reads reads' writes writes' small h calm_reads calm_writes = absurd h
 leaves_by status text WriteFailed reads reads' writes writes' small h calm_reads calm_writes = absurd h
 
--- counts of failures that rose as much have the same ending
-pub leaves_as : (ending : Ending) (f f' r r' w w' g g' s s' x x' : ℕ) → Leaves ending f f' r r' w w'
-    → g' + f ≡ f' + g → s' + r ≡ r' + s → x' + w ≡ w' + x → Leaves ending g g' s s' x x'
-leaves_as ending f f' r r' w w' g g' s s' x x' leaves files reads writes = record {
+-- counts of failures that rose as much have the same end
+pub leaves_as : (job_end : JobEnd) (f f' r r' w w' g g' s s' x x' : ℕ) → Leaves job_end f f' r r' w w'
+    → g' + f ≡ f' + g → s' + r ≡ r' + s → x' + w ≡ w' + x → Leaves job_end g g' s s' x x'
+leaves_as job_end f f' r r' w w' g g' s s' x x' leaves files reads writes = record {
   proper = leaves.proper;
   opened = let rose = leaves.opened in omega arith;
   read = let rose = leaves.read in omega arith;
@@ -119,10 +119,10 @@ no_source : (plan : Plan) (input : List ℕ) (answer : Answer) → IsReadAnswer 
     → refusal 4 (notice_text notice.FileNotRead) ≡ answer
 no_source plan input answer not_read = refl
 
-pub answers_unopened : (plan : Plan) (source input : List ℕ) (failed failed' : ℕ) (ending : Ending) (before : List ℕ)
-    → EndsUnopened ending → failed' ≡ failed + failed_files ending → (answer : Answer)
+pub answers_unopened : (plan : Plan) (source input : List ℕ) (failed failed' : ℕ) (job_end : JobEnd) (before : List ℕ)
+    → EndsUnopened job_end → failed' ≡ failed + failed_files job_end → (answer : Answer)
     → IsReadAnswer plan input (if failed == failed' then Some source else None) answer
-    → Answers answer ending before before
+    → Answers answer job_end before before
 answers_unopened plan source input failed failed' FileNotRead before h count answer is =
     let other : (failed == failed') ≡ false = ne_eqb failed failed' (λ e. omega arith) in
     subst (λ (a : Answer). Answers a FileNotRead before before)
@@ -136,8 +136,8 @@ answers_unopened plan source input failed failed' InputTooLong before h count an
 answers_unopened plan source input failed failed' ReadFailed before h count answer is = absurd h
 answers_unopened plan source input failed failed' WriteFailed before h count answer is = absurd h
 
-pub answers_cut : (answer : Answer) (ending : Ending) (before : List ℕ) → EndsCut ending
-    → Answers answer ending before before
+pub answers_cut : (answer : Answer) (job_end : JobEnd) (before : List ℕ) → EndsCut job_end
+    → Answers answer job_end before before
 answers_cut answer NoMemory before h = (tt, (0, sym (append-nil before)))
 answers_cut answer ReadFailed before h = (tt, (0, sym (append-nil before)))
 answers_cut answer (Answered status message) before h = absurd h

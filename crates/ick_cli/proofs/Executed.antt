@@ -18,14 +18,14 @@ use Rattle.ick_explorer.specs.declared.errors.RunsError.{RunsError}
 use Rattle.ick_explorer.specs.declared.errors.RunsError.TheVariants.{NoMemory as NoMemory_error, NoSuchRun, WorkFull}
 use Rattle.ick_explorer.specs.declared.errors.RunsError.TheVariants.{Failed, BadCursor, Read, Write}
 use Rattle.ick_runs.specs.declared.streamed.Streamed.{Streamed}
-use Rattle.ick_cli.specs.Ending.{Answers, Comes, EndsBy, LeavesStreams, WhereAnswered, refused_ending}
+use Rattle.ick_cli.specs.JobEnd.{Answers, Comes, EndsBy, LeavesStreams, WhereAnswered, refused_job_end}
 use Rattle.ick_cli.specs.Input.{EndsUnread}
 use Rattle.ick_cli.specs.Stopped.{EndsAs, kind_status, kind_text}
 use Rattle.ick_cli.specs.Tool.{Answer, IsExecuted, IsRunsAnswer, run_answer, stop_status, stop_text}
 use Rattle.ick_cli.specs.Tool.{drawn, input_too_long, listed_runs, longest_input, ran}
-use Rattle.ick_cli.specs.declared.ending.Ending.{Ending}
-use Rattle.ick_cli.specs.declared.ending.Ending.TheVariants.{Answered, NoMemory, InputTooLong, FileNotRead, ReadFailed}
-use Rattle.ick_cli.specs.declared.ending.Ending.TheVariants.{WriteFailed}
+use Rattle.ick_cli.specs.declared.job_end.JobEnd.{JobEnd}
+use Rattle.ick_cli.specs.declared.job_end.JobEnd.TheVariants.{Answered, NoMemory, InputTooLong, FileNotRead, ReadFailed}
+use Rattle.ick_cli.specs.declared.job_end.JobEnd.TheVariants.{WriteFailed}
 use Rattle.ick_cli.specs.declared.plan.Runs.TheVariants.{Given, Drawn, Listed}
 use Rattle.ick_cli.proofs.Answered.{leaves_by}
 use Rattle.ick_cli.proofs.Left.{where_answered, where_refused}
@@ -44,12 +44,12 @@ text_of_kind (ends (finished (faulted kind statement subject))) steps = refl
 text_of_kind (ends at_limit) steps = refl
 text_of_kind wants steps = refl
 
--- the ending of a run whose output was written has the run's answer
+-- the job's end of a run whose output was written has the run's answer
 pub answers_streamed : (told : Bool) (x : Execution) (c : List Bool) (before after left : List ℕ) (s : Streamed)
-    (ending : Ending)
+    (job_end : JobEnd)
     → told ≡ true → HasStreamed told x c before after left s
-    → EndsBy (kind_status s.end) (kind_text s.end s.message.items s.steps) ending
-    → Answers (run_answer x) ending before after
+    → EndsBy (kind_status s.end) (kind_text s.end s.message.items s.steps) job_end
+    → Answers (run_answer x) job_end before after
 answers_streamed told x c before after left s (Answered status message) is_told has h =
     let text = ap (λ k. kind_text k s.message.items s.steps) has.end
     ∙ (ap (λ m. kind_text (stop_kind x.stop) m s.steps) has.message
@@ -65,7 +65,7 @@ answers_streamed told x c before after left s WriteFailed is_told has h = absurd
 -- a run that was refused has its answer cut
 refused_so : (answer : Answer) (e : RunsError) (before after : List ℕ)
     → (e ≡ NoMemory_error) ⊎ ((e ≡ Read) ⊎ (e ≡ Write)) → (n : ℕ) × (after ≡ before ++ take n answer.output)
-    → Answers answer (refused_ending e) before after
+    → Answers answer (refused_job_end e) before after
 refused_so answer NoMemory_error before after one cut = (tt, cut)
 refused_so answer WorkFull before after one cut = (tt, cut)
 refused_so answer Failed before after one cut = (tt, cut)
@@ -78,31 +78,31 @@ refused_so answer BadCursor before after (inl e) cut = cc
 refused_so answer BadCursor before after (inr (inl e)) cut = cc
 refused_so answer BadCursor before after (inr (inr e)) cut = cc
 
-pub answers_refused : (answer : Answer) (e : RunsError) (ending : Ending) (before after : List ℕ)
-    → ending ≡ refused_ending e → (e ≡ NoMemory_error) ⊎ ((e ≡ Read) ⊎ (e ≡ Write))
-    → (n : ℕ) × (after ≡ before ++ take n answer.output) → Answers answer ending before after
-answers_refused answer e ending before after so one cut =
-    subst (λ (x : Ending). Answers answer x before after) (sym so) (refused_so answer e before after one cut)
+pub answers_refused : (answer : Answer) (e : RunsError) (job_end : JobEnd) (before after : List ℕ)
+    → job_end ≡ refused_job_end e → (e ≡ NoMemory_error) ⊎ ((e ≡ Read) ⊎ (e ≡ Write))
+    → (n : ℕ) × (after ≡ before ++ take n answer.output) → Answers answer job_end before after
+answers_refused answer e job_end before after so one cut =
+    subst (λ (x : JobEnd). Answers answer x before after) (sym so) (refused_so answer e before after one cut)
 
 -- a run that was answered or refused
 abbrev pub IsRunError : RunsError → Type 0
 IsRunError e = (e ≡ NoMemory_error) ⊎ ((e ≡ Read) ⊎ (e ≡ Write))
 
 pub answers_ran : (told : Bool) (x : Execution) (c : List Bool) (before after left : List ℕ)
-    (r : Result Streamed RunsError) (ending : Ending)
-    → Streams told x c before after left r → IfErr r IsRunError → EndsAs r ending → told ≡ true
-    → Answers (run_answer x) ending before after
-answers_ran told x c before after left (Ok s) ending has one ended is_told =
-    answers_streamed told x c before after left s ending is_told has ended
-answers_ran told x c before after left (Err e) ending cut one ended is_told =
-    answers_refused (run_answer x) e ending before after ended one (cut.0, cut.1 is_told)
+    (r : Result Streamed RunsError) (job_end : JobEnd)
+    → Streams told x c before after left r → IfErr r IsRunError → EndsAs r job_end → told ≡ true
+    → Answers (run_answer x) job_end before after
+answers_ran told x c before after left (Ok s) job_end has one ended is_told =
+    answers_streamed told x c before after left s job_end is_told has ended
+answers_ran told x c before after left (Err e) job_end cut one ended is_told =
+    answers_refused (run_answer x) e job_end before after ended one (cut.0, cut.1 is_told)
 
 pub left_ran : (told : Bool) (x : Execution) (c : List Bool) (before after left : List ℕ)
-    (r : Result Streamed RunsError) (ending : Ending)
-    → Streams told x c before after left r → IfErr r IsRunError → EndsAs r ending
-    → WhereAnswered ending (left ≡ x.last.input)
-left_ran told x c before after left (Ok s) ending has one ended = where_answered ending (left ≡ x.last.input) has.input
-left_ran told x c before after left (Err e) ending cut one ended = where_refused e ending _ ended one
+    (r : Result Streamed RunsError) (job_end : JobEnd)
+    → Streams told x c before after left r → IfErr r IsRunError → EndsAs r job_end
+    → WhereAnswered job_end (left ≡ x.last.input)
+left_ran told x c before after left (Ok s) job_end has one ended = where_answered job_end (left ≡ x.last.input) has.input
+left_ran told x c before after left (Err e) job_end cut one ended = where_refused e job_end _ ended one
 
 small_kind : (kind : EndKind) → kind_status kind ≤ 3
 small_kind GiveUp = omega arith
@@ -112,7 +112,7 @@ small_kind Wants = omega arith
 
 refused_leaves : (e : RunsError) (reads reads' writes writes' : ℕ)
     → reads' ≡ reads + source_failures {T = Streamed} (Err e) → writes' ≡ writes + write_failures {T = Streamed} (Err e)
-    → IsRunError e → LeavesStreams (refused_ending e) reads reads' writes writes'
+    → IsRunError e → LeavesStreams (refused_job_end e) reads reads' writes writes'
 refused_leaves NoMemory_error reads reads' writes writes' r w one =
     record { proper = tt; opened = refl; read = r; wrote = w }
 refused_leaves Read reads reads' writes writes' r w one = record { proper = tt; opened = refl; read = r; wrote = w }
@@ -125,14 +125,14 @@ refused_leaves NoSuchRun reads reads' writes writes' r w one =
 refused_leaves BadCursor reads reads' writes writes' r w one =
     record { proper = inr refl; opened = refl; read = r; wrote = w }
 
-pub leaves_ran : (r : Result Streamed RunsError) (ending : Ending) (reads reads' writes writes' : ℕ)
+pub leaves_ran : (r : Result Streamed RunsError) (job_end : JobEnd) (reads reads' writes writes' : ℕ)
     → reads' ≡ reads + source_failures r → writes' ≡ writes + write_failures r
-    → IfErr r IsRunError → EndsAs r ending → LeavesStreams ending reads reads' writes writes'
-leaves_ran (Ok s) ending reads reads' writes writes' r w one ended =
-    leaves_by (kind_status s.end) _ ending reads reads' writes writes' (small_kind s.end) ended (omega arith)
+    → IfErr r IsRunError → EndsAs r job_end → LeavesStreams job_end reads reads' writes writes'
+leaves_ran (Ok s) job_end reads reads' writes writes' r w one ended =
+    leaves_by (kind_status s.end) _ job_end reads reads' writes writes' (small_kind s.end) ended (omega arith)
     (omega arith)
-leaves_ran (Err e) ending reads reads' writes writes' r w one ended =
-    subst (λ (x : Ending). LeavesStreams x reads reads' writes writes') (sym ended)
+leaves_ran (Err e) job_end reads reads' writes writes' r w one ended =
+    subst (λ (x : JobEnd). LeavesStreams x reads reads' writes writes') (sym ended)
     (refused_leaves e reads reads' writes writes' r w one)
 
 -- an error of such a run may come
@@ -155,25 +155,25 @@ run_comes (Err e) one = run_error_comes e one
 
 -- the answer of runs, by what they are
 pub answers_given : (p : Program) (input : List ℕ) (choices : Option (List Bool)) (limit : ℕ) (answer : Answer)
-    (ending : Ending) (before after : List ℕ)
+    (job_end : JobEnd) (before after : List ℕ)
     → IsExecuted p input (Given choices limit) answer
-    → Answers (run_answer (run p (first_state p input) limit (unwrap_or choices []))) ending before after
-    → Answers answer ending before after
-answers_given p input choices limit answer ending before after (ran c l) h = h
+    → Answers (run_answer (run p (first_state p input) limit (unwrap_or choices []))) job_end before after
+    → Answers answer job_end before after
+answers_given p input choices limit answer job_end before after (ran c l) h = h
 
-pub answers_drawn : (p : Program) (input : List ℕ) (seed limit : ℕ) (answer : Answer) (ending : Ending)
+pub answers_drawn : (p : Program) (input : List ℕ) (seed limit : ℕ) (answer : Answer) (job_end : JobEnd)
     (before after : List ℕ)
     → IsExecuted p input (Drawn seed limit) answer
     → ((c : List Bool) → IsDrawn p (first_state p input) limit (word_of seed) c
-    → Answers (run_answer (run p (first_state p input) limit c)) ending before after)
-    → Answers answer ending before after
-answers_drawn p input seed limit answer ending before after (drawn k l c is) h = h c is
+    → Answers (run_answer (run p (first_state p input) limit c)) job_end before after)
+    → Answers answer job_end before after
+answers_drawn p input seed limit answer job_end before after (drawn k l c is) h = h c is
 
 -- .. of a listing whose input was not read, and of one whose input was
-pub answered_unread : (p : Program) (input : List ℕ) (from : Option (List Bool)) (count limit : ℕ) (ending : Ending)
+pub answered_unread : (p : Program) (input : List ℕ) (from : Option (List Bool)) (count limit : ℕ) (job_end : JobEnd)
     (before : List ℕ)
-    → EndsUnread input ending → (answer : Answer) → IsExecuted p input (Listed from count limit) answer
-    → Answers answer ending before before
+    → EndsUnread input job_end → (answer : Answer) → IsExecuted p input (Listed from count limit) answer
+    → Answers answer job_end before before
 answered_unread p input from count limit InputTooLong before above answer (input_too_long f n l h) =
     ((refl, refl), sym (append-nil before))
 answered_unread p input from count limit InputTooLong before above answer (listed_runs f n l a fits h) =

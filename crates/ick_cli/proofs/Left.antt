@@ -16,7 +16,7 @@ use Rattle.ick_explorer.specs.Runs.{run}
 use Rattle.ick_explorer.specs.declared.errors.RunsError.{RunsError}
 use Rattle.ick_explorer.specs.declared.errors.RunsError.TheVariants.{NoMemory, NoSuchRun, WorkFull, Failed, BadCursor}
 use Rattle.ick_explorer.specs.declared.errors.RunsError.TheVariants.{Read, Write}
-use Rattle.ick_cli.specs.Ending.{WhereAnswered, ending_status, ending_text, refused_ending}
+use Rattle.ick_cli.specs.JobEnd.{WhereAnswered, job_end_status, job_end_text, refused_job_end}
 use Rattle.ick_cli.specs.Input.{EndsCut, EndsUnopened, EndsUnread}
 use Rattle.ick_cli.specs.Left.{IsLeftByProgram, IsLeftByRuns, IsLeftBySource, left_alone, left_by_drawn, left_by_given}
 use Rattle.ick_cli.specs.Left.{left_by_listed, left_by_runs, left_compiled, left_refused}
@@ -26,17 +26,17 @@ use Rattle.ick_cli.specs.Plan.{EndsByLine, IsPlanned, IsUnplanned, reads_input}
 use Rattle.ick_cli.specs.declared.notice.Message.TheVariants as message
 use Rattle.ick_cli.specs.Serve.{Finishes}
 use Rattle.ick_cli.specs.Tool.{longest_input}
-use Rattle.ick_cli.specs.declared.ending.Ending.{Ending}
-use Rattle.ick_cli.specs.declared.ending.Ending.TheVariants.{Answered, InputTooLong, FileNotRead, ReadFailed}
-use Rattle.ick_cli.specs.declared.ending.Ending.TheVariants.{WriteFailed}
-use Rattle.ick_cli.specs.declared.ending.Ending.TheVariants.{NoMemory as WithoutMemory}
+use Rattle.ick_cli.specs.declared.job_end.JobEnd.{JobEnd}
+use Rattle.ick_cli.specs.declared.job_end.JobEnd.TheVariants.{Answered, InputTooLong, FileNotRead, ReadFailed}
+use Rattle.ick_cli.specs.declared.job_end.JobEnd.TheVariants.{WriteFailed}
+use Rattle.ick_cli.specs.declared.job_end.JobEnd.TheVariants.{NoMemory as WithoutMemory}
 use Rattle.ick_cli.specs.declared.plan.Plan.{Plan}
 use Rattle.ick_cli.specs.declared.plan.Plan.TheVariants.{Execute}
 use Rattle.ick_cli.specs.declared.plan.Runs.{Runs}
 use Rattle.ick_cli.specs.declared.plan.Runs.TheVariants.{Given, Drawn, Listed}
 
 -- a fact holds where work ended with an answer, if it holds anyway, or another does
-pub where_answered : (ending : Ending) (Fact : Type 0) → Fact → WhereAnswered ending Fact
+pub where_answered : (job_end : JobEnd) (Fact : Type 0) → Fact → WhereAnswered job_end Fact
 where_answered (Answered status message) Fact h = h
 where_answered WithoutMemory Fact h = tt
 where_answered InputTooLong Fact h = tt
@@ -44,8 +44,8 @@ where_answered FileNotRead Fact h = tt
 where_answered ReadFailed Fact h = tt
 where_answered WriteFailed Fact h = tt
 
-pub where_other : (ending : Ending) (Fact Other : Type 0) → (Fact → Other) → WhereAnswered ending Fact
-    → WhereAnswered ending Other
+pub where_other : (job_end : JobEnd) (Fact Other : Type 0) → (Fact → Other) → WhereAnswered job_end Fact
+    → WhereAnswered job_end Other
 where_other (Answered status message) Fact Other so h = so h
 where_other WithoutMemory Fact Other so h = tt
 where_other InputTooLong Fact Other so h = tt
@@ -55,7 +55,7 @@ where_other WriteFailed Fact Other so h = tt
 
 -- a run that was refused, and an input that wasn't read, end without an answer
 refused_by : (e : RunsError) (Fact : Type 0) → (e ≡ NoMemory) ⊎ ((e ≡ Read) ⊎ (e ≡ Write))
-    → WhereAnswered (refused_ending e) Fact
+    → WhereAnswered (refused_job_end e) Fact
 refused_by NoMemory Fact one = tt
 refused_by WorkFull Fact one = tt
 refused_by Failed Fact one = tt
@@ -68,12 +68,12 @@ refused_by BadCursor Fact (inl e) = cc
 refused_by BadCursor Fact (inr (inl e)) = cc
 refused_by BadCursor Fact (inr (inr e)) = cc
 
-pub where_refused : (e : RunsError) (ending : Ending) (Fact : Type 0) → ending ≡ refused_ending e
-    → (e ≡ NoMemory) ⊎ ((e ≡ Read) ⊎ (e ≡ Write)) → WhereAnswered ending Fact
-where_refused e ending Fact so one =
-    subst (λ (x : Ending). WhereAnswered x Fact) (sym so) (refused_by e Fact one)
+pub where_refused : (e : RunsError) (job_end : JobEnd) (Fact : Type 0) → job_end ≡ refused_job_end e
+    → (e ≡ NoMemory) ⊎ ((e ≡ Read) ⊎ (e ≡ Write)) → WhereAnswered job_end Fact
+where_refused e job_end Fact so one =
+    subst (λ (x : JobEnd). WhereAnswered x Fact) (sym so) (refused_by e Fact one)
 
-pub where_cut : (ending : Ending) (Fact : Type 0) → EndsCut ending → WhereAnswered ending Fact
+pub where_cut : (job_end : JobEnd) (Fact : Type 0) → EndsCut job_end → WhereAnswered job_end Fact
 where_cut (Answered status message) Fact h = absurd h
 where_cut WithoutMemory Fact h = tt
 where_cut InputTooLong Fact h = tt
@@ -81,7 +81,7 @@ where_cut FileNotRead Fact h = tt
 where_cut ReadFailed Fact h = tt
 where_cut WriteFailed Fact h = tt
 
-pub where_unopened : (ending : Ending) (Fact : Type 0) → EndsUnopened ending → WhereAnswered ending Fact
+pub where_unopened : (job_end : JobEnd) (Fact : Type 0) → EndsUnopened job_end → WhereAnswered job_end Fact
 where_unopened (Answered status message) Fact h = absurd h
 where_unopened WithoutMemory Fact h = tt
 where_unopened InputTooLong Fact h = tt
@@ -89,7 +89,7 @@ where_unopened FileNotRead Fact h = tt
 where_unopened ReadFailed Fact h = tt
 where_unopened WriteFailed Fact h = tt
 
-pub cut_unread : (input : List ℕ) (ending : Ending) → EndsCut ending → EndsUnread input ending
+pub cut_unread : (input : List ℕ) (job_end : JobEnd) → EndsCut job_end → EndsUnread input job_end
 cut_unread input (Answered status message) h = absurd h
 cut_unread input WithoutMemory h = tt
 cut_unread input InputTooLong h = absurd h
@@ -97,8 +97,8 @@ cut_unread input FileNotRead h = absurd h
 cut_unread input ReadFailed h = tt
 cut_unread input WriteFailed h = absurd h
 
-pub where_unread : (input : List ℕ) (ending : Ending) (Fact : Type 0) → EndsUnread input ending
-    → WhereAnswered ending Fact
+pub where_unread : (input : List ℕ) (job_end : JobEnd) (Fact : Type 0) → EndsUnread input job_end
+    → WhereAnswered job_end Fact
 where_unread input (Answered status message) Fact h = absurd h
 where_unread input WithoutMemory Fact h = tt
 where_unread input InputTooLong Fact h = tt
@@ -130,10 +130,10 @@ pub executed_left : (trees program : List StatementTree) (input : List ℕ) (run
 executed_left trees program input runs left same h =
     subst (λ (p : List StatementTree). IsLeftByRuns p input runs left) same h
 
-pub alone_left : (trees : List StatementTree) (input : List ℕ) (plan other : Plan) (ending : Ending) → plan ≡ other
-    → reads_input other ≡ false → WhereAnswered ending (IsLeftByProgram trees input plan input)
-alone_left trees input plan other ending is none =
-    where_answered ending _ (subst (λ (p : Plan). IsLeftByProgram trees input p input) (sym is) (left_alone other none))
+pub alone_left : (trees : List StatementTree) (input : List ℕ) (plan other : Plan) (job_end : JobEnd) → plan ≡ other
+    → reads_input other ≡ false → WhereAnswered job_end (IsLeftByProgram trees input plan input)
+alone_left trees input plan other job_end is none =
+    where_answered job_end _ (subst (λ (p : Plan). IsLeftByProgram trees input p input) (sym is) (left_alone other none))
 
 pub runs_left : (trees : List StatementTree) (input : List ℕ) (plan : Plan) (runs : Runs) (left : List ℕ)
     → plan ≡ Execute runs → IsLeftByRuns trees input runs left → IsLeftByProgram trees input plan left
@@ -169,7 +169,7 @@ left_of_front plan most source input left long (left_compiled trees l h is) =
     (subst (λ (t : List ℕ). Compiles t trees) (front_whole most source trees long h) h) is
 
 -- a status that isn't 4 is that of an answer
-answered_by : (ending : Ending) (Fact : Type 0) → (ending_status ending ≡ 4 → ⊥) → WhereAnswered ending Fact → Fact
+answered_by : (job_end : JobEnd) (Fact : Type 0) → (job_end_status job_end ≡ 4 → ⊥) → WhereAnswered job_end Fact → Fact
 answered_by (Answered status message) Fact other h = h
 answered_by WithoutMemory Fact other h = absurd (other refl)
 answered_by InputTooLong Fact other h = absurd (other refl)
@@ -185,11 +185,11 @@ four_by told status text e e' errs errs' code done four = elim (cases_order e' e
   | inr (inr more) ↦ done.fault more
 ]
 
-pub was_answered : (told : Bool) (ending : Ending) (e e' : ℕ) (errs errs' : List ℕ) (code : ℕ) (Fact : Type 0)
-    → Finishes told (ending_status ending) (ending_text ending) e e' errs errs' code → (code ≡ 4 → ⊥)
-    → WhereAnswered ending Fact → Fact
-was_answered told ending e e' errs errs' code Fact done other h =
-    answered_by ending Fact (λ four. other (four_by told _ _ e e' errs errs' code done four)) h
+pub was_answered : (told : Bool) (job_end : JobEnd) (e e' : ℕ) (errs errs' : List ℕ) (code : ℕ) (Fact : Type 0)
+    → Finishes told (job_end_status job_end) (job_end_text job_end) e e' errs errs' code → (code ≡ 4 → ⊥)
+    → WhereAnswered job_end Fact → Fact
+was_answered told job_end e e' errs errs' code Fact done other h =
+    answered_by job_end Fact (λ four. other (four_by told _ _ e e' errs errs' code done four)) h
 
 pub without_memory : (told : Bool) (text : List ℕ) (e e' : ℕ) (errs errs' : List ℕ) (code : ℕ) (Fact : Type 0)
     → Finishes told 4 text e e' errs errs' code → (code ≡ 4 → ⊥) → Fact
@@ -197,8 +197,8 @@ without_memory told text e e' errs errs' code Fact done other =
     absurd (other (four_by told 4 text e e' errs errs' code done refl))
 
 -- what a job leaves that has no plan, and one that names no file
-pub where_unplanned : (a : Asked) (named : List ℕ → List ℕ) (before : List ℕ) (ending : Ending)
-    → EndsByLine (IsUnplanned a.task) ending → WhereAnswered ending (IsLeft a named before before)
+pub where_unplanned : (a : Asked) (named : List ℕ → List ℕ) (before : List ℕ) (job_end : JobEnd)
+    → EndsByLine (IsUnplanned a.task) job_end → WhereAnswered job_end (IsLeft a named before before)
 where_unplanned a named before (Answered status (message.Notice line)) h = left_unplanned line h.1
 where_unplanned a named before (Answered status message.Nothing) h = absurd h
 where_unplanned a named before (Answered status (message.Text text)) h = absurd h

@@ -15,23 +15,23 @@ use Rattle.ick_explorer.specs.declared.errors.RunsError.{RunsError}
 use Rattle.ick_explorer.specs.declared.errors.RunsError.TheVariants.{NoMemory, NoSuchRun, WorkFull, Failed, BadCursor, Read}
 use Rattle.ick_explorer.specs.declared.errors.RunsError.TheVariants.{Write}
 use Rattle.ick_explorer.specs.declared.listing.Listed2.{Listed2}
-use Rattle.ick_cli.specs.Ending.{Answers, Comes, LeavesWriter, refused_ending}
+use Rattle.ick_cli.specs.JobEnd.{Answers, Comes, LeavesWriter, refused_job_end}
 use Rattle.ick_cli.specs.Placed.{IsPlaced, IsRunsAnswerAt, IsUnplaced}
 use Rattle.ick_cli.specs.Tool.{Answer, IsRunsAnswer, listed, no_such_run, refusal, shown}
 use Rattle.ick_cli.specs.Notice.{notice_text}
-use Rattle.ick_cli.specs.declared.ending.Ending.{Ending}
-use Rattle.ick_cli.specs.declared.ending.Ending.TheVariants.{Answered, NoMemory as WithoutMemory, WriteFailed}
+use Rattle.ick_cli.specs.declared.job_end.JobEnd.{JobEnd}
+use Rattle.ick_cli.specs.declared.job_end.JobEnd.TheVariants.{Answered, NoMemory as WithoutMemory, WriteFailed}
 use Rattle.ick_cli.specs.declared.notice.Notice.TheVariants.{NoSuchRun as NoSuchRun_line}
 use Rattle.ick_cli.specs.declared.notice.Message.TheVariants.{Nothing}
 use Rattle.ick_cli.proofs.Beginnings.{IsBeginning, lines_begin, part_begins}
 
--- the answer at the place of an explorer is a listing's
+-- the answer at the position of an explorer is a listing's
 stands_whole : (p : Program) (s : State) (l : ℕ) (c : List Bool) (present : State) (marks : List State)
     (points : List ℕ)
     → StandsFrom p s l (Some c) present marks points → IsWhole p s l c
 stands_whole p s l c present marks points h = h.whole
 
--- the listing of an answer at a place
+-- the listing of an answer at a position
 pub record IsListed (s : State) (count : ℕ) (e : Explored) (answer : Answer) : Type 0 where
   pub runs : List (List Bool)
   pub listing : IsListingAt s e runs
@@ -40,7 +40,7 @@ pub record IsListed (s : State) (count : ℕ) (e : Explored) (answer : Answer) :
 listed_at : (p : Program) (s : State) (l count : ℕ) (from : Option (List Bool)) (answer : Answer)
     → ((c : List Bool) → from ≡ Some c → IsWhole p s l c) → IsRunsAnswer p s l count from answer
     → (cs : List (List Bool)) × IsListing p s l from cs × (answer ≡ shown (shown_runs p s l cs count))
-listed_at p s l count from answer whole (listed f cs place is) = (cs, is, refl)
+listed_at p s l count from answer whole (listed f cs position is) = (cs, is, refl)
 listed_at p s l count from answer whole (no_such_run c not_whole) = absurd (not_whole (whole c refl))
 
 pub is_listed : (s : State) (count : ℕ) (e : Explored) (answer : Answer) → Stands s e
@@ -50,10 +50,10 @@ is_listed s count e answer stands is =
     let found = listed_at e.program s e.limit count e.from answer
     (λ c same. stands_whole e.program s e.limit c e.present e.marks e.points
     (subst (λ (from : Option
-    (List Bool)). StandsFrom e.program s e.limit from e.present e.marks e.points) same stands.at_place)) is in
+    (List Bool)). StandsFrom e.program s e.limit from e.present e.marks e.points) same stands.at_position)) is in
     record { runs = found.0; listing = found.1; shown_is = found.2 }
 
--- what is known of the ending by what was written
+-- what is known of the job's end by what was written
 pub wrote_all : (told : Bool) (s : State) (count : ℕ) (old new : Explored) (w w' : List ℕ) (says : Listed2)
     (answer : Answer) → told ≡ true
     → ((cs : List (List Bool)) → IsListingAt s old cs → Writes told s cs count old new w w' (Ok says))
@@ -77,7 +77,7 @@ pub wrote_cut : (told : Bool) (s : State) (count : ℕ) (old new : Explored) (w 
     → (e ≡ WorkFull → 2 ^ 64 ≤ old.work + count * old.limit) → old.limit < 2 ^ 32 → count < 2 ^ 32
     → old.work ≤ old.limit
     → ((cs : List (List Bool)) → IsListingAt s old cs → Writes told s cs count old new w w' (Err e))
-    → IsListed s count old answer → Answers answer (refused_ending e) w w'
+    → IsListed s count old answer → Answers answer (refused_job_end e) w w'
 wrote_cut told s count old new w w' NoMemory answer is_told full small few fresh writes is =
     let wrote = writes is.runs is.listing in
     subst (λ (a : Answer). Answers a WithoutMemory w w') (sym is.shown_is) (
@@ -106,7 +106,7 @@ wrote_cut told s count old new w w' Read answer is_told full small few fresh wri
 -- the one write that failed, or none; nothing was read
 pub leaves_listing : (e : RunsError) (writes writes' : ℕ)
     → (e ≡ NoMemory) ⊎ ((e ≡ WorkFull) ⊎ ((e ≡ Write) ⊎ (e ≡ Failed)))
-    → writes' ≡ writes + write_failures {T = Listed2} (Err e) → LeavesWriter (refused_ending e) writes writes'
+    → writes' ≡ writes + write_failures {T = Listed2} (Err e) → LeavesWriter (refused_job_end e) writes writes'
 leaves_listing NoMemory writes writes' one h = record { proper = tt; opened = refl; read = refl; wrote = h }
 leaves_listing NoSuchRun writes writes' one h = record { proper = inr refl; opened = refl; read = refl; wrote = h }
 leaves_listing WorkFull writes writes' one h = record { proper = tt; opened = refl; read = refl; wrote = h }
@@ -118,12 +118,12 @@ leaves_listing Read writes writes' (inr (inl e)) h = cc
 leaves_listing Read writes writes' (inr (inr (inl e))) h = cc
 leaves_listing Read writes writes' (inr (inr (inr e))) h = cc
 
--- the answer from a machine's state is the one at the place of its explorer
+-- the answer from a machine's state is the one at the position of its explorer
 pub answer_placed : (m : Machine) (limit count : ℕ) (from : Option (List Bool)) (e : Explored) (answer : Answer)
     → IsPlaced m limit from e
     → IsRunsAnswer m.program m.state limit count from answer → IsRunsAnswerAt m.state count e answer
 answer_placed m limit count from e answer placed is =
-    subst (λ (f : Option (List Bool)). IsRunsAnswer e.program m.state e.limit count f answer) (sym placed.place)
+    subst (λ (f : Option (List Bool)). IsRunsAnswer e.program m.state e.limit count f answer) (sym placed.position)
     (subst (λ (l : ℕ). IsRunsAnswer e.program m.state l count from answer) (sym placed.limit_is)
     (subst (λ (p : Program). IsRunsAnswer p m.state limit count from answer) (sym placed.program) is))
 
@@ -132,41 +132,41 @@ unplaced_by : (p : Program) (s : State) (l count : ℕ) (from : Option (List Boo
     → from ≡ Some c
     → ¬ IsWhole p s l c → IsRunsAnswer p s l count from answer
     → answer ≡ refusal 64 (notice_text NoSuchRun_line)
-unplaced_by p s l count None c answer same not_whole (listed f cs place is) = cc
-unplaced_by p s l count (Some d) c answer same not_whole (listed f cs place is) =
-    let one : d ≡ c = cc in absurd (not_whole (subst (λ (x : List Bool). IsWhole p s l x) one place))
+unplaced_by p s l count None c answer same not_whole (listed f cs position is) = cc
+unplaced_by p s l count (Some d) c answer same not_whole (listed f cs position is) =
+    let one : d ≡ c = cc in absurd (not_whole (subst (λ (x : List Bool). IsWhole p s l x) one position))
 unplaced_by p s l count from c answer same not_whole (no_such_run d other) = refl
 
--- the answer where there is no explorer, by the ending of its refusal
-pub answers_unplaced : (m : Machine) (limit count : ℕ) (from : Option (List Bool)) (e : RunsError) (ending : Ending)
-    (before : List ℕ) (answer : Answer) → ending ≡ refused_ending e → IsUnplaced m limit from e
-    → IsRunsAnswer m.program m.state limit count from answer → Answers answer ending before before
-answers_unplaced m limit count from NoMemory ending before answer so h is =
-    subst (λ (x : Ending). Answers answer x before before) (sym so) (tt, (0, sym (append-nil before)))
-answers_unplaced m limit count from NoSuchRun ending before answer so h is =
-    subst (λ (x : Ending). Answers answer x before before) (sym so)
-    (subst (λ (a : Answer). Answers a (refused_ending NoSuchRun) before before)
+-- the answer where there is no explorer, by the job's end of its refusal
+pub answers_unplaced : (m : Machine) (limit count : ℕ) (from : Option (List Bool)) (e : RunsError) (job_end : JobEnd)
+    (before : List ℕ) (answer : Answer) → job_end ≡ refused_job_end e → IsUnplaced m limit from e
+    → IsRunsAnswer m.program m.state limit count from answer → Answers answer job_end before before
+answers_unplaced m limit count from NoMemory job_end before answer so h is =
+    subst (λ (x : JobEnd). Answers answer x before before) (sym so) (tt, (0, sym (append-nil before)))
+answers_unplaced m limit count from NoSuchRun job_end before answer so h is =
+    subst (λ (x : JobEnd). Answers answer x before before) (sym so)
+    (subst (λ (a : Answer). Answers a (refused_job_end NoSuchRun) before before)
     (sym (unplaced_by m.program m.state limit count from h.0 answer h.1 h.2 is))
     ((refl, refl), sym (append-nil before)))
-answers_unplaced m limit count from WorkFull ending before answer so h is = absurd h
-answers_unplaced m limit count from Failed ending before answer so h is = absurd h
-answers_unplaced m limit count from BadCursor ending before answer so h is = absurd h
-answers_unplaced m limit count from Read ending before answer so h is = absurd h
-answers_unplaced m limit count from Write ending before answer so h is = absurd h
+answers_unplaced m limit count from WorkFull job_end before answer so h is = absurd h
+answers_unplaced m limit count from Failed job_end before answer so h is = absurd h
+answers_unplaced m limit count from BadCursor job_end before answer so h is = absurd h
+answers_unplaced m limit count from Read job_end before answer so h is = absurd h
+answers_unplaced m limit count from Write job_end before answer so h is = absurd h
 
-pub leaves_unplaced : (m : Machine) (limit : ℕ) (from : Option (List Bool)) (e : RunsError) (ending : Ending)
-    (writes : ℕ) → ending ≡ refused_ending e → IsUnplaced m limit from e → LeavesWriter ending writes writes
-leaves_unplaced m limit from NoMemory ending writes so h =
-    subst (λ (x : Ending). LeavesWriter x writes writes) (sym so)
+pub leaves_unplaced : (m : Machine) (limit : ℕ) (from : Option (List Bool)) (e : RunsError) (job_end : JobEnd)
+    (writes : ℕ) → job_end ≡ refused_job_end e → IsUnplaced m limit from e → LeavesWriter job_end writes writes
+leaves_unplaced m limit from NoMemory job_end writes so h =
+    subst (λ (x : JobEnd). LeavesWriter x writes writes) (sym so)
     (record { proper = tt; opened = refl; read = refl; wrote = omega arith })
-leaves_unplaced m limit from NoSuchRun ending writes so h =
-    subst (λ (x : Ending). LeavesWriter x writes writes) (sym so)
+leaves_unplaced m limit from NoSuchRun job_end writes so h =
+    subst (λ (x : JobEnd). LeavesWriter x writes writes) (sym so)
     (record { proper = inr refl; opened = refl; read = refl; wrote = omega arith })
-leaves_unplaced m limit from WorkFull ending writes so h = absurd h
-leaves_unplaced m limit from Failed ending writes so h = absurd h
-leaves_unplaced m limit from BadCursor ending writes so h = absurd h
-leaves_unplaced m limit from Read ending writes so h = absurd h
-leaves_unplaced m limit from Write ending writes so h = absurd h
+leaves_unplaced m limit from WorkFull job_end writes so h = absurd h
+leaves_unplaced m limit from Failed job_end writes so h = absurd h
+leaves_unplaced m limit from BadCursor job_end writes so h = absurd h
+leaves_unplaced m limit from Read job_end writes so h = absurd h
+leaves_unplaced m limit from Write job_end writes so h = absurd h
 
 -- why a cursor has no explorer: the count of a machine that made no step is not full
 not_full : (m : Machine) (limit : ℕ) → m.work ≡ 0 → limit < 2 ^ 32 → IsMachineFull m limit → ⊥

@@ -22,7 +22,7 @@ use Rattle.ick_cli.specs.Notice.{notice_text}
 use Rattle.ick_cli.specs.Plan.{AreChoices, IsPlanned, IsUnplanned, IsUnread, bad, check_planned, choices_unread}
 use Rattle.ick_cli.specs.Plan.{from_unread, list_planned, long, most_choices, run_planned, runs_planned, seed_planned}
 use Rattle.ick_cli.specs.Plan.{together}
-use Rattle.ick_cli.specs.Tool.{Answer, IsExecuted, IsPlace, IsProgramAnswer, IsReadAnswer, IsRunsAnswer, IsSourceAnswer}
+use Rattle.ick_cli.specs.Tool.{Answer, IsExecuted, IsPosition, IsProgramAnswer, IsReadAnswer, IsRunsAnswer, IsSourceAnswer}
 use Rattle.ick_cli.specs.Tool.{IsToolAnswer, compiled, counted, drawn, executed, input_too_long, listed, listed_runs}
 use Rattle.ick_cli.specs.Tool.{longest_input, no_such_run, not_read, planned, ran, read, refusal, refused, run_answer}
 use Rattle.ick_cli.specs.Tool.{shown, statements_listed, too_long, unplanned}
@@ -74,11 +74,11 @@ whole_by p s l c (ends finish) (b ∷ rest) stops left =
 whole_decided : (p : Program) (s : State) (l : ℕ) (c : List Bool) → IsWhole p s l c ⊎ (IsWhole p s l c → ⊥)
 whole_decided p s l c = whole_by p s l c (run p s l c).stop (run p s l c).unused refl refl
 
-listing_answer : (p : Program) (s : State) (l count : ℕ) (from : Option (List Bool)) → IsPlace p s l from
+listing_answer : (p : Program) (s : State) (l count : ℕ) (from : Option (List Bool)) → IsPosition p s l from
     → (answer : Answer) × IsRunsAnswer p s l count from answer
-listing_answer p s l count from place =
+listing_answer p s l count from position =
     let found = listing_exists p s l from in
-    (shown (shown_runs p s l found.0 count), listed from found.0 place found.1)
+    (shown (shown_runs p s l found.0 count), listed from found.0 position found.1)
 
 runs_answer : (p : Program) (s : State) (l count : ℕ) (from : Option (List Bool))
     → (answer : Answer) × IsRunsAnswer p s l count from answer
@@ -139,10 +139,10 @@ tool_answer task source input = elim (plan_decided task) [
 -- .. and no other
 same_runs : (p : Program) (s : State) (l count : ℕ) (from : Option (List Bool)) (a b : Answer)
     → IsRunsAnswer p s l count from a → IsRunsAnswer p s l count from b → b ≡ a
-same_runs p s l count from a b (listed f cs place g) (listed e ds there h) =
+same_runs p s l count from a b (listed f cs position g) (listed e ds there h) =
     ap (λ xs. shown (shown_runs p s l xs count)) (listing_unique p s l f ds cs h g)
-same_runs p s l count (Some c) a b (listed f cs place g) (no_such_run d none) = absurd (none place)
-same_runs p s l count (Some c) a b (no_such_run d none) (listed f cs place h) = absurd (none place)
+same_runs p s l count (Some c) a b (listed f cs position g) (no_such_run d none) = absurd (none position)
+same_runs p s l count (Some c) a b (no_such_run d none) (listed f cs position h) = absurd (none position)
 same_runs p s l count from a b (no_such_run c none) (no_such_run d other) = refl
 
 same_executed : (p : Program) (input : List ℕ) (runs : Runs) (a b : Answer) → IsExecuted p input runs a

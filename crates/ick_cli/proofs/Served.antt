@@ -1,8 +1,8 @@
--- From the ending of the work to what the whole call leaves.
+-- From how the job ends to what the whole call leaves.
 use Rattle.std.proofs.Common.{◌≡◌, ◌∙◌, ◌<◌, ◌++◌, ◌⊎◌, inl, inr, ℕ, Bool, List, ap, refl, sym, subst}
 use Rattle.std.proofs.Common.{arith}
 use Rattle.std.proofs.lemmas.Bool.{cases_order}
-use Rattle.ick_cli.specs.Ending.{Answers, Leaves, ending_status, ending_text, message_text}
+use Rattle.ick_cli.specs.JobEnd.{Answers, Leaves, job_end_status, job_end_text, message_text}
 use Rattle.ick_cli.specs.Serve.{Failures, Finishes, FinishesDue, IsDue, IsServed, IsStatus, counts}
 use Rattle.ick_cli.specs.Serve.{nothing_failed, file_failed, read_failed, write_failed, input_long, memory_failed}
 use Rattle.ick_cli.specs.Serve.{answered, cut_by_read, cut_by_write, cut_by_memory}
@@ -12,17 +12,17 @@ use Rattle.ick_cli.specs.Tool.{Answer}
 use Rattle.ick_cli.specs.Usage.{IsHelped, help_cut, help_without_memory, helped}
 use Rattle.ick_cli.specs.declared.notice.Message.TheVariants as message
 use Rattle.ick_cli.specs.declared.notice.Notice.{Notice}
-use Rattle.ick_cli.specs.declared.ending.Ending.{Ending}
-use Rattle.ick_cli.specs.declared.ending.Ending.TheVariants.{Answered, NoMemory, InputTooLong, FileNotRead, ReadFailed}
-use Rattle.ick_cli.specs.declared.ending.Ending.TheVariants.{WriteFailed}
+use Rattle.ick_cli.specs.declared.job_end.JobEnd.{JobEnd}
+use Rattle.ick_cli.specs.declared.job_end.JobEnd.TheVariants.{Answered, NoMemory, InputTooLong, FileNotRead, ReadFailed}
+use Rattle.ick_cli.specs.declared.job_end.JobEnd.TheVariants.{WriteFailed}
 
 -- counts that are the same one by one
 same_counts : (f f' r r' w w' : ℕ) → f' ≡ f → r' ≡ r → w' ≡ w → counts f' r' w' ≡ counts f r w
 same_counts f f' r r' w w' a b c = cc
 
--- what is due to an ending
-pub due : (ending : Ending) (f f' r r' w w' : ℕ) → Leaves ending f f' r r' w w'
-    → IsDue (counts f r w) (counts f' r' w') (ending_text ending) (ending_status ending)
+-- what is due to a job's end
+pub due : (job_end : JobEnd) (f f' r r' w w' : ℕ) → Leaves job_end f f' r r' w w'
+    → IsDue (counts f r w) (counts f' r' w') (job_end_text job_end) (job_end_status job_end)
 due (Answered status message) f f' r r' w w' x =
     nothing_failed (message_text message) status
     (same_counts _ _ _ _ _ _ (omega (arith, x.opened)) (omega (arith, x.read)) (omega (arith, x.wrote)))
@@ -49,10 +49,10 @@ all_answered answer old new out out' text status has_status has_text reads write
     (subst (λ (s : ℕ). IsServed answer old new out out' answer.errors s) (sym has_status)
     (answered reads writes sends))
 
--- how an answer is served by an ending that has it
-pub served : (answer : Answer) (ending : Ending) (f f' r r' w w' : ℕ) (out out' : List ℕ)
-    → Leaves ending f f' r r' w w' → Answers answer ending out out'
-    → IsServed answer (counts f r w) (counts f' r' w') out out' (ending_text ending) (ending_status ending)
+-- how an answer is served by a job's end that has it
+pub served : (answer : Answer) (job_end : JobEnd) (f f' r r' w w' : ℕ) (out out' : List ℕ)
+    → Leaves job_end f f' r r' w w' → Answers answer job_end out out'
+    → IsServed answer (counts f r w) (counts f' r' w') out out' (job_end_text job_end) (job_end_status job_end)
 served answer (Answered status message) f f' r r' w w' out out' x has =
     all_answered answer _ _ out out' _ _ has.0.0 has.0.1 (omega (arith, x.read)) (omega (arith, x.wrote)) has.1
 served answer InputTooLong f f' r r' w w' out out' x has =
@@ -124,15 +124,15 @@ finished_status old new told e e' errs errs' code due = elim (cases_order e' e) 
 ]
 
 -- what is due to a job that ended by its line
-pub line_finished : (told : Bool) (line : Notice) (ending : Ending) (e e' : ℕ) (errs errs' : List ℕ) (code : ℕ)
-    → ending ≡ Answered 64 (message.Notice line)
-    → Finishes told (ending_status ending) (ending_text ending) e e' errs errs' code
+pub line_finished : (told : Bool) (line : Notice) (job_end : JobEnd) (e e' : ℕ) (errs errs' : List ℕ) (code : ℕ)
+    → job_end ≡ Answered 64 (message.Notice line)
+    → Finishes told (job_end_status job_end) (job_end_text job_end) e e' errs errs' code
     → FinishesDue (IsLineDue line) told e e' errs errs' code
-line_finished told line ending e e' errs errs' code is done = (
+line_finished told line job_end e e' errs errs' code is done = (
   notice_text line,
   64,
   line_due,
-  subst (λ (x : Ending). Finishes told (ending_status x) (ending_text x)
+  subst (λ (x : JobEnd). Finishes told (job_end_status x) (job_end_text x)
       e e' errs errs' code) is done,
 )
 

@@ -6,10 +6,10 @@ use Rattle.ick_explorer.specs.ChoiceTexts.{IsTextOf}
 use Rattle.ick_explorer.specs.declared.errors.RunsError.{RunsError}
 use Rattle.ick_explorer.specs.declared.errors.RunsError.TheVariants.{NoMemory, NoSuchRun, WorkFull, Failed, BadCursor, Read}
 use Rattle.ick_explorer.specs.declared.errors.RunsError.TheVariants.{Write}
-use Rattle.ick_cli.specs.Ending.{Comes, refused_ending}
+use Rattle.ick_cli.specs.JobEnd.{Comes, refused_job_end}
 use Rattle.ick_cli.specs.Plan.{AreChoices, EndsByLine, HasChoices, IsUnread, bad, long}
-use Rattle.ick_cli.specs.declared.ending.Ending.{Ending}
-use Rattle.ick_cli.specs.declared.ending.Ending.TheVariants.{NoMemory as WithoutMemory}
+use Rattle.ick_cli.specs.declared.job_end.JobEnd.{JobEnd}
+use Rattle.ick_cli.specs.declared.job_end.JobEnd.TheVariants.{NoMemory as WithoutMemory}
 use Rattle.ick_cli.specs.declared.notice.Notice.TheVariants as notice
 use Rattle.ick_cli.proofs.Planned.{given_some}
 
@@ -39,7 +39,7 @@ text_error_comes Failed (inr (inr e)) = cc
 ends_by : (most : ℕ) (text : Option (List ℕ)) (read : List ℕ) (e : RunsError) → text ≡ Some read
     → (e ≡ BadCursor → (c : List Bool) → ¬ IsTextOf read c)
     → (e ≡ NoSuchRun → (c : List Bool) × IsTextOf read c × (most < length c))
-    → IsTextError e → EndsByLine (IsUnread most text) (refused_ending e)
+    → IsTextError e → EndsByLine (IsUnread most text) (refused_job_end e)
 ends_by most text read NoMemory is none more one = tt
 ends_by most text read NoSuchRun is none more one =
     let found = more refl in (
@@ -58,29 +58,29 @@ ends_by most text read Write is none more (inl e) = cc
 ends_by most text read Write is none more (inr (inl e)) = cc
 ends_by most text read Write is none more (inr (inr e)) = cc
 
-pub ends_unread : (most : ℕ) (text : Option (List ℕ)) (read : List ℕ) (e : RunsError) (ending : Ending)
-    → ending ≡ refused_ending e → text ≡ Some read
+pub ends_unread : (most : ℕ) (text : Option (List ℕ)) (read : List ℕ) (e : RunsError) (job_end : JobEnd)
+    → job_end ≡ refused_job_end e → text ≡ Some read
     → (e ≡ BadCursor → (c : List Bool) → ¬ IsTextOf read c)
     → (e ≡ NoSuchRun → (c : List Bool) × IsTextOf read c × (most < length c))
-    → IsTextError e → EndsByLine (IsUnread most text) ending
-ends_unread most text read e ending so is none more one =
-    subst (λ (x : Ending). EndsByLine (IsUnread most text) x) (sym so) (ends_by most text read e is none more one)
+    → IsTextError e → EndsByLine (IsUnread most text) job_end
+ends_unread most text read e job_end so is none more one =
+    subst (λ (x : JobEnd). EndsByLine (IsUnread most text) x) (sym so) (ends_by most text read e is none more one)
 
 -- memory is said to be out only of a text that has choices
-pub unread_memory : (most : ℕ) (text : Option (List ℕ)) (read : List ℕ) (e : RunsError) (ending : Ending)
-    → ending ≡ refused_ending e → text ≡ Some read
+pub unread_memory : (most : ℕ) (text : Option (List ℕ)) (read : List ℕ) (e : RunsError) (job_end : JobEnd)
+    → job_end ≡ refused_job_end e → text ≡ Some read
     → (e ≡ NoMemory → (c : List Bool) × IsTextOf read c × (length c ≤ most))
-    → IsTextError e → ending ≡ WithoutMemory → HasChoices text most
-unread_memory most text read NoMemory ending so is has one memory =
+    → IsTextError e → job_end ≡ WithoutMemory → HasChoices text most
+unread_memory most text read NoMemory job_end so is has one memory =
     let found = has refl in
     (Some found.0, subst (λ (t : Option (List ℕ)). AreChoices t most (Some found.0)) (sym is) (found.1, found.2))
-unread_memory most text read NoSuchRun ending so is has one memory = cc
-unread_memory most text read WorkFull ending so is has (inl e) memory = cc
-unread_memory most text read WorkFull ending so is has (inr (inl e)) memory = cc
-unread_memory most text read WorkFull ending so is has (inr (inr e)) memory = cc
-unread_memory most text read Failed ending so is has (inl e) memory = cc
-unread_memory most text read Failed ending so is has (inr (inl e)) memory = cc
-unread_memory most text read Failed ending so is has (inr (inr e)) memory = cc
-unread_memory most text read BadCursor ending so is has one memory = cc
-unread_memory most text read Read ending so is has one memory = cc
-unread_memory most text read Write ending so is has one memory = cc
+unread_memory most text read NoSuchRun job_end so is has one memory = cc
+unread_memory most text read WorkFull job_end so is has (inl e) memory = cc
+unread_memory most text read WorkFull job_end so is has (inr (inl e)) memory = cc
+unread_memory most text read WorkFull job_end so is has (inr (inr e)) memory = cc
+unread_memory most text read Failed job_end so is has (inl e) memory = cc
+unread_memory most text read Failed job_end so is has (inr (inl e)) memory = cc
+unread_memory most text read Failed job_end so is has (inr (inr e)) memory = cc
+unread_memory most text read BadCursor job_end so is has one memory = cc
+unread_memory most text read Read job_end so is has one memory = cc
+unread_memory most text read Write job_end so is has one memory = cc

@@ -18,7 +18,7 @@ use Rattle.ick_runs.specs.Streams.{Streams, source_failures}
 use Rattle.ick_explorer.specs.Writes.{write_failures}
 use Rattle.ick_explorer.specs.declared.errors.RunsError.{RunsError}
 use Rattle.ick_runs.specs.declared.streamed.Streamed.{Streamed}
-use Rattle.ick_cli.specs.Ending.{Answers, LeavesWriter}
+use Rattle.ick_cli.specs.JobEnd.{Answers, LeavesWriter}
 use Rattle.ick_cli.specs.Left.{IsLeftByProgram, IsLeftByRuns, IsLeftBySource, left_compiled}
 use Rattle.ick_cli.specs.Plan.{reads_input}
 use Rattle.ick_cli.specs.Stopped.{EndsAs, EndsRefused}
@@ -26,8 +26,8 @@ use Rattle.ick_cli.specs.Summary.{summary}
 use Rattle.ick_source.specs.Listing.{listing}
 use Rattle.ick_cli.specs.Tool.{Answer, IsExecuted, IsProgramAnswer, IsSourceAnswer, counted, shown, statements_listed}
 use Rattle.ick_cli.specs.Work.{Works}
-use Rattle.ick_cli.specs.declared.ending.Ending.{Ending}
-use Rattle.ick_cli.specs.declared.ending.Ending.TheVariants.{Answered, NoMemory}
+use Rattle.ick_cli.specs.declared.job_end.JobEnd.{JobEnd}
+use Rattle.ick_cli.specs.declared.job_end.JobEnd.TheVariants.{Answered, NoMemory}
 use Rattle.ick_cli.specs.declared.notice.Message.TheVariants as message
 use Rattle.ick_cli.specs.declared.notice.Notice.TheVariants as notice
 use Rattle.ick_cli.specs.declared.plan.Plan.{Plan}
@@ -40,13 +40,13 @@ use Rattle.ick_cli.proofs.Left.{alone_left, drawn_left, executed_left, given_lef
 use Rattle.ick_cli.proofs.Left.{where_answered, where_other}
 
 -- other answers and bytes of the same work: each of those answers is one of these, each of these bytes one of those
-pub works_so : {A B : Answer → Type 0} {L M : List ℕ → Type 0} {ending : Ending} {rt : Bool} {r r' : ℕ} {rest : List ℕ}
+pub works_so : {A B : Answer → Type 0} {L M : List ℕ → Type 0} {job_end : JobEnd} {rt : Bool} {r r' : ℕ} {rest : List ℕ}
     {wt : Bool} {w w' : ℕ} {out out' : List ℕ} → ((answer : Answer) → B answer → A answer)
-    → ((left : List ℕ) → L left → M left) → Works A L ending rt r r' rest wt w w' out out'
-    → Works B M ending rt r r' rest wt w w' out out'
-works_so {ending} {rest} answers lefts works = record {
+    → ((left : List ℕ) → L left → M left) → Works A L job_end rt r r' rest wt w w' out out'
+    → Works B M job_end rt r r' rest wt w w' out out'
+works_so {job_end} {rest} answers lefts works = record {
   leaves = works.leaves;
-  left = λ told. where_other ending _ _ (lefts rest) (works.left told);
+  left = λ told. where_other job_end _ _ (lefts rest) (works.left told);
   answer = λ told told' answer is. works.answer told told' answer (answers answer is);
 }
 
@@ -59,16 +59,16 @@ works_without_memory rt r rest wt w out = record {
 }
 
 -- a source that is refused, and one that compiles
-pub works_refused : (plan : Plan) (source input : List ℕ) (why : Refusal) (ending : Ending) (rt : Bool) (r : ℕ)
-    (wt : Bool) (w : ℕ) (out : List ℕ) → Refuses source why → EndsRefused why ending
-    → Works (IsSourceAnswer plan source input) (IsLeftBySource plan source input) ending rt r r input wt w w out out
-works_refused plan source input (refusal.Fault kind n) ending rt r wt w out is ends = record {
-  leaves = leaves_by 2 _ ending r r w w (omega arith) ends refl refl;
-  left = λ told. where_answered ending _ (refused_left plan source input kind n is);
-  answer = λ told told'. answered_refusal plan source input kind n ending out is ends;
+pub works_refused : (plan : Plan) (source input : List ℕ) (why : Refusal) (job_end : JobEnd) (rt : Bool) (r : ℕ)
+    (wt : Bool) (w : ℕ) (out : List ℕ) → Refuses source why → EndsRefused why job_end
+    → Works (IsSourceAnswer plan source input) (IsLeftBySource plan source input) job_end rt r r input wt w w out out
+works_refused plan source input (refusal.Fault kind n) job_end rt r wt w out is ends = record {
+  leaves = leaves_by 2 _ job_end r r w w (omega arith) ends refl refl;
+  left = λ told. where_answered job_end _ (refused_left plan source input kind n is);
+  answer = λ told told'. answered_refusal plan source input kind n job_end out is ends;
 }
-works_refused plan source input refusal.TooLong ending rt r wt w out long ends =
-    subst (λ (e : Ending). Works (IsSourceAnswer plan source input) (IsLeftBySource plan source input) e
+works_refused plan source input refusal.TooLong job_end rt r wt w out long ends =
+    subst (λ (e : JobEnd). Works (IsSourceAnswer plan source input) (IsLeftBySource plan source input) e
     rt r r input wt w w out out) (sym ends)
     (record {
       leaves = record { proper = inl (omega arith); opened = refl; read = omega arith; wrote = omega arith };
@@ -77,17 +77,17 @@ works_refused plan source input refusal.TooLong ending rt r wt w out long ends =
           subst (λ (a : Answer). Answers a (Answered 2 (message.Notice notice.SourceTooLong)) out out)
           (long_answer plan source input long answer h) ((refl, refl), sym (append-nil out));
     })
-works_refused plan source input refusal.NoMemory ending rt r wt w out is ends =
-    subst (λ (e : Ending). Works (IsSourceAnswer plan source input) (IsLeftBySource plan source input) e
+works_refused plan source input refusal.NoMemory job_end rt r wt w out is ends =
+    subst (λ (e : JobEnd). Works (IsSourceAnswer plan source input) (IsLeftBySource plan source input) e
     rt r r input wt w w out out) (sym ends)
     (works_without_memory rt r input wt w out)
 
-pub works_compiled : (plan : Plan) (source input : List ℕ) (trees : List StatementTree) {ending : Ending} {rt : Bool}
+pub works_compiled : (plan : Plan) (source input : List ℕ) (trees : List StatementTree) {job_end : JobEnd} {rt : Bool}
     {r r' : ℕ} {rest : List ℕ} {wt : Bool} {w w' : ℕ} {out out' : List ℕ} → Compiles source trees
     → ((others : List StatementTree) → Compiles source others → others ≡ trees)
     → ((kind : FaultKind) (n : ℕ) → IsRefused source kind n → ⊥)
-    → Works (IsProgramAnswer trees input plan) (IsLeftByProgram trees input plan) ending rt r r' rest wt w w' out out'
-    → Works (IsSourceAnswer plan source input) (IsLeftBySource plan source input) ending rt r r' rest wt w w' out out'
+    → Works (IsProgramAnswer trees input plan) (IsLeftByProgram trees input plan) job_end rt r r' rest wt w w' out out'
+    → Works (IsSourceAnswer plan source input) (IsLeftBySource plan source input) job_end rt r r' rest wt w w' out out'
 works_compiled plan source input trees compiles only not_refused works =
     works_so (source_program plan source input trees compiles only not_refused)
     (λ left h. left_compiled trees left compiles h) works
@@ -101,16 +101,16 @@ pub list_answer : (trees : List StatementTree) (input : List ℕ) (answer : Answ
     → IsProgramAnswer trees input ListStatements answer → shown (listing trees) ≡ answer
 list_answer trees input answer statements_listed = refl
 
-pub works_shown : (trees : List StatementTree) (input : List ℕ) (plan other : Plan) (shows : Answer) (ending : Ending)
+pub works_shown : (trees : List StatementTree) (input : List ℕ) (plan other : Plan) (shows : Answer) (job_end : JobEnd)
     (rt : Bool) (r : ℕ) (wt : Bool) (w w' : ℕ) (out out' : List ℕ) → plan ≡ other → reads_input other ≡ false
     → ((answer : Answer) → IsProgramAnswer trees input other answer → shows ≡ answer)
-    → LeavesWriter ending w w' → (wt ≡ true → Answers shows ending out out')
-    → Works (IsProgramAnswer trees input plan) (IsLeftByProgram trees input plan) ending rt r r input wt w w' out out'
-works_shown trees input plan other shows ending rt r wt w w' out out' is none one leaves sent = record {
-  leaves = leaves_as ending 0 0 0 0 w w' 0 0 r r w w' leaves refl (omega arith) (omega arith);
-  left = λ told. alone_left trees input plan other ending is none;
+    → LeavesWriter job_end w w' → (wt ≡ true → Answers shows job_end out out')
+    → Works (IsProgramAnswer trees input plan) (IsLeftByProgram trees input plan) job_end rt r r input wt w w' out out'
+works_shown trees input plan other shows job_end rt r wt w w' out out' is none one leaves sent = record {
+  leaves = leaves_as job_end 0 0 0 0 w w' 0 0 r r w w' leaves refl (omega arith) (omega arith);
+  left = λ told. alone_left trees input plan other job_end is none;
   answer = λ told told' answer h.
-      subst (λ (a : Answer). Answers a ending out out')
+      subst (λ (a : Answer). Answers a job_end out out')
       (one answer (subst (λ (p : Plan). IsProgramAnswer trees input p answer) is h)) (sent told');
 }
 
@@ -118,55 +118,55 @@ works_shown trees input plan other shows ending rt r wt w w' out out' is none on
 pub runs_read : (plan : Plan) (runs : Runs) → plan ≡ Execute runs → reads_input plan ≡ false → ⊥
 runs_read plan runs is none = let reads : reads_input plan ≡ true = ap reads_input is in cc
 
-pub works_executed : (trees program : List StatementTree) (input : List ℕ) (plan : Plan) (runs : Runs) {ending : Ending}
+pub works_executed : (trees program : List StatementTree) (input : List ℕ) (plan : Plan) (runs : Runs) {job_end : JobEnd}
     {rt : Bool} {r r' : ℕ} {rest : List ℕ} {wt : Bool} {w w' : ℕ} {out out' : List ℕ} → plan ≡ Execute runs
     → program ≡ trees
-    → Works (IsExecuted program input runs) (IsLeftByRuns program input runs) ending rt r r' rest wt w w' out out'
-    → Works (IsProgramAnswer trees input plan) (IsLeftByProgram trees input plan) ending rt r r' rest wt w w' out out'
+    → Works (IsExecuted program input runs) (IsLeftByRuns program input runs) job_end rt r r' rest wt w w' out out'
+    → Works (IsProgramAnswer trees input plan) (IsLeftByProgram trees input plan) job_end rt r r' rest wt w w' out out'
 works_executed trees program input plan runs is same works =
     works_so (λ answer h. executed_so trees program input runs answer same
     (subst (λ (p : Plan). IsProgramAnswer trees input p answer) is h))
     (λ left h. runs_left trees input plan runs left is (executed_left trees program input runs left same h)) works
 
 -- runs that are given in another form
-pub works_as : (program : Program) (input : List ℕ) (runs others : Runs) {ending : Ending} {rt : Bool} {r r' : ℕ}
+pub works_as : (program : Program) (input : List ℕ) (runs others : Runs) {job_end : JobEnd} {rt : Bool} {r r' : ℕ}
     {rest : List ℕ} {wt : Bool} {w w' : ℕ} {out out' : List ℕ} → runs ≡ others
-    → Works (IsExecuted program input others) (IsLeftByRuns program input others) ending rt r r' rest wt w w' out out'
-    → Works (IsExecuted program input runs) (IsLeftByRuns program input runs) ending rt r r' rest wt w w' out out'
+    → Works (IsExecuted program input others) (IsLeftByRuns program input others) job_end rt r r' rest wt w w' out out'
+    → Works (IsExecuted program input runs) (IsLeftByRuns program input runs) job_end rt r r' rest wt w w' out out'
 works_as program input runs others is works =
     works_so (λ answer h. subst (λ (x : Runs). IsExecuted program input x answer) is h)
     (λ left h. subst (λ (x : Runs). IsLeftByRuns program input x left) (sym is) h) works
 
 -- the run with given choices, and the one whose choices a seed draws
 pub works_given : (p : Program) (input : List ℕ) (choices : Option (List Bool)) (limit : ℕ)
-    (ran : Result Streamed RunsError) (ending : Ending) (rt : Bool) (r r' : ℕ) (rest : List ℕ) (wt : Bool) (w w' : ℕ)
+    (ran : Result Streamed RunsError) (job_end : JobEnd) (rt : Bool) (r r' : ℕ) (rest : List ℕ) (wt : Bool) (w w' : ℕ)
     (out out' : List ℕ)
     → (rt ≡ true → (c : List Bool) → c ≡ unwrap_or choices []
     → Streams wt (run p (first_state p input) limit c) c out out' rest ran)
-    → r' ≡ r + source_failures ran → w' ≡ w + write_failures ran → IfErr ran IsRunError → EndsAs ran ending
-    → Works (IsExecuted p input (Given choices limit)) (IsLeftByRuns p input (Given choices limit)) ending
+    → r' ≡ r + source_failures ran → w' ≡ w + write_failures ran → IfErr ran IsRunError → EndsAs ran job_end
+    → Works (IsExecuted p input (Given choices limit)) (IsLeftByRuns p input (Given choices limit)) job_end
     rt r r' rest wt w w' out out'
-works_given p input choices limit ran ending rt r r' rest wt w w' out out' streams reads writes one ends = record {
-  leaves = leaves_ran ran ending r r' w w' reads writes one ends;
-  left = λ told. where_other ending _ _ (given_left p input choices limit rest)
-      (left_ran wt _ _ out out' rest ran ending (streams told _ refl) one ends);
-  answer = λ told told' answer is. answers_given p input choices limit answer ending out out' is
-      (answers_ran wt _ _ out out' rest ran ending (streams told _ refl) one ends told');
+works_given p input choices limit ran job_end rt r r' rest wt w w' out out' streams reads writes one ends = record {
+  leaves = leaves_ran ran job_end r r' w w' reads writes one ends;
+  left = λ told. where_other job_end _ _ (given_left p input choices limit rest)
+      (left_ran wt _ _ out out' rest ran job_end (streams told _ refl) one ends);
+  answer = λ told told' answer is. answers_given p input choices limit answer job_end out out' is
+      (answers_ran wt _ _ out out' rest ran job_end (streams told _ refl) one ends told');
 }
 
-pub works_drawn : (p : Program) (input : List ℕ) (seed limit : ℕ) (ran : Result Streamed RunsError) (ending : Ending)
+pub works_drawn : (p : Program) (input : List ℕ) (seed limit : ℕ) (ran : Result Streamed RunsError) (job_end : JobEnd)
     (rt : Bool) (r r' : ℕ) (rest : List ℕ) (wt : Bool) (w w' : ℕ) (out out' : List ℕ)
     → (rt ≡ true → (c : List Bool) → IsDrawn p (first_state p input) limit (word_of seed) c
     → Streams wt (run p (first_state p input) limit c) c out out' rest ran)
-    → r' ≡ r + source_failures ran → w' ≡ w + write_failures ran → IfErr ran IsRunError → EndsAs ran ending
-    → Works (IsExecuted p input (Drawn seed limit)) (IsLeftByRuns p input (Drawn seed limit)) ending
+    → r' ≡ r + source_failures ran → w' ≡ w + write_failures ran → IfErr ran IsRunError → EndsAs ran job_end
+    → Works (IsExecuted p input (Drawn seed limit)) (IsLeftByRuns p input (Drawn seed limit)) job_end
     rt r r' rest wt w w' out out'
-works_drawn p input seed limit ran ending rt r r' rest wt w w' out out' streams reads writes one ends =
+works_drawn p input seed limit ran job_end rt r r' rest wt w w' out out' streams reads writes one ends =
     let found = some_drawn p (first_state p input) limit (word_of seed) in
     record {
-      leaves = leaves_ran ran ending r r' w w' reads writes one ends;
-      left = λ told. where_other ending _ _ (drawn_left p input seed limit found.0 rest found.1)
-          (left_ran wt _ _ out out' rest ran ending (streams told found.0 found.1) one ends);
-      answer = λ told told' answer is. answers_drawn p input seed limit answer ending out out' is
-          (λ c draws. answers_ran wt _ _ out out' rest ran ending (streams told c draws) one ends told');
+      leaves = leaves_ran ran job_end r r' w w' reads writes one ends;
+      left = λ told. where_other job_end _ _ (drawn_left p input seed limit found.0 rest found.1)
+          (left_ran wt _ _ out out' rest ran job_end (streams told found.0 found.1) one ends);
+      answer = λ told told' answer is. answers_drawn p input seed limit answer job_end out out' is
+          (λ c draws. answers_ran wt _ _ out out' rest ran job_end (streams told c draws) one ends told');
     }

@@ -1,23 +1,23 @@
 -- How work ends that did not read what it needs.
 use Rattle.std.specs.Prelude.{◌<◌, ℕ, List, length}
 use Rattle.ick_cli.specs.Tool.{longest_input}
-use Rattle.ick_cli.specs.declared.ending.Ending.{Ending}
-use Rattle.ick_cli.specs.declared.ending.Ending.TheVariants.{FileNotRead, InputTooLong, NoMemory, ReadFailed}
+use Rattle.ick_cli.specs.declared.job_end.JobEnd.{JobEnd}
+use Rattle.ick_cli.specs.declared.job_end.JobEnd.TheVariants.{FileNotRead, InputTooLong, NoMemory, ReadFailed}
 
 -- the file was not read, or memory ran out
-abbrev pub EndsUnopened : Ending → Type 0
+abbrev pub EndsUnopened : JobEnd → Type 0
 EndsUnopened FileNotRead = Unit {0}
 EndsUnopened NoMemory = Unit {0}
 EndsUnopened _ = ⊥
 
 -- a read of the reader failed, or memory ran out
-abbrev pub EndsCut : Ending → Type 0
+abbrev pub EndsCut : JobEnd → Type 0
 EndsCut ReadFailed = Unit {0}
 EndsCut NoMemory = Unit {0}
 EndsCut _ = ⊥
 
 -- or the input is too long
-abbrev pub EndsUnread : List ℕ → Ending → Type 0
+abbrev pub EndsUnread : List ℕ → JobEnd → Type 0
 EndsUnread input InputTooLong = longest_input < length input
 EndsUnread input ReadFailed = Unit {0}
 EndsUnread input NoMemory = Unit {0}

@@ -1,6 +1,6 @@
 pub mod Built
 pub mod Dispatch
-pub mod Ending
+pub mod JobEnd
 pub mod Input
 pub mod Job
 pub mod Laws

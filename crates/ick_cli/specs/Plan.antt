@@ -3,8 +3,8 @@ use Rattle.std.specs.Prelude.{◌≡◌, ◌<◌, ◌≤◌, ℕ, Bool, true, fa
 use Rattle.clap.specs.Words.{Text}
 use Rattle.ick_explorer.specs.ChoiceTexts.{IsTextOf}
 use Rattle.ick_cli.specs.Job.{Task, to_check, to_list, to_run, to_list_runs}
-use Rattle.ick_cli.specs.declared.ending.Ending.{Ending}
-use Rattle.ick_cli.specs.declared.ending.Ending.TheVariants.{Answered, NoMemory}
+use Rattle.ick_cli.specs.declared.job_end.JobEnd.{JobEnd}
+use Rattle.ick_cli.specs.declared.job_end.JobEnd.TheVariants.{Answered, NoMemory}
 use Rattle.ick_cli.specs.declared.notice.Message.TheVariants.{Notice as Line}
 use Rattle.ick_cli.specs.declared.notice.Notice.{Notice}
 use Rattle.ick_cli.specs.declared.notice.Notice.TheVariants.{ChoicesAndSeed, BadCursor, NoSuchRun}
@@ -54,8 +54,8 @@ pub data IsUnplanned : Task → Notice → Type 0 where
   from_unread : (text : Option Text) (count limit : ℕ) (line : Notice) → IsUnread limit text line
       → IsUnplanned (to_list_runs text count limit) line
 
--- an ending by one of these lines, with the status of usage, or memory ran out
-abbrev pub EndsByLine : (Notice → Type 0) → Ending → Type 0
+-- a job's end by one of these lines, with the status of usage, or memory ran out
+abbrev pub EndsByLine : (Notice → Type 0) → JobEnd → Type 0
 EndsByLine IsLine (Answered status (Line line)) = (status ≡ 64) × IsLine line
 EndsByLine IsLine (Answered status _) = ⊥
 EndsByLine IsLine NoMemory = Unit {0}

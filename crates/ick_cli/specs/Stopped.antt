@@ -7,9 +7,9 @@ use Rattle.ick_machine.specs.declared.live_ask.EndKind.{EndKind}
 use Rattle.ick_machine.specs.declared.live_ask.EndKind.TheVariants.{GiveUp, Fault, Limit, Wants}
 use Rattle.ick_explorer.specs.declared.errors.RunsError.{RunsError}
 use Rattle.ick_runs.specs.declared.streamed.Streamed.{Streamed}
-use Rattle.ick_cli.specs.Ending.{EndsBy, refused_ending}
-use Rattle.ick_cli.specs.declared.ending.Ending.{Ending}
-use Rattle.ick_cli.specs.declared.ending.Ending.TheVariants.{Answered, NoMemory}
+use Rattle.ick_cli.specs.JobEnd.{EndsBy, refused_job_end}
+use Rattle.ick_cli.specs.declared.job_end.JobEnd.{JobEnd}
+use Rattle.ick_cli.specs.declared.job_end.JobEnd.TheVariants.{Answered, NoMemory}
 use Rattle.ick_cli.specs.declared.notice.Message.TheVariants.{Notice as Line}
 use Rattle.ick_cli.specs.declared.notice.Notice.TheVariants.{SourceTooLong}
 
@@ -27,12 +27,12 @@ kind_status Limit = 3
 kind_status Wants = 3
 
 -- how work ends with a streamed run that stopped, or was refused
-abbrev pub EndsAs : Result Streamed RunsError → Ending → Type 0
-EndsAs (Ok s) ending = EndsBy (kind_status s.end) (kind_text s.end s.message.items s.steps) ending
-EndsAs (Err error) ending = ending ≡ refused_ending error
+abbrev pub EndsAs : Result Streamed RunsError → JobEnd → Type 0
+EndsAs (Ok s) job_end = EndsBy (kind_status s.end) (kind_text s.end s.message.items s.steps) job_end
+EndsAs (Err error) job_end = job_end ≡ refused_job_end error
 
 -- how work ends with a source that is refused
-abbrev pub EndsRefused : Refusal → Ending → Type 0
-EndsRefused (refusal.Fault kind statement) ending = EndsBy 2 (message_of kind statement []) ending
-EndsRefused refusal.TooLong ending = ending ≡ Answered 2 (Line SourceTooLong)
-EndsRefused refusal.NoMemory ending = ending ≡ NoMemory
+abbrev pub EndsRefused : Refusal → JobEnd → Type 0
+EndsRefused (refusal.Fault kind statement) job_end = EndsBy 2 (message_of kind statement []) job_end
+EndsRefused refusal.TooLong job_end = job_end ≡ Answered 2 (Line SourceTooLong)
+EndsRefused refusal.NoMemory job_end = job_end ≡ NoMemory

@@ -72,15 +72,15 @@ run_answer x = stop_answer x.last.output x.stop x.steps
 unfoldable pub longest_input : ℕ
 longest_input = 1048576
 
--- a place in the listing of runs: before them all, or a whole list
-abbrev pub IsPlace : Program → State → ℕ → Option (List Bool) → Type 0
-IsPlace program s limit None = Unit {0}
-IsPlace program s limit (Some c) = IsWhole program s limit c
+-- a position in the listing of runs: before them all, or a whole list
+abbrev pub IsPosition : Program → State → ℕ → Option (List Bool) → Type 0
+IsPosition program s limit None = Unit {0}
+IsPosition program s limit (Some c) = IsWhole program s limit c
 
--- the answer of a listing of runs from a place on, or from a list that is none
+-- the answer of a listing of runs from a position on, or from a list that is none
 pub data IsRunsAnswer (program : Program) (s : State) (limit count : ℕ) : Option (List Bool) → Answer →
     Type 0 where
-  listed : (from : Option (List Bool)) (cs : List (List Bool)) → IsPlace program s limit from
+  listed : (from : Option (List Bool)) (cs : List (List Bool)) → IsPosition program s limit from
       → IsListing program s limit from cs
       → IsRunsAnswer program s limit count from (shown (shown_runs program s limit cs count))
   no_such_run : (c : List Bool) → ¬ IsWhole program s limit c

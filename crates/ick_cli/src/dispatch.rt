@@ -6,9 +6,9 @@ ghost use Rattle.ick_cli.specs.Job.{asked};
 ghost use Rattle.ick_cli.specs.Serve.{counts};
 
 use crate::commands::{answer_check, answer_list, answer_runs, choices_in, ended};
-use crate::ending::Ending;
 use crate::files::Files;
 use crate::input::{read_file, read_front};
+use crate::job_end::JobEnd;
 use crate::plan::{Plan, Runs, plan_of};
 use crate::refusing::refused;
 use crate::words::Job;
@@ -27,7 +27,7 @@ pub fn perform<F: Files, R: ByteSource, W: ByteSink>(
     files: &mut F,
     reader: &mut R,
     writer: &mut W,
-) -> Ending
+) -> JobEnd
     requires files_sound { F.failed files.old + 1 < 2 ^ 64 }
     requires reader_sound { R.failed reader.old + 1 < 2 ^ 64 }
     requires writer_sound { W.failed writer.old + 1 < 2 ^ 64 }
@@ -40,19 +40,19 @@ pub fn perform<F: Files, R: ByteSource, W: ByteSink>(
 {
     let plan = match plan_of(alloc, &job.subcommand) {
         Ok(plan) => plan,
-        Err(ending) => return ending,
+        Err(job_end) => return job_end,
     };
     match job.file {
         Some(name) => match read_file(alloc, name, files) {
             Ok(source) => answer_source(alloc, &plan, source.as_slice(), reader, writer),
-            Err(ending) => ending,
+            Err(job_end) => job_end,
         },
         None => match read_front(alloc, reader) {
             Ok(source) => {
                 let mut nothing = SliceSource::new(&[]);
                 answer_source(alloc, &plan, source.as_slice(), &mut nothing, writer)
             }
-            Err(ending) => ending,
+            Err(job_end) => job_end,
         },
     }
 }
@@ -64,7 +64,7 @@ fn answer_source<R: ByteSource, W: ByteSink>(
     source: &[u8],
     reader: &mut R,
     writer: &mut W,
-) -> Ending
+) -> JobEnd
     requires reader_sound { R.failed reader.old + 1 < 2 ^ 64 }
     requires writer_sound { W.failed writer.old + 1 < 2 ^ 64 }
     ensures { AnswersSource plan.now source.now (R.left reader.old) result
@@ -81,7 +81,7 @@ fn answer_source<R: ByteSource, W: ByteSink>(
         Plan::List => answer_list(alloc, &program, writer),
         Plan::Execute(runs) => match compile(alloc, &program) {
             Ok(code) => answer_code(alloc, &code, runs, reader, writer),
-            Err(NoMemory) => Ending::NoMemory,
+            Err(NoMemory) => JobEnd::NoMemory,
         },
     }
 }
@@ -93,7 +93,7 @@ fn answer_code<R: ByteSource, W: ByteSink>(
     runs: &Runs,
     reader: &mut R,
     writer: &mut W,
-) -> Ending
+) -> JobEnd
     requires reader_sound { R.failed reader.old + 1 < 2 ^ 64 }
     requires writer_sound { W.failed writer.old + 1 < 2 ^ 64 }
     ensures { AnswersCode (code_program code.now) runs.now (R.left reader.old) result

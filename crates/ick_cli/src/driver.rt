@@ -4,7 +4,7 @@ ghost use Rattle.std.specs.Prelude.{false, true};
 ghost use Rattle.clap.specs.Walk.{texts};
 ghost use Rattle.clap.specs.Words.{fault_of};
 ghost use Rattle.ick_cli.specs.Words.{ick_app};
-ghost use Rattle.ick_cli.specs.Ending.{input_of, source_of};
+ghost use Rattle.ick_cli.specs.JobEnd.{input_of, source_of};
 ghost use Rattle.ick_cli.specs.Job.{HasJob, has_file, job_of, takes_input};
 ghost use Rattle.ick_cli.specs.Left.{IsLeft};
 ghost use Rattle.ick_cli.specs.Notice.{notice_text};
@@ -117,8 +117,8 @@ pub fn serve<F: Files, R: ByteSource, W: ByteSink, E: ByteSink>(
 {
     match read_job(alloc, words) {
         Ok(job) => {
-            let ending = perform(alloc, &job, files, reader, writer);
-            report(&ending, errors)
+            let job_end = perform(alloc, &job, files, reader, writer);
+            report(&job_end, errors)
         }
         Err(error) => answer_words(alloc, &error, writer, errors),
     }

@@ -4,7 +4,7 @@
 //! - `words`: commands and options, the job that arguments ask for, and the texts of help
 //! - `plan`: what is done with a program, after texts of choices are read
 //! - `notice`: error texts
-//! - `ending`: how the work of a job ends
+//! - `job_end`: how a job ends
 //! - `output`: the output of an answer
 //! - `input`: what a job reads
 //! - `stopped`: the status and the error text of a run that has stopped
@@ -21,9 +21,9 @@
 mod commands;
 mod dispatch;
 mod driver;
-mod ending;
 mod files;
 mod input;
+mod job_end;
 mod laws;
 mod notice;
 mod output;
@@ -37,9 +37,9 @@ mod words;
 
 pub use commands::ended;
 pub use driver::{WordsFault, refuse_words, serve};
-pub use ending::Ending;
 pub use files::Files;
 pub use input::{read_file, read_front, read_input, read_named};
+pub use job_end::JobEnd;
 pub use laws::one_answer;
 pub use notice::{Message, Notice};
 pub use output::send;

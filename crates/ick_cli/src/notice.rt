@@ -1,6 +1,6 @@
 //! Error texts.
 ghost use Rattle.std.specs.Prelude.{◌≡◌};
-ghost use Rattle.ick_cli.specs.Ending.{message_text};
+ghost use Rattle.ick_cli.specs.JobEnd.{message_text};
 ghost use Rattle.ick_cli.specs.Notice.{notice_text};
 
 /// A line that the program has itself, so that it takes no memory.

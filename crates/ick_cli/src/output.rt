@@ -1,13 +1,13 @@
 //! The output of an answer.
 ghost use Rattle.std.specs.Prelude.{◌≡◌, ◌+◌, ◌<◌, ◌≤◌, ◌^◌, true};
-ghost use Rattle.ick_cli.specs.Ending.{Answers, EndsSent, LeavesWriter, message_text};
+ghost use Rattle.ick_cli.specs.JobEnd.{Answers, EndsSent, LeavesWriter, message_text};
 
-use crate::ending::Ending;
+use crate::job_end::JobEnd;
 use crate::notice::Message;
 use ick_runs::{ByteSink, write_whole};
 
 /// Writes an output. If all of it was written, the work ends with this status and error text.
-pub fn send<W: ByteSink>(output: &[u8], status: u8, message: Message, writer: &mut W) -> Ending
+pub fn send<W: ByteSink>(output: &[u8], status: u8, message: Message, writer: &mut W) -> JobEnd
     requires sound { W.failed writer.old + 1 < 2 ^ 64 }
     requires known { status ≤ 3 }
     ensures leaves { LeavesWriter result (W.failed writer.old) (W.failed writer.new) }
@@ -17,7 +17,7 @@ pub fn send<W: ByteSink>(output: &[u8], status: u8, message: Message, writer: &m
         result (W.written writer.old) (W.written writer.new) }
 {
     match write_whole(writer, output) {
-        Ok(()) => Ending::Answered { status, message },
-        Err(_) => Ending::WriteFailed,
+        Ok(()) => JobEnd::Answered { status, message },
+        Err(_) => JobEnd::WriteFailed,
     }
 }

@@ -5,7 +5,7 @@ ghost use Rattle.ick_cli.specs.Job.{task_of};
 ghost use Rattle.ick_cli.specs.Plan.{AreChoices, EndsByLine, HasChoices, HasPlan, IsPlanned};
 ghost use Rattle.ick_cli.specs.Plan.{IsUnplanned, IsUnread, most_choices};
 
-use crate::ending::Ending;
+use crate::job_end::JobEnd;
 use crate::notice::Notice;
 use crate::words::Subcommand;
 use ick_runs::Cursor;
@@ -48,10 +48,10 @@ pub enum Runs {
 
 /// Returns the plan of a command. A command without a plan ends by its line, and memory is said to
 /// be out only if the command has a plan.
-pub fn plan_of(alloc: Global, subcommand: &Subcommand<'_>) -> Result<Plan, Ending>
+pub fn plan_of(alloc: Global, subcommand: &Subcommand<'_>) -> Result<Plan, JobEnd>
     ensures ok { IfOk result (IsPlanned (task_of subcommand.now)) }
     ensures err { IfErr result (EndsByLine (IsUnplanned (task_of subcommand.now))) }
-    ensures memory { IfErr result (λ ending. ending ≡ Ending.NoMemory
+    ensures memory { IfErr result (λ job_end. job_end ≡ JobEnd.NoMemory
         → HasPlan (task_of subcommand.now)) }
 {
     match *subcommand {
@@ -64,7 +64,7 @@ pub fn plan_of(alloc: Global, subcommand: &Subcommand<'_>) -> Result<Plan, Endin
         } => plan_run(alloc, choices, seed, limit),
         Subcommand::Runs { from, count, limit } => match choices_of(alloc, from, limit) {
             Ok(from) => Ok(Plan::Execute(Runs::Listed { from, count, limit })),
-            Err(ending) => Err(ending),
+            Err(job_end) => Err(job_end),
         },
     }
 }
@@ -75,31 +75,31 @@ fn plan_run(
     choices: Option<&str>,
     seed: Option<u64>,
     limit: u32,
-) -> Result<Plan, Ending>
+) -> Result<Plan, JobEnd>
     ensures ok { IfOk result (IsPlanned (task_of (Subcommand.Run choices.entry seed limit))) }
     ensures err { IfErr result
         (EndsByLine (IsUnplanned (task_of (Subcommand.Run choices.entry seed limit)))) }
-    ensures memory { IfErr result (λ ending. ending ≡ Ending.NoMemory
+    ensures memory { IfErr result (λ job_end. job_end ≡ JobEnd.NoMemory
         → HasPlan (task_of (Subcommand.Run choices.entry seed limit))) }
 {
     match seed {
         None => match choices_of(alloc, choices, MOST_CHOICES) {
             Ok(choices) => Ok(Plan::Execute(Runs::Given { choices, limit })),
-            Err(ending) => Err(ending),
+            Err(job_end) => Err(job_end),
         },
         Some(seed) => match choices {
             None => Ok(Plan::Execute(Runs::Drawn { seed, limit })),
-            Some(_) => Err(Ending::usage(Notice::ChoicesAndSeed)),
+            Some(_) => Err(JobEnd::usage(Notice::ChoicesAndSeed)),
         },
     }
 }
 
 /// Returns the choices that a text has, at most `most`, or nothing if there is no text. Memory is
 /// said to be out only if the text has such choices.
-pub fn choices_of(alloc: Global, text: Option<&str>, most: u32) -> Result<Option<Cursor>, Ending>
+pub fn choices_of(alloc: Global, text: Option<&str>, most: u32) -> Result<Option<Cursor>, JobEnd>
     ensures ok { IfOk result (AreChoices (option_map (λ s. s.now) text.entry) most) }
     ensures err { IfErr result (EndsByLine (IsUnread most (option_map (λ s. s.now) text.entry))) }
-    ensures memory { IfErr result (λ ending. ending ≡ Ending.NoMemory
+    ensures memory { IfErr result (λ job_end. job_end ≡ JobEnd.NoMemory
         → HasChoices (option_map (λ s. s.now) text.entry) most) }
 {
     let Some(text) = text else {
@@ -107,6 +107,6 @@ pub fn choices_of(alloc: Global, text: Option<&str>, most: u32) -> Result<Option
     };
     match Cursor::from_text(alloc, text.as_bytes(), most) {
         Ok(cursor) => Ok(Some(cursor)),
-        Err(error) => Err(Ending::refused(error)),
+        Err(error) => Err(JobEnd::refused(error)),
     }
 }

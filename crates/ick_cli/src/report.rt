@@ -1,20 +1,20 @@
 //! The error text and the status at the end of a call.
 ghost use Rattle.std.specs.Prelude.{◌≡◌, ◌+◌, ◌<◌, ◌^◌};
-ghost use Rattle.ick_cli.specs.Ending.{ending_status, ending_text};
+ghost use Rattle.ick_cli.specs.JobEnd.{job_end_status, job_end_text};
 ghost use Rattle.ick_cli.specs.Serve.{Finishes};
 
-use crate::ending::Ending;
+use crate::job_end::JobEnd;
 use crate::status::Status;
 use ick_runs::{ByteSink, write_whole};
 
-/// Writes the error text of an ending, and returns its status.
-pub fn report<E: ByteSink>(ending: &Ending, errors: &mut E) -> Status
+/// Writes the error text of a job's end, and returns its status.
+pub fn report<E: ByteSink>(job_end: &JobEnd, errors: &mut E) -> Status
     requires { E.failed errors.old + 1 < 2 ^ 64 }
-    ensures { Finishes E.told (ending_status ending.now) (ending_text ending.now)
+    ensures { Finishes E.told (job_end_status job_end.now) (job_end_text job_end.now)
         (E.failed errors.old) (E.failed errors.new)
         (E.written errors.old) (E.written errors.new) result }
 {
-    finish(ending.status(), ending.text(), errors)
+    finish(job_end.status(), job_end.text(), errors)
 }
 
 /// Writes an error text, and returns the status, or 4 if the text could not be written.

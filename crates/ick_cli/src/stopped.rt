@@ -1,7 +1,7 @@
 //! The status and the error text of a run that has stopped.
 ghost use Rattle.std.specs.Prelude.{◌≡◌, ◌++◌, IfOk, codes, decimal};
 ghost use Rattle.ick_bits.specs.Faults.{message_of};
-ghost use Rattle.ick_cli.specs.Ending.{message_text};
+ghost use Rattle.ick_cli.specs.JobEnd.{message_text};
 ghost use Rattle.ick_cli.specs.Stopped.{kind_status, kind_text};
 
 use crate::notice::Message;

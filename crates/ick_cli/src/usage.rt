@@ -5,7 +5,7 @@ ghost use Rattle.ick_cli.specs.Notice.{notice_text};
 ghost use Rattle.ick_cli.specs.Serve.{Finishes, FinishesDue, IsDue, counts};
 ghost use Rattle.ick_cli.specs.Usage.{IsHelped, IsMistake, IsRefused, IsRequest};
 
-use crate::ending::Ending;
+use crate::job_end::JobEnd;
 use crate::notice::Notice;
 use crate::report::{finish, report};
 use crate::status::Status;
@@ -51,16 +51,16 @@ pub fn answer_words<W: ByteSink, E: ByteSink>(
         (E.written errors.old) (E.written errors.new) result }
 {
     if error.kind() == ErrorKind::OutOfMemory {
-        return report(&Ending::NoMemory, errors);
+        return report(&JobEnd::NoMemory, errors);
     }
     let Ok(text) = error.to_string(alloc) else {
-        return report(&Ending::NoMemory, errors);
+        return report(&JobEnd::NoMemory, errors);
     };
     if error.use_stderr() {
         return finish(64, text.as_bytes(), errors);
     }
     match write_whole(writer, text.as_bytes()) {
         Ok(()) => finish(0, &[], errors),
-        Err(_) => report(&Ending::WriteFailed, errors),
+        Err(_) => report(&JobEnd::WriteFailed, errors),
     }
 }

@@ -19,7 +19,7 @@ use Rattle.ick_syntax.specs.BodyTree.{remember, abstain_label, abstain_kinds, re
 use Rattle.ick_syntax.specs.BodyTree.{write_in, read_out}
 use Rattle.ick_syntax.specs.StatementTree.{StatementTree}
 use Rattle.ick_code.specs.meaning.State.{State, Array, with_entry, statement_at}
-use Rattle.ick_code.specs.meaning.Value.{value_of, values_of, and_then, element_value, element_place, product}
+use Rattle.ick_code.specs.meaning.Value.{value_of, values_of, and_then, element_value, element_offset, product}
 use Rattle.ick_code.specs.meaning.Value.{binary_value, unary_value}
 use Rattle.ick_code.specs.meaning.Outcome.{Outcome, done, faults, then_do, with_value, in_turn}
 use Rattle.ick_code.specs.meaning.Store.{set_scalar, set_array, store, store_at, store_within, resize, most_elements}
@@ -112,7 +112,7 @@ within_frame o name (Some place) n s =
 
 store_at_frame : (o : List ℕ) (name : Name) (subs : List Value) (n : ℕ) (s : State) →
     store_at name subs n (after_output o s) ≡ framed o (store_at name subs n s)
-store_at_frame o name subs n s = within_frame o name (element_place (s.arrays name) subs) n s
+store_at_frame o name subs n s = within_frame o name (element_offset (s.arrays name) subs) n s
 
 resize_frame : (o : List ℕ) (name : Name) (dimensions : List ℕ) (s : State) →
     resize name dimensions (after_output o s) ≡ framed o (resize name dimensions s)
@@ -199,7 +199,7 @@ read_within_frame o array (Some place) s = input_frame o s.input s _ _ (λ n s. 
 
 read_at_frame : (o : List ℕ) (array : Name) (subs : List Value) (s : State) →
     read_at array subs (after_output o s) ≡ framed o (read_at array subs s)
-read_at_frame o array subs s = read_within_frame o array (element_place (s.arrays array) subs) s
+read_at_frame o array subs s = read_within_frame o array (element_offset (s.arrays array) subs) s
 
 write_to_frame : (o : List ℕ) (target : Tree) (s : State) →
     write_to target (after_output o s) ≡ framed o (write_to target s)

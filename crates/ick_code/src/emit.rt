@@ -113,7 +113,7 @@ pub fn emit_body(draft: &mut Draft, table: &Table, labels: &Labels, body: &Body)
             let count = emit_exprs(draft, table, dimensions);
             draft.push(Op::Resize(table.arrays.slot(*array), count))
         }
-        Body::Next(label) => draft.push(Op::Call(labels.place(*label))),
+        Body::Next(label) => draft.push(Op::Call(labels.statement(*label))),
         Body::Forget(e) => {
             emit_expr(draft, table, e);
             draft.push(Op::Forget)
@@ -126,9 +126,9 @@ pub fn emit_body(draft: &mut Draft, table: &Table, labels: &Labels, body: &Body)
         Body::Retrieve(names) => emit_names(draft, table, NameForm::Restore, names),
         Body::Ignore(names) => emit_names(draft, table, NameForm::Hide, names),
         Body::Remember(names) => emit_names(draft, table, NameForm::Show, names),
-        Body::AbstainLabel(label) => draft.push(Op::AbstainOne(labels.place(*label))),
+        Body::AbstainLabel(label) => draft.push(Op::AbstainOne(labels.statement(*label))),
         Body::AbstainKinds(gerunds) => emit_gerunds(draft, Switch::Abstain, gerunds),
-        Body::ReinstateLabel(label) => draft.push(Op::ReinstateOne(labels.place(*label))),
+        Body::ReinstateLabel(label) => draft.push(Op::ReinstateOne(labels.statement(*label))),
         Body::ReinstateKinds(gerunds) => emit_gerunds(draft, Switch::Reinstate, gerunds),
         Body::GiveUp => draft.push(Op::Stop),
         Body::WriteIn(places) => emit_places(draft, table, places),

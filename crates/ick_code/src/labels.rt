@@ -39,7 +39,7 @@ impl Labels {
 
     /// Returns the number of the first statement with a label, or one more than the number of
     /// statements if there is none.
-    pub fn place(&self, label: u16) -> u32
+    pub fn statement(&self, label: u16) -> u32
         ensures { result ≡ place_in self.now label }
     {
         self.places.get(&label).copied().unwrap_or(self.past)

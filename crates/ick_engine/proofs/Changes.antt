@@ -11,7 +11,7 @@ use Rattle.ick_engine.specs.declared.change.Entry.{Entry}
 use Rattle.ick_engine.specs.declared.change.Entry.TheVariants as entry
 use Rattle.ick_engine.specs.declared.memory.Array.{Array}
 use Rattle.ick_engine.specs.declared.trail.Trail.{Trail}
-use Rattle.ick_engine.specs.History.{changes_by, fixed_by, history, IsNoted, IsUndone}
+use Rattle.ick_engine.specs.TrailChanges.{changes_by, fixed_by, changes_in, IsNoted, IsUndone}
 use Rattle.ick_engine.specs.Undo.{Change, array_was, statuses_were, no_change, change_of, changes_of, stands_apart}
 use Rattle.ick_engine.specs.Undo.{fixed_of}
 use Rattle.ick_engine.specs.View.{View, array_of, bytes_of}
@@ -60,7 +60,7 @@ count_changes (entry.Output count ∷ es) arrays statuses = ap suc (count_change
 count_changes (entry.Last old ∷ es) arrays statuses = ap suc (count_changes es arrays statuses)
 count_changes (entry.LastIn old ∷ es) arrays statuses = ap suc (count_changes es arrays statuses)
 
-pub count_history : (t : Trail) → length (history t) ≡ length t.entries.items
+pub count_history : (t : Trail) → length (changes_in t) ≡ length t.entries.items
 count_history t =
     let arrays = reverse (map array_of t.arrays.items) in
     let statuses = reverse (map bytes_of t.statuses.items) in
@@ -68,17 +68,17 @@ count_history t =
     ∙ count_changes (reverse t.entries.items) arrays statuses ∙ length-reverse t.entries.items
 
 -- changes that are added belong to no older mark
-pub fixed_grown : (t : Trail) (changes : List Change) → Extends (history t) changes →
+pub fixed_grown : (t : Trail) (changes : List Change) → Extends (changes_in t) changes →
     fixed_of t.base (take t.kept changes) ≡ fixed_by t
 fixed_grown t changes more =
     ap (fixed_of t.base)
-    (ap (take t.kept) more.is ∙ take-append-le t.kept (history t) more.more (omega (arith, t.few, count_history t)))
+    (ap (take t.kept) more.is ∙ take-append-le t.kept (changes_in t) more.more (omega (arith, t.few, count_history t)))
 
-pub fixed_moved : (t u : Trail) → u.base ≡ t.base → u.kept ≡ t.kept → Extends (history t) (history u) →
+pub fixed_moved : (t u : Trail) → u.base ≡ t.base → u.kept ≡ t.kept → Extends (changes_in t) (changes_in u) →
     fixed_by u ≡ fixed_by t
 fixed_moved t u base kept more =
-    ap (λ b. fixed_of b (take u.kept (history u))) base ∙ ap (λ k. fixed_of t.base (take k (history u))) kept
-    ∙ fixed_grown t (history u) more
+    ap (λ b. fixed_of b (take u.kept (changes_in u))) base ∙ ap (λ k. fixed_of t.base (take k (changes_in u))) kept
+    ∙ fixed_grown t (changes_in u) more
 
 -- the newest entry is the newest change
 newest : (all rest : List Entry) (e : Entry) (change : Change) (arrays arrays' : List ArrayValue)
@@ -131,7 +131,7 @@ pub newest_array : (t : Trail) (all : List Entry) (arrays : List Array) (change 
     (old : ArrayValue) → all ≡ t.entries.items ++ entry.Array change slot ∷ [] → arrays ≡ t.arrays.items ++ copy ∷ [] →
     array_of copy ≡ old →
     reverse (changes_of (reverse all) (reverse (map array_of arrays)) (reverse (map bytes_of t.statuses.items)))
-    ≡ history t ++ array_was change slot old ∷ []
+    ≡ changes_in t ++ array_was change slot old ∷ []
 newest_array t all arrays change slot copy old is pushed same =
     let kept = map array_of t.arrays.items in
     let statuses = reverse (map bytes_of t.statuses.items) in
@@ -144,7 +144,7 @@ newest_array t all arrays change slot copy old is pushed same =
 pub newest_statuses : (t : Trail) (all : List Entry) (statuses : List (Vec ℕ)) (copy : Vec ℕ) (old : List ℕ) →
     all ≡ t.entries.items ++ entry.Statuses ∷ [] → statuses ≡ t.statuses.items ++ copy ∷ [] → copy.items ≡ old →
     reverse (changes_of (reverse all) (reverse (map array_of t.arrays.items)) (reverse (map bytes_of statuses)))
-    ≡ history t ++ statuses_were old ∷ []
+    ≡ changes_in t ++ statuses_were old ∷ []
 newest_statuses t all statuses copy old is pushed same =
     let kept = map bytes_of t.statuses.items in
     let arrays = reverse (map array_of t.arrays.items) in
@@ -157,7 +157,7 @@ newest_statuses t all statuses copy old is pushed same =
 -- an entry that was taken off a trail and undone
 pub newest_undone : (all : List Entry) (mid new : Trail) (e : Entry) (v w : View) (u : IsUndone e mid new v w) →
     all ≡ mid.entries.items ++ e ∷ [] → new.entries ≡ mid.entries →
-    reverse (changes_by mid (reverse all)) ≡ history new ++ u.change ∷ []
+    reverse (changes_by mid (reverse all)) ≡ changes_in new ++ u.change ∷ []
 newest_undone all mid new e v w u is same =
     newest all mid.entries.items e u.change (reverse (map array_of mid.arrays.items)) (reverse (map array_of new.arrays.items))
     (reverse (map bytes_of mid.statuses.items)) (reverse (map bytes_of new.statuses.items)) is

@@ -10,7 +10,7 @@ use Rattle.ick_engine.specs.View.{Input, map_of, parts_of, scalar_names, state_o
 use Rattle.ick_engine.proofs.Restoring.{state_by}
 use Rattle.ick_engine.proofs.Saving.{same_parts_trans}
 
--- a kept state has the same lists as another one, but for spare places of stashes
+-- a kept state has the same lists as another one, but for spare room of stashes
 pub record IsCopy (one copy : Saved) : Type 0 where
   pub place_same : copy.place ≡ one.place
   pub numbers_same : copy.numbers.items ≡ one.numbers.items

@@ -16,7 +16,7 @@ use Rattle.ick_engine.specs.Undo.{with_arrays, with_scalar_stashes, array_was, g
 use Rattle.ick_engine.specs.View.{View, Parts, Stash, array_of, arrays_of, no_stash}
 use Rattle.ick_engine.proofs.StashLemmas.{take_put, put_deeper, set_each, stash_refl, stash_trans, stashes_refl}
 
--- a value goes to a spare place
+-- a value goes to spare room
 pub put_spare : {A : Type 0} (x : A) (s : Stash A) → s.depth < length s.items →
     IsPutOn x s (record { items = slice_set s.items s.depth x; depth = s.depth + 1 })
 put_spare x s low =

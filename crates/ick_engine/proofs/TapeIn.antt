@@ -6,7 +6,7 @@ use Rattle.std.proofs.lemmas.List.{drop-drop}
 use Rattle.ick_bits.specs.Tape.{tape_difference}
 use Rattle.ick_code.specs.meaning.Tape.{tape_numbers, last_read}
 use Rattle.ick_engine.specs.View.{Input}
-use Rattle.ick_engine.specs.Reads.{IsByte, HasRead, number_read, last_after, place_after}
+use Rattle.ick_engine.specs.Reads.{IsByte, HasRead, number_read, last_after, position_after}
 
 -- one more byte
 next_numbers : (n lastin b : ℕ) (input rest : List ℕ) → drop n input ≡ b ∷ rest →
@@ -85,7 +85,7 @@ pub read_next : (stays : Bool) (count lastin from : ℕ) (old now new : List ℕ
     (byte : Option (ℕ × ℕ)) (before mid after : Input) → count < length old →
     HasRead stays count lastin from old now last to before mid →
     IsByte byte to mid after → new ≡ (if stays then now else slice_set now count (number_read last byte)) →
-    last' ≡ last_after last byte → to' ≡ place_after to byte →
+    last' ≡ last_after last byte → to' ≡ position_after to byte →
     HasRead stays (count + 1) lastin from old new last' to' before after
 read_next stays count lastin from old now new last last' to to' None before mid after within read end put more_last more_to =
     let input = before.left from in

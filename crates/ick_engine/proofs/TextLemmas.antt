@@ -24,7 +24,7 @@ some_line : (input : List ℕ) (s : State) (go : ℕ → State → Outcome) → 
 some_line [] s go some = absurd (omega arith)
 some_line (b ∷ bs) s go some = refl
 
--- from a place on stands a line of n bytes
+-- from a position on stands a line of n bytes
 module _ (text rest : List ℕ) (from n : ℕ) (is : rest ≡ drop from text) (some : from < length text)
     (count : n ≡ position_or_len (λ b. b == 10) rest) where
   line_taken : (s : State) (go : ℕ → State → Outcome) → s.input ≡ drop from text →

@@ -14,7 +14,7 @@ use Rattle.ick_engine.specs.declared.reader.Line.TheVariants.{Nothing, Number, T
 abbrev pub Leads : {R : Type 0} → (R → Input → Type 0) → R → R → (Input → Input → Type 0) → Type 0
 Leads Has old new P = (after : Input) → Has new after → (before : Input) × Has old before × P before after
 
--- what comes of a line that was taken at a place
+-- what comes of a line that was taken at a position
 abbrev pub line_outcome : Line → Input → ℕ → State → (ℕ → State → Outcome) → Outcome
 line_outcome Nothing input from s go = faults NoInput [] (record s { input = input.left from })
 line_outcome (Number n to) input from s go = go n (record s { input = input.left to })
@@ -26,13 +26,13 @@ line_outcome (TooLarge to) input from s go = faults SixtyFour [] (record s { inp
 abbrev pub line_read : State → (ℕ → State → Outcome) → Outcome
 line_read s go = with_input s.input s go
 
--- the next line from a place on
+-- the next line from a position on
 abbrev pub IsNext : Line → ℕ → Input → Input → Type 0
 IsNext line from before after =
     (s : State) (go : ℕ → State → Outcome) → s.input ≡ before.left from →
     with_input s.input s go ≡ line_outcome line after from s go
 
--- the next byte from a place on, and where the input goes on
+-- the next byte from a position on, and where the input goes on
 abbrev pub IsByte : Option (ℕ × ℕ) → ℕ → Input → Input → Type 0
 IsByte (Some (b, to)) from before after = before.left from ≡ b ∷ after.left to
 IsByte None from before after = (before.left from ≡ []) × (after.left from ≡ [])
@@ -46,11 +46,11 @@ abbrev pub last_after : ℕ → Option (ℕ × ℕ) → ℕ
 last_after lastin None = lastin
 last_after lastin (Some (b, to)) = b
 
-abbrev pub place_after : ℕ → Option (ℕ × ℕ) → ℕ
-place_after from None = from
-place_after from (Some (b, to)) = to
+abbrev pub position_after : ℕ → Option (ℕ × ℕ) → ℕ
+position_after from None = from
+position_after from (Some (b, to)) = to
 
--- bytes that were read from a place on into as many elements as were counted, unless these stay as they are
+-- bytes that were read from a position on into as many elements as were counted, unless these stay as they are
 pub record HasRead (stays : Bool) (count lastin from : ℕ) (old new : List ℕ) (last to : ℕ)
     (before after : Input) : Type 0 where
   pub elements_are : new ≡ (if stays then old else tape_numbers count lastin (before.left from) ++ drop count old)

@@ -17,7 +17,7 @@ numbers_on stash = used (numbers_of stash)
 abbrev pub arrays_on : ArrayStash → List Array
 arrays_on stash = used (arrays_of stash)
 
--- parts that differ in the spare places of stashes alone
+-- parts that differ in the spare room of stashes alone
 pub record AreSame (p q : Parts) : Type 0 where
   pub others : but_stashes q ≡ but_stashes p
   pub scalars : map used q.scalar_stashes ≡ map used p.scalar_stashes
@@ -32,7 +32,7 @@ pub record IsSaved (lowered : LoweredParts) (saved : Saved) (v : View) : Type 0 
   pub returns_kept : saved.returns.items ≡ take v.depth v.returns
   pub parts_kept : AreSame v.parts (parts_of saved.rest)
 
--- the view of a kept state: it has no temporaries, and no spare places
+-- the view of a kept state: it has no temporaries, and no spare room
 abbrev pub saved_view : Saved → View
 saved_view saved = record {
   place = saved.place;

@@ -27,7 +27,7 @@ IsPrinted (Err (Fault kind)) slot old new =
 IsPrinted (Err (Word from to)) slot old new = ⊥
 IsPrinted (Err NoMemory) slot old new = new ≡ old
 
--- the parts after an array was read from an input, which goes on at a place
+-- the parts after an array was read from an input, which goes on at a position
 abbrev pub array_read : ℕ → Input → (to : ℕ) → Parts → Parts
 array_read slot before to parts =
     let a = array_at parts slot in

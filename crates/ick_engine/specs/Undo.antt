@@ -30,7 +30,7 @@ with_scalar_stashes stashes v = record v { parts = record v.parts { scalar_stash
 abbrev pub with_array_stashes : List (Stash Array) → View → View
 with_array_stashes stashes v = record v { parts = record v.parts { array_stashes = stashes } }
 
--- a stash with one more value, if it has a spare place, and with one less
+-- a stash with one more value, if it has spare room, and with one less
 abbrev pub put_on : {A : Type 0} → A → Stash A → Stash A
 put_on x s = record {
   items = slice_set s.items s.depth x;
@@ -44,7 +44,7 @@ taken_off s = record { items = s.items; depth = s.depth - 1 }
 abbrev pub at_slot : {A : Type 0} → (Stash A → Stash A) → ℕ → List (Stash A) → List (Stash A)
 at_slot f slot stashes = slice_set stashes slot (f (get_or stashes slot no_stash))
 
--- a change that was noted: a place, and its value before the change
+-- a change that was noted: a part, and its value before the change
 pub data Change : Type 0 where
   register_was : (at old : ℕ) → Change
   home_was : (at old : ℕ) → Change
@@ -140,7 +140,7 @@ abbrev pub rewound : List Change → View → View
 rewound [] v = v
 rewound (change ∷ changes) v = rewound changes (undone change v)
 
--- a stash has a spare place
+-- a stash has spare room
 abbrev pub HasPlace : {A : Type 0} → List (Stash A) → ℕ → Type 0
 HasPlace stashes slot = (get_or stashes slot no_stash).depth < length (get_or stashes slot no_stash).items
 
@@ -153,7 +153,7 @@ IsUndoable base (array_was now.Taken slot old) v = HasPlace v.parts.array_stashe
 IsUndoable base (array_was now.Restored slot old) v = HasPlace v.parts.array_stashes slot
 IsUndoable base other v = Unit {0}
 
--- stashes with the same values, and with as many places at least
+-- stashes with the same values, and with as much room at least
 pub record StashLike {A : Type 0} (old new : Stash A) : Type 0 where
   pub depth_same : new.depth ≡ old.depth
   pub places : length old.items ≤ length new.items

@@ -16,7 +16,7 @@ pub enum ArrayChange {
     Restored,
 }
 
-/// The value of a place before a change.
+/// The value of a part before a change.
 #[derive(Clone, Copy)]
 pub enum Entry {
     /// The number in a register.
@@ -25,9 +25,9 @@ pub enum Entry {
     Home(u32, u32),
     /// The status of a statement.
     Status(u32, u8),
-    /// The return address at a place of the NEXT stack.
+    /// The return address at an index of the NEXT stack.
     Return(u32, u32),
-    /// The number of an element: its slot, its place and the number.
+    /// The number of an element: its slot, its offset and the number.
     Element(u32, u32, u32),
     /// Whether the array in a slot is ignored.
     Hidden(u32, bool),

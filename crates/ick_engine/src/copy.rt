@@ -48,13 +48,13 @@ pub fn copy_array(alloc: Global, array: &Array) -> Result<Array, NoMemory>
 
 /// Copies an array over the buffers of another one. If memory runs out, the other one may have any
 /// value.
-pub fn copy_into(place: &mut Array, array: &Array) -> Result<(), NoMemory>
-    ensures { OnOk result (array_of place.new ≡ array_of array.now) }
+pub fn copy_into(target: &mut Array, array: &Array) -> Result<(), NoMemory>
+    ensures { OnOk result (array_of target.new ≡ array_of array.now) }
 {
-    place.dimensions.clear();
-    place.elements.clear();
-    place.dimensions.extend_from_slice(&array.dimensions)?;
-    place.elements.extend_from_slice(&array.elements)?;
+    target.dimensions.clear();
+    target.elements.clear();
+    target.dimensions.extend_from_slice(&array.dimensions)?;
+    target.elements.extend_from_slice(&array.elements)?;
     Ok(())
 }
 
@@ -72,7 +72,7 @@ pub fn copy_arrays(alloc: Global, arrays: &[Array]) -> Result<Vec<Array>, NoMemo
     Ok(copies)
 }
 
-/// Copies the numbers on a stash. The copy has no spare places.
+/// Copies the numbers on a stash. The copy has no spare room.
 fn copy_number_stash(alloc: Global, stash: &NumberStash) -> Result<NumberStash, NoMemory>
     ensures { IfOk result (λ copy. numbers_on copy ≡ numbers_on stash.now) }
 {
@@ -93,7 +93,7 @@ fn copy_number_stashes(alloc: Global, stashes: &[NumberStash]) -> Result<Vec<Num
     Ok(copies)
 }
 
-/// Copies the arrays on a stash. The copy has no spare places.
+/// Copies the arrays on a stash. The copy has no spare room.
 fn copy_array_stash(alloc: Global, stash: &ArrayStash) -> Result<ArrayStash, NoMemory>
     ensures { IfOk result (λ copy. arrays_on copy ≡ arrays_on stash.now) }
 {

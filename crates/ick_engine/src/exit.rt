@@ -4,7 +4,7 @@ use ick_bits::FaultKind;
 
 /// How a run ended. A fault has the number of its statement, and what gives its subject.
 #[derive(Clone, Copy)]
-pub enum Ended {
+pub enum RawEnd {
     /// The run gave up (Revised Manual, 4.4.11).
     GaveUp,
     /// A fault without a subject.
@@ -30,5 +30,5 @@ pub enum Exit {
     /// Memory has run out within a statement. What was noted can be undone.
     NoMemory,
     /// The run has ended.
-    Stopped(Ended),
+    Stopped(RawEnd),
 }

@@ -4,7 +4,7 @@ ghost use Rattle.std.specs.Prelude.{◌≡◌, ◌<◌, ◌≤◌, ℕ, List, �
 ghost use Rattle.std.specs.Prelude.{true};
 ghost use Rattle.std.proofs.Common.{get_or};
 ghost use Rattle.ick_code.specs.meaning.State.{no_array};
-ghost use Rattle.ick_engine.specs.History.{history, AreUndone, IsUndone};
+ghost use Rattle.ick_engine.specs.TrailChanges.{changes_in, AreUndone, IsUndone};
 ghost use Rattle.ick_engine.specs.Memory.{view_in};
 ghost use Rattle.ick_engine.specs.Steady.{IsReady, IsSteady};
 ghost use Rattle.ick_engine.specs.Undo.{change_of, stands_apart, undone, undone_array};
@@ -36,14 +36,14 @@ pub fn make_mark(trail: &mut Trail, memory: &Memory) -> Mark
     ensures depth { result.depth ≡ memory.now.cursor.depth }
     ensures low { trail.new.low ≡ memory.now.cursor.depth }
     ensures base { trail.new.base ≡ trail.old.base }
-    ensures changes { history trail.new ≡ history trail.old }
-    ensures count { result.changes ≡ length (history trail.new) }
-    ensures kept { trail.new.kept ≡ length (history trail.new) }
-    ensures marked { Rewinds trail.new.base (history trail.new) trail.new.low result.changes
+    ensures changes { changes_in trail.new ≡ changes_in trail.old }
+    ensures count { result.changes ≡ length (changes_in trail.new) }
+    ensures kept { trail.new.kept ≡ length (changes_in trail.new) }
+    ensures marked { Rewinds trail.new.base (changes_in trail.new) trail.new.low result.changes
         (view_in memory.now) (view_in memory.now) }
     ensures older { (k : ℕ) (m : View) →
-        Rewinds trail.old.base (history trail.old) trail.old.low k (view_in memory.now) m →
-        Rewinds trail.new.base (history trail.new) trail.new.low k (view_in memory.now) m }
+        Rewinds trail.old.base (changes_in trail.old) trail.old.low k (view_in memory.now) m →
+        Rewinds trail.new.base (changes_in trail.new) trail.new.low k (view_in memory.now) m }
 {
     let changes = trail.entries.len();
     trail.low = memory.cursor.depth;
@@ -55,7 +55,7 @@ pub fn make_mark(trail: &mut Trail, memory: &Memory) -> Mark
     }
 }
 
-/// Puts a number back, if there is such a place.
+/// Puts a number back, if there is such an index.
 fn put_back(numbers: &mut Vec<u32>, at: u32, old: u32)
     ensures { numbers.new.items ≡ slice_set numbers.old.items at old }
 {
@@ -64,7 +64,7 @@ fn put_back(numbers: &mut Vec<u32>, at: u32, old: u32)
     }
 }
 
-/// Puts a status back, if there is such a place.
+/// Puts a status back, if there is such an index.
 fn put_status(statuses: &mut Vec<u8>, at: u32, old: u8)
     ensures { statuses.new.items ≡ slice_set statuses.old.items at old }
 {
@@ -234,13 +234,13 @@ pub fn back(trail: &mut Trail, mark: Mark, memory: &mut Memory, program: &Lowere
     requires steady { IsSteady program.now.code.now program.now.parts (view_in memory.old) }
     ensures back { (m : View) → m.place ≡ mark.place → m.depth ≡ mark.depth →
         IsReady program.now.code.now program.now.parts m →
-        Rewinds trail.old.base (history trail.old) trail.old.low mark.changes
+        Rewinds trail.old.base (changes_in trail.old) trail.old.low mark.changes
         (view_in memory.old) m →
         IsRestored program.now.code.now program.now.parts m (view_in memory.new) }
-    ensures changes { history trail.new ≡ take mark.changes (history trail.old) }
+    ensures changes { changes_in trail.new ≡ take mark.changes (changes_in trail.old) }
     ensures low { trail.new.low ≡ mark.depth }
     ensures base { trail.new.base ≡ trail.old.base }
-    ensures kept { trail.new.kept ≡ length (history trail.new) }
+    ensures kept { trail.new.kept ≡ length (changes_in trail.new) }
 {
     // `back` needs that the instructions are those of the code.
     program.law();
@@ -258,7 +258,7 @@ pub fn back(trail: &mut Trail, mark: Mark, memory: &mut Memory, program: &Lowere
 /// from the present state, if it could from the state of the newest mark.
 pub fn drop_mark(trail: &mut Trail, kept: usize)
     requires { kept ≤ trail.old.kept }
-    ensures changes { history trail.new ≡ history trail.old }
+    ensures changes { changes_in trail.new ≡ changes_in trail.old }
     ensures low { trail.new.low ≡ trail.old.low }
     ensures base { trail.new.base ≡ trail.old.base }
     ensures kept { trail.new.kept ≡ kept }

@@ -46,7 +46,7 @@ pub trait Notes: Drop {
     fn has_room(&self, more: usize) -> bool
         ensures { MatchBool result (more + 79 ≤ room self.now) (room self.now < more + 79) };
 
-    /// States what undoing is, and that nothing else than the places that can be noted matters.
+    /// States what undoing is, and that nothing else than what can be noted matters.
     fn law(&self)
         ensures alike { AlikeUndo Undoes self.now (fixed self.now).base (low self.now) }
         ensures means { Means Undoes tells self.now (changes self.now) (fixed self.now)

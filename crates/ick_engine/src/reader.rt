@@ -11,11 +11,11 @@ use ick_bits::NoMemory;
 pub enum Line {
     /// No input was left.
     Nothing,
-    /// The number of the line, and the place of the next line.
+    /// The number of the line, and the position of the next line.
     Number(u32, usize),
-    /// The ends of the first word that is no digit name, and the place of the next line.
+    /// The ends of the first word that is no digit name, and the position of the next line.
     BadWord(usize, usize, usize),
-    /// The number of the line is too large. And the place of the next line.
+    /// The number of the line is too large. And the position of the next line.
     TooLarge(usize),
 }
 
@@ -44,12 +44,12 @@ pub trait Reader: Drop {
     fn is_waiting(&self) -> bool
         ensures { result ≡ waits (held self.now) };
 
-    /// Reads the line that begins at a place.
+    /// Reads the line that begins at a position.
     fn line(&mut self, from: usize) -> Result<Line, NoMemory>
         ensures next { IfOk result (λ line. Leads Has self.old self.new (IsNext line from)) }
         ensures held { held self.new ≡ held self.old };
 
-    /// Reads the byte at a place, if there is one. Returns the byte and the next place.
+    /// Reads the byte at a position, if there is one. Returns the byte and the next position.
     fn byte(&mut self, from: usize) -> Result<Option<(u8, usize)>, NoMemory>
         ensures next { IfOk result (λ byte. Leads Has self.old self.new (IsByte byte from)) }
         ensures held { held self.new ≡ held self.old };

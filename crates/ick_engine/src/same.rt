@@ -89,7 +89,7 @@ fn same_tape(one: &Rest, other: &Rest) -> bool
         && one.lastin == other.lastin
 }
 
-/// Returns whether the parts that few instructions change are the same. Spare places of stashes
+/// Returns whether the parts that few instructions change are the same. Spare room of stashes
 /// don't matter.
 pub fn same_rest(one: &Rest, other: &Rest) -> bool
     ensures { result ≡ true → AreSame (parts_of one.now) (parts_of other.now) }

@@ -43,7 +43,7 @@ fn mixed(hash: u64, one: u64, other: u64) -> u64 {
     low ^ high
 }
 
-/// Returns two numbers from a place on as one.
+/// Returns two numbers from an index on as one.
 fn pair_at(numbers: &[u32], at: usize) -> u64
     requires { at + 2 ≤ length numbers.now }
 {

@@ -52,14 +52,14 @@ impl NumberStash {
         Some(self.items[self.depth])
     }
 
-    /// Takes the newest number off, if there is one. Its place stays.
+    /// Takes the newest number off, if there is one. Its room stays.
     fn drop_newest(&mut self)
         ensures { numbers_of self.new ≡ taken_off (numbers_of self.old) }
     {
         self.depth = self.depth.saturating_sub(1);
     }
 
-    /// Puts a number back, if there is a spare place.
+    /// Puts a number back, if there is spare room.
     fn put_back(&mut self, number: u32)
         ensures { numbers_of self.new ≡ put_on number (numbers_of self.old) }
     {
@@ -84,7 +84,7 @@ impl ArrayStash {
         array.hidden = hidden;
     }
 
-    /// Makes a spare place, if there is none. The arrays on the stash stay.
+    /// Makes spare room, if there is none. The arrays on the stash stay.
     fn grow(&mut self) -> Result<(), NoMemory>
         ensures spare { OnOk result (self.new.depth < length self.new.items.items) }
         ensures like { StashLike (arrays_of self.old) (arrays_of self.new) }
@@ -102,7 +102,7 @@ impl ArrayStash {
         Ok(())
     }
 
-    /// Puts a copy of an array on the stash, over the buffers of a spare place. If memory runs out,
+    /// Puts a copy of an array on the stash, over spare buffers. If memory runs out,
     /// the arrays on the stash stay.
     fn save(&mut self, array: &Array) -> Result<(), NoMemory>
         ensures ok { OnOk result (IsPutOn (array_of array.now) (arrays_of self.old)
@@ -115,14 +115,14 @@ impl ArrayStash {
         Ok(())
     }
 
-    /// Takes the newest array off, if there is one. Its place and its buffers stay.
+    /// Takes the newest array off, if there is one. Its room and its buffers stay.
     fn drop_newest(&mut self)
         ensures { arrays_of self.new ≡ taken_off (arrays_of self.old) }
     {
         self.depth = self.depth.saturating_sub(1);
     }
 
-    /// Puts an array back, if there is a spare place.
+    /// Puts an array back, if there is spare room.
     fn put_back(&mut self, array: Array)
         ensures { arrays_of self.new ≡ put_on (array_of array) (arrays_of self.old) }
     {
@@ -145,7 +145,7 @@ pub fn drop_number(stashes: &mut Vec<NumberStash>, slot: u32)
     stashes[slot as usize].drop_newest();
 }
 
-/// Puts a number back on the stash in a slot, if it has a spare place.
+/// Puts a number back on the stash in a slot, if it has spare room.
 pub fn put_number(stashes: &mut Vec<NumberStash>, slot: u32, number: u32)
     ensures { map numbers_of stashes.new.items
         ≡ at_slot (put_on number) slot (map numbers_of stashes.old.items) }
@@ -167,7 +167,7 @@ pub fn drop_array(stashes: &mut Vec<ArrayStash>, slot: u32)
     stashes[slot as usize].drop_newest();
 }
 
-/// Puts an array back on the stash in a slot, if it has a spare place.
+/// Puts an array back on the stash in a slot, if it has spare room.
 pub fn put_array(stashes: &mut Vec<ArrayStash>, slot: u32, array: Array)
     ensures { map arrays_of stashes.new.items
         ≡ at_slot (put_on (array_of array)) slot (map arrays_of stashes.old.items) }

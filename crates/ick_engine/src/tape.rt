@@ -5,7 +5,7 @@ ghost use Rattle.std.specs.Prelude.{OnErr, slice_set, if◌then◌else◌};
 ghost use Rattle.ick_code.specs.meaning.Tape.{tape_bytes, tape_after};
 ghost use Rattle.ick_engine.specs.Halts.{Took};
 ghost use Rattle.ick_engine.specs.Noting.{NotesBefore, NotesParts};
-ghost use Rattle.ick_engine.specs.Reads.{Leads, HasRead, number_read, last_after, place_after};
+ghost use Rattle.ick_engine.specs.Reads.{Leads, HasRead, number_read, last_after, position_after};
 ghost use Rattle.ick_engine.specs.Text.{IsArrayRead, IsPrinted};
 ghost use Rattle.ick_engine.specs.View.{parts_of};
 
@@ -83,7 +83,7 @@ pub fn print_array<N: Notes>(
     }
 }
 
-/// The place of the next byte of the input, and the byte that was read last.
+/// The position of the next byte of the input, and the byte that was read last.
 #[derive(Clone, Copy)]
 struct Tape {
     to: usize,
@@ -97,7 +97,7 @@ impl Tape {
     fn take(&mut self, byte: Option<(u8, usize)>) -> u32
         ensures number { result ≡ number_read self.old.last byte }
         ensures last { self.new.last ≡ last_after self.old.last byte }
-        ensures to { self.new.to ≡ place_after self.old.to byte }
+        ensures to { self.new.to ≡ position_after self.old.to byte }
     {
         match byte {
             Some((byte, to)) => {

@@ -32,13 +32,13 @@ impl Trail {
     ghost use Rattle.std.specs.Prelude.{vec_len, vec_capacity, List};
     ghost use Rattle.ick_instructions.specs.Extends.{Extends};
     ghost use Rattle.ick_engine.specs.declared.trail.Trail.{Trail};
-    ghost use Rattle.ick_engine.specs.History.{history, fixed_by, IsNoted, UndoesBy};
+    ghost use Rattle.ick_engine.specs.TrailChanges.{changes_in, fixed_by, IsNoted, UndoesBy};
     ghost use Rattle.ick_engine.specs.Undo.{Rewinds};
     ghost use Rattle.ick_engine.specs.View.{View};
 
     /// Returns a trail without changes, of a program whose first temporary register is `base`.
     pub fn new(alloc: Global, base: u32) -> Trail
-        ensures empty { history result ≡ [] }
+        ensures empty { changes_in result ≡ [] }
         ensures low { result.low ≡ 0 }
         ensures base { result.base ≡ base }
         ensures kept { result.kept ≡ 0 }
@@ -55,7 +55,7 @@ impl Trail {
 
     /// Makes room for so many changes. Nothing else changes, also if memory runs out.
     pub fn reserve(&mut self, changes: usize) -> Result<(), NoMemory>
-        ensures changes { history self.new ≡ history self.old }
+        ensures changes { changes_in self.new ≡ changes_in self.old }
         ensures low { self.new.low ≡ self.old.low }
         ensures base { self.new.base ≡ self.old.base }
         ensures kept { self.new.kept ≡ self.old.kept }
@@ -68,7 +68,7 @@ impl Trail {
 
     /// Forgets all changes and all marks. The room for changes stays.
     pub fn clear(&mut self)
-        ensures empty { history self.new ≡ [] }
+        ensures empty { changes_in self.new ≡ [] }
         ensures low { self.new.low ≡ 0 }
         ensures base { self.new.base ≡ self.old.base }
         ensures kept { self.new.kept ≡ 0 }
@@ -109,10 +109,10 @@ impl Trail {
         ensures lower { self.new.low ≤ self.old.low }
         ensures base { self.new.base ≡ self.old.base }
         ensures kept { self.new.kept ≡ self.old.kept }
-        ensures changes { Extends (history self.old) (history self.new) }
+        ensures changes { Extends (changes_in self.old) (changes_in self.new) }
         ensures notes { (k : ℕ) (v m : View) → v.returns ≡ returns.now →
-            Rewinds self.old.base (history self.old) self.old.low k v m →
-            Rewinds self.new.base (history self.new) self.new.low k v m }
+            Rewinds self.old.base (changes_in self.old) self.old.low k v m →
+            Rewinds self.new.base (changes_in self.new) self.new.low k v m }
     {
         'returns: while self.low > depth {
             self.low -= 1;
@@ -125,7 +125,7 @@ impl Trail {
 
 impl Notes for Trail {
     ghost use Rattle.std.specs.Prelude.{◌-◌, true, vec_len, vec_capacity};
-    ghost use Rattle.ick_engine.specs.History.{history, fixed_by, UndoesBy};
+    ghost use Rattle.ick_engine.specs.TrailChanges.{changes_in, fixed_by, UndoesBy};
 
     ghost room = { λ t. vec_capacity t.entries - vec_len t.entries };
 
@@ -135,7 +135,7 @@ impl Notes for Trail {
 
     ghost tells = { true };
 
-    ghost changes = { history };
+    ghost changes = { changes_in };
 
     ghost Undoes = { UndoesBy };
 

@@ -1,4 +1,4 @@
--- Each place has a listing.
+-- Each position has a listing.
 use Rattle.std.proofs.Common.{◌≡◌, ℕ, suc, zero, ◌⊎◌, inl, inr, Bool, true, false, List, [], ◌∷◌}
 use Rattle.std.proofs.Common.{◌++◌, map, refl, ap, sym, ◌∙◌, subst}
 use Rattle.std.specs.Prelude.{Option, Some, None}
@@ -8,7 +8,8 @@ use Rattle.ick_backtrack.specs.Machine.{Program}
 use Rattle.ick_code.specs.meaning.State.{State}
 use Rattle.ick_code.specs.meaning.Move.{Asking, plain, choice, ended, ask, advance}
 use Rattle.ick_explorer.specs.Runs.{run, stepped, IsWhole, IsEnd}
-use Rattle.ick_explorer.specs.Listings.{IsBelow, IsAfter, IsIncreasing, IsListing}
+use Rattle.ick_explorer.specs.Order.{IsBelow, IsAfter, IsIncreasing}
+use Rattle.ick_explorer.specs.Listings.{IsListing}
 use Rattle.ick_explorer.proofs.RunLaws.{run-ended, run-plain, run-choice, run-wants, limit-unused, limit-end, whole-along}
 use Rattle.ick_explorer.proofs.ListingLaws.{contains-nil, contains-head, contains-tail, contains-cases}
 
@@ -130,7 +131,7 @@ has_listing p s zero = (
 )
 has_listing p s (suc l) = listing_by p s l (ask p s) refl (λ b. has_listing p (advance p s b) l)
 
--- whether c comes after a place
+-- whether c comes after a position
 after_or_not : (from : Option (List Bool)) (c : List Bool) → IsAfter from c ⊎ (IsAfter from c → ⊥)
 after_or_not None c = inl tt
 after_or_not (Some []) c = inr (λ h. h)
@@ -178,7 +179,7 @@ rest_of from (x ∷ xs) u = let r = rest_of from xs u.1 in elim (after_or_not fr
   | inr n ↦ (r.0, rest-skip from x xs r.0 n r.1)
 ]
 
--- each place has a listing
+-- each position has a listing
 pub listing_exists : (p : Program) (s : State) (l : ℕ) (from : Option (List Bool)) → (xs : List (List Bool))
     × IsListing p s l from xs
 listing_exists p s l from =

@@ -8,7 +8,8 @@ use Rattle.ick_backtrack.specs.Machine.{Program}
 use Rattle.ick_code.specs.meaning.State.{State}
 use Rattle.ick_code.specs.meaning.Move.{Asking, plain, choice, ended, ask, advance}
 use Rattle.ick_explorer.specs.Runs.{run, IsWhole, IsEnd}
-use Rattle.ick_explorer.specs.Listings.{IsAfter, zeros_in}
+use Rattle.ick_explorer.specs.Order.{IsAfter}
+use Rattle.ick_explorer.specs.Listings.{zeros_in}
 use Rattle.ick_explorer.specs.Paths.{Leads, AllOnes, AllZeros, TurnsAt}
 use Rattle.ick_explorer.proofs.RunLaws.{run-ended, run-plain, run-choice, limit-unused, limit-end, wants-stops, use-wants}
 use Rattle.ick_explorer.proofs.RunLaws.{Leads-choice}

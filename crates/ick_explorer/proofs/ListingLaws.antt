@@ -1,4 +1,4 @@
--- Laws of listings: each place has exactly one, and it goes on by the least list.
+-- Laws of listings: each position has exactly one, and it goes on by the least list.
 use Rattle.std.proofs.Common.{◌≡◌, ℕ, suc, zero, ◌⊎◌, inl, inr, Bool, true, false, List, [], ◌∷◌}
 use Rattle.std.proofs.Common.{refl, ap, sym, ◌∙◌, subst, arith}
 use Rattle.std.specs.Prelude.{Option, Some, None}
@@ -6,7 +6,8 @@ use Rattle.std.specs.List.{Contains}
 use Rattle.ick_backtrack.specs.Machine.{Program}
 use Rattle.ick_code.specs.meaning.State.{State}
 use Rattle.ick_explorer.specs.Runs.{IsWhole}
-use Rattle.ick_explorer.specs.Listings.{IsBelow, IsAfter, IsIncreasing, IsListing, IsLeastAfter, IsLast}
+use Rattle.ick_explorer.specs.Order.{IsBelow, IsAfter, IsIncreasing}
+use Rattle.ick_explorer.specs.Listings.{IsListing, IsLeastAfter, IsLast}
 
 pub contains-nil : (x : List Bool) → Contains [] x → ⊥
 contains-nil x (k, lt, e) = omega arith
@@ -76,14 +77,14 @@ increasing_unique (x ∷ xs) (y ∷ ys) u v f g =
     ]))
     ∙ ap (λ z. z ∷ ys) same
 
--- a place has at most one listing
+-- a position has at most one listing
 pub listing_unique : (p : Program) (s : State) (l : ℕ) (from : Option (List Bool)) (xs ys : List (List Bool)) →
     IsListing p s l from xs → IsListing p s l from ys → xs ≡ ys
 listing_unique p s l from xs ys u v = increasing_unique xs ys u.increasing v.increasing
     (λ c h. v.complete c (u.sound c h).0 (u.sound c h).1)
     (λ c h. u.complete c (v.sound c h).0 (v.sound c h).1)
 
--- with nothing after the place the listing is empty
+-- with nothing after the position the listing is empty
 pub listing-last : (p : Program) (s : State) (l : ℕ) (from : Option (List Bool)) → IsLast p s l from →
     IsListing p s l from []
 listing-last p s l from h = record {

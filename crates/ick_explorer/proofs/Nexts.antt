@@ -6,7 +6,8 @@ use Rattle.ick_code.specs.meaning.State.{State}
 use Rattle.ick_backtrack.specs.Asked.{Finish, finish_of}
 use Rattle.ick_explorer.specs.declared.run.Run.{Run}
 use Rattle.ick_explorer.specs.Runs.{run, ends, IsWhole}
-use Rattle.ick_explorer.specs.Listings.{IsLast, IsAfter, IsLeastAfter, zeros_in}
+use Rattle.ick_explorer.specs.Order.{IsAfter}
+use Rattle.ick_explorer.specs.Listings.{IsLast, IsLeastAfter, zeros_in}
 use Rattle.ick_explorer.specs.Paths.{AllOnes}
 use Rattle.ick_explorer.specs.Standing.{Explored, Stands, StandsFrom, Gives, shared_from, zeros_of}
 use Rattle.ick_explorer.specs.Walks.{Reaches}
@@ -29,7 +30,7 @@ pub more_given : (e : Explored) (c : List Bool) (s : State) → e.from ≡ Some 
     (d : List Bool) × IsWhole e.program s e.limit d × IsAfter e.from d
 more_given e c s f lt h =
     let at : StandsFrom e.program s e.limit (Some c) e.present e.marks e.points =
-    subst (λ x. StandsFrom e.program s e.limit x e.present e.marks e.points) f h.at_place in
+    subst (λ x. StandsFrom e.program s e.limit x e.present e.marks e.points) f h.at_position in
     let n = has_next e.program s e.limit c at.whole lt in
     (n.0, n.1, subst (λ x. IsAfter x n.0) (sym f) n.2)
 
@@ -45,7 +46,7 @@ zeros-few (false ∷ c) = let n = zeros-few c in omega arith
 
 -- there are no more marks than the limit
 pub few_points : (e : Explored) (s : State) → Stands s e → zeros_of e.from ≤ e.limit
-few_points e s h = by e.from h.at_place
+few_points e s h = by e.from h.at_position
   where
     by : (from : Option (List Bool)) → StandsFrom e.program s e.limit from e.present e.marks e.points →
         zeros_of from ≤ e.limit
@@ -73,7 +74,7 @@ gives s old new c n f r h choices output end steps =
         stop = ap (λ x. x.stop) i ∙ ap ends (sym end);
         steps = steps ∙ sym (ap (λ x. x.steps) i);
       };
-      place = h.place ∙ ap Some (sym choices);
+      position = h.position ∙ ap Some (sym choices);
       stands = h.stands;
       work =
           ap (λ x. new.work + shared_from old.program s old.limit old.from x) choices

@@ -6,7 +6,8 @@ use Rattle.std.specs.Prelude.{Some, None}
 use Rattle.ick_backtrack.specs.Machine.{Program}
 use Rattle.ick_code.specs.meaning.State.{State}
 use Rattle.ick_explorer.specs.Runs.{IsWhole}
-use Rattle.ick_explorer.specs.Listings.{IsBelow, IsLeastAfter, IsLast, common, before_zeros}
+use Rattle.ick_explorer.specs.Order.{IsBelow}
+use Rattle.ick_explorer.specs.Listings.{IsLeastAfter, IsLast, common, before_zeros}
 use Rattle.ick_explorer.specs.Paths.{AllOnes, AllZeros, TurnsAt}
 use Rattle.ick_explorer.proofs.RunLaws.{compared}
 

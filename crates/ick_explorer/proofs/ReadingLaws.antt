@@ -197,7 +197,7 @@ stretch_size g front =
     length-append front (stretch_of g)
     ∙ ap (λ n. length front + n) (length-replicate (digits_value 10 g.digits) g.choice)
 
--- the text at a place, by its group and what stands after it
+-- the text at a position, by its group and what stands after it
 pub front_text : (text : List ℕ) (last : Option Bool) (at after : ℕ) (f : Front) →
     IsFront last (drop at text) f → after ≡ at + (f.count + 2) →
     drop at text ≡ group_text (front_group f (drop at text)) ++ drop after text

@@ -11,7 +11,7 @@ use Rattle.ick_code.specs.meaning.State.{Ending}
 use Rattle.ick_backtrack.specs.Asked.{Finish, finished, at_limit, IsGoing}
 use Rattle.ick_backtrack.specs.Steps.{after_steps, IsPlain, RunsOn}
 use Rattle.ick_explorer.specs.Runs.{ends, wants, Execution, stays, stepped, run_at_limit, run_on, run, IsEnd, IsWhole}
-use Rattle.ick_explorer.specs.Listings.{IsBelow}
+use Rattle.ick_explorer.specs.Order.{IsBelow}
 use Rattle.ick_explorer.specs.Paths.{later, Leads}
 use Rattle.ick_explorer.specs.Walks.{EndsHere}
 

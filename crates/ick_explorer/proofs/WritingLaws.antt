@@ -16,11 +16,12 @@ use Rattle.ick_explorer.specs.declared.errors.RunsError.{RunsError}
 use Rattle.ick_explorer.specs.declared.errors.RunsError.TheVariants.{NoMemory, NoSuchRun, WorkFull, Failed, BadCursor, Read}
 use Rattle.ick_explorer.specs.declared.errors.RunsError.TheVariants.{Write}
 use Rattle.ick_explorer.specs.Runs.{IsWhole}
-use Rattle.ick_explorer.specs.Listings.{IsListing, IsLast, IsAfter, IsLeastAfter}
+use Rattle.ick_explorer.specs.Order.{IsAfter}
+use Rattle.ick_explorer.specs.Listings.{IsListing, IsLast, IsLeastAfter}
 use Rattle.ick_explorer.specs.Standing.{Explored, IsFull, HasFailed}
 use Rattle.ick_explorer.specs.Walks.{Arrives, Reaches}
 use Rattle.ick_explorer.specs.Lines.{line_of, compiled_at, line_next, last_line, listed_of, run_line, run_lines}
-use Rattle.ick_explorer.specs.Writes.{place_after, Counts, Gave, Wrote, WroteInPart, Writes}
+use Rattle.ick_explorer.specs.Writes.{position_after, Counts, Gave, Wrote, WroteInPart, Writes}
 use Rattle.ick_explorer.specs.WritingSteps.{WritesOne, WritesNone, WritesPart, Along, WritesNext, Moves, AtEnd}
 use Rattle.ick_explorer.specs.declared.listing.Listed2.{Listed2}
 use Rattle.ick_explorer.specs.declared.listing.Listed2.TheVariants.{More, Done}
@@ -73,7 +74,7 @@ pub gave_one : (s : State) (old new : Explored) (c : List Bool) (n : ℕ) (f : F
     Reaches s old new c n f → new.program ≡ old.program → new.limit ≡ old.limit →
     old.work + old.limit < 2 ^ 64 → take 1 xs ≡ c ∷ [] → Gave s old (take 1 xs) new
 gave_one s old new c n f xs g p l room e = subst (λ x. Gave s old x new) (sym e) (record {
-  place = g.place;
+  position = g.position;
   stands = g.stands;
   program = p;
   limit = l;
@@ -102,13 +103,13 @@ rest_after s old new d xs p l f k =
     (subst (λ q. IsListing old.program s old.limit q xs) (sym f) k))
 
 -- counts, one stretch of runs after another
-place-append : (from : Option (List Bool)) (a b : List (List Bool)) →
-    place_after from (a ++ b) ≡ place_after (place_after from a) b
-place-append from [] b = refl
-place-append from (c ∷ a) b = place-append (Some c) a b
+position-append : (from : Option (List Bool)) (a b : List (List Bool)) →
+    position_after from (a ++ b) ≡ position_after (position_after from a) b
+position-append from [] b = refl
+position-append from (c ∷ a) b = position-append (Some c) a b
 
 counts-append : (p : Program) (s : State) (l : ℕ) (from : Option (List Bool)) (w m w' : ℕ) (a b : List (List
-    Bool)) → Counts p s l from w a m → Counts p s l (place_after from a) m b w' →
+    Bool)) → Counts p s l from w a m → Counts p s l (position_after from a) m b w' →
     Counts p s l from w (a ++ b) w'
 counts-append p s l from w m w' [] b h k = subst (λ x. Counts p s l from x b w') h k
 counts-append p s l from w m w' (c ∷ a) b h k =
@@ -117,14 +118,14 @@ counts-append p s l from w m w' (c ∷ a) b h k =
 pub gave-append : (s : State) (old mid new : Explored) (a b : List (List Bool)) → Gave s old a mid →
     Gave s mid b new → Gave s old (a ++ b) new
 gave-append s old mid new a b g h = record {
-  place = h.place ∙ (ap (λ x. place_after x b) g.place ∙ sym (place-append old.from a b));
+  position = h.position ∙ (ap (λ x. position_after x b) g.position ∙ sym (position-append old.from a b));
   stands = h.stands;
   program = h.program ∙ g.program;
   limit = h.limit ∙ g.limit;
   counts = counts-append old.program s old.limit old.from old.work mid.work new.work a b g.counts
-      (subst (λ q. Counts q s old.limit (place_after old.from a) mid.work b new.work) g.program
-      (subst (λ q. Counts mid.program s q (place_after old.from a) mid.work b new.work) g.limit
-      (subst (λ q. Counts mid.program s mid.limit q mid.work b new.work) g.place h.counts)));
+      (subst (λ q. Counts q s old.limit (position_after old.from a) mid.work b new.work) g.program
+      (subst (λ q. Counts mid.program s q (position_after old.from a) mid.work b new.work) g.limit
+      (subst (λ q. Counts mid.program s mid.limit q mid.work b new.work) g.position h.counts)));
 }
 
 lines-append : (p : Program) (s : State) (l : ℕ) (a b : List (List Bool)) →
@@ -184,7 +185,7 @@ writes_one told s xs old new w w' c n f line g p l room k e h =
     let b = listing_begins old.program s old.limit old.from c xs g.least k in record {
       some = b.some;
       gave = gave_one s old new c n f xs g p l room b.first;
-      rest = rest_after s old new c (drop 1 xs) p l g.place b.rest;
+      rest = rest_after s old new c (drop 1 xs) p l g.position b.rest;
       text = λ t. h t ∙ ap (λ x. w ++ x)
           (one_line old.program s old.limit c new.present n f xs line g.arrives b.first e);
     }
@@ -333,13 +334,13 @@ last_writes told s cs count old now w w' w'' listed (Err x) a e f part all =
     subst (λ y. Writes told s cs count old now w w'' (Err y)) (sym f)
     (length (take count cs), part.0, end_part told s cs count old now w w' w'' listed part.0 a part.1)
 
-line_at_place : (p : Program) (s : State) (l i n : ℕ) (cs : List (List Bool)) (last : List ℕ) → i < n →
+line_at_position : (p : Program) (s : State) (l i n : ℕ) (cs : List (List Bool)) (last : List ℕ) → i < n →
     0 < length (drop i cs) → run_lines p s l (take 1 (drop i cs)) ≡ line_next p s l (drop i (take n cs)) last
-line_at_place p s l i zero cs last h k = absurd (omega arith)
-line_at_place p s l zero (suc n) [] last h k = absurd (omega arith)
-line_at_place p s l zero (suc n) (x ∷ cs) last h k = append-nil (run_line p s l x)
-line_at_place p s l (suc i) (suc n) [] last h k = absurd (omega arith)
-line_at_place p s l (suc i) (suc n) (x ∷ cs) last h k = line_at_place p s l i n cs last (omega arith) k
+line_at_position p s l i zero cs last h k = absurd (omega arith)
+line_at_position p s l zero (suc n) [] last h k = absurd (omega arith)
+line_at_position p s l zero (suc n) (x ∷ cs) last h k = append-nil (run_line p s l x)
+line_at_position p s l (suc i) (suc n) [] last h k = absurd (omega arith)
+line_at_position p s l (suc i) (suc n) (x ∷ cs) last h k = line_at_position p s l i n cs last (omega arith) k
 
 -- a refusal at one line is that of the whole
 pub next_refused : (told : Bool) (s : State) (cs : List (List Bool)) (i count : ℕ) (old mid new : Explored)
@@ -378,7 +379,7 @@ next_refused told s cs i count old mid new w w₁ w' Write lt h (n, k) = (
         (take n (run_lines mid.program s mid.limit (take 1 (drop i cs))))
         ∙ ap (λ x. w ++ (run_lines old.program s old.limit (take i cs) ++ take n x))
         (lines-in s old mid (take 1 (drop i cs)) h.gave.program h.gave.limit
-        ∙ line_at_place old.program s old.limit i count cs (last_line (listed_of cs count)) lt k.some)));
+        ∙ line_at_position old.program s old.limit i count cs (last_line (listed_of cs count)) lt k.some)));
   },
 )
 next_refused told s cs i count old mid new w w₁ w' Failed lt h k = absurd k

@@ -3,7 +3,8 @@ use Rattle.std.specs.Prelude.{◌≡◌, ◌⊎◌, ◌<◌, ◌≤◌, ◌^◌,
 use Rattle.ick_code.specs.meaning.State.{State}
 use Rattle.ick_backtrack.specs.Machine.{Program}
 use Rattle.ick_explorer.specs.Runs.{run, IsWhole}
-use Rattle.ick_explorer.specs.Listings.{IsBelow, IsListing}
+use Rattle.ick_explorer.specs.Order.{IsBelow}
+use Rattle.ick_explorer.specs.Listings.{IsListing}
 use Rattle.ick_explorer.specs.ChoiceTexts.{choices_text, IsTextOf}
 
 -- a run makes at most as many steps as its limit, and so asks at most as many choices

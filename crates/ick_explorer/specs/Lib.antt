@@ -3,6 +3,7 @@ pub mod Whole
 pub mod Written
 pub mod Runs
 pub mod Listings
+pub mod Order
 pub mod Paths
 pub mod Marked
 pub mod Standing

@@ -1,29 +1,10 @@
--- Defines the order of lists of choices, and listings.
+-- Defines listings, and the steps that two runs share.
 use Rattle.std.specs.Prelude.{◌≡◌, ◌⊎◌, ℕ, ◌+◌, Bool, true, false, List, [], ◌∷◌, map, Option}
-use Rattle.std.specs.Prelude.{Some, None}
 use Rattle.std.specs.List.{Contains}
 use Rattle.ick_code.specs.meaning.State.{State}
 use Rattle.ick_backtrack.specs.Machine.{Program}
 use Rattle.ick_explorer.specs.Runs.{run, IsWhole}
-
--- c is below d: at the first position at which they differ c has 0 and d has 1
-abbrev pub IsBelow : List Bool → List Bool → Type 0
-IsBelow (false ∷ c) (true ∷ d) = Unit {0}
-IsBelow (true ∷ c) (false ∷ d) = ⊥
-IsBelow (false ∷ c) (false ∷ d) = IsBelow c d
-IsBelow (true ∷ c) (true ∷ d) = IsBelow c d
-IsBelow [] _ = ⊥
-IsBelow (_ ∷ _) [] = ⊥
-
--- c comes after a position: before all lists, or a list of choices
-abbrev pub IsAfter : Option (List Bool) → List Bool → Type 0
-IsAfter None c = Unit {0}
-IsAfter (Some from) c = IsBelow from c
-
--- each list is below all that come later
-abbrev pub IsIncreasing : List (List Bool) → Type 0
-IsIncreasing [] = Unit {0}
-IsIncreasing (c ∷ cs) = ((d : List Bool) → Contains cs d → IsBelow c d) × IsIncreasing cs
+use Rattle.ick_explorer.specs.Order.{IsBelow, IsAfter, IsIncreasing}
 
 -- the listing from a position: increasing, and its members are exactly the whole lists after the position
 pub record IsListing (p : Program) (s : State) (limit : ℕ) (from : Option (List Bool)) (cs : List (List Bool))

@@ -5,7 +5,8 @@ use Rattle.ick_code.specs.meaning.State.{State}
 use Rattle.ick_backtrack.specs.Machine.{Program, Machine}
 use Rattle.ick_backtrack.specs.Asked.{finish_of}
 use Rattle.ick_explorer.specs.Runs.{run, ends, IsWhole}
-use Rattle.ick_explorer.specs.Listings.{IsAfter, IsListing, IsLeastAfter, IsLast, shared, before_zeros, zeros_in}
+use Rattle.ick_explorer.specs.Order.{IsAfter}
+use Rattle.ick_explorer.specs.Listings.{IsListing, IsLeastAfter, IsLast, shared, before_zeros, zeros_in}
 use Rattle.ick_explorer.specs.declared.run.Run.{Run}
 use Rattle.ick_explorer.specs.declared.path.Path.{Path}
 use Rattle.ick_explorer.specs.declared.path.Progress.{Progress}
@@ -23,10 +24,10 @@ pub record Explored : Type 0 where
   pub failed : Bool
 
 -- the choices at the position, by the explorer's progress
-abbrev pub place_of : Progress → List Bool → Option (List Bool)
-place_of Fresh c = None
-place_of Given c = Some c
-place_of Spent c = None
+abbrev pub position_of : Progress → List Bool → Option (List Bool)
+position_of Fresh c = None
+position_of Given c = Some c
+position_of Spent c = None
 
 abbrev pub has_failed : Progress → Bool
 has_failed Fresh = false
@@ -37,7 +38,7 @@ abbrev pub explored_at : Machine → ℕ → Path → Progress → Explored
 explored_at m limit path progress = record {
   program = m.program;
   limit = limit;
-  from = place_of progress path.choices;
+  from = position_of progress path.choices;
   present = m.state;
   marks = m.marks;
   points = path.points.items;
@@ -71,7 +72,7 @@ StandsFrom p s limit (Some c) present marks points = StandsAfter p s limit c mar
 -- the explorer has not failed, and has its position in the runs from s
 pub record Stands (s : State) (e : Explored) : Type 0 where
   pub sound : e.failed ≡ false
-  pub at_place : StandsFrom e.program s e.limit e.from e.present e.marks e.points
+  pub at_position : StandsFrom e.program s e.limit e.from e.present e.marks e.points
 
 -- cs is the listing from the explorer's position, of the runs from s
 abbrev pub IsListingAt : State → Explored → List (List Bool) → Type 0
@@ -88,7 +89,7 @@ IsAtLast s e = IsLast e.program s e.limit e.from
 -- a failed explorer keeps no position, no marks and no points
 pub record HasFailed (e : Explored) : Type 0 where
   pub failed : e.failed ≡ true
-  pub no_place : e.from ≡ None
+  pub no_position : e.from ≡ None
   pub no_marks : e.marks ≡ []
   pub no_points : e.points ≡ []
 
@@ -107,7 +108,7 @@ shared_from p s limit (Some c) d = shared p s limit c d
 pub record Gives (s : State) (old : Explored) (r : Run) (new : Explored) : Type 0 where
   pub least : IsLeastAfter old.program s old.limit old.from r.choices.items
   pub is_run : IsRunOf old.program s old.limit r
-  pub place : new.from ≡ Some r.choices.items
+  pub position : new.from ≡ Some r.choices.items
   pub stands : Stands s new
   pub work : new.work + shared_from old.program s old.limit old.from r.choices.items ≡ old.work + r.steps
 
@@ -126,7 +127,7 @@ IsMachineFull m limit = 2 ^ 64 ≤ m.work + limit
 
 -- the explorer has led a machine without marks along the run of c, and its position is after this run
 pub record Resumes (m : Machine) (limit : ℕ) (c : List Bool) (e : Explored) : Type 0 where
-  pub place : e.from ≡ Some c
+  pub position : e.from ≡ Some c
   pub stands : Stands m.state e
   pub program : e.program ≡ m.program
   pub limit_kept : e.limit ≡ limit

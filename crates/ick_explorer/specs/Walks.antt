@@ -90,7 +90,7 @@ pub record Finds (s : State) (limit : ℕ) (from : Option (List Bool)) (old new 
 pub record Reaches (s : State) (old new : Explored) (c : List Bool) (n : ℕ) (finish : Finish) : Type 0 where
   pub least : IsLeastAfter old.program s old.limit old.from c
   pub arrives : Arrives old.program s old.limit c new.present n finish
-  pub place : new.from ≡ Some c
+  pub position : new.from ≡ Some c
   pub stands : Stands s new
   pub work : new.work + shared_from old.program s old.limit old.from c ≡ old.work + n
 

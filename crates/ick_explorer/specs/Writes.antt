@@ -12,9 +12,9 @@ use Rattle.ick_explorer.specs.Lines.{run_lines, line_after, listed_of, shown}
 use Rattle.ick_explorer.specs.declared.listing.Listed2.{Listed2}
 
 -- the position after these runs
-abbrev pub place_after : Option (List Bool) → List (List Bool) → Option (List Bool)
-place_after from [] = from
-place_after from (c ∷ cs) = place_after (Some c) cs
+abbrev pub position_after : Option (List Bool) → List (List Bool) → Option (List Bool)
+position_after from [] = from
+position_after from (c ∷ cs) = position_after (Some c) cs
 
 -- each run began with the limit left, and raised the count by the steps that the run before doesn't share
 abbrev pub Counts : Program → State → ℕ → Option (List Bool) → ℕ → List (List Bool) → ℕ → Type 0
@@ -24,7 +24,7 @@ Counts p s l from before (c ∷ cs) after = (before + l < 2 ^ 64) × ((between :
 
 -- these runs were given in order, and the explorer's position is after them
 pub record Gave (s : State) (old : Explored) (cs : List (List Bool)) (new : Explored) : Type 0 where
-  pub place : new.from ≡ place_after old.from cs
+  pub position : new.from ≡ position_after old.from cs
   pub stands : Stands s new
   pub program : new.program ≡ old.program
   pub limit : new.limit ≡ old.limit

@@ -4,7 +4,7 @@
 ghost use Rattle.std.specs.Prelude.{ℕ, Bool, List, Option};
 ghost use Rattle.ick_code.specs.meaning.State.{State};
 ghost use Rattle.ick_backtrack.specs.Machine.{Program};
-ghost use Rattle.ick_explorer.specs.Listings.{IsBelow};
+ghost use Rattle.ick_explorer.specs.Order.{IsBelow};
 ghost use Rattle.ick_explorer.specs.Laws.{AreLimited, AreOrdered, IsOrder, HasOneListing};
 ghost use Rattle.ick_explorer.specs.Laws.{ReadsBack};
 

@@ -10,7 +10,7 @@ ghost use Rattle.ick_explorer.specs.Runs.{IsWhole};
 ghost use Rattle.ick_explorer.specs.Listings.{zeros_in};
 ghost use Rattle.ick_explorer.specs.Paths.{TurnsAt};
 ghost use Rattle.ick_explorer.specs.Marked.{IsMarked};
-ghost use Rattle.ick_explorer.specs.Standing.{StandsAfter, StandsFrom, place_of, has_failed};
+ghost use Rattle.ick_explorer.specs.Standing.{StandsAfter, StandsFrom, position_of, has_failed};
 ghost use Rattle.ick_explorer.specs.Walks.{IsChoosing, IsOver, EndsHere, Moves, given_by, Goes};
 ghost use Rattle.ick_explorer.specs.Walks.{IsStranded, TurnsBack, Finds, Follows};
 ghost use Rattle.ick_explorer.specs.declared.walk.Way.TheVariants.{Down};
@@ -307,9 +307,9 @@ pub(crate) fn find<'c, M: Asks<'c>>(
     ensures over { IfOk result (IsOver limit (M.seen machine.new)) }
     ensures found { IfOk result (λ r. (finish : Finish) →
         EndsHere limit (M.seen machine.new) r finish → (s : State) →
-        StandsFrom (M.seen machine.old).program s limit (place_of progress path.old.choices)
+        StandsFrom (M.seen machine.old).program s limit (position_of progress path.old.choices)
         (M.seen machine.old).state (M.seen machine.old).marks path.old.points.items →
-        Finds s limit (place_of progress path.old.choices)
+        Finds s limit (position_of progress path.old.choices)
         (M.seen machine.old) (M.seen machine.new) path.new.choices path.new.points.items
         r finish) }
 {

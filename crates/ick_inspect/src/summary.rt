@@ -109,7 +109,7 @@ fn append_counts(text: &mut Text, present: &Present<'_, '_, '_>)
 }
 
 /// Appends how the run ended, or nothing before its end.
-fn append_end(text: &mut Text, present: &Present<'_, '_, '_>)
+fn append_end_line(text: &mut Text, present: &Present<'_, '_, '_>)
     ensures { Adds text.old text.new (end_text (present_state present.now).end) }
 {
     match present.end {
@@ -143,5 +143,5 @@ pub fn append_state(text: &mut Text, present: &Present<'_, '_, '_>)
     append_arrays(text, present);
     append_abstained(text, present);
     append_counts(text, present);
-    append_end(text, present);
+    append_end_line(text, present);
 }

@@ -11,7 +11,7 @@ use Rattle.ick_code.specs.meaning.State.{State, Ending, statement_at}
 use Rattle.ick_code.specs.meaning.Move.{plain, choice, ask, ask_of, ask_at, is_uncertain}
 use Rattle.ick_code.specs.Compiled.{code_program}
 use Rattle.ick_instructions.specs.declared.lowered.LoweredParts.{LoweredParts}
-use Rattle.ick_engine.specs.declared.exit.Ended.{Ended}
+use Rattle.ick_engine.specs.declared.exit.RawEnd.{RawEnd}
 use Rattle.ick_engine.specs.View.{View, Input, end_of}
 use Rattle.ick_engine.specs.Status.{percent_of, lack_of, is_abstained, past_the_end}
 use Rattle.ick_engine.specs.Steady.{IsReady}
@@ -98,7 +98,7 @@ pub ended_bound : (program : Program) (s : State) (end : Ending) → s.end ≡ S
 unfolding ask
 ended_bound program s end is free = absurd (cc (ap (λ e. ask_of e program s) is, free))
 
-pub some_bound : (code : Code) (lowered : LoweredParts) (input : Input) (v : View) (end : Option Ended) →
+pub some_bound : (code : Code) (lowered : LoweredParts) (input : Input) (v : View) (end : Option RawEnd) →
     is_some end ≡ true → ¬ IsPlain (code_program code) (run_state code lowered input v end)
 some_bound code lowered input v None is = absurd (cc)
 some_bound code lowered input v (Some e) is =
@@ -116,7 +116,7 @@ module _ (code : Code) (lowered : LoweredParts) (v : View) (ready : IsReady code
 
   module _ (input : Input) where
     -- an end is answered as it is
-    pub asks_end : (e : Ended) (finish : Finish) → Some finish ≡ option_map finished (ending_of code input (Some e)) →
+    pub asks_end : (e : RawEnd) (finish : Finish) → Some finish ≡ option_map finished (ending_of code input (Some e)) →
         asked_at_end finish ≡ Some (ask (code_program code) (run_state code lowered input v (Some e)))
     unfolding ask
     asks_end e finish same =
@@ -146,18 +146,18 @@ module _ (code : Code) (lowered : LoweredParts) (v : View) (ready : IsReady code
           ∙ sym (ap asked_by status)
     ]
 
-    pub asks_status : (status : ℕ) (end : Option Ended) → end ≡ None → status ≡ get_or v.statuses v.place 0 →
+    pub asks_status : (status : ℕ) (end : Option RawEnd) → end ≡ None → status ≡ get_or v.statuses v.place 0 →
         asked_by status ≡ ask (code_program code) (run_state code lowered input v end)
     asks_status status end none is =
         ap asked_by is ∙ sym asks_by
         ∙ sym (ap (λ o. ask (code_program code) (run_state code lowered input v o)) none)
 
-    no_end : (o : Option Ended) → is_some o ≡ false → o ≡ None
+    no_end : (o : Option RawEnd) → is_some o ≡ false → o ≡ None
     no_end None is = refl
     no_end (Some e) is = absurd (cc)
 
     -- a run that goes on is plain unless its status asks a choice
-    module _ (status : ℕ) (end : Option Ended) (going : is_some end ≡ false)
+    module _ (status : ℕ) (end : Option RawEnd) (going : is_some end ≡ false)
         (is : status ≡ get_or v.statuses v.place 0) (chance : Bool) (says : chance ≡ is_open status) where
       asked : ask (code_program code) (run_state code lowered input v end)
           ≡ (if chance then choice (100 - status) else plain)

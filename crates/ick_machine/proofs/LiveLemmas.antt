@@ -8,7 +8,7 @@ use Rattle.ick_code.specs.meaning.State.{State, statement_at}
 use Rattle.ick_code.specs.meaning.Move.{Asking, choice, plain, ended, ask, ask_at, ask_of, is_uncertain}
 use Rattle.ick_code.proofs.AskLaws.{ask_same}
 use Rattle.ick_instructions.specs.declared.lowered.LoweredParts.{LoweredParts}
-use Rattle.ick_engine.specs.declared.exit.Ended.{Ended}
+use Rattle.ick_engine.specs.declared.exit.RawEnd.{RawEnd}
 use Rattle.ick_engine.specs.View.{View, Input, end_of, input_of}
 use Rattle.ick_backtrack.specs.Asked.{Finish, finished, asked_at_end}
 use Rattle.ick_backtrack.specs.declared.feed_fault.FeedFault.{FeedFault}
@@ -19,7 +19,7 @@ use Rattle.ick_machine.proofs.FedLemmas.{same_end}
 
 -- it asks what it would over its last line
 module _ (code : Code) (lowered : LoweredParts) (line text : List ℕ) (v : View) (same : text ≡ line) where
-  pub asks_same : (end : Option Ended) (asked : Option Asking) →
+  pub asks_same : (end : Option RawEnd) (asked : Option Asking) →
       asked ≡ Some (ask (code_program code) (run_state code lowered (input_of text) v end)) →
       asked ≡ Some (ask (code_program code) (run_state code lowered (input_after line []) v end))
   asks_same end asked is =
@@ -31,7 +31,7 @@ module _ (code : Code) (lowered : LoweredParts) (line text : List ℕ) (v : View
       ∙ ask_same (code_program code) live over refl refl ends)
 
   -- and ends as it would
-  pub asks_end : (e : Ended) (finish : Finish) →
+  pub asks_end : (e : RawEnd) (finish : Finish) →
       Some finish ≡ option_map finished (ending_of code (input_of text) (Some e)) →
       asked_at_end finish ≡ Some (ask (code_program code) (run_state code lowered (input_after line []) v (Some e)))
   unfolding ask

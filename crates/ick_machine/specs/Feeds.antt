@@ -32,7 +32,7 @@ abbrev pub reads_failed : Option FeedFault → ℕ
 reads_failed None = 0
 reads_failed (Some fault) = failed_reads fault
 
--- a line with this answer, after which the input goes on at a place
+-- a line with this answer, after which the input goes on at a position
 abbrev pub line_with : Result ℕ DigitFault → ℕ → Line
 line_with (Ok number) to = Number number to
 line_with (Err (Word from end)) to = BadWord from end to

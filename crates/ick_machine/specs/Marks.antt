@@ -6,7 +6,7 @@ use Rattle.ick_instructions.specs.declared.lowered.LoweredParts.{LoweredParts}
 use Rattle.ick_engine.specs.declared.marks.Mark.{Mark}
 use Rattle.ick_engine.specs.declared.memory.Memory.{Memory}
 use Rattle.ick_engine.specs.declared.trail.Trail.{Trail}
-use Rattle.ick_engine.specs.History.{history}
+use Rattle.ick_engine.specs.TrailChanges.{changes_in}
 use Rattle.ick_engine.specs.Memory.{view_in}
 use Rattle.ick_engine.specs.Steady.{IsReady}
 use Rattle.ick_engine.specs.Undo.{Change, Rewinds, rewound}
@@ -29,23 +29,23 @@ marked_states code lowered input changes v (newest ∷ older) =
 -- what could be undone from a view by an old trail can be undone from another one by a new trail
 abbrev pub Carries : Trail → Trail → View → View → Type 0
 Carries old new v w =
-    (k : ℕ) (m : View) → Rewinds old.base (history old) old.low k v m →
-    Rewinds new.base (history new) new.low k w m
+    (k : ℕ) (m : View) → Rewinds old.base (changes_in old) old.low k v m →
+    Rewinds new.base (changes_in new) new.low k w m
 
 -- a mark was made on a trail, of which nothing else has changed
 pub record IsMarked (old new : Trail) (v : View) : Type 0 where
   pub base_same : new.base ≡ old.base
-  pub changes_same : history new ≡ history old
+  pub changes_same : changes_in new ≡ changes_in old
   pub low_is : new.low ≡ v.depth
-  pub kept_is : new.kept ≡ length (history new)
+  pub kept_is : new.kept ≡ length (changes_in new)
   pub older : Carries old new v v
 
 -- a mark that undoing leads to from the marked view itself
 pub record IsMarkOf (t : Trail) (v : View) (mark : Mark) : Type 0 where
   pub place_is : mark.place ≡ v.place
   pub depth_is : mark.depth ≡ v.depth
-  pub count : mark.changes ≡ length (history t)
-  pub rewinds : Rewinds t.base (history t) t.low mark.changes v v
+  pub count : mark.changes ≡ length (changes_in t)
+  pub rewinds : Rewinds t.base (changes_in t) t.low mark.changes v v
 
 -- undoing leads from a view to one like m, which a mark stands for
 pub record IsMark (code : Code) (lowered : LoweredParts) (changes : List Change) (low : ℕ) (v : View) (mark : Mark)
@@ -64,11 +64,11 @@ AreMarks code lowered changes low v (newest ∷ older) =
 
 -- the same of a memory and a trail
 abbrev pub AreMarksIn : Code → LoweredParts → Trail → Memory → List Marked → Type 0
-AreMarksIn code lowered trail memory marks = AreMarks code lowered (history trail) trail.low (view_in memory) marks
+AreMarksIn code lowered trail memory marks = AreMarks code lowered (changes_in trail) trail.low (view_in memory) marks
 
 abbrev pub marked_in : Code → LoweredParts → Input → Trail → Memory → List Marked → List State
 marked_in code lowered input trail memory marks =
-    marked_states code lowered input (history trail) (view_in memory) marks
+    marked_states code lowered input (changes_in trail) (view_in memory) marks
 
 -- whatever marks there are, they stay, and stand for the same
 abbrev pub KeepsMarks : Code → LoweredParts → Trail → Memory → Trail → Memory → Type 0

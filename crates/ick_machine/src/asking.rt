@@ -16,7 +16,7 @@ ghost use Rattle.ick_backtrack.specs.Steps.{IsPlain};
 use ick_backtrack::{Ask, End};
 use ick_bits::{Fault, FaultKind};
 use ick_code::Code;
-use ick_engine::{Ended, Memory};
+use ick_engine::{Memory, RawEnd};
 use ick_instructions::Lowered;
 
 /// Returns the bytes of a text between two positions. It stops at the end of the text.
@@ -43,23 +43,23 @@ fn text_of<'c, 'a>(code: &'c Code<'a>, n: u32) -> &'c [u8]
 
 /// Returns how a run has ended, with the subject of its fault: the statement's text, or the word of
 /// the input (Revised Manual, 9.2).
-pub fn end_of<'c, 'a>(code: &'c Code<'a>, text: &'c [u8], ended: Ended) -> End<'c>
+pub fn end_of<'c, 'a>(code: &'c Code<'a>, text: &'c [u8], ended: RawEnd) -> End<'c>
     ensures { Some (finish_of result) ≡ option_map finished (ending_of code.now
         (input_of text.now) (Some ended)) }
 {
     match ended {
-        Ended::GaveUp => End::GiveUp,
-        Ended::Faulted(kind, statement) => End::Fault(Fault {
+        RawEnd::GaveUp => End::GiveUp,
+        RawEnd::Faulted(kind, statement) => End::Fault(Fault {
             kind,
             statement,
             subject: b"",
         }),
-        Ended::Unknown(statement) => End::Fault(Fault {
+        RawEnd::Unknown(statement) => End::Fault(Fault {
             kind: FaultKind::Unrecognised,
             statement,
             subject: text_of(code, statement),
         }),
-        Ended::Word(statement, from, to) => End::Fault(Fault {
+        RawEnd::Word(statement, from, to) => End::Fault(Fault {
             kind: FaultKind::NoDigit,
             statement,
             subject: word(text, from, to),
@@ -91,7 +91,7 @@ fn asked_at<'c>(status: u8) -> Ask<'c>
 pub fn answer<'c, 'a>(
     lowered: &Lowered<'c, 'a>,
     memory: &Memory,
-    end: Option<Ended>,
+    end: Option<RawEnd>,
     text: &'c [u8],
 ) -> Ask<'c>
     requires { IsReady lowered.now.code.now lowered.now.parts (view_in memory.now) }
@@ -106,7 +106,7 @@ pub fn answer<'c, 'a>(
 
 /// Returns whether nothing is asked before the next step, because there is one way to go on
 /// (Revised Manual, 4.3).
-pub fn is_plain(lowered: &Lowered<'_, '_>, memory: &Memory, end: Option<Ended>) -> bool
+pub fn is_plain(lowered: &Lowered<'_, '_>, memory: &Memory, end: Option<RawEnd>) -> bool
     requires { IsReady lowered.now.code.now lowered.now.parts (view_in memory.now) }
     ensures plain { (input : Input) → result ≡ true →
         IsPlain (code_program lowered.now.code.now)

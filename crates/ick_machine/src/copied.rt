@@ -12,7 +12,7 @@ use crate::whole::{Running, begin, whole_run, whole_step};
 use ick_backtrack::{Ask, Asks, Backtrack};
 use ick_bits::NoMemory;
 use ick_code::Code;
-use ick_engine::{Ended, Saved};
+use ick_engine::{RawEnd, Saved};
 use ick_instructions::Lowered;
 use ick_lowering::lower;
 use std::alloc::Global;
@@ -21,7 +21,7 @@ use std::alloc::Global;
 #[derive(Drop)]
 pub struct Copy {
     saved: Saved,
-    end: Option<Ended>,
+    end: Option<RawEnd>,
 }
 
 /// A machine with marks that copies its state at each mark, and goes back by taking the copy. It

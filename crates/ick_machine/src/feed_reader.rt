@@ -145,7 +145,7 @@ impl<F: Feed> Reader for FeedReader<'_, F> {
     }
 }
 
-/// Returns what a line says that was taken. `to` is the place at which the input goes on.
+/// Returns what a line says that was taken. `to` is the position at which the input goes on.
 fn taken(line: &[u8], to: usize) -> Line
     ensures { result ≡ line_with (line_answer line.now) to }
 {

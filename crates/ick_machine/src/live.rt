@@ -11,7 +11,7 @@ use crate::message::append_end_message;
 use ick_backtrack::{Ask, FeedFault};
 use ick_bits::NoMemory;
 use ick_code::Code;
-use ick_engine::{Ended, Memory, fresh_memory};
+use ick_engine::{Memory, RawEnd, fresh_memory};
 use ick_instructions::Lowered;
 use ick_lowering::lower;
 use std::alloc::Global;
@@ -25,7 +25,7 @@ use std::alloc::Global;
 pub struct Live<'c, 'a> {
     lowered: Lowered<'c, 'a>,
     memory: Memory,
-    end: Option<Ended>,
+    end: Option<RawEnd>,
     /// The last line that was read.
     line: Vec<u8>,
     failed: bool,

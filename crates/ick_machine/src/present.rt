@@ -4,7 +4,7 @@ ghost use Rattle.std.specs.Prelude.{◌≡◌, reverse};
 ghost use Rattle.ick_machine.specs.RunIn.{CanGoOn};
 
 use ick_backtrack::Backtrack;
-use ick_engine::{Ended, Memory};
+use ick_engine::{Memory, RawEnd};
 use ick_instructions::Lowered;
 
 /// The parts that represent the present state of a machine: the memory, the end of the run, if
@@ -13,7 +13,7 @@ use ick_instructions::Lowered;
 pub struct Present<'m, 'c, 'a> {
     pub lowered: &'m Lowered<'c, 'a>,
     pub memory: &'m Memory,
-    pub end: Option<Ended>,
+    pub end: Option<RawEnd>,
     pub input: &'m [u8],
     pub ghost ready: { ∥ CanGoOn lowered.now memory.now ∥₁ },
 }
@@ -28,7 +28,7 @@ impl<'m, 'c, 'a> Present<'m, 'c, 'a> {
     pub(crate) fn new(
         lowered: &'m Lowered<'c, 'a>,
         memory: &'m Memory,
-        end: Option<Ended>,
+        end: Option<RawEnd>,
         input: &'m [u8],
     ) -> Present<'m, 'c, 'a>
         requires { CanGoOn lowered.now memory.now }

@@ -1,7 +1,7 @@
 -- Proves laws of tallies.
 use Rattle.std.proofs.Common.{◌≡◌, ℕ, ◌+◌, ◌*◌, Bool, true, false}
 use Rattle.std.proofs.Common.{List, [], ◌∷◌, ◌++◌, Option, Some, None, refl, ap, sym, ◌∙◌, arith, append_assoc}
-use Rattle.ick_explorer.specs.Listings.{IsBelow}
+use Rattle.ick_explorer.specs.Order.{IsBelow}
 use Rattle.ick_outcomes.specs.Tallies.{Tally, lesser, sooner, lead, none, join, after, push, pass}
 use Rattle.ick_outcomes.specs.Weights.{part}
 

@@ -3,7 +3,7 @@ use Rattle.std.proofs.Common.{◌≡◌, ◌⊎◌, inl, inr, Bool, map, List, [
 use Rattle.std.specs.List.{Contains}
 use Rattle.ick_code.specs.meaning.State.{State}
 use Rattle.ick_backtrack.specs.Machine.{Program}
-use Rattle.ick_explorer.specs.Listings.{IsBelow, IsIncreasing}
+use Rattle.ick_explorer.specs.Order.{IsBelow, IsIncreasing}
 use Rattle.ick_explorer.proofs.ListingLaws.{not_below_itself, below_one_way}
 use Rattle.ick_outcomes.specs.Summaries.{Row, HasOutcome, IsRow, IsSummary}
 use Rattle.ick_outcomes.specs.Accounts.{AreDistinct}

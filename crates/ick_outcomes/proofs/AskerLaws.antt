@@ -16,7 +16,7 @@ use Rattle.ick_explorer.specs.Paths.{Leads, later}
 use Rattle.ick_explorer.specs.Runs.{Execution, IsEnd, IsWhole, ends, run, stays}
 use Rattle.ick_explorer.proofs.RunLaws.{Leads-choice, Leads-on, Leads-plain, Leads-start, Leads-wants, ends_limit}
 use Rattle.ick_explorer.proofs.RunLaws.{run-ended, run-plain}
-use Rattle.ick_outcomes.specs.Accounts.{Place}
+use Rattle.ick_outcomes.specs.Accounts.{Configuration}
 use Rattle.ick_outcomes.specs.Askers.{IsFollowed, asked, asked_on, asker_text, askers_text}
 use Rattle.ick_outcomes.specs.declared.following.AskedBy.{AskedBy}
 
@@ -227,7 +227,7 @@ pub choice_at_limit : (p : Program) (t : State) (left k : ℕ) → left ≡ 0 �
 choice_at_limit p t left k none is =
     subst (λ l. EndsAt p t l at_limit) (sym none) (limit_at p t (choice k) is (λ e bad. cc))
 
--- the forms in which functions use these laws: the state is that of a place
+-- the forms in which functions use these laws: the state is that of a configuration
 pub went_on : (p q : Program) (s : State) (limit : ℕ) (c : List Bool) (t u : State) (left k : ℕ)
     (askers : List AskedBy) → q ≡ p → Follows p s limit c t left askers → RunsOn IsPlain q t k u → k ≤ left →
     Follows p s limit c u (left - k) askers
@@ -245,19 +245,19 @@ followed_by state_of p s limit c mine theirs left at end end' askers askers' h h
     (subst (λ l. IsFollowed p s limit c (state_of mine) (finish_of end) l) (sym asks_so)
     (followed-all p s limit c (state_of mine) left at (finish_of end) askers h here all)))
 
--- a step of the state of a place, and plain steps behind it
-pub stepped_plain : {S : Type 0} (place : S → Place) (p : Program) (s : State) (limit : ℕ) (c : List Bool)
+-- a step of the state of a configuration, and plain steps behind it
+pub stepped_plain : {S : Type 0} (seen : S → Configuration) (p : Program) (s : State) (limit : ℕ) (c : List Bool)
     (old new : S) (left k : ℕ) (askers : List AskedBy) →
-    Follows p s limit c (place old).state left askers → (place old).program ≡ p →
-    ask (place old).program (place old).state ≡ plain → 0 < left →
-    RunsOn IsPlain (place old).program (advance (place old).program (place old).state false) k (place new).state →
-    k ≤ left - 1 → Follows p s limit c (place new).state (left - (k + 1)) askers
-stepped_plain place p s limit c old new left k askers h same plainly some runs le =
-    let t = (place old).state in
-    let q = (place old).program in
+    Follows p s limit c (seen old).state left askers → (seen old).program ≡ p →
+    ask (seen old).program (seen old).state ≡ plain → 0 < left →
+    RunsOn IsPlain (seen old).program (advance (seen old).program (seen old).state false) k (seen new).state →
+    k ≤ left - 1 → Follows p s limit c (seen new).state (left - (k + 1)) askers
+stepped_plain seen p s limit c old new left k askers h same plainly some runs le =
+    let t = (seen old).state in
+    let q = (seen old).program in
     let next : left - 1 - k ≡ left - (k + 1) = omega arith in
-    subst (λ n. Follows p s limit c (place new).state n askers) next
-    (went_on p q s limit c (advance q t false) (place new).state (left - 1) k askers same
+    subst (λ n. Follows p s limit c (seen new).state n askers) next
+    (went_on p q s limit c (advance q t false) (seen new).state (left - 1) k askers same
     (subst (λ x. Follows p s limit c (advance x t false) (left - 1) askers) (sym same)
     (follows-step p s limit c t left askers h (subst (λ x. ask x t ≡ plain) same plainly) some)) runs le)
 
@@ -265,18 +265,18 @@ pub length-push : (l : List AskedBy) (x : AskedBy) → length (l ++ x ∷ []) �
 length-push [] x = refl
 length-push (y ∷ l) x = ap suc (length-push l x)
 
-pub stepped_chosen : {S : Type 0} (place : S → Place) (p : Program) (s : State) (limit : ℕ) (c : List Bool)
+pub stepped_chosen : {S : Type 0} (seen : S → Configuration) (p : Program) (s : State) (limit : ℕ) (c : List Bool)
     (old new : S) (left k chance statement : ℕ) (b d : Bool) (askers askers' : List AskedBy) →
-    Follows p s limit (take (length askers) c) (place old).state left askers → (place old).program ≡ p →
-    ask (place old).program (place old).state ≡ choice chance → 0 < left → length askers < length c →
-    statement ≡ (place old).state.place → b ≡ get_or c (length askers) d →
-    RunsOn IsPlain (place old).program (advance (place old).program (place old).state b) k (place new).state →
+    Follows p s limit (take (length askers) c) (seen old).state left askers → (seen old).program ≡ p →
+    ask (seen old).program (seen old).state ≡ choice chance → 0 < left → length askers < length c →
+    statement ≡ (seen old).state.place → b ≡ get_or c (length askers) d →
+    RunsOn IsPlain (seen old).program (advance (seen old).program (seen old).state b) k (seen new).state →
     k ≤ left - 1 → askers' ≡ askers ++ record { statement = statement; chance = chance } ∷ [] →
-    Follows p s limit (take (length askers') c) (place new).state (left - (k + 1)) askers'
-stepped_chosen place p s limit c old new left k chance statement b d askers askers' h same asks some within at_place
+    Follows p s limit (take (length askers') c) (seen new).state (left - (k + 1)) askers'
+stepped_chosen seen p s limit c old new left k chance statement b d askers askers' h same asks some within at_place
     chosen runs le asks_so =
-    let t = (place old).state in
-    let q = (place old).program in
+    let t = (seen old).state in
+    let q = (seen old).program in
     let all = askers ++ asker t chance ∷ [] in
     let front = take (suc (length askers)) c in
     let next : left - 1 - k ≡ left - (k + 1) = omega arith in
@@ -284,10 +284,10 @@ stepped_chosen place p s limit c old new left k chance statement b d askers aske
     asks_so ∙ ap (λ (n : ℕ). askers ++ record { statement = n; chance = chance } ∷ []) at_place in
     let longer : length askers' ≡ suc (length askers) =
     ap (λ (l : List AskedBy). length l) pushed ∙ length-push askers (asker t chance) in
-    subst (λ n. Follows p s limit (take n c) (place new).state (left - (k + 1)) askers') (sym longer)
-    (subst (λ l. Follows p s limit front (place new).state (left - (k + 1)) l) (sym pushed)
-    (subst (λ n. Follows p s limit front (place new).state n all) next
-    (went_on p q s limit front (advance q t b) (place new).state (left - 1) k all same
+    subst (λ n. Follows p s limit (take n c) (seen new).state (left - (k + 1)) askers') (sym longer)
+    (subst (λ l. Follows p s limit front (seen new).state (left - (k + 1)) l) (sym pushed)
+    (subst (λ n. Follows p s limit front (seen new).state n all) next
+    (went_on p q s limit front (advance q t b) (seen new).state (left - 1) k all same
     (subst (λ u. Follows p s limit front u (left - 1) all)
     (sym (ap (λ x. advance x t b) same ∙ ap (advance p t) chosen))
     (follows-chosen p s limit c t left chance (length askers) d askers h

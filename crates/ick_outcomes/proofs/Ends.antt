@@ -6,7 +6,7 @@ use Rattle.std.specs.List.{Contains}
 use Rattle.ick_code.specs.meaning.State.{State}
 use Rattle.ick_backtrack.specs.Machine.{Program}
 use Rattle.ick_explorer.specs.Runs.{run, IsWhole}
-use Rattle.ick_explorer.specs.Listings.{IsBelow, IsIncreasing}
+use Rattle.ick_explorer.specs.Order.{IsBelow, IsIncreasing}
 use Rattle.ick_explorer.proofs.RunLaws.{compared}
 use Rattle.ick_explorer.proofs.ListingLaws.{not_below_itself, contains-nil as nil-lists, contains-head as head-lists}
 use Rattle.ick_outcomes.specs.Weights.{whole, amount, shares}

@@ -91,28 +91,28 @@ adds-row n rs r d f =
     )
 
 ended-rows : (n : Pending) (rs : List Row) (e : Ending) → AreDistinct rs →
-    ask n.place.program n.place.state ≡ ended e → HasRows n rs
+    ask n.at.program n.at.state ≡ ended e → HasRows n rs
 ended-rows n rs e d h = adds-row n rs _ d (λ q. ahead-ended q n e h)
 
 limit-rows : (n : Pending) (rs : List Row) → AreDistinct rs → n.left ≡ 0 →
-    IsGoing (ask n.place.program n.place.state) → HasRows n rs
+    IsGoing (ask n.at.program n.at.state) → HasRows n rs
 limit-rows n rs d z g = adds-row n rs _ d (λ q. ahead-limit q n g z)
 
 last-rows : (n : Pending) (rs : List Row) (a : Asking) → AreDistinct rs → n.left ≡ 0 →
-    ask n.place.program n.place.state ≡ a → HasRows n rs
+    ask n.at.program n.at.state ≡ a → HasRows n rs
 last-rows n rs (ended e) d z h = ended-rows n rs e d h
 last-rows n rs plain d z h = limit-rows n rs d z (subst IsGoing (sym h) tt)
 last-rows n rs (choice k) d z h = limit-rows n rs d z (subst IsGoing (sym h) tt)
 
 step-rows : (n : Pending) (rs : List Row) (l : ℕ) (a : Asking) → AreDistinct rs → n.left ≡ suc l →
-    ask n.place.program n.place.state ≡ a →
+    ask n.at.program n.at.state ≡ a →
     ((m : Pending) (xs : List Row) → AreDistinct xs → m.left ≡ l → HasRows m xs) → HasRows n rs
 unfolding HasRows
 step-rows n rs l (ended e) d z h rest = ended-rows n rs e d h
 step-rows n rs l plain d z h rest =
-    let u = advance n.place.program n.place.state false in
+    let u = advance n.at.program n.at.state false in
     let m : Pending = record {
-      place = record { program = n.place.program; state = u };
+      at = record { program = n.at.program; state = u };
       left = n.left - 1;
       count = n.count;
       weight = n.weight * 100 ^ 1;
@@ -123,7 +123,7 @@ step-rows n rs l plain d z h rest =
       record {
         added = λ q. r.1.added q
             ∙ ap (λ t. join t (all_counted q rs))
-            (sym (ahead-runs q n 1 u (one_step n.place.program n.place.state u h refl) (omega (arith, z))));
+            (sym (ahead-runs q n 1 u (one_step n.at.program n.at.state u h refl) (omega (arith, z))));
         apart = r.1.apart;
       },
     )
@@ -144,9 +144,9 @@ step-rows n rs l (choice k) d z h rest =
     )
 
 rows-after : (l : ℕ) (n : Pending) (rs : List Row) → AreDistinct rs → n.left ≡ l → HasRows n rs
-rows-after zero n rs d z = last-rows n rs (ask n.place.program n.place.state) d z refl
+rows-after zero n rs d z = last-rows n rs (ask n.at.program n.at.state) d z refl
 rows-after (suc l) n rs d z =
-    step-rows n rs l (ask n.place.program n.place.state) d z refl (λ m xs e f. rows-after l m xs e f)
+    step-rows n rs l (ask n.at.program n.at.state) d z refl (λ m xs e f. rows-after l m xs e f)
 
 -- of two lists one is the earlier
 lesser-either : (c d : List Bool) → (lesser c d ≡ c) ⊎ (lesser c d ≡ d)
@@ -163,7 +163,7 @@ lesser-chain : (b c d : List Bool) → lesser b c ≡ b → lesser c d ≡ c →
 lesser-chain b c d e f =
     ap (λ z. lesser z d) (sym e) ∙ (lesser-assoc b c d ∙ (ap (lesser b) f ∙ e))
 
--- a row was put into rows at its place
+-- a row was put into rows at its index
 record Inserts (r : Row) (rs xs : List Row) : Type 0 where
   same_counted : (q : Test) → all_counted q xs ≡ join (counted q r) (all_counted q rs)
   ordered : AreOrdered xs
@@ -260,7 +260,7 @@ pub summary-exists : (p : Program) (s : State) (limit : ℕ) → limit ≤ 42949
 unfolding HasRows
 summary-exists p s limit le =
     let n : Pending = record {
-      place = record { program = p; state = s };
+      at = record { program = p; state = s };
       left = limit;
       count = 1;
       weight = amount 1 0 limit;

@@ -11,7 +11,7 @@ use Rattle.ick_backtrack.specs.Machine.{Program}
 use Rattle.ick_outcomes.specs.Tallies.{Tally, tally, tally_at_limit, tally_on}
 use Rattle.ick_outcomes.specs.Summaries.{Row, HasMoreRuns}
 use Rattle.ick_outcomes.specs.Weights.{amount}
-use Rattle.ick_outcomes.specs.Accounts.{Place, Pending, all_ahead, any_outcome, runs_in, IsAccount, SettlesAll}
+use Rattle.ick_outcomes.specs.Accounts.{Configuration, Pending, all_ahead, any_outcome, runs_in, IsAccount, SettlesAll}
 use Rattle.ick_outcomes.specs.Seen.{pending_of, nodes_of}
 use Rattle.ick_outcomes.specs.declared.pending.Node.{Node}
 use Rattle.ick_outcomes.proofs.Wholes.{all_runs}
@@ -35,7 +35,7 @@ tally-some p s (suc l) =
     step-some (ask p s) s l (λ b. tally p (advance p s b) l any_outcome) (λ b. tally-some p (advance p s b) l)
 
 -- and from each node
-nodes-some : {S : Type 0} (seen : S → Place) (ns : List (Node S)) →
+nodes-some : {S : Type 0} (seen : S → Configuration) (ns : List (Node S)) →
     length ns ≤ (all_ahead any_outcome (nodes_of seen ns)).count
 nodes-some seen [] = omega arith
 nodes-some seen (n ∷ ns) =
@@ -51,7 +51,7 @@ ahead-append [] ms = omega arith
 ahead-append (n ∷ ns) ms = let h = ahead-append ns ms in omega (arith, h)
 
 -- more nodes than so many were put back, so more runs than so many go on from all nodes
-pub more_nodes : {S : Type 0} (seen : S → Place) (left most : ℕ) (all made rest later : List (Node S)) (n : Node S)
+pub more_nodes : {S : Type 0} (seen : S → Configuration) (left most : ℕ) (all made rest later : List (Node S)) (n : Node S)
     (rs rs' : List Row) → all ≡ made ++ n ∷ rest →
     SettlesAll left (nodes_of seen (made ++ n ∷ [])) [] rs (nodes_of seen later) rs' → most < length later →
     most < runs_in (nodes_of seen all) rs
@@ -65,8 +65,8 @@ more_nodes seen left most all made rest later n rs rs' e h lt =
     omega (arith, whole, counts, many, lt)
 
 -- and more runs than so many go on from the first node
-pub more_runs : (p : Place) (limit most m : ℕ) (ns : List Pending) (rs : List Row) →
-    IsAccount (record { place = p; left = limit; count = 1; weight = amount 1 0 limit; choices = [] }) ns rs m →
+pub more_runs : (p : Configuration) (limit most m : ℕ) (ns : List Pending) (rs : List Row) →
+    IsAccount (record { at = p; left = limit; count = 1; weight = amount 1 0 limit; choices = [] }) ns rs m →
     most < runs_in ns rs → HasMoreRuns p.program p.state limit most
 more_runs p limit most m ns rs h lt =
     let counts = ap (λ t. t.count) (h.whole any_outcome) in

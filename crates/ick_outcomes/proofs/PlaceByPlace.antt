@@ -7,7 +7,7 @@ use mathlib.Core.Bool.{beq, not}
 use Rattle.std.specs.Bool.{Decides}
 use Rattle.std.specs.Cmp.Lexicographic.{pointwise}
 use Rattle.std.proofs.lemmas.Slice.Eq.{slice_eq-Decides}
-use Rattle.ick_explorer.specs.Listings.{IsBelow}
+use Rattle.ick_explorer.specs.Order.{IsBelow}
 use Rattle.ick_outcomes.specs.Tallies.{lesser}
 
 pub differs-below : (one other : List Bool) (i : ℕ) (c d : Bool) → i < length one → i < length other →

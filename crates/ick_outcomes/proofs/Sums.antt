@@ -11,7 +11,7 @@ use Rattle.ick_backtrack.specs.Machine.{Program}
 use Rattle.ick_backtrack.specs.Asked.{finished, at_limit, IsGoing}
 use Rattle.ick_backtrack.specs.Steps.{after_steps, IsPlain, RunsOn}
 use Rattle.ick_explorer.specs.Runs.{ends}
-use Rattle.ick_explorer.specs.Listings.{IsBelow}
+use Rattle.ick_explorer.specs.Order.{IsBelow}
 use Rattle.ick_outcomes.specs.Tallies.{Test, Tally, lesser, none, join, after, one, tally, stop_text}
 use Rattle.ick_outcomes.specs.Summaries.{Row}
 use Rattle.ick_outcomes.specs.Accounts.{Pending, ahead, all_ahead, counted_if, counted, all_counted}
@@ -71,14 +71,14 @@ below-set most (m ∷ ns) (suc i) x y h e k = (k.0, below-set most ns i x y h e 
 
 -- whose choices come before those of the new node
 pub admits-below : (ns : List Pending) (i : ℕ) (x n y : Pending) → slice_get ns i ≡ Some x →
-    x.place ≡ n.place → x.left ≡ n.left → IsBelow x.choices n.choices →
+    x.at ≡ n.at → x.left ≡ n.left → IsBelow x.choices n.choices →
     y ≡ record x { count = x.count + n.count; weight = x.weight + n.weight } → Admits ns n (slice_set ns i y)
-admits-below ns i x n y h place left below e = record {
+admits-below ns i x n y h same left below e = record {
   admitted = λ q.
-      let t = tally x.place.program x.place.state x.left q in
-      let u : tally n.place.program n.place.state n.left q ≡ t =
-      ap (λ z. tally z.program z.state n.left q) (sym place)
-      ∙ ap (λ z. tally x.place.program x.place.state z q) (sym left) in
+      let t = tally x.at.program x.at.state x.left q in
+      let u : tally n.at.program n.at.state n.left q ≡ t =
+      ap (λ z. tally z.program z.state n.left q) (sym same)
+      ∙ ap (λ z. tally x.at.program x.at.state z q) (sym left) in
       all_ahead-set q ns i x n y h
       (ap (λ z. join (after n.count n.weight n.choices z) (after x.count x.weight x.choices t)) u
       ∙ (join-swap (after n.count n.weight n.choices t) (after x.count x.weight x.choices t)
@@ -89,15 +89,15 @@ admits-below ns i x n y h place left below e = record {
 
 -- or after them
 pub admits-above : (ns : List Pending) (i : ℕ) (x n y : Pending) → slice_get ns i ≡ Some x →
-    x.place ≡ n.place → x.left ≡ n.left → IsBelow n.choices x.choices →
+    x.at ≡ n.at → x.left ≡ n.left → IsBelow n.choices x.choices →
     y ≡ record x { count = n.count + x.count; weight = n.weight + x.weight; choices = n.choices } →
     Admits ns n (slice_set ns i y)
-admits-above ns i x n y h place left below e = record {
+admits-above ns i x n y h same left below e = record {
   admitted = λ q.
-      let t = tally x.place.program x.place.state x.left q in
-      let u : tally n.place.program n.place.state n.left q ≡ t =
-      ap (λ z. tally z.program z.state n.left q) (sym place)
-      ∙ ap (λ z. tally x.place.program x.place.state z q) (sym left) in
+      let t = tally x.at.program x.at.state x.left q in
+      let u : tally n.at.program n.at.state n.left q ≡ t =
+      ap (λ z. tally z.program z.state n.left q) (sym same)
+      ∙ ap (λ z. tally x.at.program x.at.state z q) (sym left) in
       all_ahead-set q ns i x n y h
       (ap (λ z. join (after n.count n.weight n.choices z) (after x.count x.weight x.choices t)) u
       ∙ (after-merge n.count x.count n.weight x.weight n.choices x.choices t below
@@ -238,50 +238,50 @@ after-one true k v l w =
 after-one false k v l w = after-none k v w
 
 -- the next step of a node: if its run has ended, it becomes a row
-pub ahead-ended : (q : Test) (n : Pending) (e : _) → ask n.place.program n.place.state ≡ ended e →
+pub ahead-ended : (q : Test) (n : Pending) (e : _) → ask n.at.program n.at.state ≡ ended e →
     ahead q n ≡ counted q (record {
-      output = n.place.state.output;
+      output = n.at.state.output;
       end = stop_text (ends (finished e));
       count = n.count;
       weight = n.weight * 100 ^ n.left;
       first = n.choices;
     })
 ahead-ended q n e h =
-    ap (after n.count n.weight n.choices) (tally-ended n.place.program n.place.state n.left q e h)
-    ∙ after-one (q n.place.state.output (stop_text (ends (finished e)))) n.count n.weight n.left n.choices
+    ap (after n.count n.weight n.choices) (tally-ended n.at.program n.at.state n.left q e h)
+    ∙ after-one (q n.at.state.output (stop_text (ends (finished e)))) n.count n.weight n.left n.choices
 
-pub ahead-limit : (q : Test) (n : Pending) → IsGoing (ask n.place.program n.place.state) → n.left ≡ 0 →
+pub ahead-limit : (q : Test) (n : Pending) → IsGoing (ask n.at.program n.at.state) → n.left ≡ 0 →
     ahead q n ≡ counted q (record {
-      output = n.place.state.output;
+      output = n.at.state.output;
       end = stop_text (ends at_limit);
       count = n.count;
       weight = n.weight * 100 ^ n.left;
       first = n.choices;
     })
 ahead-limit q n g e =
-    let b = q n.place.state.output (stop_text (ends at_limit)) in
-    ap (λ l. after n.count n.weight n.choices (tally n.place.program n.place.state l q)) e
-    ∙ (ap (after n.count n.weight n.choices) (tally-limit n.place.program n.place.state q g)
+    let b = q n.at.state.output (stop_text (ends at_limit)) in
+    ap (λ l. after n.count n.weight n.choices (tally n.at.program n.at.state l q)) e
+    ∙ (ap (after n.count n.weight n.choices) (tally-limit n.at.program n.at.state q g)
     ∙ (after-one b n.count n.weight 0 n.choices
     ∙ ap (λ l. counted_if b n.count (n.weight * 100 ^ l) n.choices) (sym e)))
 
 -- if it asks for a choice, two nodes replace it
-pub ahead-choice : (q : Test) (n : Pending) (k : ℕ) → ask n.place.program n.place.state ≡ choice k →
+pub ahead-choice : (q : Test) (n : Pending) (k : ℕ) → ask n.at.program n.at.state ≡ choice k →
     0 < n.left → ahead q n ≡ join (ahead q (chosen k n false)) (ahead q (chosen k n true))
 ahead-choice q n k h lt =
     let l = n.left - 1 in
     let e : n.left ≡ suc l = omega (arith, lt) in
-    ap (λ l. after n.count n.weight n.choices (tally n.place.program n.place.state l q)) e
-    ∙ (ap (after n.count n.weight n.choices) (tally-chosen n.place.program n.place.state l k q h)
+    ap (λ l. after n.count n.weight n.choices (tally n.at.program n.at.state l q)) e
+    ∙ (ap (after n.count n.weight n.choices) (tally-chosen n.at.program n.at.state l k q h)
     ∙ after-choice n.count n.weight n.choices k
-    (tally n.place.program (advance n.place.program n.place.state false) l q)
-    (tally n.place.program (advance n.place.program n.place.state true) l q))
+    (tally n.at.program (advance n.at.program n.at.state false) l q)
+    (tally n.at.program (advance n.at.program n.at.state true) l q))
 
 -- and if nothing is asked, the node after the step replaces it
 pub ahead-runs : (q : Test) (n : Pending) (k : ℕ) (u : State) →
-    RunsOn IsPlain n.place.program n.place.state k u → k ≤ n.left →
+    RunsOn IsPlain n.at.program n.at.state k u → k ≤ n.left →
     ahead q n ≡ ahead q (record {
-      place = record { program = n.place.program; state = u };
+      at = record { program = n.at.program; state = u };
       left = n.left - k;
       count = n.count;
       weight = n.weight * 100 ^ k;
@@ -290,8 +290,8 @@ pub ahead-runs : (q : Test) (n : Pending) (k : ℕ) (u : State) →
 ahead-runs q n k u h le =
     let l = n.left - k in
     let e : n.left ≡ k + l = omega (arith, le) in
-    ap (λ x. after n.count n.weight n.choices (tally n.place.program n.place.state x q)) e
-    ∙ ahead-steps n.place.program n.place.state u k l n.count n.weight n.choices q h
+    ap (λ x. after n.count n.weight n.choices (tally n.at.program n.at.state x q)) e
+    ∙ ahead-steps n.at.program n.at.state u k l n.count n.weight n.choices q h
 
 pub settles-admits : (n : Pending) (ns ns' : List Pending) (rs : List Row) → Admits ns n ns' →
     Settles n ns rs ns' rs
@@ -396,13 +396,13 @@ pub admits-merge : (ns : List Pending) (i : ℕ) (x n y : Pending) → slice_get
       choices = lesser x.choices n.choices;
     } → Admits ns n (slice_set ns i y)
 admits-merge ns i x n y h m e = elim m.differ [
-  | inl below ↦ admits-below ns i x n y h m.same_place m.same_left below
+  | inl below ↦ admits-below ns i x n y h m.same_at m.same_left below
       (e ∙ ap (λ c. record x { count = x.count + n.count; weight = x.weight + n.weight; choices = c })
       (lesser-before x.choices n.choices below))
   | inr below ↦
       let z : x.count + n.count ≡ n.count + x.count = omega arith in
       let w : x.weight + n.weight ≡ n.weight + x.weight = omega arith in
-      admits-above ns i x n y h m.same_place m.same_left below
+      admits-above ns i x n y h m.same_at m.same_left below
       (e ∙ (ap (λ c. record x { count = x.count + n.count; weight = x.weight + n.weight; choices = c })
       (lesser-swap x.choices n.choices ∙ lesser-before n.choices x.choices below)
       ∙ (ap (λ k. record x { count = k; weight = x.weight + n.weight; choices = n.choices }) z

@@ -9,7 +9,7 @@ use Rattle.ick_code.specs.meaning.Move.{Asking, plain, choice, ended, ask, advan
 use Rattle.ick_backtrack.specs.Machine.{Program}
 use Rattle.ick_backtrack.specs.Asked.{Finish, finished, at_limit, IsGoing}
 use Rattle.ick_explorer.specs.Runs.{ends, stays, stepped, run, run_at_limit, IsEnd}
-use Rattle.ick_explorer.specs.Listings.{IsBelow, IsIncreasing}
+use Rattle.ick_explorer.specs.Order.{IsBelow, IsIncreasing}
 use Rattle.ick_explorer.proofs.RunLaws.{run-ended, run-plain, run-choice, run-wants, whole-along}
 use Rattle.ick_explorer.proofs.ListingLaws.{contains-nil, contains-head, contains-tail, contains-cases}
 use Rattle.ick_explorer.proofs.Existence.{whole-back}

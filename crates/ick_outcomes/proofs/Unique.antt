@@ -7,7 +7,7 @@ use Rattle.std.proofs.Math.Nat.{pow-succ', mul-div_cancel}
 use Rattle.std.specs.List.{Contains}
 use Rattle.ick_code.specs.meaning.State.{State}
 use Rattle.ick_backtrack.specs.Machine.{Program}
-use Rattle.ick_explorer.specs.Listings.{IsBelow, IsIncreasing}
+use Rattle.ick_explorer.specs.Order.{IsBelow, IsIncreasing}
 use Rattle.ick_explorer.proofs.ListingLaws.{not_below_itself, below_one_way, contains-nil as nil-lists}
 use Rattle.ick_explorer.proofs.ListingLaws.{contains-head as head-lists}
 use Rattle.ick_explorer.proofs.ListingLaws.{contains-tail as tail-lists, contains-cases as cases-lists}

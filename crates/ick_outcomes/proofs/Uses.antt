@@ -12,7 +12,7 @@ use Rattle.ick_code.specs.meaning.Move.{Asking, plain, choice, ended, ask, advan
 use Rattle.ick_backtrack.specs.Machine.{Program}
 use Rattle.ick_backtrack.specs.Asked.{Finish, finished, at_limit, IsGoing, asked_at_end}
 use Rattle.ick_backtrack.specs.Steps.{after_steps, IsPlain, RunsOn}
-use Rattle.ick_explorer.specs.Listings.{IsBelow}
+use Rattle.ick_explorer.specs.Order.{IsBelow}
 use Rattle.ick_outcomes.specs.Tallies.{lesser, join, after, tally}
 use Rattle.ick_outcomes.specs.Weights.{amount, part}
 use Rattle.ick_outcomes.specs.Fractions.{top_of, IsSum, IsPart}
@@ -20,7 +20,7 @@ use Rattle.ick_outcomes.specs.declared.fraction.Fraction.{Fraction}
 use Rattle.ick_outcomes.proofs.Amounts.{amount-end, amount-run, amount-plus, amount-part}
 use Rattle.ick_code.proofs.AskLaws.{chance_between}
 use Rattle.ick_outcomes.specs.Summaries.{Row}
-use Rattle.ick_outcomes.specs.Accounts.{Place, Pending, ahead, AreApart, Admits, CanMerge, Counts}
+use Rattle.ick_outcomes.specs.Accounts.{Configuration, Pending, ahead, AreApart, Admits, CanMerge, Counts}
 use Rattle.ick_outcomes.specs.Accounts.{SameRow, Settles}
 use Rattle.ick_outcomes.specs.Accounts.{GoesOn, IsChoosing, chosen, SettlesAll, IsAccount, AreCounted, all_counted}
 use Rattle.ick_outcomes.specs.Accounts.{AreBelow, AreOver, IsMostLeft, Makes, ended_row}
@@ -42,7 +42,7 @@ lesser_kept c d h = lesser-before c d h
 pub lesser_given : (c d : List Bool) → IsBelow d c → lesser c d ≡ d
 lesser_given c d h = lesser-flip c d h
 
-pub admits_at : {S : Type 0} (seen : S → Place) (ns : List (Node S)) (i : ℕ) (more old new : Node S) →
+pub admits_at : {S : Type 0} (seen : S → Configuration) (ns : List (Node S)) (i : ℕ) (more old new : Node S) →
     i < length ns →
     ((d : Node S) → CanMerge (pending_of seen (slice_index_or ns i d)) (pending_of seen more)) →
     old ≡ slice_index_or ns i old →
@@ -57,7 +57,7 @@ admits_at seen ns i more old new lt m e f =
     (get-mapped (pending_of seen) ns i old lt ∙ ap (λ x. Some (pending_of seen x)) (sym e))
     (subst (λ x. CanMerge (pending_of seen x) (pending_of seen more)) (sym e) (m old)) f)
 
-pub admits_new : {S : Type 0} (seen : S → Place) (ns ns' : List (Node S)) (more : Node S) → ns' ≡ ns ++ more ∷ [] →
+pub admits_new : {S : Type 0} (seen : S → Configuration) (ns ns' : List (Node S)) (more : Node S) → ns' ≡ ns ++ more ∷ [] →
     Admits (nodes_of seen ns) (pending_of seen more) (nodes_of seen ns')
 admits_new seen ns ns' more e =
     subst (λ xs. Admits (nodes_of seen ns) (pending_of seen more) xs)
@@ -142,16 +142,16 @@ first_step p s u k h r = record { leads = r.leads ∙ sym (after-first p s k); o
     plain_at zero lt = h
     plain_at (suc i) lt = subst (IsPlain p) (sym (after-first p s i)) (r.on i (omega (arith, lt)))
 
-pub over_limit : (n : Pending) → IsGoing (ask n.place.program n.place.state) → (0 < n.left → ⊥) →
+pub over_limit : (n : Pending) → IsGoing (ask n.at.program n.at.state) → (0 < n.left → ⊥) →
     AreOver n at_limit
 over_limit n g lt = record { same_runs = λ q. ahead-limit q n g (omega (arith, lt)) }
 
-pub over_ended : (n : Pending) (f : Finish) → asked_at_end f ≡ Some (ask n.place.program n.place.state) →
+pub over_ended : (n : Pending) (f : Finish) → asked_at_end f ≡ Some (ask n.at.program n.at.state) →
     AreOver n f
 over_ended n (finished x) a =
-    let z : ended x ≡ ask n.place.program n.place.state = cc in
+    let z : ended x ≡ ask n.at.program n.at.state = cc in
     record { same_runs = λ q. ahead-ended q n x (sym z) }
-over_ended n at_limit a = let z : None ≡ Some (ask n.place.program n.place.state) = a in cc
+over_ended n at_limit a = let z : None ≡ Some (ask n.at.program n.at.state) = a in cc
 
 pub settles_over : (n : Pending) (f : Finish) (ns : List Pending) (rs rs' : List Row) → AreOver n f →
     Counts rs (ended_row n f) rs' → Settles n ns rs ns rs'
@@ -186,16 +186,16 @@ makes_pass n m ns ns' rs rs' g lt h =
     record { settled = s.settled; apart = s.apart; fewer = λ le b. h.below n.left lt b }
 
 pub goes_on_runs : (n m : Pending) (k : ℕ) →
-    RunsOn IsPlain n.place.program n.place.state k m.place.state → m.place.program ≡ n.place.program →
+    RunsOn IsPlain n.at.program n.at.state k m.at.state → m.at.program ≡ n.at.program →
     k ≤ n.left → m.left ≡ n.left - k → m.count ≡ n.count → m.weight ≡ n.weight * 100 ^ k → m.choices ≡ n.choices →
     GoesOn n m
 goes_on_runs n m k h p le s c v w = record {
   same_runs = λ q.
-      let u = m.place.state in
-      let t = tally m.place.program u m.left q in
+      let u = m.at.state in
+      let t = tally m.at.program u m.left q in
       ahead-runs q n k u h le
       ∙ (ap (λ z. after n.count (n.weight * 100 ^ k) n.choices (tally z u (n.left - k) q)) (sym p)
-      ∙ (ap (λ z. after n.count (n.weight * 100 ^ k) n.choices (tally m.place.program u z q)) (sym s)
+      ∙ (ap (λ z. after n.count (n.weight * 100 ^ k) n.choices (tally m.at.program u z q)) (sym s)
       ∙ (ap (λ z. after z (n.weight * 100 ^ k) n.choices t) (sym c)
       ∙ (ap (λ z. after m.count z n.choices t) (sym v)
       ∙ ap (λ z. after m.count m.weight z t) (sym w)))));
@@ -203,15 +203,15 @@ goes_on_runs n m k h p le s c v w = record {
 }
 
 pub choosing : (n : Pending) (k : ℕ) →
-    (let x : Option Asking = Some (choice k) in x) ≡ Some (ask n.place.program n.place.state) → IsChoosing n k
-choosing n k e = let z : ask n.place.program n.place.state ≡ choice k = cc in record { asked = z }
+    (let x : Option Asking = Some (choice k) in x) ≡ Some (ask n.at.program n.at.state) → IsChoosing n k
+choosing n k e = let z : ask n.at.program n.at.state ≡ choice k = cc in record { asked = z }
 
 pub chance_within : (p : Program) (s : State) (k : ℕ) →
     (let x : Option Asking = Some (choice k) in x) ≡ Some (ask p s) → k ≤ 100
 chance_within p s k e =
     let z : ask p s ≡ choice k = cc in let b = chance_between p s k z in omega (arith, b)
 
-pub going_chosen : (n : Pending) (k : ℕ) → IsChoosing n k → IsGoing (ask n.place.program n.place.state)
+pub going_chosen : (n : Pending) (k : ℕ) → IsChoosing n k → IsGoing (ask n.at.program n.at.state)
 going_chosen n k h = subst IsGoing (sym h.asked) tt
 
 pub makes_choice : (n a b : Pending) (k : ℕ) (ns ns' ns'' : List Pending) (rs rs' rs'' : List Row) →
@@ -276,8 +276,8 @@ moved_on f k l le lt =
 -- the node after a choice, and after steps that ask nothing
 pub chosen_goes_on : (n m : Pending) (chance k : ℕ) (b : Bool) (f r : Fraction) → 0 < n.left →
     n.left + f.places ≤ 4294967295 → IsPart (part chance b) f r → n.weight ≡ amount (top_of f) f.places n.left →
-    RunsOn IsPlain n.place.program (advance n.place.program n.place.state b) k m.place.state →
-    m.place.program ≡ n.place.program → k ≤ n.left - 1 → m.left ≡ n.left - 1 - k → m.count ≡ n.count →
+    RunsOn IsPlain n.at.program (advance n.at.program n.at.state b) k m.at.state →
+    m.at.program ≡ n.at.program → k ≤ n.left - 1 → m.left ≡ n.left - 1 - k → m.count ≡ n.count →
     m.weight ≡ amount (top_of r) r.places (n.left - 1 - k) → m.choices ≡ n.choices ++ b ∷ [] →
     GoesOn (chosen chance n b) m
 chosen_goes_on n m chance k b f r some fits h was runs p le s c v w =
@@ -288,18 +288,18 @@ chosen_goes_on n m chance k b f r some fits h was runs p le s c v w =
     ∙ ap (λ z. part chance b * z) (sym was)))) w
 
 -- the node that a search begins with
-pub first_node : (p : Place) (l count : ℕ) (f : Fraction) (cs : List Bool) → count ≡ 1 → top_of f ≡ 1 →
+pub first_node : (p : Configuration) (l count : ℕ) (f : Fraction) (cs : List Bool) → count ≡ 1 → top_of f ≡ 1 →
     f.places ≡ 0 → cs ≡ [] →
-    (let m : Pending = record { place = p; left = l; count = 1; weight = amount 1 0 l; choices = [] } in m)
-    ≡ record { place = p; left = l; count = count; weight = amount (top_of f) f.places l; choices = cs }
+    (let m : Pending = record { at = p; left = l; count = 1; weight = amount 1 0 l; choices = [] } in m)
+    ≡ record { at = p; left = l; count = count; weight = amount (top_of f) f.places l; choices = cs }
 first_node p l count f cs a b d e =
-    ap {B = Pending} (λ z. record { place = p; left = l; count = z; weight = amount 1 0 l; choices = [] }) (sym a)
+    ap {B = Pending} (λ z. record { at = p; left = l; count = z; weight = amount 1 0 l; choices = [] }) (sym a)
     ∙ (ap {B = Pending}
-    (λ z. record { place = p; left = l; count = count; weight = amount z 0 l; choices = [] }) (sym b)
+    (λ z. record { at = p; left = l; count = count; weight = amount z 0 l; choices = [] }) (sym b)
     ∙ (ap {B = Pending}
-    (λ z. record { place = p; left = l; count = count; weight = amount (top_of f) z l; choices = [] }) (sym d)
+    (λ z. record { at = p; left = l; count = count; weight = amount (top_of f) z l; choices = [] }) (sym d)
     ∙ ap {B = Pending}
-    (λ z. record { place = p; left = l; count = count; weight = amount (top_of f) f.places l; choices = z }) (sym e)))
+    (λ z. record { at = p; left = l; count = count; weight = amount (top_of f) f.places l; choices = z }) (sym e)))
 
 pub counts_start : (n m : Pending) (ns : List Pending) (rs : List Row) (most : ℕ) → Settles n [] [] ns rs →
     m ≡ n → n.left < most → IsAccount m ns rs most
@@ -315,7 +315,7 @@ counts_on = account-goes_on
 pub most_none : IsMostLeft 0 []
 most_none = record { highest = tt; reached = λ m h. omega arith }
 
-pub most_more : {S : Type 0} (seen : S → Place) (ns : List (Node S)) (i most r : ℕ) (n : Node S) → i < length ns →
+pub most_more : {S : Type 0} (seen : S → Configuration) (ns : List (Node S)) (i most r : ℕ) (n : Node S) → i < length ns →
     n ≡ slice_index_or ns i n → IsMostLeft most (nodes_of seen (take i ns)) → most ≤ r → n.left ≤ r →
     (r ≡ most) ⊎ (r ≡ n.left) → IsMostLeft r (nodes_of seen (take (i + 1) ns))
 most_more seen ns i most r n lt e h u v w =
@@ -334,8 +334,8 @@ most_more seen ns i most r n lt e h u v w =
           elim w [ inl x ↦ omega (arith, x, c) | inr x ↦ omega (arith, x, d) ];
     })
 
-pub counts_end : {S : Type 0} (seen : S → Place) (limit : ℕ) (p : Place) (ns : List (Node S)) (rs : List Row) (m : ℕ) →
-    IsAccount (record { place = p; left = limit; count = 1; weight = amount 1 0 limit; choices = [] })
+pub counts_end : {S : Type 0} (seen : S → Configuration) (limit : ℕ) (p : Configuration) (ns : List (Node S)) (rs : List Row) (m : ℕ) →
+    IsAccount (record { at = p; left = limit; count = 1; weight = amount 1 0 limit; choices = [] })
     (nodes_of seen ns) rs m → length ns ≡ 0 → AreCounted p.program p.state limit rs
 counts_end seen limit p [] rs m h e = record {
   counted_all = λ q. h.whole q ∙ none-join (all_counted q rs);
@@ -343,13 +343,13 @@ counts_end seen limit p [] rs m h e = record {
 }
 counts_end seen limit p (n ∷ ns) rs m h e = absurd (omega arith)
 
-pub counts_done : {S : Type 0} (seen : S → Place) (limit : ℕ) (p : Place) (ns : List (Node S)) (rs : List Row) (m : ℕ) →
-    IsAccount (record { place = p; left = limit; count = 1; weight = amount 1 0 limit; choices = [] })
+pub counts_done : {S : Type 0} (seen : S → Configuration) (limit : ℕ) (p : Configuration) (ns : List (Node S)) (rs : List Row) (m : ℕ) →
+    IsAccount (record { at = p; left = limit; count = 1; weight = amount 1 0 limit; choices = [] })
     (nodes_of seen ns) rs m → m ≡ 0 → AreCounted p.program p.state limit rs
 counts_done seen limit p [] rs m h e = counts_end seen limit p [] rs m h refl
 counts_done seen limit p (n ∷ ns) rs m h e = let lt = h.below.0 in absurd (omega (arith, lt, e))
 
-pub settles_more : {S : Type 0} (seen : S → Place) (most : ℕ) (ms ms' : List (Node S)) (n : Node S)
+pub settles_more : {S : Type 0} (seen : S → Configuration) (most : ℕ) (ms ms' : List (Node S)) (n : Node S)
     (ns' ns'' : List Pending) (rs rs' rs'' : List Row) → ms' ≡ ms ++ n ∷ [] →
     SettlesAll most (nodes_of seen ms) [] rs ns' rs' → Makes most (pending_of seen n) ns' rs' ns'' rs'' →
     SettlesAll most (nodes_of seen ms') [] rs ns'' rs''

@@ -4,7 +4,7 @@ use Rattle.std.specs.List.{Contains}
 use Rattle.ick_code.specs.meaning.State.{State}
 use Rattle.ick_code.specs.meaning.Move.{ask, advance, choice}
 use Rattle.ick_explorer.specs.Lines.{end_text}
-use Rattle.ick_explorer.specs.Listings.{IsBelow}
+use Rattle.ick_explorer.specs.Order.{IsBelow}
 use Rattle.ick_backtrack.specs.Machine.{Program}
 use Rattle.ick_backtrack.specs.Asked.{Finish}
 use Rattle.ick_outcomes.specs.Tallies.{Test, Tally, lesser, none, join, after, tally}
@@ -12,14 +12,14 @@ use Rattle.ick_outcomes.specs.Weights.{amount, part}
 use Rattle.ick_outcomes.specs.Summaries.{Row}
 
 -- what contracts see of a machine: its program and its state
-pub record Place : Type 0 where
+pub record Configuration : Type 0 where
   pub program : Program
   pub state : State
 
--- a node: a place, the number of steps left there, how many runs lead there, their weight in units of 100 ^ left parts,
+-- a node: a configuration, the steps left there, how many runs lead there, their weight in units of 100 ^ left parts,
 -- and the choices of the first of them
 pub record Pending : Type 0 where
-  pub place : Place
+  pub at : Configuration
   pub left : ℕ
   pub count : ℕ
   pub weight : ℕ
@@ -27,7 +27,7 @@ pub record Pending : Type 0 where
 
 -- the tally of the runs that go on from a node
 abbrev pub ahead : Test → Pending → Tally
-ahead q n = after n.count n.weight n.choices (tally n.place.program n.place.state n.left q)
+ahead q n = after n.count n.weight n.choices (tally n.at.program n.at.state n.left q)
 
 -- the tally of the runs that go on from these nodes
 abbrev pub all_ahead : Test → List Pending → Tally
@@ -115,16 +115,16 @@ pub record SettlesAll (most : ℕ) (ms : List Pending) (ns : List Pending) (rs :
   pub apart : AreDistinct rs → AreDistinct rs'
   pub fewer : AreBelow (suc most) ms → AreBelow most ns → AreBelow most ns'
 
--- two nodes have the same place and the same number of steps left, and their choices differ
+-- two nodes have the same configuration and the same number of steps left, and their choices differ
 pub record CanMerge (x n : Pending) : Type 0 where
-  pub same_place : x.place ≡ n.place
+  pub same_at : x.at ≡ n.at
   pub same_left : x.left ≡ n.left
   pub differ : IsBelow x.choices n.choices ⊎ IsBelow n.choices x.choices
 
 -- the node after a choice of a statement with this chance
 abbrev pub chosen : ℕ → Pending → Bool → Pending
 chosen chance n b = record {
-  place = record { program = n.place.program; state = advance n.place.program n.place.state b };
+  at = record { program = n.at.program; state = advance n.at.program n.at.state b };
   left = n.left - 1;
   count = n.count;
   weight = part chance b * n.weight;
@@ -150,7 +150,7 @@ pub record GoesOn (n m : Pending) : Type 0 where
 -- the row of the runs that lead to a node, if they end there
 abbrev pub ended_row : Pending → Finish → Row
 ended_row n finish = record {
-  output = n.place.state.output;
+  output = n.at.state.output;
   end = end_text finish;
   count = n.count;
   weight = n.weight * 100 ^ n.left;
@@ -163,7 +163,7 @@ pub record AreOver (n : Pending) (finish : Finish) : Type 0 where
 
 -- a node asks for a choice of a statement with this chance
 pub record IsChoosing (n : Pending) (chance : ℕ) : Type 0 where
-  pub asked : ask n.place.program n.place.state ≡ choice chance
+  pub asked : ask n.at.program n.at.state ≡ choice chance
 
 -- all runs from s are in rows with different outcomes
 pub record AreCounted (p : Program) (s : State) (limit : ℕ) (rs : List Row) : Type 0 where

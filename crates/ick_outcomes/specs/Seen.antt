@@ -2,7 +2,7 @@
 use Rattle.std.specs.Prelude.{ℕ, List, map}
 use Rattle.std.specs.List.{All}
 use Rattle.ick_outcomes.specs.Naturals.{value_of}
-use Rattle.ick_outcomes.specs.Accounts.{Place, Pending}
+use Rattle.ick_outcomes.specs.Accounts.{Configuration, Pending}
 use Rattle.ick_outcomes.specs.Summaries.{Row}
 use Rattle.ick_outcomes.specs.declared.natural.Natural.{Natural}
 use Rattle.ick_outcomes.specs.declared.pending.Node.{Node}
@@ -15,9 +15,9 @@ abbrev pub natural : Natural → ℕ
 natural n = value_of n.digits.items
 
 -- what a node represents, if `seen` is what contracts see of its state
-abbrev pub pending_of : {S : Type 0} → (S → Place) → Node S → Pending
+abbrev pub pending_of : {S : Type 0} → (S → Configuration) → Node S → Pending
 pending_of seen n = record {
-  place = seen n.state;
+  at = seen n.state;
   left = n.left;
   count = natural n.count;
   weight = amount (top_of n.weight) n.weight.places n.left;
@@ -37,7 +37,7 @@ row_of o = record {
 abbrev pub rows_of : List Outcome → List Row
 rows_of os = map row_of os
 
-abbrev pub nodes_of : {S : Type 0} → (S → Place) → List (Node S) → List Pending
+abbrev pub nodes_of : {S : Type 0} → (S → Configuration) → List (Node S) → List Pending
 nodes_of seen ns = map (pending_of seen) ns
 
 -- the state of each node suits

@@ -4,7 +4,8 @@ use Rattle.std.specs.List.{Contains}
 use Rattle.ick_code.specs.meaning.State.{State}
 use Rattle.ick_backtrack.specs.Machine.{Program}
 use Rattle.ick_explorer.specs.Runs.{run, IsWhole}
-use Rattle.ick_explorer.specs.Listings.{IsIncreasing, IsListing}
+use Rattle.ick_explorer.specs.Order.{IsIncreasing}
+use Rattle.ick_explorer.specs.Listings.{IsListing}
 use Rattle.ick_outcomes.specs.Tallies.{stop_text}
 use Rattle.ick_outcomes.specs.Weights.{shares, whole}
 

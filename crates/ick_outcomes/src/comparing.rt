@@ -1,7 +1,7 @@
 //! Compares lists of choices.
 
 ghost use Rattle.std.specs.Prelude.{◌≡◌, ◌≤◌, ◌⊎◌, true, false, length, take};
-ghost use Rattle.ick_explorer.specs.Listings.{IsBelow};
+ghost use Rattle.ick_explorer.specs.Order.{IsBelow};
 ghost use Rattle.ick_outcomes.specs.Tallies.{lesser};
 
 /// Tells how a list of choices compares with another list: at the first position at which they

@@ -34,7 +34,7 @@ fn find_outcome(table: &Table, key: u64, more: &Outcome) -> Option<usize>
     ensures no_row { IfNone result ((x : Row) → Contains (rows_of table.now.rows.items) x →
         AreApart x (row_of more.now)) }
 {
-    match table.index.place(key) {
+    match table.index.find(key) {
         Some(at) => {
             if at < table.rows.len() && is_row(&table.rows[at], more) {
                 return Some(at);

@@ -61,8 +61,8 @@ fn choice_within<'c>(chance: u8, left: u32) -> Ask<'c>
 /// left.
 fn asks_within<'c, P: States<'c>>(program: &P, state: &P::State, left: u32) -> Ask<'c>
     requires { P.suits program.now state.now }
-    ensures { AsksWithin (P.place program.now state.now).program
-        (P.place program.now state.now).state left result }
+    ensures { AsksWithin (P.seen program.now state.now).program
+        (P.seen program.now state.now).state left result }
 {
     match program.asks(state) {
         Ask::Ended(end) => Ask::Ended(end),
@@ -85,10 +85,10 @@ pub fn follow<'c, P: States<'c>>(
     requires tools { P.serves program.now tools.old }
     requires state { P.suits program.now state }
     ensures followed { IfOk result (λ found. IfSome found (λ run.
-        IsFollowed (P.place program.now state).program (P.place program.now state).state limit
-        choices.now (P.place program.now run.state).state (finish_of run.end) run.asked.items)) }
-    ensures none { result ≡ Ok None → ¬ IsWhole (P.place program.now state).program
-        (P.place program.now state).state limit choices.now }
+        IsFollowed (P.seen program.now state).program (P.seen program.now state).state limit
+        choices.now (P.seen program.now run.state).state (finish_of run.end) run.asked.items)) }
+    ensures none { result ≡ Ok None → ¬ IsWhole (P.seen program.now state).program
+        (P.seen program.now state).state limit choices.now }
     ensures tools { P.serves program.now tools.new }
 {
     let mut state = state;
@@ -145,7 +145,7 @@ pub fn run_line<'c, P: States<'c>>(
 ) -> Result<Vec<u8>, NoMemory>
     ensures { IfOk result (λ line. line.items ++ codes "\n" ≡ line_of choices.now
         (finish_of followed.now.end)
-        (P.place program.now followed.now.state).state.output) }
+        (P.seen program.now followed.now.state).state.output) }
 {
     let end = end_word(alloc, followed.end)?;
     let mut line = Vec::new(alloc);

@@ -20,7 +20,7 @@ impl Hints {
     }
 
     /// Returns the index that was noted last for a hash.
-    pub(crate) fn place(&self, hash: u64) -> Option<usize> {
+    pub(crate) fn find(&self, hash: u64) -> Option<usize> {
         match self.places.get(&hash) {
             Some(at) => Some(*at),
             None => None,

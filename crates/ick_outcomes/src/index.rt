@@ -23,7 +23,7 @@ impl Index {
     }
 
     /// Returns the index that was noted last for a key, or `None` if none was noted.
-    pub(crate) fn place(&self, key: u64) -> Option<usize>
+    pub(crate) fn find(&self, key: u64) -> Option<usize>
         ensures { IfNone result (Lacks self.now.places key) }
     {
         match self.places.get(&key) {

@@ -5,7 +5,7 @@ ghost use Rattle.std.specs.Prelude.{slice_index_or, OnOk, IfOk, IfSome, IfNone};
 ghost use Rattle.ick_code.specs.meaning.Move.{ask};
 ghost use Rattle.ick_backtrack.specs.Asked.{IsGoing, finish_of};
 ghost use Rattle.ick_backtrack.specs.Steps.{IsPlain};
-ghost use Rattle.ick_outcomes.specs.Accounts.{Admits, CanMerge, Counts, Place, Settles, Makes};
+ghost use Rattle.ick_outcomes.specs.Accounts.{Admits, CanMerge, Counts, Configuration, Settles, Makes};
 ghost use Rattle.ick_outcomes.specs.Accounts.{GoesOn, IsChoosing, AreOver, chosen, ended_row};
 ghost use Rattle.ick_outcomes.specs.Seen.{AreSound, natural, pending_of, row_of, rows_of, nodes_of};
 ghost use Rattle.ick_outcomes.specs.Tallies.{lesser};
@@ -24,8 +24,8 @@ use std::alloc::Global;
 
 /// Returns whether two nodes can be merged.
 fn can_merge<'c, P: States<'c>>(program: &P, one: &Node<P::State>, more: &Node<P::State>) -> bool
-    ensures { result ≡ true → CanMerge (pending_of (P.place program.now) one.now)
-        (pending_of (P.place program.now) more.now) }
+    ensures { result ≡ true → CanMerge (pending_of (P.seen program.now) one.now)
+        (pending_of (P.seen program.now) more.now) }
 {
     one.left == more.left
         && program.same(&one.state, &more.state)
@@ -40,8 +40,8 @@ fn find_node<'c, P: States<'c>>(
     more: &Node<P::State>,
 ) -> Option<usize>
     ensures same { IfSome result (λ i. (d : Node P.State) →
-        CanMerge (pending_of (P.place program.now) (slice_index_or nodes.now i d))
-        (pending_of (P.place program.now) more.now)) }
+        CanMerge (pending_of (P.seen program.now) (slice_index_or nodes.now i d))
+        (pending_of (P.seen program.now) more.now)) }
     ensures within { IfSome result (λ i. i < length nodes.now) }
 {
     if let Some(at) = hint {
@@ -61,7 +61,7 @@ fn hash_of<'c, P: States<'c>>(program: &P, node: &Node<P::State>) -> u64 {
 #[tactic(auto, using(crate::proofs::Uses::sum_fits, crate::proofs::Uses::merge_sum))]
 fn merge<S: Drop>(alloc: Global, one: &mut Node<S>, more: Node<S>) -> Result<(), NoMemory>
     requires { one.old.left ≡ more.left }
-    ensures merged { OnOk result ((seen : S → Place) →
+    ensures merged { OnOk result ((seen : S → Configuration) →
         pending_of seen one.new ≡ record (pending_of seen one.old) {
           count = natural one.old.count + natural more.count;
           weight = (pending_of seen one.old).weight + (pending_of seen more).weight;
@@ -89,13 +89,13 @@ fn admit<'c, P: States<'c>>(
 ) -> Result<(), NoMemory>
     requires node { P.suits program.now node.state }
     requires pending { AreSound (P.suits program.now) pending.old.nodes.items }
-    ensures admits { OnOk result (Admits (nodes_of (P.place program.now) pending.old.nodes.items)
-        (pending_of (P.place program.now) node)
-        (nodes_of (P.place program.now) pending.new.nodes.items)) }
+    ensures admits { OnOk result (Admits (nodes_of (P.seen program.now) pending.old.nodes.items)
+        (pending_of (P.seen program.now) node)
+        (nodes_of (P.seen program.now) pending.new.nodes.items)) }
     ensures pending { OnOk result (AreSound (P.suits program.now) pending.new.nodes.items) }
 {
     let hash = hash_of(program, &node);
-    let hint = pending.hints.place(hash);
+    let hint = pending.hints.find(hash);
     match find_node(program, &pending.nodes, hint, &node) {
         Some(at) => {
             merge(alloc, &mut pending.nodes[at], node)?;
@@ -115,7 +115,7 @@ fn admit<'c, P: States<'c>>(
 fn end_of<'c, P: States<'c>>(program: &P, node: &Node<P::State>) -> Option<End<'c>>
     requires { P.suits program.now node.now.state }
     ensures over { IfSome result (λ end.
-        AreOver (pending_of (P.place program.now) node.now) (finish_of end)) }
+        AreOver (pending_of (P.seen program.now) node.now) (finish_of end)) }
     ensures left { IfNone result (0 < node.now.left) }
 {
     match program.asks(&node.state) {
@@ -128,10 +128,10 @@ fn end_of<'c, P: States<'c>>(program: &P, node: &Node<P::State>) -> Option<End<'
 /// Returns `Limit` if a node that goes on has no step left.
 #[tactic(auto, using(crate::proofs::Uses::over_limit))]
 fn limit_of<'c, P: States<'c>>(program: &P, node: &Node<P::State>) -> Option<End<'c>>
-    requires { IsGoing (ask (P.place program.now node.now.state).program
-        (P.place program.now node.now.state).state) }
+    requires { IsGoing (ask (P.seen program.now node.now.state).program
+        (P.seen program.now node.now.state).state) }
     ensures over { IfSome result (λ end.
-        AreOver (pending_of (P.place program.now) node.now) (finish_of end)) }
+        AreOver (pending_of (P.seen program.now) node.now) (finish_of end)) }
     ensures left { IfNone result (0 < node.now.left) }
 {
     if node.left > 0 {
@@ -149,7 +149,7 @@ fn close<'c, P: States<'c>>(
     end: End<'c>,
 ) -> Result<Outcome, NoMemory>
     ensures { IfOk result (λ o. row_of o
-        ≡ ended_row (pending_of (P.place program.now) node) (finish_of end.entry)) }
+        ≡ ended_row (pending_of (P.seen program.now) node) (finish_of end.entry)) }
 {
     Ok(Outcome {
         output: Vec::from_slice(alloc, program.output(&node.state))?,
@@ -171,7 +171,7 @@ fn file<'c, P: States<'c>>(
     rows: &mut Table,
 ) -> Result<(), NoMemory>
     ensures { OnOk result (Counts (rows_of rows.old.rows.items)
-        (ended_row (pending_of (P.place program.now) node) (finish_of end.entry))
+        (ended_row (pending_of (P.seen program.now) node) (finish_of end.entry))
         (rows_of rows.new.rows.items)) }
 {
     let row = close(alloc, program, node, end)?;
@@ -190,9 +190,9 @@ pub(crate) fn put<'c, P: States<'c>>(
 ) -> Result<(), NoMemory>
     requires node { P.suits program.now node.state }
     requires pending { AreSound (P.suits program.now) pending.old.nodes.items }
-    ensures settles { OnOk result (Settles (pending_of (P.place program.now) node)
-        (nodes_of (P.place program.now) pending.old.nodes.items) (rows_of rows.old.rows.items)
-        (nodes_of (P.place program.now) pending.new.nodes.items) (rows_of rows.new.rows.items)) }
+    ensures settles { OnOk result (Settles (pending_of (P.seen program.now) node)
+        (nodes_of (P.seen program.now) pending.old.nodes.items) (rows_of rows.old.rows.items)
+        (nodes_of (P.seen program.now) pending.new.nodes.items) (rows_of rows.new.rows.items)) }
     ensures pending { OnOk result (AreSound (P.suits program.now) pending.new.nodes.items) }
 {
     match end_of(program, &node) {
@@ -223,13 +223,13 @@ fn choose<'c, P: States<'c>>(
 ) -> Result<Node<P::State>, NoMemory>
     requires tools { P.serves program.now tools.old }
     requires node { P.suits program.now node.state }
-    requires going { IsGoing (ask (P.place program.now node.state).program
-        (P.place program.now node.state).state) }
+    requires going { IsGoing (ask (P.seen program.now node.state).program
+        (P.seen program.now node.state).state) }
     requires chance { chance ≤ 100 }
     requires left { 0 < node.left }
     ensures goes_on { IfOk result (λ n. GoesOn
-        (chosen chance (pending_of (P.place program.now) node) done)
-        (pending_of (P.place program.now) n)) }
+        (chosen chance (pending_of (P.seen program.now) node) done)
+        (pending_of (P.seen program.now) n)) }
     ensures node { IfOk result (λ n. P.suits program.now n.state) }
     ensures tools { P.serves program.now tools.new }
 {
@@ -260,13 +260,13 @@ fn choose_from<'c, P: States<'c>>(
 ) -> Result<Node<P::State>, NoMemory>
     requires tools { P.serves program.now tools.old }
     requires node { P.suits program.now node.now.state }
-    requires going { IsGoing (ask (P.place program.now node.now.state).program
-        (P.place program.now node.now.state).state) }
+    requires going { IsGoing (ask (P.seen program.now node.now.state).program
+        (P.seen program.now node.now.state).state) }
     requires chance { chance ≤ 100 }
     requires left { 0 < node.now.left }
     ensures goes_on { IfOk result (λ n. GoesOn
-        (chosen chance (pending_of (P.place program.now) node.now) done)
-        (pending_of (P.place program.now) n)) }
+        (chosen chance (pending_of (P.seen program.now) node.now) done)
+        (pending_of (P.seen program.now) n)) }
     ensures node { IfOk result (λ n. P.suits program.now n.state) }
     ensures tools { P.serves program.now tools.new }
 {
@@ -300,11 +300,11 @@ fn branch<'c, P: States<'c>>(
     requires node { P.suits program.now node.state }
     requires pending { AreSound (P.suits program.now) pending.old.nodes.items }
     requires left { 0 < node.left }
-    requires asks { IsChoosing (pending_of (P.place program.now) node) chance }
+    requires asks { IsChoosing (pending_of (P.seen program.now) node) chance }
     requires chance { chance ≤ 100 }
-    ensures makes { OnOk result (Makes node.left (pending_of (P.place program.now) node)
-        (nodes_of (P.place program.now) pending.old.nodes.items) (rows_of rows.old.rows.items)
-        (nodes_of (P.place program.now) pending.new.nodes.items) (rows_of rows.new.rows.items)) }
+    ensures makes { OnOk result (Makes node.left (pending_of (P.seen program.now) node)
+        (nodes_of (P.seen program.now) pending.old.nodes.items) (rows_of rows.old.rows.items)
+        (nodes_of (P.seen program.now) pending.new.nodes.items) (rows_of rows.new.rows.items)) }
     ensures pending { OnOk result (AreSound (P.suits program.now) pending.new.nodes.items) }
     ensures tools { P.serves program.now tools.new }
 {
@@ -324,10 +324,10 @@ fn pass<'c, P: States<'c>>(
     requires tools { P.serves program.now tools.old }
     requires node { P.suits program.now node.state }
     requires left { 0 < node.left }
-    requires plain { IsPlain (P.place program.now node.state).program
-        (P.place program.now node.state).state }
-    ensures goes_on { IfOk result (λ m. GoesOn (pending_of (P.place program.now) node)
-        (pending_of (P.place program.now) m)) }
+    requires plain { IsPlain (P.seen program.now node.state).program
+        (P.seen program.now node.state).state }
+    ensures goes_on { IfOk result (λ m. GoesOn (pending_of (P.seen program.now) node)
+        (pending_of (P.seen program.now) m)) }
     ensures fewer { IfOk result (λ m. m.left < node.left) }
     ensures node { IfOk result (λ m. P.suits program.now m.state) }
     ensures tools { P.serves program.now tools.new }
@@ -357,11 +357,11 @@ fn pass_on<'c, P: States<'c>>(
     requires node { P.suits program.now node.state }
     requires pending { AreSound (P.suits program.now) pending.old.nodes.items }
     requires left { 0 < node.left }
-    requires plain { IsPlain (P.place program.now node.state).program
-        (P.place program.now node.state).state }
-    ensures makes { OnOk result (Makes node.left (pending_of (P.place program.now) node)
-        (nodes_of (P.place program.now) pending.old.nodes.items) (rows_of rows.old.rows.items)
-        (nodes_of (P.place program.now) pending.new.nodes.items) (rows_of rows.new.rows.items)) }
+    requires plain { IsPlain (P.seen program.now node.state).program
+        (P.seen program.now node.state).state }
+    ensures makes { OnOk result (Makes node.left (pending_of (P.seen program.now) node)
+        (nodes_of (P.seen program.now) pending.old.nodes.items) (rows_of rows.old.rows.items)
+        (nodes_of (P.seen program.now) pending.new.nodes.items) (rows_of rows.new.rows.items)) }
     ensures pending { OnOk result (AreSound (P.suits program.now) pending.new.nodes.items) }
     ensures tools { P.serves program.now tools.new }
 {
@@ -385,9 +385,9 @@ fn expand<'c, P: States<'c>>(
     requires node { P.suits program.now node.state }
     requires pending { AreSound (P.suits program.now) pending.old.nodes.items }
     requires left { 0 < node.left }
-    ensures makes { OnOk result (Makes node.left (pending_of (P.place program.now) node)
-        (nodes_of (P.place program.now) pending.old.nodes.items) (rows_of rows.old.rows.items)
-        (nodes_of (P.place program.now) pending.new.nodes.items) (rows_of rows.new.rows.items)) }
+    ensures makes { OnOk result (Makes node.left (pending_of (P.seen program.now) node)
+        (nodes_of (P.seen program.now) pending.old.nodes.items) (rows_of rows.old.rows.items)
+        (nodes_of (P.seen program.now) pending.new.nodes.items) (rows_of rows.new.rows.items)) }
     ensures pending { OnOk result (AreSound (P.suits program.now) pending.new.nodes.items) }
     ensures tools { P.serves program.now tools.new }
 {
@@ -414,9 +414,9 @@ fn move_on<'c, P: States<'c>>(
     requires tools { P.serves program.now tools.old }
     requires node { P.suits program.now node.state }
     requires pending { AreSound (P.suits program.now) pending.old.nodes.items }
-    ensures makes { OnOk result (Makes node.left (pending_of (P.place program.now) node)
-        (nodes_of (P.place program.now) pending.old.nodes.items) (rows_of rows.old.rows.items)
-        (nodes_of (P.place program.now) pending.new.nodes.items) (rows_of rows.new.rows.items)) }
+    ensures makes { OnOk result (Makes node.left (pending_of (P.seen program.now) node)
+        (nodes_of (P.seen program.now) pending.old.nodes.items) (rows_of rows.old.rows.items)
+        (nodes_of (P.seen program.now) pending.new.nodes.items) (rows_of rows.new.rows.items)) }
     ensures pending { OnOk result (AreSound (P.suits program.now) pending.new.nodes.items) }
     ensures tools { P.serves program.now tools.new }
 {
@@ -441,9 +441,9 @@ pub(crate) fn make<'c, P: States<'c>>(
     requires tools { P.serves program.now tools.old }
     requires node { P.suits program.now node.state }
     requires pending { AreSound (P.suits program.now) pending.old.nodes.items }
-    ensures makes { OnOk result (Makes most (pending_of (P.place program.now) node)
-        (nodes_of (P.place program.now) pending.old.nodes.items) (rows_of rows.old.rows.items)
-        (nodes_of (P.place program.now) pending.new.nodes.items) (rows_of rows.new.rows.items)) }
+    ensures makes { OnOk result (Makes most (pending_of (P.seen program.now) node)
+        (nodes_of (P.seen program.now) pending.old.nodes.items) (rows_of rows.old.rows.items)
+        (nodes_of (P.seen program.now) pending.new.nodes.items) (rows_of rows.new.rows.items)) }
     ensures pending { OnOk result (AreSound (P.suits program.now) pending.new.nodes.items) }
     ensures tools { P.serves program.now tools.new }
 {

@@ -1,7 +1,7 @@
 //! Searches all outcomes of a program.
 
 ghost use Rattle.std.specs.Prelude.{◌≡◌, ◌+◌, ◌<◌, ◌≤◌, ◌⊎◌, [], true, length, IfOk, Err};
-ghost use Rattle.ick_outcomes.specs.Accounts.{Place, SettlesAll, AreCounted, IsMostLeft, runs_in};
+ghost use Rattle.ick_outcomes.specs.Accounts.{Configuration, SettlesAll, AreCounted, IsMostLeft, runs_in};
 ghost use Rattle.ick_outcomes.specs.Summaries.{HasMoreRuns};
 ghost use Rattle.ick_outcomes.specs.Seen.{AreSound, pending_of, rows_of, nodes_of};
 
@@ -50,7 +50,7 @@ fn higher(one: u32, other: u32) -> u32
 /// Returns the greatest number of steps that a node has left.
 #[tactic(auto, using(crate::proofs::Uses::most_none, crate::proofs::Uses::most_more))]
 fn most_left<S: Drop>(nodes: &[Node<S>]) -> u32
-    ensures { (seen : S → Place) → IsMostLeft result (nodes_of seen nodes.now) }
+    ensures { (seen : S → Configuration) → IsMostLeft result (nodes_of seen nodes.now) }
 {
     let mut most = 0;
     'nodes: for node in nodes {
@@ -74,13 +74,13 @@ fn round<'c, P: States<'c>>(
     requires tools { P.serves program.now tools.old }
     requires waiting { AreSound (P.suits program.now) waiting.nodes.items }
     ensures settles { IfOk result (λ later. SettlesAll left
-        (nodes_of (P.place program.now) waiting.nodes.items)
+        (nodes_of (P.seen program.now) waiting.nodes.items)
         [] (rows_of rows.old.rows.items)
-        (nodes_of (P.place program.now) later.nodes.items) (rows_of rows.new.rows.items)) }
+        (nodes_of (P.seen program.now) later.nodes.items) (rows_of rows.new.rows.items)) }
     ensures later { IfOk result (λ later. AreSound (P.suits program.now) later.nodes.items) }
     ensures few { IfOk result (λ later. length later.nodes.items ≤ most) }
     ensures more { result ≡ Err OutcomesError.TooManyStates → most <
-        runs_in (nodes_of (P.place program.now) waiting.nodes.items) (rows_of rows.old.rows.items) }
+        runs_in (nodes_of (P.seen program.now) waiting.nodes.items) (rows_of rows.old.rows.items) }
     ensures tools { P.serves program.now tools.new }
 {
     let mut later = no_nodes(alloc);
@@ -106,10 +106,10 @@ pub(crate) fn count_outcomes<'c, P: States<'c>>(
 ) -> Result<Vec<Outcome>, OutcomesError>
     requires tools { P.serves program.now tools.old }
     requires state { P.suits program.now state }
-    ensures counted { IfOk result (λ rows. AreCounted (P.place program.now state).program
-        (P.place program.now state).state limit (rows_of rows.items)) }
+    ensures counted { IfOk result (λ rows. AreCounted (P.seen program.now state).program
+        (P.seen program.now state).state limit (rows_of rows.items)) }
     ensures more { result ≡ Err OutcomesError.TooManyStates →
-        HasMoreRuns (P.place program.now state).program (P.place program.now state).state limit
+        HasMoreRuns (P.seen program.now state).program (P.seen program.now state).state limit
         most }
 {
     let mut rows = no_rows(alloc);

@@ -47,14 +47,14 @@ pub fn outcomes<'c, P: States<'c>>(
     requires tools { P.serves program.now tools.old }
     requires state { P.suits program.now state }
     ensures summary { IfOk result (λ rows.
-        IsSummary (P.place program.now state).program (P.place program.now state).state limit
+        IsSummary (P.seen program.now state).program (P.seen program.now state).state limit
         (rows_of rows.items)) }
     ensures counts { IfOk result (λ rows.
-        CountsAll (P.place program.now state).program (P.place program.now state).state limit
+        CountsAll (P.seen program.now state).program (P.seen program.now state).state limit
         (count_of (rows_of rows.items))) }
     ensures whole { IfOk result (λ rows. weight_of (rows_of rows.items) ≡ whole) }
     ensures more { result ≡ Err OutcomesError.TooManyStates →
-        HasMoreRuns (P.place program.now state).program (P.place program.now state).state limit
+        HasMoreRuns (P.seen program.now state).program (P.seen program.now state).state limit
         most }
 {
     let mut rows = count_outcomes(alloc, program, tools, state, limit, most)?;

@@ -4,7 +4,7 @@ ghost use Rattle.std.specs.Prelude.{◌≡◌, ◌≤◌, true, Some, IfOk};
 ghost use Rattle.ick_code.specs.meaning.Move.{ask, advance};
 ghost use Rattle.ick_backtrack.specs.Asked.{asked_of, IsGoing};
 ghost use Rattle.ick_backtrack.specs.Steps.{IsPlain, RunsOn};
-ghost use Rattle.ick_outcomes.specs.Accounts.{Place};
+ghost use Rattle.ick_outcomes.specs.Accounts.{Configuration};
 
 use ick_backtrack::Ask;
 use ick_bits::NoMemory;
@@ -12,7 +12,7 @@ use ick_bits::NoMemory;
 /// A program over its input, for a search that keeps many states of it. A state holds only what
 /// states differ by. The program, and the tools that steps are made with, are lent for each call.
 ///
-/// Contracts see a state as a program and a state of the meaning (`place`). Each call takes only
+/// Contracts see a state as a program and a state of the meaning (`seen`). Each call takes only
 /// states that are of this program (`suits`), and tools that are for it (`serves`). `'c` is the
 /// lifetime of the code: the message of a fault shows a text of it.
 pub trait States<'c>: Drop {
@@ -20,7 +20,7 @@ pub trait States<'c>: Drop {
 
     type Tools: Drop;
 
-    ghost place: { Self → Self.State → Place };
+    ghost seen: { Self → Self.State → Configuration };
 
     ghost suits: { Self → Self.State → Type 0 };
 
@@ -28,18 +28,18 @@ pub trait States<'c>: Drop {
 
     /// Returns what the run has written so far.
     fn output<'s>(&self, state: &'s Self::State) -> &'s [u8]
-        ensures { result.now ≡ (place self.now state.now).state.output };
+        ensures { result.now ≡ (seen self.now state.now).state.output };
 
     /// Returns what is asked before the next step (Revised Manual, 4.3): a choice, or nothing, or
     /// how the run ended.
     fn asks(&self, state: &Self::State) -> Ask<'c>
         requires { suits self.now state.now }
         ensures { asked_of result
-            ≡ Some (ask (place self.now state.now).program (place self.now state.now).state) };
+            ≡ Some (ask (seen self.now state.now).program (seen self.now state.now).state) };
 
     /// Returns the number of the statement that is met next, or one more than there are.
     fn statement(&self, state: &Self::State) -> u32
-        ensures { result ≡ (place self.now state.now).state.place };
+        ensures { result ≡ (seen self.now state.now).state.place };
 
     /// Makes one step, and then further steps while nothing is asked and the run hasn't ended, at
     /// most as many as the limit. Returns the state after them, and the number of the further
@@ -54,12 +54,12 @@ pub trait States<'c>: Drop {
     ) -> Result<(Self::State, u32), NoMemory>
         requires tools { serves self.now tools.old }
         requires state { suits self.now state }
-        requires going { IsGoing (ask (place self.now state).program (place self.now state).state) }
-        ensures runs { IfOk result (λ p. RunsOn IsPlain (place self.now state).program
-            (advance (place self.now state).program (place self.now state).state done)
-            p.1 (place self.now p.0).state) }
-        ensures program { IfOk result (λ p. (place self.now p.0).program
-            ≡ (place self.now state).program) }
+        requires going { IsGoing (ask (seen self.now state).program (seen self.now state).state) }
+        ensures runs { IfOk result (λ p. RunsOn IsPlain (seen self.now state).program
+            (advance (seen self.now state).program (seen self.now state).state done)
+            p.1 (seen self.now p.0).state) }
+        ensures program { IfOk result (λ p. (seen self.now p.0).program
+            ≡ (seen self.now state).program) }
         ensures within { IfOk result (λ p. p.1 ≤ limit) }
         ensures state { IfOk result (λ p. suits self.now p.0) }
         ensures tools { serves self.now tools.new };
@@ -74,13 +74,13 @@ pub trait States<'c>: Drop {
     ) -> Result<(Self::State, u32), NoMemory>
         requires tools { serves self.now tools.old }
         requires state { suits self.now state.now }
-        requires going { IsGoing (ask (place self.now state.now).program
-            (place self.now state.now).state) }
-        ensures runs { IfOk result (λ p. RunsOn IsPlain (place self.now state.now).program
-            (advance (place self.now state.now).program (place self.now state.now).state done)
-            p.1 (place self.now p.0).state) }
-        ensures program { IfOk result (λ p. (place self.now p.0).program
-            ≡ (place self.now state.now).program) }
+        requires going { IsGoing (ask (seen self.now state.now).program
+            (seen self.now state.now).state) }
+        ensures runs { IfOk result (λ p. RunsOn IsPlain (seen self.now state.now).program
+            (advance (seen self.now state.now).program (seen self.now state.now).state done)
+            p.1 (seen self.now p.0).state) }
+        ensures program { IfOk result (λ p. (seen self.now p.0).program
+            ≡ (seen self.now state.now).program) }
         ensures within { IfOk result (λ p. p.1 ≤ limit) }
         ensures state { IfOk result (λ p. suits self.now p.0) }
         ensures tools { serves self.now tools.new };
@@ -88,13 +88,13 @@ pub trait States<'c>: Drop {
     /// Returns a copy of a state.
     fn copy(&self, state: &Self::State) -> Result<Self::State, NoMemory>
         requires { suits self.now state.now }
-        ensures place { IfOk result (λ copy. place self.now copy ≡ place self.now state.now) }
+        ensures seen { IfOk result (λ copy. seen self.now copy ≡ seen self.now state.now) }
         ensures state { IfOk result (λ copy. suits self.now copy) };
 
     /// Returns whether two states are equal. The answer may be `false` although they are: then they
     /// are not merged, and the summary is the same.
     fn same(&self, one: &Self::State, other: &Self::State) -> bool
-        ensures { result ≡ true → place self.now one.now ≡ place self.now other.now };
+        ensures { result ≡ true → seen self.now one.now ≡ seen self.now other.now };
 
     /// Returns a number that should be equal if the states are. No contract rests on it: it tells
     /// the search which states to compare.

@@ -20,7 +20,7 @@ use Rattle.ick_explorer.specs.Laws.{AreLimited, ReadsBack}
 use Rattle.ick_explorer.specs.Lines.{compiled_at, line_of}
 use Rattle.ick_explorer.specs.Lines.{run_line as line_of_run}
 use Rattle.ick_explorer.specs.Runs.{IsWhole, Stop, run}
-use Rattle.ick_outcomes.specs.Accounts.{Place}
+use Rattle.ick_outcomes.specs.Accounts.{Configuration}
 use Rattle.ick_outcomes.specs.Askers.{IsFollowed, asked, asked_line}
 use Rattle.ick_outcomes.specs.declared.following.AskedBy.{AskedBy}
 use Rattle.ick_outcomes_cli.specs.Asked.{Explains, ForeignAt, foreign_here, foreign_later, last_line, no_line, run_line}
@@ -181,22 +181,22 @@ refused_so {T} {E} r P h e =
     let both : (◌≡◌ {A = Option T} None None) × P = IfOk-at_ok (λ (found : Option T). (found ≡ None) × P) e h in
     both.1
 
--- a run that was followed from a place, and its line
-abbrev pub place_at : Program → State → Place
-place_at p s = record { program = p; state = s }
+-- a run that was followed from a configuration, and its line
+abbrev pub configuration_at : Program → State → Configuration
+configuration_at p s = record { program = p; state = s }
 
-pub place_is : (code code' : Code) (input input' : List ℕ) (q : Place)
-    → q ≡ place_at (code_program code) (first_state (code_program code) input) → code ≡ code' → input ≡ input'
-    → q ≡ place_at (code_program code') (first_state (code_program code') input')
-place_is code code' input input' q is same same' =
-    is ∙ (ap (λ (x : Code). place_at (code_program x) (first_state (code_program x) input)) same
-    ∙ ap (λ (t : List ℕ). place_at (code_program code') (first_state (code_program code') t)) same')
+pub configuration_is : (code code' : Code) (input input' : List ℕ) (q : Configuration)
+    → q ≡ configuration_at (code_program code) (first_state (code_program code) input) → code ≡ code' → input ≡ input'
+    → q ≡ configuration_at (code_program code') (first_state (code_program code') input')
+configuration_is code code' input input' q is same same' =
+    is ∙ (ap (λ (x : Code). configuration_at (code_program x) (first_state (code_program x) input)) same
+    ∙ ap (λ (t : List ℕ). configuration_at (code_program code') (first_state (code_program code') t)) same')
 
 pub followed_at : (p : Program) (s : State) (limit : ℕ) (c : List Bool) (last : State) (finish : Finish)
-    (askers : List AskedBy) (q : Place) → q ≡ place_at p s
+    (askers : List AskedBy) (q : Configuration) → q ≡ configuration_at p s
     → IsFollowed q.program q.state limit c last finish askers → IsFollowed p s limit c last finish askers
 followed_at p s limit c last finish askers q is h =
-    subst (λ (x : Place). IsFollowed x.program x.state limit c last finish askers) is h
+    subst (λ (x : Configuration). IsFollowed x.program x.state limit c last finish askers) is h
 
 followed_line : (p : Program) (s : State) (limit : ℕ) (c : List Bool) (last : State) (finish : Finish)
     (askers : List AskedBy) → IsFollowed p s limit c last finish askers
@@ -222,7 +222,7 @@ line_other p s limit c last finish askers line wanted h shown other k =
     (shown ∙ (sym (followed_line p s limit c last finish askers h) ∙ sym k.same)))
 
 -- choices that aren't whole have no line
-pub line_of_none : (p : Program) (s : State) (limit : ℕ) (c : List Bool) (line : List ℕ) (q : Place)
-    → q ≡ place_at p s → ¬ IsWhole q.program q.state limit c → ¬ IsLineOf p s limit line c
+pub line_of_none : (p : Program) (s : State) (limit : ℕ) (c : List Bool) (line : List ℕ) (q : Configuration)
+    → q ≡ configuration_at p s → ¬ IsWhole q.program q.state limit c → ¬ IsLineOf p s limit line c
 line_of_none p s limit c line q is none k =
-    none (subst (λ (x : Place). IsWhole x.program x.state limit c) (sym is) k.whole)
+    none (subst (λ (x : Configuration). IsWhole x.program x.state limit c) (sym is) k.whole)

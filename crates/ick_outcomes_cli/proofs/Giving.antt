@@ -1,4 +1,4 @@
--- What an ending gives, and the counts that it leaves.
+-- What a job's end gives, and the counts that it leaves.
 use Rattle.std.proofs.Common.{◌≡◌, ◌∙◌, ◌+◌, ◌++◌, ◌<◌, ◌≤◌, ◌==◌, if◌then◌else◌, ℕ, Bool, true, false, List, []}
 use Rattle.std.proofs.Common.{Option, Some, None, ap, arith, refl, subst, sym, inl, inr, length, take, ne_eqb, eq-eqb}
 use Rattle.std.proofs.lemmas.List.{append-nil, length-take, take_all}
@@ -10,20 +10,20 @@ use Rattle.ick_source.specs.declared.refusals.Refusal.{Refusal}
 use Rattle.ick_source.specs.declared.refusals.Refusal.TheVariants as refusal
 use Rattle.ick_code.specs.meaning.Move.{first_state}
 use Rattle.ick_backtrack.specs.Machine.{Program}
-use Rattle.ick_cli.specs.Ending.{Answers, EndsBy, EndsSent, Leaves, failed_files, input_of, source_of}
+use Rattle.ick_cli.specs.JobEnd.{Answers, EndsBy, EndsSent, Leaves, failed_files, input_of, source_of}
 use Rattle.ick_cli.specs.Input.{EndsUnopened, EndsUnread}
 use Rattle.ick_cli.specs.Notice.{notice_text}
 use Rattle.ick_cli.specs.Stopped.{EndsRefused}
 use Rattle.ick_cli.specs.Tool.{Answer, longest_input, shown}
 use Rattle.ick_cli.specs.Tool.{refusal as refused_by}
-use Rattle.ick_cli.specs.declared.ending.Ending.{Ending}
-use Rattle.ick_cli.specs.declared.ending.Ending.TheVariants.{Answered, NoMemory, InputTooLong, FileNotRead, ReadFailed}
-use Rattle.ick_cli.specs.declared.ending.Ending.TheVariants.{WriteFailed}
+use Rattle.ick_cli.specs.declared.job_end.JobEnd.{JobEnd}
+use Rattle.ick_cli.specs.declared.job_end.JobEnd.TheVariants.{Answered, NoMemory, InputTooLong, FileNotRead, ReadFailed}
+use Rattle.ick_cli.specs.declared.job_end.JobEnd.TheVariants.{WriteFailed}
 use Rattle.ick_cli.specs.declared.notice.Notice.{Notice}
 use Rattle.ick_cli.specs.declared.notice.Notice.TheVariants as notice
 use Rattle.ick_cli.proofs.Answered.{leaves_as, leaves_by}
 use Rattle.ick_outcomes_cli.specs.Asked.{IsAskedBy, foreign_text}
-use Rattle.ick_outcomes_cli.specs.Ended.{Gives, IsRefusal, LeavesAll, listing_of}
+use Rattle.ick_outcomes_cli.specs.OutcomesEnd.{Gives, IsRefusal, LeavesAll, listing_of}
 use Rattle.ick_outcomes_cli.specs.Job.{Wanted}
 use Rattle.ick_outcomes_cli.specs.Tool.{HasMoreStates, HasTooMany, IsExplained, IsFound, IsOutcomesAnswer}
 use Rattle.ick_outcomes_cli.specs.Tool.{IsProgramAnswer, IsSourceAnswer, IsStopped, IsSummed, IsTextFound, IsToldOf}
@@ -31,15 +31,15 @@ use Rattle.ick_outcomes_cli.specs.Tool.{MayStop, by_listing, by_outcomes, compil
 use Rattle.ick_outcomes_cli.specs.Tool.{longest_listing, may_stop, not_read, read, refused, summed, too_long}
 use Rattle.ick_outcomes_cli.specs.declared.asked.Asked.{Asked}
 use Rattle.ick_outcomes_cli.specs.declared.asked.Asked.TheVariants.{Foreign, Text as Told}
-use Rattle.ick_outcomes_cli.specs.declared.ended.Ended.{Ended}
-use Rattle.ick_outcomes_cli.specs.declared.ended.Ended.TheVariants.{By, Refused}
+use Rattle.ick_outcomes_cli.specs.declared.outcomes_end.OutcomesEnd.{OutcomesEnd}
+use Rattle.ick_outcomes_cli.specs.declared.outcomes_end.OutcomesEnd.TheVariants.{By, Refused}
 use Rattle.ick_outcomes_cli.specs.declared.found.Found.{Found}
 use Rattle.ick_outcomes_cli.specs.declared.found.Found.TheVariants.{Outcomes, TooManyStates}
 use Rattle.ick_outcomes_cli.specs.declared.words.job.Question.{Question}
 
 -- other answers, and other reasons to stop
-pub gives_so : {A B : Answer → Type 0} {M N : Type 0} (ended : Ended) (before after : List ℕ)
-    → ((answer : Answer) → A answer → B answer) → (M → N) → Gives A M ended before after → Gives B N ended before after
+pub gives_so : {A B : Answer → Type 0} {M N : Type 0} (outcomes_end : OutcomesEnd) (before after : List ℕ)
+    → ((answer : Answer) → A answer → B answer) → (M → N) → Gives A M outcomes_end before after → Gives B N outcomes_end before after
 gives_so (By (Answered status text)) before after so stops h = (h.0, so h.0 h.1, h.2)
 gives_so (By InputTooLong) before after so stops h = (h.0, so h.0 h.1, h.2)
 gives_so (By FileNotRead) before after so stops h = (h.0, so h.0 h.1, h.2)
@@ -60,8 +60,8 @@ gives_so (Refused notice.OutOfMemory) before after so stops h = absurd h
 gives_so (Refused notice.WordsNotRead) before after so stops h = absurd h
 
 -- an output that was sent
-pub gives_sent : (A : Answer → Type 0) (ending : Ending) (before after : List ℕ) (answer : Answer)
-    → EndsSent ending → A answer → Answers answer ending before after → Gives A ⊥ (By ending) before after
+pub gives_sent : (A : Answer → Type 0) (job_end : JobEnd) (before after : List ℕ) (answer : Answer)
+    → EndsSent job_end → A answer → Answers answer job_end before after → Gives A ⊥ (By job_end) before after
 gives_sent A (Answered status text) before after answer sent is h = (answer, is, h)
 gives_sent A WriteFailed before after answer sent is h = (answer, is, h)
 gives_sent A InputTooLong before after answer sent is h = absurd sent
@@ -70,8 +70,8 @@ gives_sent A NoMemory before after answer sent is h = absurd sent
 gives_sent A ReadFailed before after answer sent is h = absurd sent
 
 -- an answer without output
-pub gives_refusal : (A : Answer → Type 0) (status : ℕ) (text : List ℕ) (ending : Ending)
-    (before : List ℕ) → EndsBy status text ending → A (refused_by status text) → Gives A ⊥ (By ending) before before
+pub gives_refusal : (A : Answer → Type 0) (status : ℕ) (text : List ℕ) (job_end : JobEnd)
+    (before : List ℕ) → EndsBy status text job_end → A (refused_by status text) → Gives A ⊥ (By job_end) before before
 gives_refusal A status text (Answered given said) before h is = (refused_by status text, is, (h, sym (append-nil before)))
 gives_refusal A status text NoMemory before h is = refl
 gives_refusal A status text InputTooLong before h is = absurd h
@@ -81,20 +81,20 @@ gives_refusal A status text WriteFailed before h is = absurd h
 
 -- a source that is refused
 pub gives_refused : (w : Wanted) (source input : List ℕ) (listing : Option (List ℕ)) (why : Refusal)
-    (ending : Ending) (before : List ℕ) → Refuses source why → EndsRefused why ending
-    → Gives (IsSourceAnswer w source input listing) ⊥ (By ending) before before
-gives_refused w source input listing (refusal.Fault kind n) ending before is ends =
-    gives_refusal (IsSourceAnswer w source input listing) 2 (message_of kind n []) ending before ends (refused kind n is.refused)
-gives_refused w source input listing refusal.TooLong ending before long ends =
-    subst (λ (e : Ending). Gives (IsSourceAnswer w source input listing) ⊥ (By e) before before) (sym ends)
+    (job_end : JobEnd) (before : List ℕ) → Refuses source why → EndsRefused why job_end
+    → Gives (IsSourceAnswer w source input listing) ⊥ (By job_end) before before
+gives_refused w source input listing (refusal.Fault kind n) job_end before is ends =
+    gives_refusal (IsSourceAnswer w source input listing) 2 (message_of kind n []) job_end before ends (refused kind n is.refused)
+gives_refused w source input listing refusal.TooLong job_end before long ends =
+    subst (λ (e : JobEnd). Gives (IsSourceAnswer w source input listing) ⊥ (By e) before before) (sym ends)
     (_, too_long long, ((refl, refl), sym (append-nil before)))
-gives_refused w source input listing refusal.NoMemory ending before is ends =
-    subst (λ (e : Ending). Gives (IsSourceAnswer w source input listing) ⊥ (By e) before before) (sym ends) refl
+gives_refused w source input listing refusal.NoMemory job_end before is ends =
+    subst (λ (e : JobEnd). Gives (IsSourceAnswer w source input listing) ⊥ (By e) before before) (sym ends) refl
 
 -- an input that was not read
-pub gives_unread : (A : Answer → Type 0) (input : List ℕ) (ending : Ending) (before : List ℕ)
-    → EndsUnread input ending → (longest_input < length input → A (refused_by 4 (notice_text notice.InputTooLong)))
-    → Gives A ⊥ (By ending) before before
+pub gives_unread : (A : Answer → Type 0) (input : List ℕ) (job_end : JobEnd) (before : List ℕ)
+    → EndsUnread input job_end → (longest_input < length input → A (refused_by 4 (notice_text notice.InputTooLong)))
+    → Gives A ⊥ (By job_end) before before
 gives_unread A input InputTooLong before h long = (_, long h, ((refl, refl), sym (append-nil before)))
 gives_unread A input ReadFailed before h long = refl
 gives_unread A input NoMemory before h long = refl
@@ -107,9 +107,9 @@ abbrev pub read_if : ℕ → ℕ → List ℕ → Option (List ℕ)
 read_if failed failed' bytes = if failed == failed' then Some bytes else None
 
 pub gives_unopened : (A : Option (List ℕ) → Answer → Type 0) (bytes : List ℕ) (failed failed' : ℕ)
-    (ending : Ending) (before : List ℕ) → EndsUnopened ending → failed' ≡ failed + failed_files ending
+    (job_end : JobEnd) (before : List ℕ) → EndsUnopened job_end → failed' ≡ failed + failed_files job_end
     → A None (refused_by 4 (notice_text notice.FileNotRead))
-    → Gives (A (read_if failed failed' bytes)) ⊥ (By ending) before before
+    → Gives (A (read_if failed failed' bytes)) ⊥ (By job_end) before before
 gives_unopened A bytes failed failed' FileNotRead before h count is =
     let other : (failed == failed') ≡ false = ne_eqb failed failed' (λ e. omega arith) in (
       _,
@@ -154,36 +154,36 @@ stop_of_front w most source input long h = record {
   more = h.more;
 }
 
--- counts of failures that rose as much have the same ending
-pub leaves_all_as : (ended : Ended) (f f' r r' w w' g g' s s' x x' : ℕ) → LeavesAll ended f f' r r' w w'
-    → g' + f ≡ f' + g → s' + r ≡ r' + s → x' + w ≡ w' + x → LeavesAll ended g g' s s' x x'
-leaves_all_as (By ending) f f' r r' w w' g g' s s' x x' leaves files reads writes =
-    leaves_as ending f f' r r' w w' g g' s s' x x' leaves files reads writes
+-- counts of failures that rose as much have the same end
+pub leaves_all_as : (outcomes_end : OutcomesEnd) (f f' r r' w w' g g' s s' x x' : ℕ) → LeavesAll outcomes_end f f' r r' w w'
+    → g' + f ≡ f' + g → s' + r ≡ r' + s → x' + w ≡ w' + x → LeavesAll outcomes_end g g' s s' x x'
+leaves_all_as (By job_end) f f' r r' w w' g g' s s' x x' leaves files reads writes =
+    leaves_as job_end f f' r r' w w' g g' s s' x x' leaves files reads writes
 leaves_all_as (Refused line) f f' r r' w w' g g' s s' x x' leaves files reads writes =
     let none = leaves.1 in let unread = leaves.2 in let unwritten = leaves.3 in
     (leaves.0, omega (arith, none), omega (arith, unread), omega (arith, unwritten))
 
--- an ending that leaves everything as it was
+-- a job's end that leaves everything as it was
 pub leaves_nothing : (f r w : ℕ) → LeavesAll (By NoMemory) f f r r w w
 leaves_nothing f r w = record { proper = tt; opened = omega arith; read = omega arith; wrote = omega arith }
 
 pub leaves_line : (line : Notice) (f r w : ℕ) → IsRefusal line → LeavesAll (Refused line) f f r r w w
 leaves_line line f r w is = (is, refl, refl, refl)
 
-pub leaves_refused : (why : Refusal) (ending : Ending) (f r w : ℕ) → EndsRefused why ending
-    → LeavesAll (By ending) f f r r w w
-leaves_refused (refusal.Fault kind n) ending f r w ends =
-    leaves_as ending 0 0 0 0 0 0 f f r r w w (leaves_by 2 (message_of kind n []) ending 0 0 0 0 (omega arith) ends refl refl)
+pub leaves_refused : (why : Refusal) (job_end : JobEnd) (f r w : ℕ) → EndsRefused why job_end
+    → LeavesAll (By job_end) f f r r w w
+leaves_refused (refusal.Fault kind n) job_end f r w ends =
+    leaves_as job_end 0 0 0 0 0 0 f f r r w w (leaves_by 2 (message_of kind n []) job_end 0 0 0 0 (omega arith) ends refl refl)
     (omega arith) (omega arith) (omega arith)
-leaves_refused refusal.TooLong ending f r w ends =
-    subst (λ (e : Ending). Leaves e f f r r w w) (sym ends)
+leaves_refused refusal.TooLong job_end f r w ends =
+    subst (λ (e : JobEnd). Leaves e f f r r w w) (sym ends)
     (record { proper = inl (omega arith); opened = omega arith; read = omega arith; wrote = omega arith })
-leaves_refused refusal.NoMemory ending f r w ends =
-    subst (λ (e : Ending). Leaves e f f r r w w) (sym ends) (leaves_nothing f r w)
+leaves_refused refusal.NoMemory job_end f r w ends =
+    subst (λ (e : JobEnd). Leaves e f f r r w w) (sym ends) (leaves_nothing f r w)
 
--- an ending by status 64, or because memory ran out
-pub leaves_usage : (text : List ℕ) (ending : Ending) (f r w : ℕ) → EndsBy 64 text ending
-    → LeavesAll (By ending) f f r r w w
+-- a job's end by status 64, or because memory ran out
+pub leaves_usage : (text : List ℕ) (job_end : JobEnd) (f r w : ℕ) → EndsBy 64 text job_end
+    → LeavesAll (By job_end) f f r r w w
 leaves_usage text (Answered status said) f r w h = record {
   proper = inr h.0;
   opened = omega arith;
@@ -220,15 +220,15 @@ stop_with_file w file name named failed failed' left front is same fronts h =
     (subst (λ (s : List ℕ). HasMoreStates w s left) fronts h))))
 
 pub unread_with_file : (w : Wanted) (file : Option (List ℕ)) (name : List ℕ) (named : List ℕ → List ℕ)
-    (failed failed' : ℕ) (left : List ℕ) (listing : Option (List ℕ)) (ending : Ending) (before : List ℕ)
-    → file ≡ Some name → EndsUnopened ending → failed' ≡ failed + failed_files ending
+    (failed failed' : ℕ) (left : List ℕ) (listing : Option (List ℕ)) (job_end : JobEnd) (before : List ℕ)
+    → file ≡ Some name → EndsUnopened job_end → failed' ≡ failed + failed_files job_end
     → Gives (IsOutcomesAnswer w (input_of file left) listing (source_of file named failed failed' left))
-    (MayStop w (input_of file left) (source_of file named failed failed' left)) (By ending) before before
-unread_with_file w file name named failed failed' left listing ending before is h count =
+    (MayStop w (input_of file left) (source_of file named failed failed' left)) (By job_end) before before
+unread_with_file w file name named failed failed' left listing job_end before is h count =
     subst (λ (f : Option (List ℕ)).
     Gives (IsOutcomesAnswer w (input_of f left) listing (source_of f named failed failed' left))
-    (MayStop w (input_of f left) (source_of f named failed failed' left)) (By ending) before before) (sym is)
-    (gives_unopened (IsOutcomesAnswer w left listing) (named name) failed failed' ending before h count not_read)
+    (MayStop w (input_of f left) (source_of f named failed failed' left)) (By job_end) before before) (sym is)
+    (gives_unopened (IsOutcomesAnswer w left listing) (named name) failed failed' job_end before h count not_read)
 
 pub read_without_file : (w : Wanted) (file : Option (List ℕ)) (named : List ℕ → List ℕ) (failed failed' : ℕ)
     (left front input : List ℕ) (listing : Option (List ℕ)) (answer : Answer) → file ≡ None → input ≡ []

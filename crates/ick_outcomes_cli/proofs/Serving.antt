@@ -1,26 +1,26 @@
--- From the ending of the work to what the whole call leaves.
+-- From how the job ends to what the whole call leaves.
 use Rattle.std.proofs.Common.{◌≡◌, ◌∙◌, ◌++◌, inl, inr, ℕ, Bool, List, ap, refl, sym, subst, arith}
 use Rattle.std.proofs.lemmas.List.{append-nil}
 use Rattle.ick_cli.specs.Serve.{Failures, Finishes, IsStatus, counts}
 use Rattle.ick_cli.specs.Tool.{Answer}
-use Rattle.ick_cli.specs.declared.ending.Ending.TheVariants.{Answered, NoMemory, InputTooLong, FileNotRead, ReadFailed}
-use Rattle.ick_cli.specs.declared.ending.Ending.TheVariants.{WriteFailed}
+use Rattle.ick_cli.specs.declared.job_end.JobEnd.TheVariants.{Answered, NoMemory, InputTooLong, FileNotRead, ReadFailed}
+use Rattle.ick_cli.specs.declared.job_end.JobEnd.TheVariants.{WriteFailed}
 use Rattle.ick_cli.specs.declared.notice.Notice.TheVariants as notice
 use Rattle.ick_cli.proofs.Left.{four_by}
 use Rattle.ick_cli.proofs.Served.{due, finished_status}
-use Rattle.ick_outcomes_cli.specs.Ended.{Gives, LeavesAll, ended_status, ended_text}
+use Rattle.ick_outcomes_cli.specs.OutcomesEnd.{Gives, LeavesAll, outcomes_end_status, outcomes_end_text}
 use Rattle.ick_outcomes_cli.specs.Serve.{IsOutcomesDue, IsOutcomesServed, answered, as_ick, cut_by_write, long_listing}
 use Rattle.ick_outcomes_cli.specs.Serve.{many_states, too_many, unread, without_memory}
-use Rattle.ick_outcomes_cli.specs.declared.ended.Ended.{Ended}
-use Rattle.ick_outcomes_cli.specs.declared.ended.Ended.TheVariants.{By, Refused}
+use Rattle.ick_outcomes_cli.specs.declared.outcomes_end.OutcomesEnd.{OutcomesEnd}
+use Rattle.ick_outcomes_cli.specs.declared.outcomes_end.OutcomesEnd.TheVariants.{By, Refused}
 
 same : (f f' r r' w w' : ℕ) → f' ≡ f → r' ≡ r → w' ≡ w → counts f' r' w' ≡ counts f r w
 same f f' r r' w w' a b c = cc
 
--- what is due to an ending over any devices
-pub outcomes_due : (ended : Ended) (f f' r r' w w' : ℕ) → LeavesAll ended f f' r r' w w'
-    → IsOutcomesDue (counts f r w) (counts f' r' w') (ended_text ended) (ended_status ended)
-outcomes_due (By ending) f f' r r' w w' x = as_ick _ _ (due ending f f' r r' w w' x)
+-- what is due to a job's end over any devices
+pub outcomes_due : (outcomes_end : OutcomesEnd) (f f' r r' w w' : ℕ) → LeavesAll outcomes_end f f' r r' w w'
+    → IsOutcomesDue (counts f r w) (counts f' r' w') (outcomes_end_text outcomes_end) (outcomes_end_status outcomes_end)
+outcomes_due (By job_end) f f' r r' w w' x = as_ick _ _ (due job_end f f' r r' w w' x)
 outcomes_due (Refused notice.TooManyStates) f f' r r' w w' x = many_states (same _ _ _ _ _ _ x.1 x.2 x.3)
 outcomes_due (Refused notice.ListingTooLong) f f' r r' w w' x = long_listing (same _ _ _ _ _ _ x.1 x.2 x.3)
 outcomes_due (Refused notice.ChoicesAndSeed) f f' r r' w w' x = absurd x.0
@@ -54,10 +54,10 @@ by_answer {A} {M} old new out out' answer text status is has_status has_text rea
     (subst (λ (s : ℕ). IsOutcomesServed A M old new out out' answer.errors s) (sym has_status)
     (answered answer is reads writes sends))
 
--- how a job is served by an ending
-pub outcomes_served : {A : Answer → Type 0} {M : Type 0} (ended : Ended) (f f' r r' w w' : ℕ) (out out' : List ℕ)
-    → LeavesAll ended f f' r r' w w' → Gives A M ended out out'
-    → IsOutcomesServed A M (counts f r w) (counts f' r' w') out out' (ended_text ended) (ended_status ended)
+-- how a job is served by a job's end
+pub outcomes_served : {A : Answer → Type 0} {M : Type 0} (outcomes_end : OutcomesEnd) (f f' r r' w w' : ℕ) (out out' : List ℕ)
+    → LeavesAll outcomes_end f f' r r' w w' → Gives A M outcomes_end out out'
+    → IsOutcomesServed A M (counts f r w) (counts f' r' w') out out' (outcomes_end_text outcomes_end) (outcomes_end_status outcomes_end)
 outcomes_served (By (Answered status said)) f f' r r' w w' out out' x h =
     let has = h.2 in
     by_answer _ _ out out' h.0 _ _ h.1 has.0.0 has.0.1 (omega (arith, x.read)) (omega (arith, x.wrote)) has.1

@@ -53,8 +53,8 @@ fn lines_asked<'c, P: States<'c>>(
 ) -> Result<Asked, NoMemory>
     requires tools { P.serves program.now tools.old }
     requires first { P.suits program.now first.now }
-    ensures { IfOk result (λ asked. IsAskedBy (P.place program.now first.now).program
-        (P.place program.now first.now).state limit listing.now asked) }
+    ensures { IfOk result (λ asked. IsAskedBy (P.seen program.now first.now).program
+        (P.seen program.now first.now).state limit listing.now asked) }
 {
     let mut text = Vec::new(alloc);
     let mut rest = listing;
@@ -88,13 +88,13 @@ fn line_asked<'c, P: States<'c>>(
     requires tools { P.serves program.now tools.old }
     requires first { P.suits program.now first.now }
     ensures some { IfOk result (λ found. IfSome found (λ text. (c : List Bool)
-        × IsRunLine (P.place program.now first.now).program (P.place program.now first.now).state
+        × IsRunLine (P.seen program.now first.now).program (P.seen program.now first.now).state
         limit line.now c
-        × (text.items ≡ asked_line (asked (P.place program.now first.now).program
-        (P.place program.now first.now).state limit c)))) }
+        × (text.items ≡ asked_line (asked (P.seen program.now first.now).program
+        (P.seen program.now first.now).state limit c)))) }
     ensures none { result ≡ Ok None → (c : List Bool)
-        → ¬ IsRunLine (P.place program.now first.now).program
-        (P.place program.now first.now).state limit line.now c }
+        → ¬ IsRunLine (P.seen program.now first.now).program
+        (P.seen program.now first.now).state limit line.now c }
     ensures tools { P.serves program.now tools.new }
 {
     one_reading();
@@ -132,12 +132,12 @@ fn run_asked<'c, P: States<'c>>(
     requires tools { P.serves program.now tools.old }
     requires first { P.suits program.now first.now }
     ensures some { IfOk result (λ found. IfSome found (λ text.
-        IsLineOf (P.place program.now first.now).program (P.place program.now first.now).state
+        IsLineOf (P.seen program.now first.now).program (P.seen program.now first.now).state
         limit line.now choices.now
-        × (text.items ≡ asked_line (asked (P.place program.now first.now).program
-        (P.place program.now first.now).state limit choices.now)))) }
-    ensures none { result ≡ Ok None → ¬ IsLineOf (P.place program.now first.now).program
-        (P.place program.now first.now).state limit line.now choices.now }
+        × (text.items ≡ asked_line (asked (P.seen program.now first.now).program
+        (P.seen program.now first.now).state limit choices.now)))) }
+    ensures none { result ≡ Ok None → ¬ IsLineOf (P.seen program.now first.now).program
+        (P.seen program.now first.now).state limit line.now choices.now }
     ensures tools { P.serves program.now tools.new }
 {
     let state = program.copy(first)?;

@@ -3,21 +3,21 @@
 
 ghost use Rattle.std.specs.Prelude.{◌≡◌, ◌+◌, ◌<◌, ◌^◌, IfOk, None, Some, true};
 ghost use Rattle.ick_code.specs.Compiled.{code_program};
-ghost use Rattle.ick_cli.specs.Ending.{EndsBy, input_of, source_of};
+ghost use Rattle.ick_cli.specs.JobEnd.{EndsBy, input_of, source_of};
 ghost use Rattle.ick_outcomes_cli.specs.Asked.{foreign_text};
-ghost use Rattle.ick_outcomes_cli.specs.Ended.{Gives, LeavesAll, listing_of};
+ghost use Rattle.ick_outcomes_cli.specs.OutcomesEnd.{Gives, LeavesAll, listing_of};
 ghost use Rattle.ick_outcomes_cli.specs.Job.{wanted};
 ghost use Rattle.ick_outcomes_cli.specs.Tool.{HasMoreStates, HasTooMany, IsExplained, IsStopped};
 ghost use Rattle.ick_outcomes_cli.specs.Tool.{IsOutcomesAnswer, IsProgramAnswer, IsSourceAnswer};
 ghost use Rattle.ick_outcomes_cli.specs.Tool.{IsSummed, IsTextFound, IsToldOf, MayStop};
 
 use crate::asked::{Asked, asked_by};
-use crate::ended::Ended;
 use crate::found::{Found, find};
+use crate::outcomes_end::OutcomesEnd;
 use crate::words::{Job, Question};
 use ick_bits::{NoMemory, append_decimal};
 use ick_cli::{
-    Ending, Files, Message, Notice, read_file, read_front, read_input, read_named, refused, send,
+    Files, JobEnd, Message, Notice, read_file, read_front, read_input, read_named, refused, send,
 };
 use ick_code::{Code, compile};
 use ick_runs::{ByteSink, ByteSource, SliceSource};
@@ -36,7 +36,7 @@ pub fn perform<F: Files, L: Files, R: ByteSource, W: ByteSink>(
     listings: &mut L,
     reader: &mut R,
     writer: &mut W,
-) -> Ended
+) -> OutcomesEnd
     requires files_sound { F.failed files.old + 1 < 2 ^ 64 }
     requires listings_sound { L.failed listings.old + 1 < 2 ^ 64 }
     requires reader_sound { R.failed reader.old + 1 < 2 ^ 64 }
@@ -56,7 +56,7 @@ pub fn perform<F: Files, L: Files, R: ByteSource, W: ByteSink>(
     match job.file {
         Some(name) => match read_file(alloc, name, files) {
             Ok(source) => answer_source(alloc, job, source.as_slice(), listings, reader, writer),
-            Err(ending) => Ended::By(ending),
+            Err(job_end) => OutcomesEnd::By(job_end),
         },
         None => match read_front(alloc, reader) {
             Ok(source) => {
@@ -70,7 +70,7 @@ pub fn perform<F: Files, L: Files, R: ByteSource, W: ByteSink>(
                     writer,
                 )
             }
-            Err(ending) => Ended::By(ending),
+            Err(job_end) => OutcomesEnd::By(job_end),
         },
     }
 }
@@ -83,7 +83,7 @@ fn answer_source<L: Files, R: ByteSource, W: ByteSink>(
     listings: &mut L,
     reader: &mut R,
     writer: &mut W,
-) -> Ended
+) -> OutcomesEnd
     requires listings_sound { L.failed listings.old + 1 < 2 ^ 64 }
     requires reader_sound { R.failed reader.old + 1 < 2 ^ 64 }
     requires writer_sound { W.failed writer.old + 1 < 2 ^ 64 }
@@ -99,11 +99,11 @@ fn answer_source<L: Files, R: ByteSource, W: ByteSink>(
 {
     let program = match read_source(alloc, source) {
         Ok(program) => program,
-        Err(refusal) => return Ended::By(refused(alloc, refusal)),
+        Err(refusal) => return OutcomesEnd::By(refused(alloc, refusal)),
     };
     match compile(alloc, &program) {
         Ok(code) => answer_code(alloc, job, &code, listings, reader, writer),
-        Err(NoMemory) => Ended::By(Ending::NoMemory),
+        Err(NoMemory) => OutcomesEnd::By(JobEnd::NoMemory),
     }
 }
 
@@ -115,7 +115,7 @@ fn answer_code<L: Files, R: ByteSource, W: ByteSink>(
     listings: &mut L,
     reader: &mut R,
     writer: &mut W,
-) -> Ended
+) -> OutcomesEnd
     requires listings_sound { L.failed listings.old + 1 < 2 ^ 64 }
     requires reader_sound { R.failed reader.old + 1 < 2 ^ 64 }
     requires writer_sound { W.failed writer.old + 1 < 2 ^ 64 }
@@ -150,7 +150,7 @@ fn answer_code<L: Files, R: ByteSource, W: ByteSink>(
                 writer,
             ),
         },
-        Err(ending) => Ended::By(ending),
+        Err(job_end) => OutcomesEnd::By(job_end),
     }
 }
 
@@ -162,7 +162,7 @@ fn answer_outcomes<W: ByteSink>(
     limit: u32,
     question: Question,
     writer: &mut W,
-) -> Ended
+) -> OutcomesEnd
     requires { W.failed writer.old + 1 < 2 ^ 64 }
     ensures leaves { LeavesAll result 0 0 0 0 (W.failed writer.old) (W.failed writer.new) }
     ensures gives { W.told ≡ true → Gives
@@ -172,20 +172,22 @@ fn answer_outcomes<W: ByteSink>(
 {
     match find(alloc, code, input, limit, question) {
         Ok(found) => show(&found, writer),
-        Err(NoMemory) => Ended::By(Ending::NoMemory),
+        Err(NoMemory) => OutcomesEnd::By(JobEnd::NoMemory),
     }
 }
 
 /// Writes what was found out.
-fn show<W: ByteSink>(found: &Found, writer: &mut W) -> Ended
+fn show<W: ByteSink>(found: &Found, writer: &mut W) -> OutcomesEnd
     requires { W.failed writer.old + 1 < 2 ^ 64 }
     ensures leaves { LeavesAll result 0 0 0 0 (W.failed writer.old) (W.failed writer.new) }
     ensures gives { W.told ≡ true → Gives (IsTextFound found.now) (IsStopped found.now)
         result (W.written writer.old) (W.written writer.new) }
 {
     match found {
-        Found::Outcomes(text) => { Ended::By(send(text.as_slice(), 0, Message::Nothing, writer)) }
-        Found::TooManyStates => Ended::Refused(Notice::TooManyStates),
+        Found::Outcomes(text) => {
+            OutcomesEnd::By(send(text.as_slice(), 0, Message::Nothing, writer))
+        }
+        Found::TooManyStates => OutcomesEnd::Refused(Notice::TooManyStates),
     }
 }
 
@@ -198,7 +200,7 @@ fn answer_listing<L: Files, W: ByteSink>(
     name: &str,
     listings: &mut L,
     writer: &mut W,
-) -> Ended
+) -> OutcomesEnd
     requires listings_sound { L.failed listings.old + 1 < 2 ^ 64 }
     requires writer_sound { W.failed writer.old + 1 < 2 ^ 64 }
     ensures leaves { LeavesAll result (L.failed listings.old) (L.failed listings.new) 0 0
@@ -210,7 +212,7 @@ fn answer_listing<L: Files, W: ByteSink>(
 {
     match read_named(alloc, name, LONGEST_LISTING + 1, listings) {
         Ok(listing) => answer_lines(alloc, code, input, limit, listing.as_slice(), writer),
-        Err(ending) => Ended::By(ending),
+        Err(job_end) => OutcomesEnd::By(job_end),
     }
 }
 
@@ -222,7 +224,7 @@ fn answer_lines<W: ByteSink>(
     limit: u32,
     listing: &[u8],
     writer: &mut W,
-) -> Ended
+) -> OutcomesEnd
     requires { W.failed writer.old + 1 < 2 ^ 64 }
     ensures leaves { LeavesAll result 0 0 0 0 (W.failed writer.old) (W.failed writer.new) }
     ensures gives { W.told ≡ true → Gives
@@ -230,20 +232,20 @@ fn answer_lines<W: ByteSink>(
         result (W.written writer.old) (W.written writer.new) }
 {
     if listing.len() > LONGEST_LISTING {
-        return Ended::Refused(Notice::ListingTooLong);
+        return OutcomesEnd::Refused(Notice::ListingTooLong);
     }
     match asked_by(alloc, code, input, limit, listing) {
-        Ok(asked) => Ended::By(tell(alloc, &asked, writer)),
-        Err(NoMemory) => Ended::By(Ending::NoMemory),
+        Ok(asked) => OutcomesEnd::By(tell(alloc, &asked, writer)),
+        Err(NoMemory) => OutcomesEnd::By(JobEnd::NoMemory),
     }
 }
 
 /// Writes what choices were asked by, or says which line is of no run.
-fn tell<W: ByteSink>(alloc: Global, asked: &Asked, writer: &mut W) -> Ending
+fn tell<W: ByteSink>(alloc: Global, asked: &Asked, writer: &mut W) -> JobEnd
     requires { W.failed writer.old + 1 < 2 ^ 64 }
-    ensures leaves { LeavesAll (Ended.By result) 0 0 0 0
+    ensures leaves { LeavesAll (OutcomesEnd.By result) 0 0 0 0
         (W.failed writer.old) (W.failed writer.new) }
-    ensures gives { W.told ≡ true → Gives (IsToldOf asked.now) ⊥ (Ended.By result)
+    ensures gives { W.told ≡ true → Gives (IsToldOf asked.now) ⊥ (OutcomesEnd.By result)
         (W.written writer.old) (W.written writer.new) }
 {
     match asked {
@@ -253,15 +255,15 @@ fn tell<W: ByteSink>(alloc: Global, asked: &Asked, writer: &mut W) -> Ending
 }
 
 /// Returns how work ends at a line that is of no run.
-fn foreign(alloc: Global, number: u64) -> Ending
+fn foreign(alloc: Global, number: u64) -> JobEnd
     ensures { EndsBy 64 (foreign_text number) result }
 {
     match foreign_line(alloc, number) {
-        Ok(text) => Ending::Answered {
+        Ok(text) => JobEnd::Answered {
             status: 64,
             message: Message::Text(text),
         },
-        Err(NoMemory) => Ending::NoMemory,
+        Err(NoMemory) => JobEnd::NoMemory,
     }
 }
 

@@ -3,10 +3,10 @@
 ghost use Rattle.std.specs.Prelude.{◌≡◌, ◌≢◌, ◌+◌, ◌<◌, ◌^◌, ◌⊎◌, [], true};
 ghost use Rattle.clap.specs.Walk.{texts};
 ghost use Rattle.clap.specs.Words.{fault_of};
-ghost use Rattle.ick_cli.specs.Ending.{input_of, source_of};
+ghost use Rattle.ick_cli.specs.JobEnd.{input_of, source_of};
 ghost use Rattle.ick_cli.specs.Serve.{FinishesDue, IsStatus, counts};
 ghost use Rattle.ick_cli.specs.Usage.{AreMistakes, AreRequests, IsHelped, IsRefused};
-ghost use Rattle.ick_outcomes_cli.specs.Ended.{listing_of};
+ghost use Rattle.ick_outcomes_cli.specs.OutcomesEnd.{listing_of};
 ghost use Rattle.ick_outcomes_cli.specs.Job.{HasJob, job_of};
 ghost use Rattle.ick_outcomes_cli.specs.Serve.{IsOutcomesDue, IsOutcomesServed};
 ghost use Rattle.ick_outcomes_cli.specs.Tool.{IsOutcomesAnswer, MayStop};
@@ -87,8 +87,8 @@ pub fn serve_outcomes<F: Files, L: Files, R: ByteSource, W: ByteSink, E: ByteSin
 {
     match read_job(alloc, words) {
         Ok(job) => {
-            let ended = perform(alloc, &job, files, listings, reader, writer);
-            ended.report(errors)
+            let outcomes_end = perform(alloc, &job, files, listings, reader, writer);
+            outcomes_end.report(errors)
         }
         Err(error) => answer_words(alloc, &error, writer, errors),
     }

@@ -2,7 +2,7 @@
 //! arguments ask for, over devices of the caller.
 //!
 //! - `words`: the options, and the job that arguments ask for
-//! - `ended`: how the work of a job ends
+//! - `outcomes_end`: how a job ends
 //! - `found`: the outcomes of code
 //! - `lines`: the lines of a listing
 //! - `asked`: what the choices of a listing were asked by
@@ -13,9 +13,9 @@
 mod asked;
 mod dispatch;
 mod driver;
-mod ended;
 mod found;
 mod lines;
+mod outcomes_end;
 mod words;
 
 pub use driver::serve_outcomes;

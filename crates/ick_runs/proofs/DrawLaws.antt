@@ -9,7 +9,7 @@ use Rattle.ick_code.specs.meaning.Move.{Asking, plain, choice, ended, ask, advan
 use Rattle.ick_backtrack.specs.Machine.{Program, Machine}
 use Rattle.ick_backtrack.specs.Asked.{Finish}
 use Rattle.ick_explorer.specs.Runs.{ends, run, stepped, IsWhole, IsEnd}
-use Rattle.ick_explorer.specs.Listings.{IsBelow}
+use Rattle.ick_explorer.specs.Order.{IsBelow}
 use Rattle.ick_explorer.specs.Paths.{Leads, RunsTo}
 use Rattle.ick_explorer.specs.Walks.{EndsHere}
 use Rattle.ick_runs.specs.Draws.{IsDrawn, AreDrawn, means_done}

@@ -158,7 +158,7 @@ fn has_no_word(text: &[u8]) -> bool
 }
 
 /// Returns the number that a word writes in decimal digits, if it has 32 bits.
-fn number_of(word: &[u8]) -> Option<u32>
+fn number_in(word: &[u8]) -> Option<u32>
     ensures { result ≡ number_in word.now }
 {
     if word.is_empty() {
@@ -199,7 +199,7 @@ pub fn name_of(word: &[u8]) -> Option<Name>
         return None;
     }
     let kind = kind_of(word[0])?;
-    let number = number_of(&word[1..])?;
+    let number = number_in(&word[1..])?;
     if number == 0 || number > 65_535 {
         return None;
     }
@@ -222,7 +222,7 @@ fn only_number(text: &[u8]) -> Option<u32>
     ensures { result ≡ number_alone text.now }
 {
     let word = only_word(text)?;
-    number_of(word)
+    number_in(word)
 }
 
 /// Returns the name that is the only word of a text.

@@ -12,7 +12,7 @@ use Rattle.ick_backtrack.specs.Asked.{Finish, finished, asked_at_end, IsGoing}
 use Rattle.ick_backtrack.specs.Machine.{Program}
 use Rattle.ick_backtrack.specs.Steps.{IsPlain, RunsOn}
 use Rattle.ick_instructions.specs.declared.lowered.LoweredParts.{LoweredParts}
-use Rattle.ick_engine.specs.declared.exit.Ended.{Ended}
+use Rattle.ick_engine.specs.declared.exit.RawEnd.{RawEnd}
 use Rattle.ick_engine.specs.declared.saved.Saved.{Saved}
 use Rattle.ick_engine.specs.declared.text_reader.TextReader.{TextReader}
 use Rattle.ick_engine.specs.Reads.{Leads}
@@ -20,19 +20,19 @@ use Rattle.ick_engine.specs.Saved.{IsKept, IsSaved, saved_view}
 use Rattle.ick_engine.specs.View.{View, Input, end_of, input_of, state_of}
 use Rattle.ick_machine.specs.Asked.{asked_by}
 use Rattle.ick_machine.specs.Run.{ending_of, run_state}
-use Rattle.ick_outcomes.specs.Accounts.{Place}
-use Rattle.ick_states.specs.Seen.{place_of}
+use Rattle.ick_outcomes.specs.Accounts.{Configuration}
+use Rattle.ick_states.specs.Seen.{seen_of}
 use Rattle.ick_machine.proofs.AnswerLemmas.{asks_status, place_low}
 
 -- a run that goes on hasn't ended
-pub going_on : (code : Code) (lowered : LoweredParts) (input : Input) (v : View) (end : Option Ended) →
+pub going_on : (code : Code) (lowered : LoweredParts) (input : Input) (v : View) (end : Option RawEnd) →
     IsGoing (ask (code_program code) (run_state code lowered input v end)) → end ≡ None
 unfolding ask
 going_on code lowered input v None going = refl
 going_on code lowered input v (Some e) going = absurd going
 
 -- views of the same state, and the same end
-pub run_same : (code : Code) (lowered : LoweredParts) (input : Input) (v m : View) (end : Option Ended) →
+pub run_same : (code : Code) (lowered : LoweredParts) (input : Input) (v m : View) (end : Option RawEnd) →
     state_of code lowered input v ≡ state_of code lowered input m →
     run_state code lowered input v end ≡ run_state code lowered input m end
 run_same code lowered input v m end same = ap {A = State} (λ s. record s { end = ending_of code input end }) same
@@ -47,7 +47,7 @@ by_text old new text P is same leads =
     (subst (λ input. P input (input_of new.text.now)) (found.1 ∙ ap input_of is) found.2)
 
 -- the end of a run is asked as it is
-pub asks_end : (code : Code) (lowered : LoweredParts) (input : Input) (v : View) (end : Option Ended) (e : Ended)
+pub asks_end : (code : Code) (lowered : LoweredParts) (input : Input) (v : View) (end : Option RawEnd) (e : RawEnd)
     (finish : Finish) → end ≡ Some e → Some finish ≡ option_map finished (ending_of code input (Some e)) →
     asked_at_end finish ≡ Some (ask (code_program code) (run_state code lowered input v end))
 unfolding ask
@@ -57,7 +57,7 @@ asks_end code lowered input v end e finish ended same =
     ∙ sym (ap (λ o. Some (ask (code_program code) (run_state code lowered input v o))) ended)
 
 -- what is asked of a run that hasn't ended
-pub asks_on : (code : Code) (lowered : LoweredParts) (input : Input) (v : View) (end : Option Ended)
+pub asks_on : (code : Code) (lowered : LoweredParts) (input : Input) (v : View) (end : Option RawEnd)
     (answer : Option Asking) → end ≡ None →
     answer ≡ Some (ask (code_program code) (run_state code lowered input v None)) →
     answer ≡ Some (ask (code_program code) (run_state code lowered input v end))
@@ -65,11 +65,11 @@ asks_on code lowered input v end answer none asked =
     asked ∙ sym (ap (λ o. Some (ask (code_program code) (run_state code lowered input v o))) none)
 
 -- kept states of the same state, and the same end
-pub place_same : (code : Code) (lowered : LoweredParts) (text : List ℕ) (one other : Saved) (end : Option Ended) →
+pub place_same : (code : Code) (lowered : LoweredParts) (text : List ℕ) (one other : Saved) (end : Option RawEnd) →
     state_of code lowered (input_of text) (saved_view one) ≡ state_of code lowered (input_of text) (saved_view other) →
-    place_of code lowered text one end ≡ place_of code lowered text other end
+    seen_of code lowered text one end ≡ seen_of code lowered text other end
 place_same code lowered text one other end same =
-    ap {B = Place} (λ s. record { program = code_program code; state = s })
+    ap {B = Configuration} (λ s. record { program = code_program code; state = s })
     (run_same code lowered (input_of text) (saved_view one) (saved_view other) end same)
 
 -- what a call answers
@@ -111,7 +111,7 @@ pub no_steps : (program : Program) (s : State) → RunsOn IsPlain program s 0 s
 no_steps program s = record { leads = refl; on = λ i lt. absurd (omega (arith, lt)) }
 
 -- steps over a text, of a run that hasn't ended
-pub ran_on : (code : Code) (lowered : LoweredParts) (text : List ℕ) (v w : View) (end end' : Option Ended) (k : ℕ)
+pub ran_on : (code : Code) (lowered : LoweredParts) (text : List ℕ) (v w : View) (end end' : Option RawEnd) (k : ℕ)
     (old new : TextReader) → end ≡ None → old.text.now ≡ text → new.text.now ≡ old.text.now →
     Leads (λ (reader : TextReader) input. input ≡ input_of reader.text.now) old new
     (λ before after. RunsOn IsPlain (code_program code) (run_state code lowered before v None) k

@@ -8,7 +8,7 @@ use crate::asking::asked_in;
 use ick_backtrack::Ask;
 use ick_bits::NoMemory;
 use ick_code::Code;
-use ick_engine::{Ended, Memory, Nobody, Saved, TextReader, fresh_memory};
+use ick_engine::{Memory, Nobody, RawEnd, Saved, TextReader, fresh_memory};
 use ick_instructions::Lowered;
 use ick_lowering::lower;
 use ick_machine::{end_of, run_on, step_once};
@@ -19,7 +19,7 @@ use std::alloc::Global;
 #[derive(Drop)]
 pub struct KeptRun {
     saved: Saved,
-    end: Option<Ended>,
+    end: Option<RawEnd>,
 }
 
 /// A program over an input that is a text. Steps are made in a memory, which is lent for each call.
@@ -41,7 +41,7 @@ impl<'c, 'a> Runs<'c, 'a> {
     ghost use Rattle.ick_engine.specs.Steady.{IsReady, IsSteady};
     ghost use Rattle.ick_engine.specs.View.{Input, input_of};
     ghost use Rattle.ick_machine.specs.Run.{run_state};
-    ghost use Rattle.ick_states.specs.Seen.{place_of};
+    ghost use Rattle.ick_states.specs.Seen.{seen_of};
 
     /// Returns a program over an input. `NoMemory` is the only refusal.
     pub fn new(alloc: Global, code: &'c Code<'a>, input: &'c [u8]) -> Result<Runs<'c, 'a>, NoMemory>
@@ -57,7 +57,7 @@ impl<'c, 'a> Runs<'c, 'a> {
     }
 
     /// Keeps the state that a memory represents.
-    fn keep(&self, memory: &Memory, end: Option<Ended>) -> Result<KeptRun, NoMemory>
+    fn keep(&self, memory: &Memory, end: Option<RawEnd>) -> Result<KeptRun, NoMemory>
         requires { IsReady self.now.lowered.code.now self.now.lowered.parts (view_in memory.now) }
         ensures kept { IfOk result (λ state. IsKept self.now.lowered.code.now
             self.now.lowered.parts state.saved) }
@@ -79,7 +79,7 @@ impl<'c, 'a> Runs<'c, 'a> {
     fn go_on(
         &self,
         memory: &mut Memory,
-        end: &mut Option<Ended>,
+        end: &mut Option<RawEnd>,
         limit: u32,
     ) -> Result<u32, NoMemory>
         requires { IsReady self.now.lowered.code.now self.now.lowered.parts (view_in memory.old) }
@@ -123,7 +123,7 @@ impl<'c, 'a> Runs<'c, 'a> {
             (advance (code_program self.now.lowered.code.now)
             (run_state self.now.lowered.code.now self.now.lowered.parts
             (input_of self.now.input.now) (view_in memory.old) None) done) p.1
-            (place_of self.now.lowered.code.now self.now.lowered.parts self.now.input.now
+            (seen_of self.now.lowered.code.now self.now.lowered.parts self.now.input.now
             p.0.saved p.0.end).state) }
         ensures within { IfOk result (λ p. p.1 ≤ limit) }
     {
@@ -155,7 +155,7 @@ impl<'c, 'a> Runs<'c, 'a> {
             (view_in memory.old) }
         requires kept { IsKept self.now.lowered.code.now self.now.lowered.parts state.saved }
         requires going { IsGoing (ask (code_program self.now.lowered.code.now)
-            (place_of self.now.lowered.code.now self.now.lowered.parts self.now.input.now
+            (seen_of self.now.lowered.code.now self.now.lowered.parts self.now.input.now
             state.saved state.end).state) }
         ensures steady { IsSteady self.now.lowered.code.now self.now.lowered.parts
             (view_in memory.new) }
@@ -163,9 +163,9 @@ impl<'c, 'a> Runs<'c, 'a> {
             self.now.lowered.parts p.0.saved) }
         ensures runs { IfOk result (λ p. RunsOn IsPlain (code_program self.now.lowered.code.now)
             (advance (code_program self.now.lowered.code.now)
-            (place_of self.now.lowered.code.now self.now.lowered.parts self.now.input.now
+            (seen_of self.now.lowered.code.now self.now.lowered.parts self.now.input.now
             state.saved state.end).state done) p.1
-            (place_of self.now.lowered.code.now self.now.lowered.parts self.now.input.now
+            (seen_of self.now.lowered.code.now self.now.lowered.parts self.now.input.now
             p.0.saved p.0.end).state) }
         ensures within { IfOk result (λ p. p.1 ≤ limit) }
     {
@@ -185,7 +185,7 @@ impl<'c, 'a> Runs<'c, 'a> {
             (view_in memory.old) }
         requires kept { IsKept self.now.lowered.code.now self.now.lowered.parts state.now.saved }
         requires going { IsGoing (ask (code_program self.now.lowered.code.now)
-            (place_of self.now.lowered.code.now self.now.lowered.parts self.now.input.now
+            (seen_of self.now.lowered.code.now self.now.lowered.parts self.now.input.now
             state.now.saved state.now.end).state) }
         ensures steady { IsSteady self.now.lowered.code.now self.now.lowered.parts
             (view_in memory.new) }
@@ -193,9 +193,9 @@ impl<'c, 'a> Runs<'c, 'a> {
             self.now.lowered.parts p.0.saved) }
         ensures runs { IfOk result (λ p. RunsOn IsPlain (code_program self.now.lowered.code.now)
             (advance (code_program self.now.lowered.code.now)
-            (place_of self.now.lowered.code.now self.now.lowered.parts self.now.input.now
+            (seen_of self.now.lowered.code.now self.now.lowered.parts self.now.input.now
             state.now.saved state.now.end).state done) p.1
-            (place_of self.now.lowered.code.now self.now.lowered.parts self.now.input.now
+            (seen_of self.now.lowered.code.now self.now.lowered.parts self.now.input.now
             p.0.saved p.0.end).state) }
         ensures within { IfOk result (λ p. p.1 ≤ limit) }
     {
@@ -208,13 +208,13 @@ impl<'c, 'a> States<'c> for Runs<'c, 'a> {
     ghost use Rattle.ick_engine.specs.Memory.{view_in};
     ghost use Rattle.ick_engine.specs.Saved.{IsKept};
     ghost use Rattle.ick_engine.specs.Steady.{IsSteady};
-    ghost use Rattle.ick_states.specs.Seen.{place_of};
+    ghost use Rattle.ick_states.specs.Seen.{seen_of};
 
     type State = KeptRun;
 
     type Tools = Memory;
 
-    ghost place = { λ runs state. place_of runs.lowered.code.now runs.lowered.parts runs.input.now
+    ghost seen = { λ runs state. seen_of runs.lowered.code.now runs.lowered.parts runs.input.now
         state.saved state.end };
 
     ghost suits = { λ runs state. IsKept runs.lowered.code.now runs.lowered.parts state.saved };
@@ -290,7 +290,7 @@ impl<'c, 'a> Runs<'c, 'a> {
         ensures state { IfOk result (λ state.
             ⟦<Runs<'c, 'a> as States<'c>>⟧.suits self.now state) }
         ensures first { IfOk result (λ state.
-            ⟦<Runs<'c, 'a> as States<'c>>⟧.place self.now state ≡ record {
+            ⟦<Runs<'c, 'a> as States<'c>>⟧.seen self.now state ≡ record {
               program = code_program self.now.lowered.code.now;
               state = first_state (code_program self.now.lowered.code.now) self.now.input.now;
             }) }

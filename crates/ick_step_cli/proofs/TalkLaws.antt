@@ -4,9 +4,9 @@ use Rattle.std.proofs.Common.{refl, ap, ap₂, sym, ◌∙◌, arith, append_ass
 use Rattle.std.specs.List.{list_all}
 use Rattle.std.proofs.lemmas.List.{append-nil, take_all}
 use Rattle.std.proofs.Math.Seq.{take-append-add}
-use Rattle.ick_cli.specs.declared.ending.Ending.{Ending}
-use Rattle.ick_cli.specs.declared.ending.Ending.TheVariants.{Answered, FileNotRead, InputTooLong, NoMemory, ReadFailed}
-use Rattle.ick_cli.specs.declared.ending.Ending.TheVariants.{WriteFailed}
+use Rattle.ick_cli.specs.declared.job_end.JobEnd.{JobEnd}
+use Rattle.ick_cli.specs.declared.job_end.JobEnd.TheVariants.{Answered, FileNotRead, InputTooLong, NoMemory, ReadFailed}
+use Rattle.ick_cli.specs.declared.job_end.JobEnd.TheVariants.{WriteFailed}
 use Rattle.ick_inspect.specs.Text.{Adds}
 use Rattle.ick_inspect.specs.declared.positions.Position.{Position}
 use Rattle.ick_inspect.specs.declared.text.Text.{Text}
@@ -200,9 +200,9 @@ cut_after f positions s t lines left before now h =
       written = h.written ∙ ap (λ l. before ++ l) (sym (take_all (length output) output (omega arith)));
     }
 
-pub failed : (f : Fixed) (positions : List Position) (s : Seen) (lines : List (List ℕ)) (ending : Ending)
-    (before after : List ℕ) → IsFailure ending → IsCut f positions s lines before after →
-    Writes f positions s lines ending before after
+pub failed : (f : Fixed) (positions : List Position) (s : Seen) (lines : List (List ℕ)) (job_end : JobEnd)
+    (before after : List ℕ) → IsFailure job_end → IsCut f positions s lines before after →
+    Writes f positions s lines job_end before after
 failed f positions s lines (Answered status message) before after proper h = absurd proper
 failed f positions s lines NoMemory before after proper h = h
 failed f positions s lines InputTooLong before after proper h = h

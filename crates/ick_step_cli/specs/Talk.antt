@@ -1,7 +1,7 @@
 -- What a session writes.
 use Rattle.std.specs.Prelude.{◌≡◌, ℕ, ◌==◌, false, List, [], ◌∷◌, ◌++◌, take, if◌then◌else◌}
-use Rattle.ick_cli.specs.declared.ending.Ending.{Ending}
-use Rattle.ick_cli.specs.declared.ending.Ending.TheVariants.{Answered}
+use Rattle.ick_cli.specs.declared.job_end.JobEnd.{JobEnd}
+use Rattle.ick_cli.specs.declared.job_end.JobEnd.TheVariants.{Answered}
 use Rattle.ick_inspect.specs.declared.positions.Position.{Position}
 use Rattle.ick_step.specs.Session.{Seen}
 use Rattle.ick_session.specs.Lines.{AnswersLine, Talks}
@@ -43,12 +43,12 @@ pub record IsCut (f : Fixed) (positions : List Position) (s : Seen) (lines : Lis
   pub count : ℕ
   pub written : after ≡ before ++ take count (output_text f positions s text)
 
--- an ending by a failure
-abbrev pub IsFailure : Ending → Type 0
+-- a job's end by a failure
+abbrev pub IsFailure : JobEnd → Type 0
 IsFailure (Answered status message) = ⊥
 IsFailure _ = Unit {0}
 
 -- what a session writes, by how it ends
-abbrev pub Writes : Fixed → List Position → Seen → (lines : List (List ℕ)) → Ending → (before after : List ℕ) → Type 0
+abbrev pub Writes : Fixed → List Position → Seen → (lines : List (List ℕ)) → JobEnd → (before after : List ℕ) → Type 0
 Writes f positions s lines (Answered status message) before after = IsOver f positions s lines before after
 Writes f positions s lines _ before after = IsCut f positions s lines before after

@@ -4,14 +4,14 @@
 ghost use Rattle.std.specs.Prelude.{◌≡◌, ◌+◌, ◌<◌, ◌≤◌, ◌^◌, [], IfErr, IfOk, length};
 ghost use Rattle.ick_code.specs.Compiled.{code_program};
 ghost use Rattle.ick_explorer.specs.Writes.{write_failures};
-ghost use Rattle.ick_cli.specs.Ending.{Leaves, LeavesStreams, LeavesWriter};
+ghost use Rattle.ick_cli.specs.JobEnd.{Leaves, LeavesStreams, LeavesWriter};
 ghost use Rattle.ick_step_cli.specs.Trace.{IsTraceError};
 
 use crate::session::talk;
 use crate::trace::{Stopped, trace};
 use crate::words::Job;
 use ick_bits::{NoMemory, append_message};
-use ick_cli::{Ending, Files, Notice, choices_of, ended, read_file, read_front, refused};
+use ick_cli::{Files, JobEnd, Notice, choices_of, ended, read_file, read_front, refused};
 use ick_code::{Code, compile};
 use ick_inspect::{Position, Text, positions_of};
 use ick_machine::{End, EndKind, Trailed};
@@ -35,35 +35,35 @@ struct Wanted {
 }
 
 /// Returns the choices that a run is given, by a text or by a seed, and not by both.
-fn given_by(alloc: Global, choices: Option<&str>, seed: Option<u64>) -> Result<Given, Ending>
-    ensures { IfErr result (λ ending. Leaves ending 0 0 0 0 0 0) }
+fn given_by(alloc: Global, choices: Option<&str>, seed: Option<u64>) -> Result<Given, JobEnd>
+    ensures { IfErr result (λ job_end. Leaves job_end 0 0 0 0 0 0) }
 {
     match seed {
         None => match choices_of(alloc, choices, MOST_CHOICES) {
             Ok(choices) => Ok(Given::Listed(choices)),
-            Err(ending) => Err(ending),
+            Err(job_end) => Err(job_end),
         },
         Some(seed) => match choices {
             None => Ok(Given::seeded(alloc, seed)),
-            Some(_) => Err(Ending::usage(Notice::ChoicesAndSeed)),
+            Some(_) => Err(JobEnd::usage(Notice::ChoicesAndSeed)),
         },
     }
 }
 
 /// Reads the input, which is empty if no file is named. Without it the work ends.
-fn input_of<F: Files>(alloc: Global, name: Option<&str>, files: &mut F) -> Result<Vec<u8>, Ending>
+fn input_of<F: Files>(alloc: Global, name: Option<&str>, files: &mut F) -> Result<Vec<u8>, JobEnd>
     requires { F.failed files.old + 1 < 2 ^ 64 }
     ensures ok { IfOk result (λ _. F.failed files.new ≡ F.failed files.old) }
-    ensures err { IfErr result (λ ending.
-        Leaves ending (F.failed files.old) (F.failed files.new) 0 0 0 0) }
+    ensures err { IfErr result (λ job_end.
+        Leaves job_end (F.failed files.old) (F.failed files.new) 0 0 0 0) }
 {
     let Some(name) = name else {
         return Ok(Vec::new(alloc));
     };
     match read_file(alloc, name, files) {
         Ok(input) if input.len() <= LONGEST => Ok(input),
-        Ok(_) => Err(Ending::InputTooLong),
-        Err(ending) => Err(ending),
+        Ok(_) => Err(JobEnd::InputTooLong),
+        Err(job_end) => Err(job_end),
     }
 }
 
@@ -76,7 +76,7 @@ pub fn perform<F: Files, R: ByteSource, W: ByteSink>(
     files: &mut F,
     reader: &mut R,
     writer: &mut W,
-) -> Ending
+) -> JobEnd
     requires files_sound { F.failed files.old + 1 < 2 ^ 64 }
     requires reader_sound { R.failed reader.old + 1 < 2 ^ 64 }
     requires writer_sound { W.failed writer.old + 1 < 2 ^ 64 }
@@ -85,7 +85,7 @@ pub fn perform<F: Files, R: ByteSource, W: ByteSink>(
 {
     let given = match given_by(alloc, job.choices, job.seed) {
         Ok(given) => given,
-        Err(ending) => return ending,
+        Err(job_end) => return job_end,
     };
     let wanted = Wanted {
         given,
@@ -97,7 +97,7 @@ pub fn perform<F: Files, R: ByteSource, W: ByteSink>(
             Ok(source) => {
                 answer_source(alloc, job.input, wanted, &source, files, reader, writer)
             }
-            Err(ending) => ending,
+            Err(job_end) => job_end,
         },
         None => match read_front(alloc, reader) {
             Ok(source) => {
@@ -112,7 +112,7 @@ pub fn perform<F: Files, R: ByteSource, W: ByteSink>(
                     writer,
                 )
             }
-            Err(ending) => ending,
+            Err(job_end) => job_end,
         },
     }
 }
@@ -126,7 +126,7 @@ fn answer_source<F: Files, R: ByteSource, W: ByteSink>(
     files: &mut F,
     reader: &mut R,
     writer: &mut W,
-) -> Ending
+) -> JobEnd
     requires files_sound { F.failed files.old + 1 < 2 ^ 64 }
     requires reader_sound { R.failed reader.old + 1 < 2 ^ 64 }
     requires writer_sound { W.failed writer.old + 1 < 2 ^ 64 }
@@ -139,11 +139,11 @@ fn answer_source<F: Files, R: ByteSource, W: ByteSink>(
     };
     let code = match compile(alloc, &program) {
         Ok(code) => code,
-        Err(NoMemory) => return Ending::NoMemory,
+        Err(NoMemory) => return JobEnd::NoMemory,
     };
     match input_of(alloc, input, files) {
         Ok(input) => answer_code(alloc, &code, source, &input, wanted, reader, writer),
-        Err(ending) => ending,
+        Err(job_end) => job_end,
     }
 }
 
@@ -156,7 +156,7 @@ fn answer_code<R: ByteSource, W: ByteSink>(
     wanted: Wanted,
     reader: &mut R,
     writer: &mut W,
-) -> Ending
+) -> JobEnd
     requires reader_sound { R.failed reader.old + 1 < 2 ^ 64 }
     requires writer_sound { W.failed writer.old + 1 < 2 ^ 64 }
     ensures { LeavesStreams result (R.failed reader.old) (R.failed reader.new)
@@ -164,14 +164,14 @@ fn answer_code<R: ByteSource, W: ByteSink>(
 {
     let positions = match positions_of(alloc, source, code) {
         Ok(positions) => positions,
-        Err(NoMemory) => return Ending::NoMemory,
+        Err(NoMemory) => return JobEnd::NoMemory,
     };
     if wanted.trace {
         return answer_trace(alloc, code, &positions, input, wanted, writer);
     }
     let machine = match Trailed::new(alloc, code, input, 0) {
         Ok(machine) => machine,
-        Err(NoMemory) => return Ending::NoMemory,
+        Err(NoMemory) => return JobEnd::NoMemory,
     };
     let mut stepper = Stepper::new(alloc, machine, wanted.given, wanted.limit);
     talk(alloc, &positions, &mut stepper, reader, writer)
@@ -185,7 +185,7 @@ fn answer_trace<W: ByteSink>(
     input: &[u8],
     wanted: Wanted,
     writer: &mut W,
-) -> Ending
+) -> JobEnd
     requires sound { W.failed writer.old + 1 < 2 ^ 64 }
     requires positions { length positions.now ≡ length (code_program code.now) }
     ensures { LeavesWriter result (W.failed writer.old) (W.failed writer.new) }

@@ -3,14 +3,14 @@
 ghost use Rattle.std.specs.Prelude.{◌≡◌, ◌≢◌, ◌+◌, ◌<◌, ◌^◌, []};
 ghost use Rattle.clap.specs.Walk.{texts};
 ghost use Rattle.clap.specs.Words.{fault_of};
-ghost use Rattle.ick_cli.specs.Ending.{ending_status, ending_text};
+ghost use Rattle.ick_cli.specs.JobEnd.{job_end_status, job_end_text};
 ghost use Rattle.ick_cli.specs.Serve.{Finishes, FinishesDue, IsDue, IsStatus, counts};
 ghost use Rattle.ick_cli.specs.Usage.{AreMistakes, AreRequests, IsHelped, IsRefused};
 ghost use Rattle.ick_step_cli.specs.Words.{step_app};
 
 use crate::dispatch::perform;
 use crate::words::read_job;
-use ick_cli::{Ending, Files, Status, answer_words, finish};
+use ick_cli::{Files, JobEnd, Status, answer_words, finish};
 use ick_runs::{ByteSink, ByteSource};
 use std::alloc::Global;
 
@@ -60,19 +60,19 @@ pub fn serve_step<F: Files, R: ByteSource, W: ByteSink, E: ByteSink>(
 {
     match read_job(alloc, words) {
         Ok(job) => {
-            let ending = perform(alloc, &job, files, reader, writer);
-            report(&ending, errors)
+            let job_end = perform(alloc, &job, files, reader, writer);
+            report(&job_end, errors)
         }
         Err(error) => answer_words(alloc, &error, writer, errors),
     }
 }
 
-/// Writes the error text of an ending, and returns its status.
-fn report<E: ByteSink>(ending: &Ending, errors: &mut E) -> Status
+/// Writes the error text of a job's end, and returns its status.
+fn report<E: ByteSink>(job_end: &JobEnd, errors: &mut E) -> Status
     requires { E.failed errors.old + 1 < 2 ^ 64 }
-    ensures { Finishes E.told (ending_status ending.now) (ending_text ending.now)
+    ensures { Finishes E.told (job_end_status job_end.now) (job_end_text job_end.now)
         (E.failed errors.old) (E.failed errors.new)
         (E.written errors.old) (E.written errors.new) result }
 {
-    finish(ending.status(), ending.text(), errors)
+    finish(job_end.status(), job_end.text(), errors)
 }

@@ -3,12 +3,12 @@
 ghost use Rattle.std.specs.Prelude.{◌≡◌, ◌+◌, ◌<◌, ◌^◌, ◌++◌, ◌∷◌, ℕ, IfErr, IfOk, OnOk, [], length};
 ghost use Rattle.std.specs.Prelude.{true, false, take};
 ghost use Rattle.ick_explorer.specs.Whole.{read_failures};
-ghost use Rattle.ick_cli.specs.Ending.{LeavesStreams, LeavesWriter};
+ghost use Rattle.ick_cli.specs.JobEnd.{LeavesStreams, LeavesWriter};
 ghost use Rattle.ick_session.specs.Stepper.{fixed, seen};
 ghost use Rattle.ick_step_cli.specs.Talk.{IsFailure, Writes, lines_of};
 
 use ick_bits::NoMemory;
-use ick_cli::{Ending, Message};
+use ick_cli::{JobEnd, Message};
 use ick_inspect::{Position, Text};
 use ick_runs::{ByteSink, ByteSource, ReadFault, write_whole};
 use ick_session::{Stepper, answer_line};
@@ -44,26 +44,26 @@ fn read_line<R: ByteSource>(reader: &mut R, line: &mut Vec<u8>) -> Result<bool, 
 }
 
 /// Writes a text and clears it. Without the text the work ends.
-fn say<W: ByteSink>(out: &mut Text, writer: &mut W) -> Result<(), Ending>
+fn say<W: ByteSink>(out: &mut Text, writer: &mut W) -> Result<(), JobEnd>
     requires { W.failed writer.old + 1 < 2 ^ 64 }
     ensures ok { OnOk result (W.failed writer.new ≡ W.failed writer.old) }
-    ensures err { IfErr result (λ ending.
-        LeavesWriter ending (W.failed writer.old) (W.failed writer.new)) }
+    ensures err { IfErr result (λ job_end.
+        LeavesWriter job_end (W.failed writer.old) (W.failed writer.new)) }
     ensures all { W.told ≡ true → OnOk result ((out.old.refused ≡ false)
         × (W.written writer.new ≡ W.written writer.old ++ out.old.bytes.items)) }
-    ensures cut { W.told ≡ true → IfErr result (λ ending. IsFailure ending
+    ensures cut { W.told ≡ true → IfErr result (λ job_end. IsFailure job_end
         × (n : ℕ) × (W.written writer.new ≡ W.written writer.old ++ take n out.old.bytes.items)
         × (out.old.refused ≡ true → n ≡ 0)) }
 {
     let Ok(bytes) = out.bytes() else {
-        return Err(Ending::NoMemory);
+        return Err(JobEnd::NoMemory);
     };
     match write_whole(writer, bytes) {
         Ok(()) => {
             out.clear();
             Ok(())
         }
-        Err(_) => Err(Ending::WriteFailed),
+        Err(_) => Err(JobEnd::WriteFailed),
     }
 }
 
@@ -78,7 +78,7 @@ pub fn talk<R: ByteSource, W: ByteSink>(
     stepper: &mut Stepper<'_, '_>,
     reader: &mut R,
     writer: &mut W,
-) -> Ending
+) -> JobEnd
     requires positions { length positions.now ≡ length (seen stepper.old).program }
     requires reads { R.failed reader.old + 1 < 2 ^ 64 }
     requires writes { W.failed writer.old + 1 < 2 ^ 64 }
@@ -92,29 +92,29 @@ pub fn talk<R: ByteSource, W: ByteSink>(
     let mut line = Vec::new(alloc);
     stepper.append_here(positions, &mut out);
     for _at in 0..u64::MAX {
-        if let Err(ending) = say(&mut out, writer) {
-            return ending;
+        if let Err(job_end) = say(&mut out, writer) {
+            return job_end;
         }
         match read_line(reader, &mut line) {
             Ok(true) => {}
             Ok(false) => return over(),
-            Err(ReadFault::NoMemory) => return Ending::NoMemory,
-            Err(ReadFault::Failed) => return Ending::ReadFailed,
+            Err(ReadFault::NoMemory) => return JobEnd::NoMemory,
+            Err(ReadFault::Failed) => return JobEnd::ReadFailed,
         }
         match answer_line(alloc, positions, stepper, &line, &mut out) {
             Ok(true) => {}
             Ok(false) => return over(),
-            Err(NoMemory) => return Ending::NoMemory,
+            Err(NoMemory) => return JobEnd::NoMemory,
         }
     }
-    Ending::InputTooLong
+    JobEnd::InputTooLong
 }
 
 /// Returns how a session ends after its last command.
-fn over() -> Ending
-    ensures { result ≡ Ending.Answered 0 Message.Nothing }
+fn over() -> JobEnd
+    ensures { result ≡ JobEnd.Answered 0 Message.Nothing }
 {
-    Ending::Answered {
+    JobEnd::Answered {
         status: 0,
         message: Message::Nothing,
     }

@@ -1,10 +1,10 @@
 //! The arguments served over any devices.
 ghost use Rattle.std.specs.Prelude.{◌≡◌, ◌≢◌, ◌+◌, ◌<◌, ◌^◌, [], true};
 ghost use Rattle.clap.specs.Words.{fault_of};
-ghost use Rattle.ick_cli.specs.Ending.{input_of, source_of};
+ghost use Rattle.ick_cli.specs.JobEnd.{input_of, source_of};
 ghost use Rattle.ick_cli.specs.Serve.{FinishesDue, IsStatus, counts};
 ghost use Rattle.ick_cli.specs.Usage.{AreMistakes, AreRequests, IsHelped, IsRefused};
-ghost use Rattle.ick_outcomes_cli.specs.Ended.{listing_of};
+ghost use Rattle.ick_outcomes_cli.specs.OutcomesEnd.{listing_of};
 ghost use Rattle.ick_outcomes_cli.specs.Job.{HasJob, job_of};
 ghost use Rattle.ick_outcomes_cli.specs.Serve.{IsOutcomesDue, IsOutcomesServed};
 ghost use Rattle.ick_outcomes_cli.specs.Tool.{IsOutcomesAnswer, MayStop};

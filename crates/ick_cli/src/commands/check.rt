@@ -1,11 +1,11 @@
 //! `ick check`: how many statements a program has.
 ghost use Rattle.std.specs.Prelude.{◌≡◌, ◌+◌, ◌<◌, ◌^◌, IfOk, true};
 ghost use Rattle.ick_syntax.specs.Programs.{trees_of};
-ghost use Rattle.ick_cli.specs.Ending.{Answers, LeavesWriter};
+ghost use Rattle.ick_cli.specs.JobEnd.{Answers, LeavesWriter};
 ghost use Rattle.ick_cli.specs.Summary.{summary};
 ghost use Rattle.ick_cli.specs.Tool.{shown};
 
-use crate::ending::Ending;
+use crate::job_end::JobEnd;
 use crate::notice::Message;
 use crate::output::send;
 use ick_bits::{NoMemory, append_decimal};
@@ -14,7 +14,7 @@ use ick_syntax::Program;
 use std::alloc::Global;
 
 /// Answers a program by the line that counts its statements.
-pub fn answer_check<W: ByteSink>(alloc: Global, program: &Program<'_>, writer: &mut W) -> Ending
+pub fn answer_check<W: ByteSink>(alloc: Global, program: &Program<'_>, writer: &mut W) -> JobEnd
     requires { W.failed writer.old + 1 < 2 ^ 64 }
     ensures leaves { LeavesWriter result (W.failed writer.old) (W.failed writer.new) }
     ensures answer { W.told ≡ true → Answers (shown (summary (trees_of program.now)))
@@ -22,7 +22,7 @@ pub fn answer_check<W: ByteSink>(alloc: Global, program: &Program<'_>, writer: &
 {
     match summary(alloc, program) {
         Ok(line) => send(&line, 0, Message::Nothing, writer),
-        Err(NoMemory) => Ending::NoMemory,
+        Err(NoMemory) => JobEnd::NoMemory,
     }
 }
 

@@ -2,10 +2,10 @@
 ghost use Rattle.std.specs.Prelude.{◌≡◌, ◌+◌, ◌<◌, ◌^◌, true};
 ghost use Rattle.ick_source.specs.Listing.{listing};
 ghost use Rattle.ick_syntax.specs.Programs.{trees_of};
-ghost use Rattle.ick_cli.specs.Ending.{Answers, LeavesWriter};
+ghost use Rattle.ick_cli.specs.JobEnd.{Answers, LeavesWriter};
 ghost use Rattle.ick_cli.specs.Tool.{shown};
 
-use crate::ending::Ending;
+use crate::job_end::JobEnd;
 use crate::notice::Message;
 use crate::output::send;
 use ick_bits::NoMemory;
@@ -15,7 +15,7 @@ use ick_syntax::Program;
 use std::alloc::Global;
 
 /// Answers a program by the lines of its statements.
-pub fn answer_list<W: ByteSink>(alloc: Global, program: &Program<'_>, writer: &mut W) -> Ending
+pub fn answer_list<W: ByteSink>(alloc: Global, program: &Program<'_>, writer: &mut W) -> JobEnd
     requires { W.failed writer.old + 1 < 2 ^ 64 }
     ensures leaves { LeavesWriter result (W.failed writer.old) (W.failed writer.new) }
     ensures answer { W.told ≡ true → Answers (shown (listing (trees_of program.now)))
@@ -24,6 +24,6 @@ pub fn answer_list<W: ByteSink>(alloc: Global, program: &Program<'_>, writer: &m
     let mut lines = Vec::new(alloc);
     match append_listing(&mut lines, program) {
         Ok(()) => send(&lines, 0, Message::Nothing, writer),
-        Err(NoMemory) => Ending::NoMemory,
+        Err(NoMemory) => JobEnd::NoMemory,
     }
 }

@@ -7,12 +7,12 @@ ghost use Rattle.ick_code.specs.meaning.State.{State};
 ghost use Rattle.ick_explorer.specs.Explorers.{explored};
 ghost use Rattle.ick_explorer.specs.Standing.{Stands};
 ghost use Rattle.ick_cli.specs.Dispatch.{AnswersCode};
-ghost use Rattle.ick_cli.specs.Ending.{Answers, LeavesWriter};
+ghost use Rattle.ick_cli.specs.JobEnd.{Answers, LeavesWriter};
 ghost use Rattle.ick_cli.specs.Placed.{IsPlaced, IsRunsAnswerAt, IsUnplaced};
 ghost use Rattle.ick_cli.specs.Tool.{Answer, IsRunsAnswer};
 
-use crate::ending::Ending;
 use crate::input::read_input;
+use crate::job_end::JobEnd;
 use crate::notice::Message;
 use crate::plan::Runs;
 use ick_code::Code;
@@ -30,7 +30,7 @@ pub fn answer_runs<R: ByteSource, W: ByteSink>(
     limit: u32,
     reader: &mut R,
     writer: &mut W,
-) -> Ending
+) -> JobEnd
     requires reader_sound { R.failed reader.old + 1 < 2 ^ 64 }
     requires writer_sound { W.failed writer.old + 1 < 2 ^ 64 }
     ensures { AnswersCode (code_program code.now) (Runs.Listed from.now count limit)
@@ -41,7 +41,7 @@ pub fn answer_runs<R: ByteSource, W: ByteSink>(
 {
     match read_input(alloc, reader) {
         Ok(input) => list_over(alloc, code, input.as_slice(), from, count, limit, writer),
-        Err(ending) => ending,
+        Err(job_end) => job_end,
     }
 }
 
@@ -54,7 +54,7 @@ fn list_over<W: ByteSink>(
     count: u32,
     limit: u32,
     writer: &mut W,
-) -> Ending
+) -> JobEnd
     requires { W.failed writer.old + 1 < 2 ^ 64 }
     ensures leaves { LeavesWriter result (W.failed writer.old) (W.failed writer.new) }
     ensures answer { W.told ≡ true → (answer : Answer)
@@ -64,7 +64,7 @@ fn list_over<W: ByteSink>(
 {
     match Trailed::new(alloc, code, input, 0) {
         Ok(machine) => list_runs(alloc, machine, from, count, limit, writer),
-        Err(_) => Ending::NoMemory,
+        Err(_) => JobEnd::NoMemory,
     }
 }
 
@@ -76,7 +76,7 @@ fn list_runs<'c, M: Asks<'c>, W: ByteSink>(
     count: u32,
     limit: u32,
     writer: &mut W,
-) -> Ending
+) -> JobEnd
     requires sound { W.failed writer.old + 1 < 2 ^ 64 }
     requires unmarked { (M.seen machine).marks ≡ [] }
     requires unworn { (M.seen machine).work ≡ 0 }
@@ -87,7 +87,7 @@ fn list_runs<'c, M: Asks<'c>, W: ByteSink>(
 {
     match explorer_from(alloc, machine, from, limit) {
         Ok(explorer) => list_from(alloc, explorer, count, writer),
-        Err(error) => Ending::refused(error),
+        Err(error) => JobEnd::refused(error),
     }
 }
 
@@ -112,13 +112,13 @@ fn explorer_from<'c, M: Asks<'c>>(
     }
 }
 
-/// Answers by the listing of the runs after the place of an explorer.
+/// Answers by the listing of the runs after the position of an explorer.
 fn list_from<'c, M: Asks<'c>, W: ByteSink>(
     alloc: Global,
     explorer: Explorer<M>,
     count: u32,
     writer: &mut W,
-) -> Ending
+) -> JobEnd
     requires sound { W.failed writer.old + 1 < 2 ^ 64 }
     requires unfailed { (explored explorer).failed ≡ false }
     requires small { (explored explorer).limit < 2 ^ 32 }
@@ -131,10 +131,10 @@ fn list_from<'c, M: Asks<'c>, W: ByteSink>(
 {
     let mut explorer = explorer;
     match write_runs(alloc, &mut explorer, count, writer) {
-        Ok(_) => Ending::Answered {
+        Ok(_) => JobEnd::Answered {
             status: 0,
             message: Message::Nothing,
         },
-        Err(error) => Ending::refused(error),
+        Err(error) => JobEnd::refused(error),
     }
 }

@@ -16,16 +16,16 @@ use Rattle.ick_cli.proofs.dispatch.perform.Goals as goal
 pub returns-in-Err : goal.returns-in-Err
 returns-in-Err g c =
     let job = asked c.args.job.now in record {
-      leaves = leaves_by_line (IsUnplanned job.task) c.in-Err.ending _ _ _ c.in-Err.ensures.err;
+      leaves = leaves_by_line (IsUnplanned job.task) c.in-Err.job_end _ _ _ c.in-Err.ensures.err;
       reader_kept = λ some none. refl;
       files_kept = λ none. refl;
       unplanned = λ line h.
           (refl, refl, refl, refused_by_line _ _ line c.in-Err.ensures.err c.in-Err.ensures.memory h);
       source_first = λ none more. absurd (omega arith);
       left = λ files_told reader_told.
-          where_unplanned job (g.F.Files.named c.args.files.now) _ c.in-Err.ending c.in-Err.ensures.err;
+          where_unplanned job (g.F.Files.named c.args.files.now) _ c.in-Err.job_end c.in-Err.ensures.err;
       answer = λ files_told reader_told writer_told answer is.
-          answered_unplanned job.task _ _ c.in-Err.ending _ c.in-Err.ensures.err answer is;
+          answered_unplanned job.task _ _ c.in-Err.job_end _ c.in-Err.ensures.err answer is;
     }
 
 -- with a file
@@ -75,9 +75,9 @@ returns-in-Some g c =
       unplanned = λ line h. absurd (planned_not_unplanned _ plan line c.in-Ok.ensures.ok h);
       source_first = λ none more. refl;
       left = λ files_told reader_told.
-          where_unopened c.in-Err-read_file.ending _ c.in-Err-read_file.ensures.unopened;
+          where_unopened c.in-Err-read_file.job_end _ c.in-Err-read_file.ensures.unopened;
       answer = λ files_told reader_told writer_told answer is.
-          answers_unopened plan (named c.in-Some.name.now) input _ _ c.in-Err-read_file.ending _
+          answers_unopened plan (named c.in-Some.name.now) input _ _ c.in-Err-read_file.job_end _
           c.in-Err-read_file.ensures.unopened c.in-Err-read_file.ensures.leaves.opened answer
           (answer_planned job.task plan _ _ answer c.in-Ok.ensures.ok
           (file_named job.task _ c.in-Some.name.now named _ _ input answer (given_some _ _ _ c.in-Some.is) is));
@@ -119,7 +119,7 @@ returns g c = record {
   files_kept = λ none. refl;
   unplanned = λ line h. absurd (planned_not_unplanned _ c.in-Ok.plan line c.in-Ok.ensures.ok h);
   source_first = λ none more. refl;
-  left = λ files_told reader_told. where_cut c.in-Err-read_front.ending _ c.in-Err-read_front.ensures.cut;
+  left = λ files_told reader_told. where_cut c.in-Err-read_front.job_end _ c.in-Err-read_front.ensures.cut;
   answer = λ files_told reader_told writer_told answer is.
-      answers_cut answer c.in-Err-read_front.ending _ c.in-Err-read_front.ensures.cut;
+      answers_cut answer c.in-Err-read_front.job_end _ c.in-Err-read_front.ensures.cut;
 }

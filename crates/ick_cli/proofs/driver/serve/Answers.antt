@@ -1,6 +1,6 @@
 use Rattle.std.proofs.Common.{◌≡◌, ◌∙◌, inl, inr, ap, arith, false, refl, subst, sym}
 use Rattle.clap.specs.Words.{kind_of}
-use Rattle.ick_cli.specs.Ending.{input_of, source_of}
+use Rattle.ick_cli.specs.JobEnd.{input_of, source_of}
 use Rattle.ick_cli.specs.Job.{Asked, asked, has_file}
 use Rattle.std.proofs.lemmas.List.{append-nil}
 use Rattle.ick_cli.specs.Serve.{counts, cut_by_memory, line_without_memory}
@@ -19,17 +19,17 @@ pub returns-in-Ok-clause-job : goal.returns-in-Ok-clause-job
 returns-in-Ok-clause-job g c = λ has_job files_told reader_told writer_told.
     let left = g.R.ByteSource.left c.args.reader.now in
     let source = λ (job : Asked). source_of job.file (g.F.Files.named c.args.files.now)
-    (g.F.ByteSource.failed c.args.files.now) (g.F.ByteSource.failed c.perform-ending.new.files) left in
+    (g.F.ByteSource.failed c.args.files.now) (g.F.ByteSource.failed c.perform-job_end.new.files) left in
     let found = tool_answer _ _ _ in
     let asks = subst (λ (job : Asked). IsToolAnswer job.task (source job) (input_of job.file left) found.0)
     (sym c.in-Ok.ensures.job) found.1 in
-    let work = c.perform-ending.ensures in (
+    let work = c.perform-job_end.ensures in (
       found.0,
       found.1,
       (
         _,
         _,
-        served found.0 c.perform-ending.result _ _ _ _ _ _ _ _ work.leaves
+        served found.0 c.perform-job_end.result _ _ _ _ _ _ _ _ work.leaves
             (work.answer files_told reader_told writer_told found.0 asks),
         c.report.ensures,
       ),
@@ -37,7 +37,7 @@ returns-in-Ok-clause-job g c = λ has_job files_told reader_told writer_told.
 
 pub returns-in-Ok-clause-said : goal.returns-in-Ok-clause-said
 returns-in-Ok-clause-said g c =
-    (_, _, due c.perform-ending.result _ _ _ _ _ _ c.perform-ending.ensures.leaves, c.report.ensures)
+    (_, _, due c.perform-job_end.result _ _ _ _ _ _ c.perform-job_end.ensures.leaves, c.report.ensures)
 
 pub returns-in-Ok-clause-failed : goal.returns-in-Ok-clause-failed
 returns-in-Ok-clause-failed g c = failed_due _ _ _ _ _ _ _ _ (returns-in-Ok-clause-said g c)
@@ -88,19 +88,19 @@ pub returns-in-Ok-clause-left : goal.returns-in-Ok-clause-left
 returns-in-Ok-clause-left g c = λ has_job files_told reader_told other.
     let named = g.F.Files.named c.args.files.now in
     let before = g.R.ByteSource.left c.args.reader.now in
-    let after = g.R.ByteSource.left c.perform-ending.new.reader in
+    let after = g.R.ByteSource.left c.perform-job_end.new.reader in
     subst (λ (job : Asked). IsLeft job named before after) c.in-Ok.ensures.job
-    (was_answered g.E.ByteSink.told c.perform-ending.result _ _ _ _ _ (IsLeft (asked c.in-Ok.job) named before after)
-    c.report.ensures other (c.perform-ending.ensures.left files_told reader_told))
+    (was_answered g.E.ByteSink.told c.perform-job_end.result _ _ _ _ _ (IsLeft (asked c.in-Ok.job) named before after)
+    c.report.ensures other (c.perform-job_end.ensures.left files_told reader_told))
 
 pub returns-in-Ok-clause-source_first : goal.returns-in-Ok-clause-source_first
 returns-in-Ok-clause-source_first g c = λ has_job none more.
-    c.perform-ending.ensures.source_first
+    c.perform-job_end.ensures.source_first
     (subst (λ (job : Asked). has_file job ≡ false) (sym c.in-Ok.ensures.job) none) more
 
 pub returns-in-Ok-clause-unplanned : goal.returns-in-Ok-clause-unplanned
 returns-in-Ok-clause-unplanned g c = λ has_job line h.
-    let kept = c.perform-ending.ensures.unplanned line
+    let kept = c.perform-job_end.ensures.unplanned line
     (subst (λ (job : Asked). IsUnplanned job.task line) (sym c.in-Ok.ensures.job) h) in
     (kept.0, kept.1, kept.2, line_finished g.E.ByteSink.told line _ _ _ _ _ _ kept.3 c.report.ensures)
 

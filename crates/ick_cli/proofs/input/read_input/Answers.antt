@@ -34,4 +34,4 @@ unfolding longest_input
 returns-in-Ok-clause-rest g c = λ told. c.in-Ok.ensures.rest told
 
 pub returns-in-Err-clause-unread : goal.returns-in-Err-clause-unread
-returns-in-Err-clause-unread g c = λ told. cut_unread _ c.in-Err.ending c.in-Err.ensures.cut
+returns-in-Err-clause-unread g c = λ told. cut_unread _ c.in-Err.job_end c.in-Err.ensures.cut

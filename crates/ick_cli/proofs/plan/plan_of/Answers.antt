@@ -24,7 +24,7 @@ returns-in-Ok-clause-ok c =
 
 pub returns-in-Err-clause-err : goal.returns-in-Err-clause-err
 returns-in-Err-clause-err c =
-    subst (λ (s : Subcommand). EndsByLine (IsUnplanned (task_of s)) c.in-Err.ending) (sym c.in-Runs.is)
+    subst (λ (s : Subcommand). EndsByLine (IsUnplanned (task_of s)) c.in-Err.job_end) (sym c.in-Runs.is)
     (by_other_line _ _ _ (λ line h. from_unread _ c.in-Runs.count c.in-Runs.limit line h) c.in-Err.ensures.err)
 
 pub returns-in-Err-clause-memory : goal.returns-in-Err-clause-memory

@@ -5,8 +5,8 @@ use Rattle.ick_bits.specs.Values.{Wide}
 use Rattle.ick_instructions.specs.Meaning.{reg, values_of}
 use Rattle.ick_engine.specs.View.{array_of}
 use Rattle.ick_engine.specs.Walk.{walk}
-use Rattle.ick_engine.proofs.PlaceLemmas.{inside, place_is, beyond, none_at, walk_next, walk_done, is_inside}
-use Rattle.ick_engine.proofs.PlaceLemmas.{is_outside}
+use Rattle.ick_engine.proofs.OffsetLemmas.{inside, place_is, beyond, none_at, walk_next, walk_done, is_inside}
+use Rattle.ick_engine.proofs.OffsetLemmas.{is_outside}
 use Rattle.ick_engine.proofs.element.index_of_many.Goals as goal
 
 count_is : (subscripts regs : List ℕ) → length (values_of subscripts regs) ≡ length subscripts
@@ -37,20 +37,20 @@ returns-in_default-clause-index c =
     ap (λ o. inside (length a.elements)
     (option_and_then (λ next. walk next (drop (at + 1) a.dimensions) (drop (at + 1) subs)) o)) (sym c.in_default.is ∙ c.step.ensures)
     ∙ ap (inside (length a.elements))
-    (walk_next a.dimensions subs c.loop-at.place at c.index.result.now (reg c.args.registers.now r) (Wide (reg c.args.registers.now r))
+    (walk_next a.dimensions subs c.loop-at.offset at c.index.result.now (reg c.args.registers.now r) (Wide (reg c.args.registers.now r))
     (omega (arith, c.loop-at-test.true, c.if-len-subscripts.false, c.len.ensures, c.args.array.now.dimensions.ok.0))
     (omega (arith, c.loop-at-test.true, count)) c.index.ensures
     (value_at c.args.subscripts.now c.args.registers.now at c.loop-at-test.true) refl ∙ c.loop-at.invariant.walked)
     ∙ place_is a subs
 
-pub returns-then-place-ge-FAR-clause-index : goal.returns-then-place-ge-FAR-clause-index
-returns-then-place-ge-FAR-clause-index c =
+pub returns-then-offset-ge-FAR-clause-index : goal.returns-then-offset-ge-FAR-clause-index
+returns-then-offset-ge-FAR-clause-index c =
     let a = array_of c.args.array.now in
     let subs = values_of c.args.subscripts.now c.args.registers.now in
     let at = c.loop-at.at in
     let few = c.args.array.now.few in
-    beyond c.loop-at.place (drop at a.dimensions) (drop at subs) (length a.elements)
-    (omega (arith, c.if-place-ge-FAR.true, few))
+    beyond c.loop-at.offset (drop at a.dimensions) (drop at subs) (length a.elements)
+    (omega (arith, c.if-offset-ge-FAR.true, few))
     ∙ ap (inside (length a.elements)) c.loop-at.invariant.walked
     ∙ place_is a subs
 
@@ -65,38 +65,38 @@ loop-at-preserved c =
     let r = get_or c.args.subscripts.now c.loop-at.at 0 in
     record {
       walked = ap (option_and_then (λ next. walk next ds vs)) (sym c.in-Some.is ∙ c.step.ensures)
-          ∙ walk_next a.dimensions subs c.loop-at.place at c.index.result.now (reg c.args.registers.now r) (Wide (reg c.args.registers.now r))
+          ∙ walk_next a.dimensions subs c.loop-at.offset at c.index.result.now (reg c.args.registers.now r) (Wide (reg c.args.registers.now r))
           (omega (arith, c.loop-at-test.true, c.if-len-subscripts.false, c.len.ensures, c.args.array.now.dimensions.ok.0))
           (omega (arith, c.loop-at-test.true, count)) c.index.ensures
           (value_at c.args.subscripts.now c.args.registers.now at c.loop-at-test.true) refl
           ∙ c.loop-at.invariant.walked;
     }
 
-pub returns-then-place-count-clause-index : goal.returns-then-place-count-clause-index
-returns-then-place-count-clause-index c =
+pub returns-then-offset-count-clause-index : goal.returns-then-offset-count-clause-index
+returns-then-offset-count-clause-index c =
     let a = array_of c.args.array.now in
     let subs = values_of c.args.subscripts.now c.args.registers.now in
     let count = count_is c.args.subscripts.now c.args.registers.now in
     let high = c.loop-at-test.false in
-    is_inside c.loop-at.place (length a.elements)
-    (omega (arith, c.if-place-count.true, c.len-count.ensures, c.args.array.now.elements.ok.0))
+    is_inside c.loop-at.offset (length a.elements)
+    (omega (arith, c.if-offset-count.true, c.len-count.ensures, c.args.array.now.elements.ok.0))
     ∙ ap (inside (length a.elements))
-    (walk_done a.dimensions subs c.loop-at.place c.loop-at.at
+    (walk_done a.dimensions subs c.loop-at.offset c.loop-at.at
     (omega (arith, high, c.if-len-subscripts.false, c.len.ensures, c.args.array.now.dimensions.ok.0))
     (omega (arith, high, count))
     ∙ c.loop-at.invariant.walked)
     ∙ place_is a subs
 
-pub returns-else-place-count-clause-index : goal.returns-else-place-count-clause-index
-returns-else-place-count-clause-index c =
+pub returns-else-offset-count-clause-index : goal.returns-else-offset-count-clause-index
+returns-else-offset-count-clause-index c =
     let a = array_of c.args.array.now in
     let subs = values_of c.args.subscripts.now c.args.registers.now in
     let count = count_is c.args.subscripts.now c.args.registers.now in
     let high = c.loop-at-test.false in
-    is_outside c.loop-at.place (length a.elements)
-    (omega (arith, c.if-place-count.false, c.len-count.ensures, c.args.array.now.elements.ok.0))
+    is_outside c.loop-at.offset (length a.elements)
+    (omega (arith, c.if-offset-count.false, c.len-count.ensures, c.args.array.now.elements.ok.0))
     ∙ ap (inside (length a.elements))
-    (walk_done a.dimensions subs c.loop-at.place c.loop-at.at
+    (walk_done a.dimensions subs c.loop-at.offset c.loop-at.at
     (omega (arith, high, c.if-len-subscripts.false, c.len.ensures, c.args.array.now.dimensions.ok.0))
     (omega (arith, high, count))
     ∙ c.loop-at.invariant.walked)

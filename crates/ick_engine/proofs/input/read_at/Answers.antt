@@ -2,7 +2,7 @@ use Rattle.std.proofs.Common.{◌≡◌, ◌+◌, ◌<◌, ℕ, List, Option, So
 use Rattle.std.specs.Prelude.{slice_range}
 use Rattle.std.proofs.lemmas.List.{get_or-map, length-map}
 use Rattle.ick_code.specs.meaning.State.{no_array}
-use Rattle.ick_code.specs.meaning.Value.{element_place}
+use Rattle.ick_code.specs.meaning.Value.{element_offset}
 use Rattle.ick_instructions.specs.Meaning.{values_of}
 use Rattle.ick_engine.specs.declared.memory.Array.{Array}
 use Rattle.ick_engine.specs.Steady.{IsProgram}
@@ -13,16 +13,16 @@ use Rattle.ick_engine.proofs.Reading.{reads_nowhere, read_at_stops, reads_at}
 use Rattle.ick_engine.proofs.Steadiness.{steady_by, parts_kept}
 use Rattle.ick_engine.proofs.input.read_at.Goals as goal
 
--- the place of an element, by the lists
+-- the offset of an element, by the lists
 placed : (all : List Array) (slot : ℕ) (r : Array) (subs subs' regs : List ℕ) (from to : ℕ) (o : Option ℕ) →
     slot < length all → r ≡ get_or all slot r → subs ≡ subs' →
-    o ≡ element_place (array_of r) (values_of (slice_range subs from to) regs) →
-    o ≡ element_place (get_or (map array_of all) slot no_array) (values_of (slice_range subs' from to) regs)
+    o ≡ element_offset (array_of r) (values_of (slice_range subs from to) regs) →
+    o ≡ element_offset (get_or (map array_of all) slot no_array) (values_of (slice_range subs' from to) regs)
 placed all slot r subs subs' regs from to o within here same is =
     is
-    ∙ ap (λ a. element_place a (values_of (slice_range subs from to) regs))
+    ∙ ap (λ a. element_offset a (values_of (slice_range subs from to) regs))
     (ap array_of here ∙ sym (get_or-map array_of all slot r no_array within))
-    ∙ ap (λ l. element_place (get_or (map array_of all) slot no_array) (values_of (slice_range l from to) regs)) same
+    ∙ ap (λ l. element_offset (get_or (map array_of all) slot no_array) (values_of (slice_range l from to) regs)) same
 
 long : (new old : List Array) → map is_hidden new ≡ map is_hidden old →
     length (map array_of new) ≡ length (map array_of old)

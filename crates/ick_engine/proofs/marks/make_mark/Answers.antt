@@ -1,5 +1,5 @@
 use Rattle.std.proofs.Common.{sym, ◌∙◌, subst}
-use Rattle.ick_engine.specs.History.{history}
+use Rattle.ick_engine.specs.TrailChanges.{changes_in}
 use Rattle.ick_engine.specs.Memory.{view_in}
 use Rattle.ick_engine.specs.Undo.{Rewinds}
 use Rattle.ick_engine.proofs.Changes.{count_history}
@@ -18,5 +18,5 @@ pub returns-clause-marked : goal.returns-clause-marked
 returns-clause-marked c =
     let t = c.args.trail.now in
     let v = view_in c.args.memory.now in
-    subst (λ k. Rewinds t.base (history t) v.depth k v v) (sym (returns-clause-count c))
-    (marks_here t.base (history t) v)
+    subst (λ k. Rewinds t.base (changes_in t) v.depth k v v) (sym (returns-clause-count c))
+    (marks_here t.base (changes_in t) v)

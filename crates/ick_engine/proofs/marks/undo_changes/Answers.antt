@@ -2,7 +2,7 @@ use Rattle.std.proofs.Common.{◌≡◌, ◌≤◌, [], ◌∷◌, ◌++◌, sym
 use Rattle.std.proofs.lemmas.List.{take-append-le}
 use Rattle.std.specs.Prelude.{option_to_list}
 use Rattle.ick_engine.specs.Memory.{view_in}
-use Rattle.ick_engine.specs.History.{history}
+use Rattle.ick_engine.specs.TrailChanges.{changes_in}
 use Rattle.ick_engine.specs.Undo.{Like, HighSame}
 use Rattle.ick_engine.proofs.Changes.{count_history, newest_undone}
 use Rattle.ick_engine.proofs.Undoing.{all_undone, undone_one}
@@ -11,7 +11,7 @@ use Rattle.ick_engine.proofs.marks.undo_changes.Goals as goal
 pub returns : goal.returns
 returns c =
     let inv = c.changes.invariant in
-    let all = history c.changes.trail in
+    let all = changes_in c.changes.trail in
     let last = view_in c.changes.memory in
     let few : length all ≤ c.args.changes =
     omega (arith, c.changes-test.false, c.len.ensures, count_history c.changes.trail) in
@@ -31,8 +31,8 @@ changes-preserved-in-Some c =
     let base = c.args.trail.now.base in
     let mark = c.args.changes in
     let undone = c.undo_newest.ensures.undone in
-    let all = history c.changes.trail in
-    let rest = history c.undo_newest.new.trail in
+    let all = changes_in c.changes.trail in
+    let rest = changes_in c.undo_newest.new.trail in
     let are : all ≡ rest ++ undone.change ∷ [] =
     newest_undone c.changes.trail.entries.items _ c.undo_newest.new.trail c.in-Some.entry (view_in c.changes.memory)
     (view_in c.undo_newest.new.memory) undone

@@ -1,6 +1,6 @@
 use Rattle.std.proofs.Common.{◌≡◌, drop, take}
 use Rattle.std.specs.Prelude.{reverse, vec_len}
-use Rattle.ick_engine.specs.History.{history}
+use Rattle.ick_engine.specs.TrailChanges.{changes_in}
 use Rattle.ick_engine.specs.Memory.{view_in}
 use Rattle.ick_engine.specs.Undo.{HighSame, Like, Rewinds, rewound}
 use Rattle.ick_engine.specs.View.{View}
@@ -10,17 +10,17 @@ abbrev pub invariant-changes : goal.invariant-changes
 invariant-changes l = record {
   base : l.trail.base ≡ l.initial.trail.base;
   none : l.trail.kept ≡ 0;
-  kept : take l.changes (history l.trail) ≡ take l.changes (history l.initial.trail);
+  kept : take l.changes (changes_in l.trail) ≡ take l.changes (changes_in l.initial.trail);
   leads : (m : View) →
-      Rewinds l.initial.trail.base (history l.initial.trail) l.initial.trail.low l.changes
+      Rewinds l.initial.trail.base (changes_in l.initial.trail) l.initial.trail.low l.changes
       (view_in l.initial.memory) m →
       Like l.initial.trail.base m.depth m
-      (rewound (reverse (drop l.changes (history l.trail))) (view_in l.memory));
+      (rewound (reverse (drop l.changes (changes_in l.trail))) (view_in l.memory));
   stays : (m : View) →
-      Rewinds l.initial.trail.base (history l.initial.trail) l.initial.trail.low l.changes
+      Rewinds l.initial.trail.base (changes_in l.initial.trail) l.initial.trail.low l.changes
       (view_in l.initial.memory) m →
       HighSame l.initial.trail.base (view_in l.initial.memory)
-      (rewound (reverse (drop l.changes (history l.trail))) (view_in l.memory));
+      (rewound (reverse (drop l.changes (changes_in l.trail))) (view_in l.memory));
 }
 
 abbrev pub decreases-changes : goal.decreases-changes

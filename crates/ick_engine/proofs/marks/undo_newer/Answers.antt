@@ -1,7 +1,7 @@
 use Rattle.std.proofs.Common.{◌≡◌, ◌≤◌, refl, sym, arith, length, take_all}
 use Rattle.ick_engine.specs.Memory.{view_in}
 use Rattle.ick_engine.specs.View.{View}
-use Rattle.ick_engine.specs.History.{history}
+use Rattle.ick_engine.specs.TrailChanges.{changes_in}
 use Rattle.ick_engine.specs.Undo.{Like, HighSame}
 use Rattle.ick_engine.proofs.Changes.{count_history}
 use Rattle.ick_engine.proofs.Undoing.{all_undone, like_refl}
@@ -11,13 +11,13 @@ pub returns-then-len-changes : goal.returns-then-len-changes
 returns-then-len-changes c =
     let t = c.args.trail.now in
     let v : View = view_in c.args.memory.now in
-    let few : length (history t) ≤ c.args.changes =
+    let few : length (changes_in t) ≤ c.args.changes =
     omega (arith, c.if-len-changes.true, c.len.ensures, t.entries.ok.0, count_history t) in
     record {
-      kept = sym (take_all c.args.changes (history t) few);
+      kept = sym (take_all c.args.changes (changes_in t) few);
       base_same = refl;
       leads = λ m h.
-          all_undone (Like t.base m.depth m) (history t) c.args.changes v few (h.leads v (like_refl t.base t.low v));
+          all_undone (Like t.base m.depth m) (changes_in t) c.args.changes v few (h.leads v (like_refl t.base t.low v));
       stays = λ m h.
-          all_undone (HighSame t.base v) (history t) c.args.changes v few (h.stays v (like_refl t.base t.low v));
+          all_undone (HighSame t.base v) (changes_in t) c.args.changes v few (h.stays v (like_refl t.base t.low v));
     }

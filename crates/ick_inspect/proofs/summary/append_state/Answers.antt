@@ -8,6 +8,6 @@ unfolding present_program
 returns c =
     same (chain (chain (chain (chain (chain (chain (chain (chain (chain (chain c.push.ensures c.push_decimal.ensures)
     c.push-2.ensures) c.push_decimal-2.ensures) c.push-3.ensures) c.append_stack.ensures) c.append_scalars.ensures)
-    c.append_arrays.ensures) c.append_abstained.ensures) c.append_counts.ensures) c.append_end.ensures)
+    c.append_arrays.ensures) c.append_abstained.ensures) c.append_counts.ensures) c.append_end_line.ensures)
     (state_is (present_program c.args.present.now) (present_state c.args.present.now) c.from.result c.from-2.result
     (c.place.ensures ∙ sym c.from.ensures) (c.from-2.ensures ∙ c.count.ensures))

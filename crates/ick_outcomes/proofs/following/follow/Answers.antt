@@ -8,32 +8,32 @@ use Rattle.ick_outcomes.proofs.following.follow.Goals as goal
 
 pub returns-in-Ended-clause-followed : goal.returns-in-Ended-clause-followed
 returns-in-Ended-clause-followed g c =
-    let place = g.P.States.place c.args.program.now in
-    let start = place c.args.state in
+    let seen = g.P.States.seen c.args.program.now in
+    let start = seen c.args.state in
     let i = c.steps.invariant in
-    let state = (place c.steps.state).state in
+    let state = (seen c.steps.state).state in
     let here = subst (λ q. EndsAt q state c.steps.left (finish_of c.in-Ended.end)) i.program c.in-Ended.ensures in
     IfSome_then c.whole.result c.whole.ensures.some (λ run facts.
-    followed_by (λ x. (place x).state) start.program start.state c.args.limit
+    followed_by (λ x. (seen x).state) start.program start.state c.args.limit
     c.args.choices.now c.steps.state run.state _ (length c.steps.asked.items) c.in-Ended.end run.end _ _ i.follows here
     facts.0 facts.1 facts.2 facts.3)
 
 pub returns-in-Ended-clause-none : goal.returns-in-Ended-clause-none
 returns-in-Ended-clause-none g c = λ none whole.
-    let place = g.P.States.place c.args.program.now in
-    let start = place c.args.state in
+    let seen = g.P.States.seen c.args.program.now in
+    let start = seen c.args.state in
     let i = c.steps.invariant in
-    let state = (place c.steps.state).state in
+    let state = (seen c.steps.state).state in
     let here = subst (λ q. EndsAt q state c.steps.left (finish_of c.in-Ended.end)) i.program c.in-Ended.ensures in
     left-over start.program start.state c.args.limit c.args.choices.now state _ (length c.steps.asked.items)
     (finish_of c.in-Ended.end) _ i.follows here (c.whole.ensures.none (cc)) whole
 
 pub returns-then-at-choices-clause-none : goal.returns-then-at-choices-clause-none
 returns-then-at-choices-clause-none g c = λ none whole.
-    let place = g.P.States.place c.args.program.now in
-    let start = place c.args.state in
+    let seen = g.P.States.seen c.args.program.now in
+    let start = seen c.args.state in
     let i = c.steps.invariant in
-    let state = (place c.steps.state).state in
+    let state = (seen c.steps.state).state in
     let asks = subst (λ q. ask q state ≡ choice c.in-Choice.chance) i.program c.in-Choice.ensures.0 in
     let all = c.if-at-choices.true in
     let size = c.len-at.ensures in
@@ -42,12 +42,12 @@ returns-then-at-choices-clause-none g c = λ none whole.
 
 pub steps-preserved-in-Plain : goal.steps-preserved-in-Plain
 steps-preserved-in-Plain g c =
-    let place = g.P.States.place c.args.program.now in
-    let start = place c.args.state in
+    let seen = g.P.States.seen c.args.program.now in
+    let start = seen c.args.state in
     let i = c.steps.invariant in
     let step = c.in_ok-next-in-Plain.ensures in
     record {
-      follows = stepped_plain place start.program start.state c.args.limit _ c.steps.state c.in_ok-next-in-Plain.next
+      follows = stepped_plain seen start.program start.state c.args.limit _ c.steps.state c.in_ok-next-in-Plain.next
           c.steps.left c.in_ok-next-in-Plain.made c.steps.asked.items i.follows i.program c.in-Plain.ensures.0
           c.in-Plain.ensures.1 step.runs step.within;
       program = step.program ∙ i.program;
@@ -58,8 +58,8 @@ steps-preserved-in-Plain g c =
 
 pub steps-preserved : goal.steps-preserved
 steps-preserved g c =
-    let place = g.P.States.place c.args.program.now in
-    let start = place c.args.state in
+    let seen = g.P.States.seen c.args.program.now in
+    let start = seen c.args.state in
     let i = c.steps.invariant in
     let step = c.in_ok-next-in-Choice.ensures in
     let size_at = c.len-at.ensures in
@@ -70,7 +70,7 @@ steps-preserved g c =
     let pushed = c.in_ok-push-in-Choice.ensures.items in
     let size = ap (λ l. length l) pushed ∙ length-push c.steps.asked.items _ in
     record {
-      follows = stepped_chosen place start.program start.state c.args.limit c.args.choices.now c.steps.state
+      follows = stepped_chosen seen start.program start.state c.args.limit c.args.choices.now c.steps.state
           c.in_ok-next-in-Choice.next c.steps.left c.in_ok-next-in-Choice.made c.in-Choice.chance
           c.statement-statement.result _ false c.steps.asked.items c.push.new.self.items i.follows i.program
           c.in-Choice.ensures.0 c.in-Choice.ensures.1 less c.statement-statement.ensures

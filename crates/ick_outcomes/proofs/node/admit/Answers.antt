@@ -6,7 +6,7 @@ use Rattle.ick_outcomes.proofs.node.admit.Goals as goal
 
 pub returns-in_ok-merge-in-Some-clause-admits : goal.returns-in_ok-merge-in-Some-clause-admits
 returns-in_ok-merge-in-Some-clause-admits g c =
-    let seen = g.P.States.place c.args.program.now in
+    let seen = g.P.States.seen c.args.program.now in
     admits_at seen c.args.pending.now.nodes.items c.in-Some.at c.args.node c.index_mut.result.now c.merge.new.one
     (search rules)
     (λ d. subst (λ z. CanMerge (pending_of seen (slice_index_or z c.in-Some.at d)) (pending_of seen c.args.node))

@@ -6,7 +6,7 @@ use Rattle.ick_outcomes.proofs.node.branch.Goals as goal
 
 pub returns-clause-makes : goal.returns-clause-makes
 returns-clause-makes g c =
-    let seen = g.P.States.place c.args.program.now in
+    let seen = g.P.States.seen c.args.program.now in
     let node = pending_of seen c.args.node in
     let zero = pending_of seen c.in_ok-zero.zero in
     let one = pending_of seen c.in_ok-one.one in

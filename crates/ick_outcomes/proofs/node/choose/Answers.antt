@@ -7,14 +7,14 @@ use Rattle.ick_outcomes.proofs.node.choose.Goals as goal
 
 pub returns-clause-goes_on : goal.returns-clause-goes_on
 returns-clause-goes_on g c =
-    let seen = g.P.States.place c.args.program.now in
+    let seen = g.P.States.seen c.args.program.now in
     let f = c.args.node.weight in
     let r = c.in_ok-weight.weight in
     let left = c.args.node.left - 1 - c.in_ok-state.made in
     let step = c.in_ok-state.ensures in
     chosen_goes_on (pending_of seen c.args.node)
     (record {
-      place = seen c.in_ok-state.state;
+      at = seen c.in_ok-state.state;
       left = left;
       count = natural c.args.node.count;
       weight = amount (top_of r) r.places left;

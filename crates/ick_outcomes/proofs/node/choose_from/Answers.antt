@@ -7,7 +7,7 @@ use Rattle.ick_outcomes.proofs.node.choose_from.Goals as goal
 
 pub returns-clause-goes_on : goal.returns-clause-goes_on
 returns-clause-goes_on g c =
-    let seen = g.P.States.place c.args.program.now in
+    let seen = g.P.States.seen c.args.program.now in
     let node = c.args.node.now in
     let copy = c.in_ok-copy in
     let r = c.in_ok-weight.weight in
@@ -16,7 +16,7 @@ returns-clause-goes_on g c =
     let choices : c.in_ok-choices.choices.items ≡ node.choices.items = search rules in
     chosen_goes_on (pending_of seen node)
     (record {
-      place = seen c.in_ok-state.state;
+      at = seen c.in_ok-state.state;
       left = left;
       count = natural c.in_ok-copy-2.field-0;
       weight = amount (top_of r) r.places left;

@@ -4,7 +4,7 @@ use Rattle.ick_outcomes.proofs.node.move_on.Goals as goal
 
 pub returns-in-Some-clause-makes : goal.returns-in-Some-clause-makes
 returns-in-Some-clause-makes g c =
-    let seen = g.P.States.place c.args.program.now in
+    let seen = g.P.States.seen c.args.program.now in
     on_ok c.file.result
     (λ counts. makes_over c.args.node.left (pending_of seen c.args.node) _
     (nodes_of seen c.args.pending.now.nodes.items) (rows_of c.args.rows.now.rows.items)

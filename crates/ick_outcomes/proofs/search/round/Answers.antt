@@ -6,7 +6,7 @@ use Rattle.ick_outcomes.proofs.search.round.Goals as goal
 
 pub nodes-preserved : goal.nodes-preserved
 nodes-preserved g c =
-    let seen = g.P.States.place c.args.program.now in
+    let seen = g.P.States.seen c.args.program.now in
     let node = c.in-Some.node in
     let made = c.nodes.yielded in
     let short = c.if-len-most.false in
@@ -26,7 +26,7 @@ nodes-preserved g c =
 
 pub returns-then-len-most-clause-more : goal.returns-then-len-most-clause-more
 returns-then-len-most-clause-more g c =
-    let seen = g.P.States.place c.args.program.now in
+    let seen = g.P.States.seen c.args.program.now in
     let node = c.in-Some.node in
     let made = c.nodes.yielded in
     let rows = rows_of c.make.new.rows.rows.items in

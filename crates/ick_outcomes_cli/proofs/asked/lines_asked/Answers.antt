@@ -6,7 +6,7 @@ use Rattle.ick_outcomes_cli.proofs.asked.lines_asked.Goals as goal
 
 pub returns-in_default : goal.returns-in_default
 returns-in_default g c =
-    let start = g.P.States.place c.args.program.now c.args.first.now in
+    let start = g.P.States.seen c.args.program.now c.args.first.now in
     let p = start.program in
     let s = start.state in
     let some = some_left c.loop-rest.rest.now _ c.is_empty.ensures c.loop-rest-test.true in
@@ -15,7 +15,7 @@ returns-in_default g c =
 
 pub returns-in-None : goal.returns-in-None
 returns-in-None g c =
-    let start = g.P.States.place c.args.program.now c.args.first.now in
+    let start = g.P.States.seen c.args.program.now c.args.first.now in
     let p = start.program in
     let s = start.state in
     let some = some_left c.loop-rest.rest.now _ c.is_empty.ensures c.loop-rest-test.true in
@@ -26,7 +26,7 @@ returns-in-None g c =
 
 pub loop-rest-init : goal.loop-rest-init
 loop-rest-init g c =
-    let start = g.P.States.place c.args.program.now c.args.first.now in
+    let start = g.P.States.seen c.args.program.now c.args.first.now in
     let p = start.program in
     let s = start.state in
     record {
@@ -38,7 +38,7 @@ loop-rest-init g c =
 
 pub loop-rest-preserved : goal.loop-rest-preserved
 loop-rest-preserved g c =
-    let start = g.P.States.place c.args.program.now c.args.first.now in
+    let start = g.P.States.seen c.args.program.now c.args.first.now in
     let p = start.program in
     let s = start.state in
     let i = c.loop-rest.invariant in
@@ -57,7 +57,7 @@ loop-rest-preserved g c =
 
 pub loop-rest-preserved-in_ok-extend_from_slice-in-Some-2 : goal.loop-rest-preserved-in_ok-extend_from_slice-in-Some-2
 loop-rest-preserved-in_ok-extend_from_slice-in-Some-2 g c =
-    let start = g.P.States.place c.args.program.now c.args.first.now in
+    let start = g.P.States.seen c.args.program.now c.args.first.now in
     let p = start.program in
     let s = start.state in
     let i = c.loop-rest.invariant in
@@ -82,7 +82,7 @@ loop-rest-preserved-in_ok-extend_from_slice-in-Some-2 g c =
 
 pub returns : goal.returns
 returns g c =
-    let start = g.P.States.place c.args.program.now c.args.first.now in
+    let start = g.P.States.seen c.args.program.now c.args.first.now in
     let p = start.program in
     let s = start.state in
     explains_all p s c.args.limit c.args.listing.now c.loop-rest.rest.now c.loop-rest.text.items

@@ -7,19 +7,19 @@ use Rattle.ick_outcomes_cli.proofs.asked.run_asked.Goals as goal
 
 pub returns-in_default-clause-none : goal.returns-in_default-clause-none
 returns-in_default-clause-none g c = λ e.
-    let start = g.P.States.place c.args.program.now c.args.first.now in
+    let start = g.P.States.seen c.args.program.now c.args.first.now in
     let p = start.program in
     let s = start.state in
-    let at = c.in_ok-state.ensures.place in
+    let at = c.in_ok-state.ensures.seen in
     line_of_none p s c.args.limit c.args.choices.now c.args.line.now _ at
     (c.follow.ensures.none (c.in_ok-followed.was ∙ ap (λ x. Ok x) c.in_default.is))
 
 pub returns-then-ne-clause-none : goal.returns-then-ne-clause-none
 returns-then-ne-clause-none g c = λ e.
-    let start = g.P.States.place c.args.program.now c.args.first.now in
+    let start = g.P.States.seen c.args.program.now c.args.first.now in
     let p = start.program in
     let s = start.state in
-    let at = c.in_ok-state.ensures.place in
+    let at = c.in_ok-state.ensures.seen in
     let run = followed_at p s c.args.limit c.args.choices.now _ _ _ _ at
     (rw c.in-Some.is at c.in_ok-followed.ensures.followed) in
     let differ = texts_differ c.as_slice.result.now c.args.line.now _ c.ne.ensures c.if-ne.true in
@@ -28,10 +28,10 @@ returns-then-ne-clause-none g c = λ e.
 
 pub returns-clause-some : goal.returns-clause-some
 returns-clause-some g c =
-    let start = g.P.States.place c.args.program.now c.args.first.now in
+    let start = g.P.States.seen c.args.program.now c.args.first.now in
     let p = start.program in
     let s = start.state in
-    let at = c.in_ok-state.ensures.place in
+    let at = c.in_ok-state.ensures.seen in
     let run = followed_at p s c.args.limit c.args.choices.now _ _ _ _ at
     (rw c.in-Some.is at c.in_ok-followed.ensures.followed) in
     let same = texts_same c.as_slice.result.now c.args.line.now _ c.ne.ensures c.if-ne.false in (

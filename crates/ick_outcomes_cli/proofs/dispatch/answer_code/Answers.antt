@@ -3,7 +3,7 @@ use Rattle.ick_code.specs.Compiled.{code_program}
 use Rattle.ick_cli.specs.Tool.{longest_input}
 use Rattle.ick_cli.proofs.Planned.{given_none, given_some}
 use Rattle.ick_outcomes_cli.specs.Tool.{HasTooMany, IsProgramAnswer, input_too_long}
-use Rattle.ick_outcomes_cli.specs.declared.ended.Ended.TheVariants.{By}
+use Rattle.ick_outcomes_cli.specs.declared.outcomes_end.OutcomesEnd.TheVariants.{By}
 use Rattle.ick_outcomes_cli.proofs.Giving.{gives_so, gives_unread, leaves_all_as, program_listing, program_outcomes}
 use Rattle.ick_outcomes_cli.proofs.dispatch.answer_code.Goals as goal
 
@@ -42,10 +42,10 @@ returns-in-Ok-clause-gives g c = λ listings_told reader_told writer_told.
 
 pub returns-clause-leaves : goal.returns-clause-leaves
 returns-clause-leaves g c =
-    leaves_all_as (By c.in-Err.ending) 0 0 _ _ 0 0 _ _ _ _ _ _ c.in-Err.ensures.leaves (omega arith) (omega arith) (omega arith)
+    leaves_all_as (By c.in-Err.job_end) 0 0 _ _ 0 0 _ _ _ _ _ _ c.in-Err.ensures.leaves (omega arith) (omega arith) (omega arith)
 
 pub returns-clause-gives : goal.returns-clause-gives
 returns-clause-gives g c = λ listings_told reader_told writer_told.
     gives_unread
     (IsProgramAnswer (code_program c.args.code.now) (g.R.ByteSource.left c.args.reader.now) c.args.job.now.limit
-    c.args.job.now.question _ _) _ c.in-Err.ending _ (c.in-Err.ensures.unread reader_told) (λ long. input_too_long _ long)
+    c.args.job.now.question _ _) _ c.in-Err.job_end _ (c.in-Err.ensures.unread reader_told) (λ long. input_too_long _ long)

@@ -1,7 +1,7 @@
 use Rattle.std.proofs.Common.{arith, refl}
 use Rattle.ick_code.specs.Compiled.{code_program}
 use Rattle.ick_outcomes_cli.specs.Tool.{listing_too_long, longest_listing}
-use Rattle.ick_outcomes_cli.specs.declared.ended.Ended.TheVariants.{By}
+use Rattle.ick_outcomes_cli.specs.declared.outcomes_end.OutcomesEnd.TheVariants.{By}
 use Rattle.ick_outcomes_cli.proofs.Giving.{gives_so, listing_told}
 use Rattle.ick_outcomes_cli.proofs.dispatch.answer_lines.Goals as goal
 

@@ -20,5 +20,5 @@ returns-in-Ok-clause-gives g c = λ listings_told writer_told.
 pub returns-in-Err-clause-gives : goal.returns-in-Err-clause-gives
 returns-in-Err-clause-gives g c = λ listings_told writer_told.
     gives_unopened (IsExplained (code_program c.args.code.now) c.args.input.now c.args.limit)
-    (g.L.Files.named c.args.listings.now c.args.name.now) _ _ c.in-Err.ending _ c.in-Err.ensures.unopened
+    (g.L.Files.named c.args.listings.now c.args.name.now) _ _ c.in-Err.job_end _ c.in-Err.ensures.unopened
     c.in-Err.ensures.leaves.opened listing_not_read

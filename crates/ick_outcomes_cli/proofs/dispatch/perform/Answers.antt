@@ -26,7 +26,7 @@ returns-in-Ok-clause-gives g c = λ files_told listings_told reader_told writer_
 pub returns-in-Err-clause-gives : goal.returns-in-Err-clause-gives
 returns-in-Err-clause-gives g c = λ files_told listings_told reader_told writer_told.
     unread_with_file (wanted c.args.job.now) _ c.in-Some.name.now (g.F.Files.named c.args.files.now) _ _ _ _
-    c.in-Err.ending _ (given_some _ _ _ c.in-Some.is) c.in-Err.ensures.unopened c.in-Err.ensures.leaves.opened
+    c.in-Err.job_end _ (given_some _ _ _ c.in-Some.is) c.in-Err.ensures.unopened c.in-Err.ensures.leaves.opened
 
 -- without a file
 pub returns-in-Ok-read_front-clause-leaves : goal.returns-in-Ok-read_front-clause-leaves

@@ -1,5 +1,5 @@
 use Rattle.std.proofs.Common.{refl, subst, sym}
-use Rattle.ick_cli.specs.Ending.{Answers}
+use Rattle.ick_cli.specs.JobEnd.{Answers}
 use Rattle.ick_cli.specs.Tool.{shown}
 use Rattle.ick_outcomes_cli.specs.Tool.{IsTextFound}
 use Rattle.ick_outcomes_cli.proofs.Giving.{gives_sent}

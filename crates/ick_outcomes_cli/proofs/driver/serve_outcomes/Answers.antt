@@ -1,10 +1,10 @@
 use Rattle.std.proofs.Common.{◌≡◌, inl, inr, ap, refl, subst}
 use Rattle.clap.specs.Words.{kind_of}
-use Rattle.ick_cli.specs.Ending.{input_of, source_of}
+use Rattle.ick_cli.specs.JobEnd.{input_of, source_of}
 use Rattle.ick_cli.specs.Serve.{counts}
 use Rattle.ick_cli.specs.Usage.{IsMistake, IsRequest, help_without_memory}
 use Rattle.ick_cli.proofs.ErrorKinds.{among, memory_is_mistake, memory_ran_out}
-use Rattle.ick_outcomes_cli.specs.Ended.{Gives, listing_of}
+use Rattle.ick_outcomes_cli.specs.OutcomesEnd.{Gives, listing_of}
 use Rattle.ick_outcomes_cli.specs.Job.{Wanted}
 use Rattle.ick_outcomes_cli.specs.Serve.{as_ick, without_memory}
 use Rattle.ick_outcomes_cli.specs.Tool.{IsOutcomesAnswer, MayStop}
@@ -15,28 +15,28 @@ pub returns-in-Ok-clause-job : goal.returns-in-Ok-clause-job
 returns-in-Ok-clause-job g c = λ has_job files_told listings_told reader_told writer_told.
     let left = g.R.ByteSource.left c.args.reader.now in
     let source = λ (job : Wanted). source_of job.file (g.F.Files.named c.args.files.now)
-    (g.F.ByteSource.failed c.args.files.now) (g.F.ByteSource.failed c.perform-ended.new.files) left in
+    (g.F.ByteSource.failed c.args.files.now) (g.F.ByteSource.failed c.perform-outcomes_end.new.files) left in
     let listing = λ (job : Wanted). listing_of job.listing (g.L.Files.named c.args.listings.now)
-    (g.L.ByteSource.failed c.args.listings.now) (g.L.ByteSource.failed c.perform-ended.new.listings) in
-    let work = c.perform-ended.ensures in (
+    (g.L.ByteSource.failed c.args.listings.now) (g.L.ByteSource.failed c.perform-outcomes_end.new.listings) in
+    let work = c.perform-outcomes_end.ensures in (
       _,
       _,
-      outcomes_served c.perform-ended.result _ _ _ _ _ _ _ _ work.leaves
+      outcomes_served c.perform-outcomes_end.result _ _ _ _ _ _ _ _ work.leaves
           (subst (λ (job : Wanted). Gives
           (IsOutcomesAnswer job (input_of job.file left) (listing job) (source job))
-          (MayStop job (input_of job.file left) (source job)) c.perform-ended.result
-          (g.W.ByteSink.written c.args.writer.now) (g.W.ByteSink.written c.perform-ended.new.writer))
+          (MayStop job (input_of job.file left) (source job)) c.perform-outcomes_end.result
+          (g.W.ByteSink.written c.args.writer.now) (g.W.ByteSink.written c.perform-outcomes_end.new.writer))
           c.in-Ok.ensures.job (work.gives files_told listings_told reader_told writer_told)),
       c.report.ensures,
     )
 
 pub returns-in-Ok-clause-said : goal.returns-in-Ok-clause-said
 returns-in-Ok-clause-said g c =
-    (_, _, outcomes_due c.perform-ended.result _ _ _ _ _ _ c.perform-ended.ensures.leaves, c.report.ensures)
+    (_, _, outcomes_due c.perform-outcomes_end.result _ _ _ _ _ _ c.perform-outcomes_end.ensures.leaves, c.report.ensures)
 
 pub returns-in-Ok-clause-status : goal.returns-in-Ok-clause-status
 returns-in-Ok-clause-status g c =
-    outcomes_status _ _ _ _ _ _ _ _ _ _ (outcomes_due c.perform-ended.result _ _ _ _ _ _ c.perform-ended.ensures.leaves)
+    outcomes_status _ _ _ _ _ _ _ _ _ _ (outcomes_due c.perform-outcomes_end.result _ _ _ _ _ _ c.perform-outcomes_end.ensures.leaves)
     c.report.ensures
 
 pub returns-in-Err-clause-job : goal.returns-in-Err-clause-job

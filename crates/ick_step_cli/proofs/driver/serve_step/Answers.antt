@@ -7,7 +7,7 @@ use Rattle.ick_step_cli.proofs.driver.serve_step.Goals as goal
 
 pub returns-in-Ok-clause-said : goal.returns-in-Ok-clause-said
 returns-in-Ok-clause-said g c =
-    (_, _, due c.perform-ending.result _ _ _ _ _ _ c.perform-ending.ensures, c.report.ensures)
+    (_, _, due c.perform-job_end.result _ _ _ _ _ _ c.perform-job_end.ensures, c.report.ensures)
 
 pub returns-in-Ok-clause-status : goal.returns-in-Ok-clause-status
 returns-in-Ok-clause-status g c = finished_status _ _ _ _ _ _ _ _ (returns-in-Ok-clause-said g c)

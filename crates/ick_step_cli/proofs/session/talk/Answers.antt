@@ -19,7 +19,7 @@ pub returns-in-Err-clause-writes : goal.returns-in-Err-clause-writes
 returns-in-Err-clause-writes g c = λ r w.
     let told = c.in-Err.ensures.cut w in
     let after = g.W.ByteSink.written c.say.new.writer in
-    failed _ _ _ _ c.in-Err.ending _ _ told.0
+    failed _ _ _ _ c.in-Err.job_end _ _ told.0
     (cut_short _ _ _ _ _ _ _ _ after told.1 _ (c.loop-at.invariant.talking r w) told.2 told.3)
 
 pub returns-in-Ok-false-clause-writes : goal.returns-in-Ok-false-clause-writes

@@ -1,7 +1,7 @@
 use Rattle.std.proofs.Common.{◌∙◌, Err, ap, subst, sym}
 use Rattle.ick_explorer.specs.Explorers.{explored}
-use Rattle.ick_cli.specs.Ending.{Answers}
-use Rattle.ick_cli.specs.declared.ending.Ending.{Ending}
+use Rattle.ick_cli.specs.JobEnd.{Answers}
+use Rattle.ick_cli.specs.declared.job_end.JobEnd.{JobEnd}
 use Rattle.ick_cli.proofs.Listed.{is_listed, listing_comes, wrote_cut}
 use Rattle.ick_cli.proofs.commands.runs.list_from.Goals as goal
 
@@ -18,7 +18,7 @@ returns-clause-answer g c = λ told s stands answer is.
     let new = explored c.write_runs.new.explorer in
     let before = g.W.ByteSink.written c.args.writer.now in
     let after = g.W.ByteSink.written c.write_runs.new.writer in
-    subst (λ (e : Ending). Answers answer e before after) (sym c.refused.ensures)
+    subst (λ (e : JobEnd). Answers answer e before after) (sym c.refused.ensures)
     (wrote_cut g.W.ByteSink.told s c.args.count old new before after c.in-Err.error answer told
     (λ full. c.write_runs.ensures.enough (c.in-Err.is ∙ ap (λ e. Err e) full))
     c.requires.small c.ranges.count.fits c.requires.fresh (λ cs listing. c.in-Err.ensures.listing s cs stands listing)

@@ -14,8 +14,8 @@ returns-in_err-copy_into-clause-err c =
     on_err c.from_residual-in_err-copy_into.result _
     (stash_trans c.grow.ensures.like
     (subst (λ l. StashLike (arrays_of stash) (record { items = l; depth = stash.depth }))
-    (sym (map-set array_of stash.items.items stash.depth c.copy_into.new.place))
-    (spare_like (array_of c.copy_into.new.place) (arrays_of stash))))
+    (sym (map-set array_of stash.items.items stash.depth c.copy_into.new.target))
+    (spare_like (array_of c.copy_into.new.target) (arrays_of stash))))
 
 pub returns-clause-ok : goal.returns-clause-ok
 returns-clause-ok c =
@@ -25,6 +25,6 @@ returns-clause-ok c =
     omega (arith, c.in_ok-grow.ensures.spare, length-map stash.items.items array_of) in
     put_grown x (arrays_of c.args.self.now) (arrays_of stash) _ c.grow.ensures.like
     (subst (λ l. IsPutOn x (arrays_of stash) (record { items = l; depth = stash.depth + 1 }))
-    (sym (map-set array_of stash.items.items stash.depth c.copy_into.new.place
+    (sym (map-set array_of stash.items.items stash.depth c.copy_into.new.target
     ∙ ap (slice_set (map array_of stash.items.items) stash.depth) c.in_ok-copy_into.ensures))
     (put_spare x (arrays_of stash) low))

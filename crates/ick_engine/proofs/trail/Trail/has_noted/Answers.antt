@@ -1,6 +1,6 @@
 use Rattle.std.proofs.Common.{◌≡◌, ◌-◌, length, sym, ◌∙◌, subst, arith}
 use Rattle.std.proofs.lemmas.Bool.Decides.{nat_tests}
-use Rattle.ick_engine.specs.History.{IsNoted}
+use Rattle.ick_engine.specs.TrailChanges.{IsNoted}
 use Rattle.ick_engine.proofs.Changes.{newest_register}
 use Rattle.ick_engine.proofs.trail.Trail.has_noted.Goals as goal
 

@@ -2,7 +2,7 @@ use Rattle.std.proofs.Common.{refl, ◌≡◌, ℕ, ◌+◌, ◌-◌, ◌<◌, �
 use Rattle.ick_engine.specs.declared.change.Entry.TheVariants.{Return}
 use Rattle.ick_engine.specs.Undo.{Rewinds, return_was}
 use Rattle.ick_instructions.proofs.Extends.{extends_trans}
-use Rattle.ick_engine.specs.History.{history}
+use Rattle.ick_engine.specs.TrailChanges.{changes_in}
 use Rattle.ick_engine.proofs.Changes.{newest_alone, grown}
 use Rattle.ick_engine.proofs.Undoing.{notes_return}
 use Rattle.ick_engine.proofs.trail.Trail.keep_returns.Goals as goal
@@ -26,10 +26,10 @@ returns-preserved c =
           refl pushed.items);
       notes = λ k v m same h.
           subst (λ es. Rewinds base es (t.low - 1) k v m)
-          (ap (λ n. history t ++ return_was (t.low - 1) n ∷ []) (ap (λ l. get_or l (t.low - 1) 0) same)
+          (ap (λ n. changes_in t ++ return_was (t.low - 1) n ∷ []) (ap (λ l. get_or l (t.low - 1) 0) same)
           ∙ sym (newest_alone t c.push_reserved.new.self.items t.entries.items
           (Return (t.low - 1) (get_or c.args.returns.now (t.low - 1) 0)) refl pushed.items))
-          (notes_return base (history t) t.low (t.low - 1) k v m next
+          (notes_return base (changes_in t) t.low (t.low - 1) k v m next
           (omega (arith, there, ap length same)) (old.notes k v m same h));
     }
 
@@ -44,4 +44,4 @@ overflow_cast-at c =
 pub returns-clause-notes : goal.returns-clause-notes
 returns-clause-notes c = λ k v m same h.
     let inv = c.returns.invariant in
-    subst (λ b. Rewinds b (history c.returns.self) c.returns.self.low k v m) (sym inv.base) (inv.notes k v m same h)
+    subst (λ b. Rewinds b (changes_in c.returns.self) c.returns.self.low k v m) (sym inv.base) (inv.notes k v m same h)

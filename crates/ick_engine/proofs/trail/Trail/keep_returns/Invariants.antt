@@ -1,6 +1,6 @@
 use Rattle.std.proofs.Common.{◌≡◌, ◌-◌, ◌≤◌, ℕ, vec_len, vec_capacity}
 use Rattle.ick_instructions.specs.Extends.{Extends}
-use Rattle.ick_engine.specs.History.{history}
+use Rattle.ick_engine.specs.TrailChanges.{changes_in}
 use Rattle.ick_engine.specs.Undo.{Rewinds}
 use Rattle.ick_engine.specs.View.{View}
 use Rattle.ick_engine.proofs.trail.Trail.keep_returns.Given as goal
@@ -11,11 +11,11 @@ invariant-returns l = record {
   lower : l.self.low ≤ l.initial.self.low;
   base : l.self.base ≡ l.initial.self.base;
   kept : l.self.kept ≡ l.initial.self.kept;
-  changes : Extends (history l.initial.self) (history l.self);
+  changes : Extends (changes_in l.initial.self) (changes_in l.self);
   notes : (k : ℕ) (v m : View) →
       v.returns ≡ l.returns →
-      Rewinds l.initial.self.base (history l.initial.self) l.initial.self.low k v m →
-      Rewinds l.initial.self.base (history l.self) l.self.low k v m;
+      Rewinds l.initial.self.base (changes_in l.initial.self) l.initial.self.low k v m →
+      Rewinds l.initial.self.base (changes_in l.self) l.self.low k v m;
 }
 
 abbrev pub decreases-returns : goal.decreases-returns

@@ -1,6 +1,6 @@
 use Rattle.std.proofs.Common.{refl, arith}
 use Rattle.std.proofs.lemmas.List.{length-take-le}
-use Rattle.ick_engine.specs.History.{history}
+use Rattle.ick_engine.specs.TrailChanges.{changes_in}
 use Rattle.ick_engine.proofs.Changes.{count_history}
 use Rattle.ick_engine.proofs.Undoing.{alike_rewinds}
 use Rattle.ick_engine.proofs.trail.TrailNotes.law.Goals as goal
@@ -14,7 +14,7 @@ returns-clause-means c =
     record {
       rewinds = λ tells k v m h. h.1;
       undoes = λ k v m h. (
-        omega (arith, (h refl).0, length-take-le t.kept (history t) (omega (arith, t.few, count_history t))),
+        omega (arith, (h refl).0, length-take-le t.kept (changes_in t) (omega (arith, t.few, count_history t))),
         (h refl).1,
       );
     }

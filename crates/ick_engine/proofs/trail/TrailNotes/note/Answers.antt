@@ -1,5 +1,5 @@
 use Rattle.std.proofs.Common.{sym, subst}
-use Rattle.ick_engine.specs.History.{history}
+use Rattle.ick_engine.specs.TrailChanges.{changes_in}
 use Rattle.ick_engine.specs.Undo.{Rewinds, change_of, undone}
 use Rattle.ick_engine.proofs.Changes.{fixed_grown, newest_alone, grown}
 use Rattle.ick_engine.proofs.Undoing.{like_refl, notes_change}
@@ -17,7 +17,7 @@ returns-clause-notes c = λ k v m can h.
       subst (λ es. Rewinds t.base es t.low k v m)
           (sym (newest_alone t c.push_reserved.new.self.items t.entries.items c.args.entry c.requires.alone
           c.push_reserved.ensures.items))
-          (notes_change t.base (history t) t.low k (change_of c.args.entry) v (undone (change_of c.args.entry) v) m can
+          (notes_change t.base (changes_in t) t.low k (change_of c.args.entry) v (undone (change_of c.args.entry) v) m can
           (like_refl t.base t.low (undone (change_of c.args.entry) v)) h.1),
     )
 

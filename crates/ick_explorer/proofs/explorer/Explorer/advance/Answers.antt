@@ -2,7 +2,7 @@ use Rattle.std.proofs.Common.{◌≡◌, length, refl, ap, sym, subst, arith}
 use Rattle.std.proofs.lemmas.Grind.{common_steps}
 use Rattle.ick_explorer.specs.Explorers.{explored}
 use Rattle.ick_explorer.specs.Listings.{zeros_in}
-use Rattle.ick_explorer.specs.Standing.{StandsAfter, place_of}
+use Rattle.ick_explorer.specs.Standing.{StandsAfter, position_of}
 use Rattle.ick_explorer.proofs.Nexts.{last_at}
 use Rattle.ick_explorer.proofs.explorer.Explorer.advance.Goals as goal
 
@@ -13,21 +13,21 @@ returns-then-is_empty-clause-none g c =
     let zeros : zeros_in c.args.self.now.path.choices ≡ 0 = omega arith in (
       refl,
       λ s h. last_at (explored c.args.self.now) c.args.self.now.path.choices s
-          (ap (λ p. place_of p c.args.self.now.path.choices) c.in-Given.is) zeros,
+          (ap (λ p. position_of p c.args.self.now.path.choices) c.in-Given.is) zeros,
     )
 
 pub returns-in-Ok-clause-some : goal.returns-in-Ok-clause-some
 returns-in-Ok-clause-some g c = λ finish here s h.
     let new = g.M.Backtrack.seen c.find.new.machine in
     let path = c.find.new.path in
-    let f = c.in-Ok.ensures.found finish here s h.at_place in
+    let f = c.in-Ok.ensures.found finish here s h.at_position in
     record {
       least = f.least;
       arrives = f.arrives;
-      place = refl;
+      position = refl;
       stands = record {
         sound = refl;
-        at_place =
+        at_position =
             subst (λ p. StandsAfter p s c.args.self.now.limit path.choices new.marks path.points.items)
             (sym c.in-Ok.ensures.program) f.stands;
       };

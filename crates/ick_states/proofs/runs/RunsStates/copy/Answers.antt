@@ -2,8 +2,8 @@ use Rattle.ick_engine.specs.View.{input_of}
 use Rattle.ick_states.proofs.Keeping.{place_same}
 use Rattle.ick_states.proofs.runs.RunsStates.copy.Goals as goal
 
-pub returns-clause-place : goal.returns-clause-place
-returns-clause-place c =
+pub returns-clause-seen : goal.returns-clause-seen
+returns-clause-seen c =
     let code = c.args.self.now.lowered.code.now in
     let parts = c.args.self.now.lowered.parts in
     let text = c.args.self.now.input.now in

@@ -2,7 +2,7 @@ use Rattle.std.proofs.Common.{sym}
 use Rattle.ick_inspect.specs.Summary.{end_text}
 use Rattle.ick_machine.specs.Present.{present_state}
 use Rattle.ick_inspect.proofs.TextLemmas.{end_faulted, end_gave_up, nothing, same, chain}
-use Rattle.ick_inspect.proofs.summary.append_end.Goals as goal
+use Rattle.ick_inspect.proofs.summary.append_end_line.Goals as goal
 
 pub returns-in-GiveUp : goal.returns-in-GiveUp
 unfolding present_state

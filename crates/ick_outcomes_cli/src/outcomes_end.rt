@@ -2,43 +2,43 @@
 
 ghost use Rattle.std.specs.Prelude.{◌≡◌, ◌+◌, ◌<◌, ◌^◌};
 ghost use Rattle.ick_cli.specs.Serve.{Finishes};
-ghost use Rattle.ick_outcomes_cli.specs.Ended.{ended_status, ended_text};
+ghost use Rattle.ick_outcomes_cli.specs.OutcomesEnd.{outcomes_end_status, outcomes_end_text};
 
-use ick_cli::{Ending, Notice, Status, finish};
+use ick_cli::{JobEnd, Notice, Status, finish};
 use ick_runs::ByteSink;
 
 /// How the work ends: as work of `ick` does, or by a line with status 4 although nothing failed.
 #[derive(Drop)]
-pub enum Ended {
-    By(Ending),
+pub enum OutcomesEnd {
+    By(JobEnd),
     Refused(Notice),
 }
 
-impl Ended {
+impl OutcomesEnd {
     /// Returns the exit status.
     fn status(&self) -> u8
-        ensures { result ≡ ended_status self.now }
+        ensures { result ≡ outcomes_end_status self.now }
     {
         match self {
-            Ended::By(ending) => ending.status(),
-            Ended::Refused(_) => 4,
+            OutcomesEnd::By(job_end) => job_end.status(),
+            OutcomesEnd::Refused(_) => 4,
         }
     }
 
     /// Returns the error text.
     fn text(&self) -> &[u8]
-        ensures { result.now ≡ ended_text self.now }
+        ensures { result.now ≡ outcomes_end_text self.now }
     {
         match self {
-            Ended::By(ending) => ending.text(),
-            Ended::Refused(line) => line.text(),
+            OutcomesEnd::By(job_end) => job_end.text(),
+            OutcomesEnd::Refused(line) => line.text(),
         }
     }
 
     /// Writes the error text, and returns the status.
     pub fn report<E: ByteSink>(&self, errors: &mut E) -> Status
         requires { E.failed errors.old + 1 < 2 ^ 64 }
-        ensures { Finishes E.told (ended_status self.now) (ended_text self.now)
+        ensures { Finishes E.told (outcomes_end_status self.now) (outcomes_end_text self.now)
             (E.failed errors.old) (E.failed errors.new)
             (E.written errors.old) (E.written errors.new) result }
     {

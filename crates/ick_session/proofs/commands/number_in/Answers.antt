@@ -9,7 +9,7 @@ use Rattle.std.specs.Char.{is_ascii_digit}
 use Rattle.std.specs.List.{list_all}
 use Rattle.std.specs.Str.Parse.{digits_value}
 use Rattle.ick_session.proofs.WordLaws.{is_number, too_large}
-use Rattle.ick_session.proofs.commands.number_of.Goals as goal
+use Rattle.ick_session.proofs.commands.number_in.Goals as goal
 
 pub returns-then-next-from : goal.returns-then-next-from
 returns-then-next-from c =

@@ -5,9 +5,9 @@ use Rattle.ick_explorer.specs.declared.errors.RunsError.{RunsError}
 use Rattle.ick_explorer.specs.declared.errors.RunsError.TheVariants as error
 use Rattle.ick_cli.specs.Notice.{notice_text}
 use Rattle.ick_cli.specs.Tool.{Answer}
-use Rattle.ick_cli.specs.declared.ending.Ending.{Ending}
-use Rattle.ick_cli.specs.declared.ending.Ending.TheVariants.{Answered, NoMemory, InputTooLong, FileNotRead}
-use Rattle.ick_cli.specs.declared.ending.Ending.TheVariants.{ReadFailed, WriteFailed}
+use Rattle.ick_cli.specs.declared.job_end.JobEnd.{JobEnd}
+use Rattle.ick_cli.specs.declared.job_end.JobEnd.TheVariants.{Answered, NoMemory, InputTooLong, FileNotRead}
+use Rattle.ick_cli.specs.declared.job_end.JobEnd.TheVariants.{ReadFailed, WriteFailed}
 use Rattle.ick_cli.specs.declared.notice.Message.{Message}
 use Rattle.ick_cli.specs.declared.notice.Message.TheVariants as message
 use Rattle.ick_cli.specs.declared.notice.Notice.TheVariants as notice
@@ -18,84 +18,84 @@ message_text message.Nothing = []
 message_text (message.Notice n) = notice_text n
 message_text (message.Text t) = t.items
 
--- the status and the error text of an ending
-abbrev pub ending_status : Ending → ℕ
-ending_status (Answered status message) = status
-ending_status _ = 4
+-- the status and the error text of a job's end
+abbrev pub job_end_status : JobEnd → ℕ
+job_end_status (Answered status message) = status
+job_end_status _ = 4
 
-abbrev pub ending_text : Ending → List ℕ
-ending_text (Answered status message) = message_text message
-ending_text NoMemory = notice_text notice.OutOfMemory
-ending_text InputTooLong = notice_text notice.InputTooLong
-ending_text FileNotRead = notice_text notice.FileNotRead
-ending_text ReadFailed = notice_text notice.ReadFailed
-ending_text WriteFailed = notice_text notice.WriteFailed
+abbrev pub job_end_text : JobEnd → List ℕ
+job_end_text (Answered status message) = message_text message
+job_end_text NoMemory = notice_text notice.OutOfMemory
+job_end_text InputTooLong = notice_text notice.InputTooLong
+job_end_text FileNotRead = notice_text notice.FileNotRead
+job_end_text ReadFailed = notice_text notice.ReadFailed
+job_end_text WriteFailed = notice_text notice.WriteFailed
 
 -- how many calls of the files failed, how many reads of the reader, and how many writes of the writer
-abbrev pub failed_files : Ending → ℕ
+abbrev pub failed_files : JobEnd → ℕ
 failed_files FileNotRead = 1
 failed_files _ = 0
 
-abbrev pub failed_reads : Ending → ℕ
+abbrev pub failed_reads : JobEnd → ℕ
 failed_reads ReadFailed = 1
 failed_reads _ = 0
 
-abbrev pub failed_writes : Ending → ℕ
+abbrev pub failed_writes : JobEnd → ℕ
 failed_writes WriteFailed = 1
 failed_writes _ = 0
 
--- an ending by an answer has one of the statuses of answers, or that of usage
-abbrev pub IsProper : Ending → Type 0
+-- a job's end by an answer has one of the statuses of answers, or that of usage
+abbrev pub IsProper : JobEnd → Type 0
 IsProper (Answered status message) = (status ≤ 3) ⊎ (status ≡ 64)
 IsProper _ = Unit {0}
 
 -- The work ended so, and the counts of failures of files, reader and writer say what it opened, read and wrote: the one
--- device whose failure is the ending failed once, and the others not.
-pub record Leaves (ending : Ending) (files files' reads reads' writes writes' : ℕ) : Type 0 where
-  pub proper : IsProper ending
-  pub opened : files' ≡ files + failed_files ending
-  pub read : reads' ≡ reads + failed_reads ending
-  pub wrote : writes' ≡ writes + failed_writes ending
+-- device whose failure is the job's end failed once, and the others not.
+pub record Leaves (job_end : JobEnd) (files files' reads reads' writes writes' : ℕ) : Type 0 where
+  pub proper : IsProper job_end
+  pub opened : files' ≡ files + failed_files job_end
+  pub read : reads' ≡ reads + failed_reads job_end
+  pub wrote : writes' ≡ writes + failed_writes job_end
 
 -- the same of work that does not open, and of work that does not read either
-abbrev pub LeavesStreams : Ending → ℕ → ℕ → ℕ → ℕ → Type 0
-LeavesStreams ending reads reads' writes writes' = Leaves ending 0 0 reads reads' writes writes'
+abbrev pub LeavesStreams : JobEnd → ℕ → ℕ → ℕ → ℕ → Type 0
+LeavesStreams job_end reads reads' writes writes' = Leaves job_end 0 0 reads reads' writes writes'
 
-abbrev pub LeavesWriter : Ending → ℕ → ℕ → Type 0
-LeavesWriter ending writes writes' = LeavesStreams ending 0 0 writes writes'
+abbrev pub LeavesWriter : JobEnd → ℕ → ℕ → Type 0
+LeavesWriter job_end writes writes' = LeavesStreams job_end 0 0 writes writes'
 
 -- an answer with this status and error text, or memory ran out
-abbrev pub EndsBy : ℕ → List ℕ → Ending → Type 0
+abbrev pub EndsBy : ℕ → List ℕ → JobEnd → Type 0
 EndsBy status text (Answered given message) = (given ≡ status) × (message_text message ≡ text)
 EndsBy status text NoMemory = Unit {0}
 EndsBy status text _ = ⊥
 
--- the ending that an answer has
-abbrev pub HasAnswer : Answer → Ending → Type 0
+-- the job's end that an answer has
+abbrev pub HasAnswer : Answer → JobEnd → Type 0
 HasAnswer answer (Answered status message) = (status ≡ answer.status) × (message_text message ≡ answer.errors)
 HasAnswer answer InputTooLong = (4 ≡ answer.status) × (notice_text notice.InputTooLong ≡ answer.errors)
 HasAnswer answer FileNotRead = (4 ≡ answer.status) × (notice_text notice.FileNotRead ≡ answer.errors)
 HasAnswer answer _ = Unit {0}
 
--- all of the answer's output was written if the ending has the answer, and else a prefix of it
-abbrev pub Sends : List ℕ → Ending → List ℕ → List ℕ → Type 0
+-- all of the answer's output was written if the job's end has the answer, and else a prefix of it
+abbrev pub Sends : List ℕ → JobEnd → List ℕ → List ℕ → Type 0
 Sends output (Answered status message) before after = after ≡ before ++ output
 Sends output InputTooLong before after = after ≡ before ++ output
 Sends output FileNotRead before after = after ≡ before ++ output
 Sends output _ before after = (n : ℕ) × (after ≡ before ++ take n output)
 
--- an ending that has an answer, whose output went out
-abbrev pub Answers : Answer → Ending → List ℕ → List ℕ → Type 0
-Answers answer ending before after = HasAnswer answer ending × Sends answer.output ending before after
+-- a job's end that has an answer, whose output went out
+abbrev pub Answers : Answer → JobEnd → List ℕ → List ℕ → Type 0
+Answers answer job_end before after = HasAnswer answer job_end × Sends answer.output job_end before after
 
 -- the output was sent, or the writer failed
-abbrev pub EndsSent : Ending → Type 0
+abbrev pub EndsSent : JobEnd → Type 0
 EndsSent (Answered status message) = Unit {0}
 EndsSent WriteFailed = Unit {0}
 EndsSent _ = ⊥
 
 -- a fact that holds if the work ended with an answer
-abbrev pub WhereAnswered : Ending → Type 0 → Type 0
+abbrev pub WhereAnswered : JobEnd → Type 0 → Type 0
 WhereAnswered (Answered status message) Fact = Fact
 WhereAnswered _ Fact = Unit {0}
 
@@ -116,9 +116,9 @@ Comes error.Failed = ⊥
 Comes _ = Unit {0}
 
 -- how work ends that a call of ick_runs refused
-abbrev pub refused_ending : RunsError → Ending
-refused_ending error.NoSuchRun = Answered 64 (message.Notice notice.NoSuchRun)
-refused_ending error.BadCursor = Answered 64 (message.Notice notice.BadCursor)
-refused_ending error.Read = ReadFailed
-refused_ending error.Write = WriteFailed
-refused_ending _ = NoMemory
+abbrev pub refused_job_end : RunsError → JobEnd
+refused_job_end error.NoSuchRun = Answered 64 (message.Notice notice.NoSuchRun)
+refused_job_end error.BadCursor = Answered 64 (message.Notice notice.BadCursor)
+refused_job_end error.Read = ReadFailed
+refused_job_end error.Write = WriteFailed
+refused_job_end _ = NoMemory

@@ -1,23 +1,23 @@
 -- What the work leaves, by how it ends.
 use Rattle.std.specs.Prelude.{◌≡◌, ◌==◌, if◌then◌else◌, ℕ, List, Option, Some, None}
-use Rattle.ick_cli.specs.Ending.{Answers, Leaves, ending_status, ending_text}
+use Rattle.ick_cli.specs.JobEnd.{Answers, Leaves, job_end_status, job_end_text}
 use Rattle.ick_cli.specs.Notice.{notice_text}
 use Rattle.ick_cli.specs.Tool.{Answer, refusal}
-use Rattle.ick_cli.specs.declared.ending.Ending.TheVariants.{Answered, NoMemory, InputTooLong, FileNotRead}
-use Rattle.ick_cli.specs.declared.ending.Ending.TheVariants.{ReadFailed, WriteFailed}
+use Rattle.ick_cli.specs.declared.job_end.JobEnd.TheVariants.{Answered, NoMemory, InputTooLong, FileNotRead}
+use Rattle.ick_cli.specs.declared.job_end.JobEnd.TheVariants.{ReadFailed, WriteFailed}
 use Rattle.ick_cli.specs.declared.notice.Notice.{Notice}
 use Rattle.ick_cli.specs.declared.notice.Notice.TheVariants.{ListingTooLong, TooManyStates}
-use Rattle.ick_outcomes_cli.specs.declared.ended.Ended.{Ended}
-use Rattle.ick_outcomes_cli.specs.declared.ended.Ended.TheVariants.{By, Refused}
+use Rattle.ick_outcomes_cli.specs.declared.outcomes_end.OutcomesEnd.{OutcomesEnd}
+use Rattle.ick_outcomes_cli.specs.declared.outcomes_end.OutcomesEnd.TheVariants.{By, Refused}
 
 -- the status and the error text
-abbrev pub ended_status : Ended → ℕ
-ended_status (By ending) = ending_status ending
-ended_status (Refused line) = 4
+abbrev pub outcomes_end_status : OutcomesEnd → ℕ
+outcomes_end_status (By job_end) = job_end_status job_end
+outcomes_end_status (Refused line) = 4
 
-abbrev pub ended_text : Ended → List ℕ
-ended_text (By ending) = ending_text ending
-ended_text (Refused line) = notice_text line
+abbrev pub outcomes_end_text : OutcomesEnd → List ℕ
+outcomes_end_text (By job_end) = job_end_text job_end
+outcomes_end_text (Refused line) = notice_text line
 
 -- a line of work that is refused although nothing failed
 abbrev pub IsRefusal : Notice → Type 0
@@ -26,18 +26,19 @@ IsRefusal TooManyStates = Unit {0}
 IsRefusal _ = ⊥
 
 -- the work ended so, and the counts of failures of files, reader and writer say what it opened, read and wrote
-abbrev pub LeavesAll : Ended → (files files' reads reads' writes writes' : ℕ) → Type 0
-LeavesAll (By ending) files files' reads reads' writes writes' = Leaves ending files files' reads reads' writes writes'
+abbrev pub LeavesAll : OutcomesEnd → (files files' reads reads' writes writes' : ℕ) → Type 0
+LeavesAll (By job_end) files files' reads reads' writes writes' =
+    Leaves job_end files files' reads reads' writes writes'
 LeavesAll (Refused line) files files' reads reads' writes writes' =
     IsRefusal line × (files' ≡ files) × (reads' ≡ reads) × (writes' ≡ writes)
 
--- there is an answer, and the ending has it, behind what was written
+-- there is an answer, and the job's end has it, behind what was written
 abbrev pub HasSome : (Answer → Type 0) → (Answer → Type 0) → Type 0
 HasSome IsAnswer Fits = (answer : Answer) × IsAnswer answer × Fits answer
 
--- The ending has an answer, and its output is written, or a prefix of it if the writer failed. Or nothing is written:
+-- The end has an answer, and its output is written, or a prefix of it if the writer failed. Or nothing is written:
 -- a read failed, memory ran out, or there are too many states.
-abbrev pub Gives : (Answer → Type 0) → Type 0 → Ended → List ℕ → List ℕ → Type 0
+abbrev pub Gives : (Answer → Type 0) → Type 0 → OutcomesEnd → List ℕ → List ℕ → Type 0
 Gives IsAnswer More (By (Answered status message)) before after =
     HasSome IsAnswer (λ answer. Answers answer (Answered status message) before after)
 Gives IsAnswer More (By InputTooLong) before after =
