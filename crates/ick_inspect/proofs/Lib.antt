@@ -1,3 +1,4 @@
+pub mod AddLaws
 mod ReaderLemmas
 mod TextLemmas
 mod PositionLemmas

@@ -1,15 +1,15 @@
 -- The texts of the statements of a cut begin at positions of the source.
-use Rattle.std.proofs.Common.{◌≡◌, ℕ, suc, ◌+◌, ◌-◌, ◌<◌, ◌≤◌, Bool, true, false, Option, List, [], ◌∷◌, ◌⊎◌, inl, inr}
-use Rattle.std.proofs.Common.{length, ap, sym, refl, ◌∙◌, arith, take, drop, get_or, subst}
-use Rattle.std.specs.Prelude.{codes, slice_index, slice_range}
+use Rattle.std.proofs.Common.{◌≡◌, ℕ, ◌+◌, ◌-◌, ◌<◌, ◌≤◌, Bool, true, false, Option, List, [], ◌∷◌, ◌⊎◌, inl, inr}
+use Rattle.std.proofs.Common.{length, ap, sym, refl, ◌∙◌, arith, drop, subst}
+use Rattle.std.specs.Prelude.{slice_index, slice_range}
 use Rattle.std.proofs.lemmas.Bool.{cases_lt}
 use Rattle.std.proofs.lemmas.List.{get_or_past, length-drop, length-take}
 use Rattle.ick_bits.specs.White.{is_white_byte}
 use Rattle.ick_syntax.specs.StatementTree.{StatementTree}
-use Rattle.ick_source.specs.Bytes.{byte, IsGap, IsWhite, IsWordIn}
+use Rattle.ick_source.specs.Bytes.{byte}
 use Rattle.ick_source.specs.Boundaries.{IsIdentifier, please_do, only_please, only_do, IsOpening, unlabelled, labelled}
-use Rattle.ick_source.specs.Boundaries.{IsBoundary, at_start, at_end, IsNextBoundary}
-use Rattle.ick_source.specs.Statements.{Ends, recognised, unrecognised, IsStatement, IsTrimmed}
+use Rattle.ick_source.specs.Boundaries.{IsBoundary, at_start, at_end}
+use Rattle.ick_source.specs.Statements.{Ends, recognised, unrecognised, IsTrimmed}
 use Rattle.ick_source.specs.Cut.{AreStatements, done, statement_then, IsFront, nothing, something, IsCut}
 use Rattle.ick_inspect.specs.Positions.{AreAt, no_text, text_then, BeginsAt, texts_of}
 

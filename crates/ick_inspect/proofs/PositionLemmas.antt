@@ -1,5 +1,5 @@
 -- Positions, byte by byte.
-use Rattle.std.proofs.Common.{Option, Some, None, zero, drop, map, append_assoc, ◌⊎◌, inl, inr, ◌≡◌, ℕ, suc, ◌+◌, ◌<◌}
+use Rattle.std.proofs.Common.{Some, zero, drop, map, append_assoc, ◌⊎◌, inl, inr, ◌≡◌, ℕ, suc, ◌+◌, ◌<◌}
 use Rattle.std.proofs.Common.{◌≤◌, Bool, true, false, List, [], ◌∷◌, ◌++◌, length, ap, sym, refl, ◌∙◌, arith, take}
 use Rattle.std.proofs.Common.{get_or, subst}
 use Rattle.std.specs.Prelude.{option_map, if◌then◌else◌, reverse, not, slice_index}

@@ -1,7 +1,6 @@
--- Pieces that are added one after another.
-use Rattle.std.proofs.Common.{Some, zero, suc, add-one, ◌≡◌, ◌≢◌, ℕ, ◌+◌, ◌-◌, ◌<◌, ◌≤◌, Bool, true, false, List, []}
-use Rattle.std.proofs.Common.{◌∷◌, ◌++◌, length, ap, sym, refl, ◌∙◌, arith, append_assoc, take, get_or, vec_len}
-use Rattle.std.proofs.Common.{vec_capacity, subst}
+-- Texts of numbers, variables and states, piece by piece.
+use Rattle.std.proofs.Common.{Some, ◌≡◌, ℕ, ◌+◌, ◌-◌, ◌<◌, ◌≤◌, Bool, true, false, List, []}
+use Rattle.std.proofs.Common.{◌∷◌, ◌++◌, length, ap, sym, refl, ◌∙◌, arith, take, get_or}
 use Rattle.std.specs.Prelude.{codes, decimal, filter, reverse, min, max, slice_get, option_map, if◌then◌else◌, Option}
 use Rattle.std.specs.Prelude.{None}
 use Rattle.std.proofs.lemmas.List.Elements.{filter-append}
@@ -12,10 +11,9 @@ use Rattle.ick_backtrack.specs.Asked.{finish_of, finished}
 use Rattle.ick_backtrack.specs.declared.asking.End.TheVariants.{GiveUp, Fault as Faulted, Limit}
 use Rattle.std.specs.List.{flat_map, range_with_len}
 use Rattle.std.proofs.lemmas.Option.{get_or_from_slice_get, slice_get_within}
-use Rattle.std.proofs.lemmas.List.{append-nil, length-append, take_more, take_all, length-reverse, get_or-reverse}
-use Rattle.std.proofs.lemmas.Grind.{flat_map-append}
-use Rattle.ick_inspect.specs.declared.text.Text.{Text}
-use Rattle.ick_inspect.specs.Text.{Adds, numbers_text}
+use Rattle.std.proofs.lemmas.List.{append-nil, take_more, take_all, length-reverse, get_or-reverse}
+use Rattle.ick_inspect.proofs.AddLaws.{pieces_more, range_more}
+use Rattle.ick_inspect.specs.Text.{numbers_text}
 use Rattle.ick_inspect.specs.Names.{array_text, dimensions_text, elements_text, variable_text}
 use Rattle.ick_inspect.specs.declared.positions.Position.{Position}
 use Rattle.ick_code.specs.Names.{slots_of}
@@ -25,56 +23,11 @@ use Rattle.ick_inspect.specs.Statements.{list_text, listed_text, text_at}
 use Rattle.ick_syntax.specs.declared.tree.Name.{Name}
 use Rattle.ick_code.specs.meaning.State.{Array, State, Ending, gave_up, faulted}
 
-pub nothing : (a : Text) → Adds a a []
-nothing a = record {
-  sound = λ e. e;
-  bytes = λ e. sym (append-nil a.bytes.items);
-  full = λ e f. absurd (cc);
-  capacity = omega arith;
-}
-
-full_after : (a b c : Text) (x y : List ℕ) → Adds a b x → Adds b c y → (r : Bool) → b.refused ≡ r →
-    c.refused ≡ true → a.refused ≡ false → vec_capacity a.bytes < vec_len a.bytes + length (x ++ y)
-full_after a b c x y p q true r e f = let h = p.full r f in let l = length-append x y in omega arith
-full_after a b c x y p q false r e f =
-    let h = q.full e r in
-    let l = length-append x y in
-    let n = ap length (p.bytes r) in
-    let m = length-append a.bytes.items x in
-    let cap = p.capacity in
-    omega (arith, a.bytes.ok.0, b.bytes.ok.0)
-
-pub chain : {a b c : Text} {x y : List ℕ} → Adds a b x → Adds b c y → Adds a c (x ++ y)
-chain {a} {b} {c} {x} {y} p q = record {
-  sound = λ e. p.sound (q.sound e);
-  bytes =
-      λ e. q.bytes e ∙ (ap (λ t. t ++ y) (p.bytes (q.sound e)) ∙ append_assoc a.bytes.items x y);
-  full = λ e f. full_after a b c x y p q b.refused refl e f;
-  capacity = let u = p.capacity in let v = q.capacity in omega arith;
-}
-
-pub same : {a b : Text} {x y : List ℕ} → Adds a b x → x ≡ y → Adds a b y
-same {a} {b} p e = subst (λ t. Adds a b t) e p
-
--- one more element
-pub pieces_more : {A : Type 0} (f : A → List ℕ) (xs : List A) (x : A) →
-    flat_map f (xs ++ x ∷ []) ≡ flat_map f xs ++ f x
-pieces_more f xs x = flat_map-append f xs (x ∷ []) ∙ ap (λ t. flat_map f xs ++ t) (append-nil (f x))
-
 pub taken_more : {A : Type 0} (xs : List A) (k : ℕ) (x : A) → slice_get xs k ≡ Some x →
     take (k + 1) xs ≡ take k xs ++ x ∷ []
 taken_more xs k x e =
     take_more xs k x (slice_get_within xs k x e)
     ∙ ap (λ y. take k xs ++ y ∷ []) (get_or_from_slice_get xs k x x e)
-
-counted_more : (a n : ℕ) → range_with_len a (suc n) ≡ range_with_len a n ++ (a + n) ∷ []
-counted_more a zero = let same : a ≡ a + 0 = omega arith in ap (λ k. k ∷ []) same
-counted_more a (suc n) =
-    let same : a + 1 + n ≡ a + suc n = omega arith in
-    ap (λ l. a ∷ l) (counted_more (a + 1) n ∙ ap (λ k. range_with_len (a + 1) n ++ k ∷ []) same)
-
-pub range_more : (a n : ℕ) → range_with_len a (n + 1) ≡ range_with_len a n ++ (a + n) ∷ []
-range_more a n = rw add-one (counted_more a n)
 
 -- one more number
 pub numbers_push : (before numbers : List ℕ) (n : ℕ) →

@@ -1,5 +1,5 @@
 -- How a variable or an array is shown.
-use Rattle.std.specs.Prelude.{ℕ, suc, ◌==◌, Bool, true, false, List, [], ◌∷◌, ◌++◌, length, codes, decimal}
+use Rattle.std.specs.Prelude.{ℕ, ◌==◌, Bool, List, [], ◌∷◌, ◌++◌, length, codes, decimal}
 use Rattle.std.specs.Prelude.{if◌then◌else◌}
 use Rattle.ick_syntax.specs.declared.tree.Name.{Name}
 use Rattle.ick_syntax.specs.declared.tree.NameKind.{NameKind}

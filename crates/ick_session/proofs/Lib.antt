@@ -2,7 +2,6 @@ pub mod CountLaws
 pub mod AnswerLaws
 pub mod WordLaws
 pub mod GivenLaws
-pub mod AddLaws
 pub mod ShownLaws
 pub mod ChangeLaws
 pub mod TravelLaws

@@ -11,7 +11,7 @@ use Rattle.ick_inspect.specs.Summary.{variables_text}
 use Rattle.ick_inspect.specs.declared.text.Text.{Text}
 use Rattle.ick_inspect.specs.Text.{Adds}
 use Rattle.ick_session.specs.Commands.{behind_word, first_word, name_in, words_from, words_of}
-use Rattle.ick_session.proofs.AddLaws.{nothing, same, then}
+use Rattle.ick_inspect.proofs.AddLaws.{nothing, same, then}
 
 -- the lines of the names among words
 abbrev pub lines : State → List (List ℕ) → List ℕ

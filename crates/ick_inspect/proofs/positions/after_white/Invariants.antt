@@ -1,4 +1,4 @@
-use Rattle.std.proofs.Common.{◌≡◌, ◌<◌, ◌≤◌, ◌-◌, ℕ, length}
+use Rattle.std.proofs.Common.{◌<◌, ◌≤◌, ◌-◌, ℕ, length}
 use Rattle.std.specs.Prelude.{IsTrue, slice_index}
 use Rattle.ick_bits.specs.White.{is_white_byte}
 use Rattle.ick_inspect.proofs.positions.after_white.Given as goal

@@ -1,5 +1,5 @@
 use Rattle.std.proofs.lemmas.List.{length-map}
-use Rattle.std.proofs.Common.{add-one, ◌≡◌, ◌∙◌, ap, arith, refl, sym, length, map, subst}
+use Rattle.std.proofs.Common.{add-one, ◌≡◌, arith, refl, length}
 use Rattle.ick_code.specs.Compiled.{code_program}
 use Rattle.ick_inspect.specs.Positions.{position_in, texts_of}
 use Rattle.ick_inspect.proofs.PositionLemmas.{goes_first, goes_last, goes_more, next_text}

@@ -2,7 +2,7 @@ use Rattle.std.proofs.Common.{length, ◌∙◌, sym}
 use Rattle.ick_code.specs.Compiled.{code_program}
 use Rattle.ick_machine.specs.Present.{present_state}
 use Rattle.ick_session.specs.Changes.{is_of_abstaining}
-use Rattle.ick_session.proofs.AddLaws.{same, then}
+use Rattle.ick_inspect.proofs.AddLaws.{same, then}
 use Rattle.ick_session.proofs.ChangeLaws.{abstained_is}
 use Rattle.ick_session.proofs.changes.append_abstained.Goals as goal
 

@@ -1,5 +1,5 @@
 use Rattle.ick_machine.specs.Present.{present_state}
-use Rattle.ick_session.proofs.AddLaws.{same, then}
+use Rattle.ick_inspect.proofs.AddLaws.{same, then}
 use Rattle.ick_session.proofs.ChangeLaws.{printed_same}
 use Rattle.ick_session.proofs.changes.append_changes.Goals as goal
 

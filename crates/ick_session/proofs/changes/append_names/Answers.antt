@@ -1,7 +1,7 @@
 use Rattle.std.proofs.Common.{sym}
 use Rattle.ick_machine.specs.Present.{present_state}
 use Rattle.ick_session.specs.Changes.{op_text}
-use Rattle.ick_session.proofs.AddLaws.{pieces_taken, same, then}
+use Rattle.ick_inspect.proofs.AddLaws.{pieces_taken, same, then}
 use Rattle.ick_session.proofs.changes.append_names.Goals as goal
 
 pub loop-op-preserved : goal.loop-op-preserved

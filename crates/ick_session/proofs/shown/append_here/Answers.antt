@@ -1,7 +1,7 @@
 use Rattle.std.proofs.Common.{ap₂}
 use Rattle.ick_backtrack.specs.Asked.{finish_of}
 use Rattle.ick_session.specs.Shown.{over_text}
-use Rattle.ick_session.proofs.AddLaws.{same, then}
+use Rattle.ick_inspect.proofs.AddLaws.{same, then}
 use Rattle.ick_session.proofs.ShownLaws.{here_over}
 use Rattle.ick_session.proofs.shown.append_here.Goals as goal
 

@@ -3,7 +3,7 @@ use Rattle.ick_backtrack.specs.Asked.{finish_of}
 use Rattle.ick_backtrack.specs.declared.asking.End.{End}
 use Rattle.ick_machine.specs.Present.{present_program, present_state}
 use Rattle.ick_session.specs.Shown.{over_text}
-use Rattle.ick_session.proofs.AddLaws.{same, then}
+use Rattle.ick_inspect.proofs.AddLaws.{same, then}
 use Rattle.ick_session.proofs.shown.append_over.Goals as goal
 
 pub returns-in-Fault : goal.returns-in-Fault

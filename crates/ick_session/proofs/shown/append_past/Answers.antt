@@ -1,6 +1,6 @@
 use Rattle.std.proofs.Common.{◌++◌, ap, codes}
 use Rattle.std.specs.Prelude.{decimal}
-use Rattle.ick_session.proofs.AddLaws.{same, then}
+use Rattle.ick_inspect.proofs.AddLaws.{same, then}
 use Rattle.ick_session.proofs.shown.append_past.Goals as goal
 
 pub returns : goal.returns

@@ -5,7 +5,7 @@ use Rattle.ick_code.specs.meaning.State.{statement_at}
 use Rattle.ick_machine.specs.Present.{present_program, present_state}
 use Rattle.ick_machine.specs.Seen.{trailed_machine}
 use Rattle.ick_session.specs.Changes.{passed_text}
-use Rattle.ick_session.proofs.AddLaws.{same, then}
+use Rattle.ick_inspect.proofs.AddLaws.{same, then}
 use Rattle.ick_session.proofs.ChangeLaws.{changes_same}
 use Rattle.ick_session.proofs.trace.append_step.Goals as goal
 

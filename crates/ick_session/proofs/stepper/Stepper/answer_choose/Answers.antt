@@ -4,7 +4,7 @@ use Rattle.ick_session.specs.Answers.{Chooses, at_limit, chooses, not_asked}
 use Rattle.ick_session.specs.Changes.{printed_text}
 use Rattle.ick_session.specs.Stepper.{fixed, seen}
 use Rattle.ick_session.specs.Travel.{steps_left, way_text, where_text}
-use Rattle.ick_session.proofs.AddLaws.{same, then}
+use Rattle.ick_inspect.proofs.AddLaws.{same, then}
 use Rattle.ick_session.proofs.stepper.Stepper.answer_choose.Goals as goal
 
 pub returns-then-left-eq0-clause-answers : goal.returns-then-left-eq0-clause-answers

@@ -4,7 +4,7 @@ use Rattle.ick_session.specs.Answers.{any_number}
 use Rattle.ick_session.specs.Given.{given_by}
 use Rattle.ick_session.specs.Stepper.{seen}
 use Rattle.ick_session.specs.Travel.{steps_left, way_text}
-use Rattle.ick_session.proofs.AddLaws.{then}
+use Rattle.ick_inspect.proofs.AddLaws.{then}
 use Rattle.ick_session.proofs.TravelLaws.{keeps_in, stops_at}
 use Rattle.ick_session.proofs.stepper.Stepper.answer_watch.Goals as goal
 

@@ -2,7 +2,7 @@ use Rattle.std.proofs.Common.{◌++◌, ap, codes}
 use Rattle.ick_session.specs.Answers.{changed, name_text, not_changed}
 use Rattle.ick_session.specs.Stepper.{fixed, seen}
 use Rattle.ick_session.specs.Travel.{where_text}
-use Rattle.ick_session.proofs.AddLaws.{same, then}
+use Rattle.ick_inspect.proofs.AddLaws.{same, then}
 use Rattle.ick_session.proofs.stepper.Stepper.answer_why.Goals as goal
 
 pub returns-then-branch-clause-answers : goal.returns-then-branch-clause-answers

@@ -1,5 +1,5 @@
 use Rattle.ick_step.specs.Sessions.{session}
-use Rattle.ick_session.proofs.AddLaws.{same, then}
+use Rattle.ick_inspect.proofs.AddLaws.{same, then}
 use Rattle.ick_session.proofs.TravelLaws.{where_over}
 use Rattle.ick_session.proofs.stepper.Stepper.append_here.Goals as goal
 

@@ -1,7 +1,7 @@
 use Rattle.std.proofs.Common.{◌++◌, ◌∙◌, ap, codes}
 use Rattle.ick_code.specs.meaning.State.{State}
 use Rattle.ick_inspect.specs.Names.{variable_text}
-use Rattle.ick_session.proofs.AddLaws.{same, then}
+use Rattle.ick_inspect.proofs.AddLaws.{same, then}
 use Rattle.ick_session.proofs.stepper.Stepper.append_name.Goals as goal
 
 pub returns : goal.returns

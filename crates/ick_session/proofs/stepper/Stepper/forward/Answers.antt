@@ -3,7 +3,7 @@ use Rattle.ick_step.specs.Session.{present}
 use Rattle.ick_step.specs.Sessions.{session}
 use Rattle.ick_session.specs.Changes.{printed_text}
 use Rattle.ick_session.specs.Travel.{where_text}
-use Rattle.ick_session.proofs.AddLaws.{same, then}
+use Rattle.ick_inspect.proofs.AddLaws.{same, then}
 use Rattle.ick_session.proofs.stepper.Stepper.forward.Goals as goal
 
 pub returns-clause-text : goal.returns-clause-text

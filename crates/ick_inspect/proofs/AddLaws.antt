@@ -53,10 +53,14 @@ counted_more a (suc n) =
     let same : a + 1 + n ≡ a + suc n = omega arith in
     ap (λ l. a ∷ l) (counted_more (a + 1) n ∙ ap (λ k. range_with_len (a + 1) n ++ k ∷ []) same)
 
+-- one more number
+pub range_more : (a n : ℕ) → range_with_len a (n + 1) ≡ range_with_len a n ++ (a + n) ∷ []
+range_more a n = rw add-one (counted_more a n)
+
 -- the pieces of one more number, from 1 on
 pub numbered_more : (f : ℕ → List ℕ) (n : ℕ) →
     flat_map f (range_with_len 1 (n + 1)) ≡ flat_map f (range_with_len 1 n) ++ f (n + 1)
 numbered_more f n =
     let alike : 1 + n ≡ n + 1 = omega arith in
-    ap (flat_map f) (rw add-one (counted_more 1 n) ∙ ap (λ k. range_with_len 1 n ++ k ∷ []) alike)
+    ap (flat_map f) (range_more 1 n ∙ ap (λ k. range_with_len 1 n ++ k ∷ []) alike)
     ∙ pieces_more f (range_with_len 1 n) (n + 1)
