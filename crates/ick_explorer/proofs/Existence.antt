@@ -13,7 +13,7 @@ use Rattle.ick_explorer.specs.Listings.{IsListing}
 use Rattle.ick_explorer.proofs.RunLaws.{run-ended, run-plain, run-choice, run-wants, limit-unused, limit-end, whole-along}
 use Rattle.ick_explorer.proofs.ListingLaws.{contains-nil, contains-head, contains-tail, contains-cases}
 
-contains-map : (b : Bool) (c : List Bool) (xs : List (List Bool)) → Contains xs c →
+pub contains-map : (b : Bool) (c : List Bool) (xs : List (List Bool)) → Contains xs c →
     Contains (map (λ r. b ∷ r) xs) (b ∷ c)
 contains-map b c [] h = absurd (contains-nil c h)
 contains-map b c (x ∷ xs) h = elim (contains-cases x c xs h) [
@@ -23,7 +23,7 @@ contains-map b c (x ∷ xs) h = elim (contains-cases x c xs h) [
   | inr k ↦ contains-tail (b ∷ x) (b ∷ c) (map (λ r. b ∷ r) xs) (contains-map b c xs k)
 ]
 
-map-contains : (b : Bool) (d : List Bool) (xs : List (List Bool)) →
+pub map-contains : (b : Bool) (d : List Bool) (xs : List (List Bool)) →
     Contains (map (λ r. b ∷ r) xs) d → (c : List Bool) × Contains xs c × (b ∷ c ≡ d)
 map-contains b d [] h = absurd (contains-nil d h)
 map-contains b d (x ∷ xs) h = elim (contains-cases (b ∷ x) d (map (λ r. b ∷ r) xs) h) [
@@ -31,7 +31,7 @@ map-contains b d (x ∷ xs) h = elim (contains-cases (b ∷ x) d (map (λ r. b �
   | inr k ↦ let r = map-contains b d xs k in (r.0, contains-tail x r.0 xs r.1, r.2)
 ]
 
-increasing-map : (b : Bool) (xs : List (List Bool)) → ((c d : List Bool) → IsBelow c d →
+pub increasing-map : (b : Bool) (xs : List (List Bool)) → ((c d : List Bool) → IsBelow c d →
     IsBelow (b ∷ c) (b ∷ d)) → IsIncreasing xs → IsIncreasing (map (λ r. b ∷ r) xs)
 increasing-map b [] f u = tt
 increasing-map b (x ∷ xs) f u = (
@@ -40,7 +40,7 @@ increasing-map b (x ∷ xs) f u = (
   increasing-map b xs f u.1,
 )
 
-increasing-append : (xs ys : List (List Bool)) → IsIncreasing xs →
+pub increasing-append : (xs ys : List (List Bool)) → IsIncreasing xs →
     IsIncreasing ys → ((c d : List Bool) → Contains xs c → Contains ys d → IsBelow c d) →
     IsIncreasing (xs ++ ys)
 increasing-append [] ys u v f = v

@@ -12,46 +12,10 @@ use Rattle.ick_explorer.specs.Runs.{ends, stays, stepped, run, run_at_limit, IsE
 use Rattle.ick_explorer.specs.Order.{IsBelow, IsIncreasing}
 use Rattle.ick_explorer.proofs.RunLaws.{run-ended, run-plain, run-choice, run-wants, whole-along}
 use Rattle.ick_explorer.proofs.ListingLaws.{contains-nil, contains-head, contains-tail, contains-cases}
-use Rattle.ick_explorer.proofs.Existence.{whole-back}
+use Rattle.ick_explorer.proofs.Existence.{contains-map, increasing-append, increasing-map, map-contains, whole-back}
 use Rattle.ick_outcomes.specs.Weights.{part, share_on, share, shares}
 use Rattle.ick_outcomes.specs.Tallies.{Test, Passes, Tally, sooner, lead, join, push, pass, one, tally}
 use Rattle.ick_outcomes.specs.Tallies.{tally_at_limit, tally_on, stop_text}
-
-contains-map : (b : Bool) (c : List Bool) (xs : List (List Bool)) → Contains xs c →
-    Contains (map (λ r. b ∷ r) xs) (b ∷ c)
-contains-map b c [] h = absurd (contains-nil c h)
-contains-map b c (x ∷ xs) h = elim (contains-cases x c xs h) [
-  | inl e ↦
-      subst (λ z. Contains ((b ∷ x) ∷ map (λ r. b ∷ r) xs) (b ∷ z)) e
-      (contains-head (b ∷ x) (map (λ r. b ∷ r) xs))
-  | inr k ↦ contains-tail (b ∷ x) (b ∷ c) (map (λ r. b ∷ r) xs) (contains-map b c xs k)
-]
-
-map-contains : (b : Bool) (d : List Bool) (xs : List (List Bool)) →
-    Contains (map (λ r. b ∷ r) xs) d → (c : List Bool) × Contains xs c × (b ∷ c ≡ d)
-map-contains b d [] h = absurd (contains-nil d h)
-map-contains b d (x ∷ xs) h = elim (contains-cases (b ∷ x) d (map (λ r. b ∷ r) xs) h) [
-  | inl e ↦ (x, contains-head x xs, e)
-  | inr k ↦ let r = map-contains b d xs k in (r.0, contains-tail x r.0 xs r.1, r.2)
-]
-
-increasing-map : (b : Bool) (xs : List (List Bool)) → ((c d : List Bool) → IsBelow c d →
-    IsBelow (b ∷ c) (b ∷ d)) → IsIncreasing xs → IsIncreasing (map (λ r. b ∷ r) xs)
-increasing-map b [] f u = tt
-increasing-map b (x ∷ xs) f u = (
-  λ d h. let r = map-contains b d xs h in
-      subst (λ z. IsBelow (b ∷ x) z) r.2 (f x r.0 (u.0 r.0 r.1)),
-  increasing-map b xs f u.1,
-)
-
-increasing-append : (xs ys : List (List Bool)) → IsIncreasing xs →
-    IsIncreasing ys → ((c d : List Bool) → Contains xs c → Contains ys d → IsBelow c d) →
-    IsIncreasing (xs ++ ys)
-increasing-append [] ys u v f = v
-increasing-append (x ∷ xs) ys u v f = (
-  λ d h. elim (Contains-append_cases xs ys d h) [ inl k ↦ u.0 d k | inr k ↦ f x d (contains-head x xs) k ],
-  increasing-append xs ys u.1 v (λ c d h k. f c d (contains-tail x c xs h) k),
-)
 
 abbrev pub head_of : List (List Bool) → Option (List Bool)
 head_of [] = None
