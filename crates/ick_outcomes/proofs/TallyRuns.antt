@@ -11,7 +11,7 @@ use Rattle.ick_backtrack.specs.Asked.{Finish, finished, at_limit, IsGoing}
 use Rattle.ick_explorer.specs.Runs.{ends, stays, stepped, run, run_at_limit, IsEnd}
 use Rattle.ick_explorer.specs.Order.{IsBelow, IsIncreasing}
 use Rattle.ick_explorer.proofs.RunLaws.{run-ended, run-plain, run-choice, run-wants, whole-along}
-use Rattle.ick_explorer.proofs.ListingLaws.{contains-nil, contains-head, contains-tail, contains-cases}
+use Rattle.ick_explorer.proofs.ListingLaws.{contains-nil, contains-head, contains-cases}
 use Rattle.ick_explorer.proofs.Existence.{contains-map, increasing-append, increasing-map, map-contains, whole-back}
 use Rattle.ick_outcomes.specs.Weights.{part, share_on, share, shares}
 use Rattle.ick_outcomes.specs.Tallies.{Test, Passes, Tally, sooner, lead, join, push, pass, one, tally}
