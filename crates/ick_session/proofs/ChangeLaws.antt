@@ -1,17 +1,19 @@
 -- The texts of what has changed.
 use Rattle.std.proofs.Common.{◌≡◌, ◌≤◌, ℕ, ◌++◌, List, Bool, true, false, not, ap, sym, refl, ◌∙◌, arith, codes, length}
-use Rattle.std.proofs.Common.{[]}
+use Rattle.std.proofs.Common.{[], ◌<◌, ◌+◌, ◌-◌, append_assoc, get_or, take}
 use Rattle.std.specs.Prelude.{Result, Ok, Err, OnOk}
 use Rattle.std.proofs.lemmas.Bool.Decides.{nat_tests}
 use Rattle.std.specs.Prelude.{bytes_eq, decimal, reverse}
-use Rattle.std.proofs.lemmas.List.{reverse-reverse}
+use Rattle.std.proofs.lemmas.List.{append-nil, get_or-reverse, length-reverse, reverse-reverse}
 use Rattle.std.proofs.lemmas.Slice.Eq.{bytes_eq-Decides}
 use Rattle.ick_code.specs.declared.code.Code.{Code}
 use Rattle.ick_code.specs.Compiled.{code_ops, code_program}
 use Rattle.ick_code.specs.meaning.State.{State}
 use Rattle.ick_inspect.specs.Summary.{stack_text}
+use Rattle.ick_inspect.specs.Text.{numbers_text}
 use Rattle.ick_session.specs.Changes.{abstained_lines, changes_text, newly_line, newly_text, ops_at, printed_text}
-use Rattle.ick_session.specs.Changes.{returned_text}
+use Rattle.ick_session.specs.Changes.{moved_line, returned_text}
+use Rattle.ick_session.proofs.AddLaws.{pieces_taken}
 
 pub newly_is : (word : List ℕ) (s t : State) (n k : ℕ) → t.abstained n ≡ true → s.abstained n ≡ false → k ≡ n →
     word ++ decimal k ++ codes "\n" ≡ newly_line word s t n
@@ -37,10 +39,28 @@ not_false true e = refl
 not_false false e = absurd (cc)
 
 pub returned_is : (s t : State) (xs ys : List ℕ) (r : Bool) → s.returns ≡ reverse xs → t.returns ≡ reverse ys →
-    r ≡ not (bytes_eq xs ys) → r ≡ true → codes "  " ++ stack_text t ≡ returned_text s t
+    r ≡ not (bytes_eq xs ys) → r ≡ true →
+    moved_line (reverse xs) (reverse ys) ++ codes "  " ++ stack_text t ≡ returned_text s t
 returned_is s t xs ys r e f h is =
     let differ = not_true (bytes_eq xs ys) (sym h ∙ is) in
-    rw (other_returns s t xs ys (bytes_eq s.returns t.returns) e f differ refl) refl
+    rw (other_returns s t xs ys (bytes_eq s.returns t.returns) e f differ refl, e, f) refl
+
+-- one more return address behind a word
+pub newest_more : (word addresses : List ℕ) (k : ℕ) → k < length addresses →
+    word ++ numbers_text (codes " ") (take k (reverse addresses))
+    ++ (codes " " ++ decimal (get_or addresses (length addresses - 1 - k) 0))
+    ≡ word ++ numbers_text (codes " ") (take (k + 1) (reverse addresses))
+unfolding numbers_text
+newest_more word addresses k low =
+    let long = length-reverse addresses in
+    append_assoc word (numbers_text (codes " ") (take k (reverse addresses))) _
+    ∙ ap (λ t. word ++ t) (sym (pieces_taken (λ n. codes " " ++ decimal n) (reverse addresses) k 0 (omega arith)
+    ∙ ap (λ n. numbers_text (codes " ") (take k (reverse addresses)) ++ (codes " " ++ decimal n))
+    (get_or-reverse addresses k 0 low)))
+
+pub none_newest : (word addresses : List ℕ) → word ≡ word ++ numbers_text (codes " ") (take 0 addresses)
+unfolding numbers_text
+none_newest word addresses = sym (append-nil word)
 
 pub none_returned : (s t : State) (xs ys : List ℕ) (r : Bool) → s.returns ≡ reverse xs → t.returns ≡ reverse ys →
     r ≡ not (bytes_eq xs ys) → r ≡ false → [] ≡ returned_text s t

@@ -18,7 +18,7 @@ use Rattle.ick_code.specs.meaning.Move.{advance, is_done}
 use Rattle.ick_code.specs.meaning.State.{State, statement_at}
 use Rattle.ick_inspect.specs.Names.{variable_text}
 use Rattle.ick_inspect.specs.Summary.{stack_text}
-use Rattle.ick_inspect.specs.Text.{Adds}
+use Rattle.ick_inspect.specs.Text.{Adds, numbers_text}
 use Rattle.ick_inspect.specs.declared.text.Text.{Text}
 
 -- what a state has at a name; of stashed values the number
@@ -113,9 +113,21 @@ op_text code s t op =
     option_line s t (changed_name (code_slots code) op)
     ++ abstained_lines (length (code_program code)) s t (is_of_abstaining op)
 
--- the return addresses, if they have changed
+-- so many of the return addresses behind a word, the newest first
+abbrev pub newest_line : List ℕ → List ℕ → ℕ → List ℕ
+newest_line word addresses count = word ++ numbers_text (codes " ") (take count addresses) ++ codes "\n"
+
+-- the return addresses that were pushed, or those that were removed, the newest first
+abbrev pub moved_line : (before after : List ℕ) → List ℕ
+moved_line before after =
+    if nat_lt (length before) (length after)
+    then newest_line (codes "  pushes") after (length after - length before)
+    else newest_line (codes "  removes") before (length before - length after)
+
+-- what happened to the return addresses, and those that there are then, if they have changed
 abbrev pub returned_text : State → State → List ℕ
-returned_text s t = if bytes_eq s.returns t.returns then [] else codes "  " ++ stack_text t
+returned_text s t =
+    if bytes_eq s.returns t.returns then [] else moved_line s.returns t.returns ++ codes "  " ++ stack_text t
 
 -- the operations of a statement, if there is one of this number
 abbrev pub ops_at : Code → ℕ → List Op
@@ -123,7 +135,7 @@ ops_at code n =
     if nat_lt n 1 then [] else if nat_lt (length (code_program code)) n then [] else code_ops code n
 
 -- what a step at a statement has changed: what it read, the names and the abstentions of its operations, the return
--- addresses, and what it printed
+-- addresses that it pushed or removed and those that there are then, and what it printed
 abbrev pub changes_text : Code → (statement : ℕ) → (before after : State) → List ℕ
 changes_text code n s t =
     read_text s t ++ flat_map (op_text code s t) (ops_at code n) ++ returned_text s t

@@ -1,13 +1,14 @@
 //! What a step has changed.
 
-ghost use Rattle.std.specs.Prelude.{◌≡◌, ◌≤◌, ◌++◌, length, slice_get};
+ghost use Rattle.std.specs.Prelude.{◌≡◌, ◌≤◌, ◌++◌, length, reverse, slice_get};
 ghost use Rattle.std.specs.List.{flat_map};
 ghost use Rattle.ick_code.specs.Compiled.{code_program, code_slots};
 ghost use Rattle.ick_inspect.specs.Text.{Adds};
 ghost use Rattle.ick_machine.specs.Present.{present_program, present_state};
 ghost use Rattle.ick_session.specs.Changes.{abstained_lines, alike, bytes_text, changed_name};
 ghost use Rattle.ick_session.specs.Changes.{changes_text, had_at, is_of_abstaining, name_line};
-ghost use Rattle.ick_session.specs.Changes.{newly_line, newly_text, op_text, ops_at, option_line};
+ghost use Rattle.ick_session.specs.Changes.{moved_line, newest_line, newly_line, newly_text};
+ghost use Rattle.ick_session.specs.Changes.{op_text, ops_at, option_line};
 ghost use Rattle.ick_session.specs.Changes.{printed_text, read_text, returned_text, slot_name};
 
 use ick_code::{Code, Op, SlotName};
@@ -253,20 +254,48 @@ fn append_names(
     }
 }
 
-/// Appends the return addresses, if they have changed between two states.
+/// Appends so many of the return addresses behind a word, the newest first.
+fn append_newest(out: &mut Text, word: &[u8], addresses: &[u32], count: usize)
+    requires addresses { count ≤ length addresses.now }
+    ensures { Adds out.old out.new (newest_line word.now (reverse addresses.now) count) }
+{
+    out.push(word);
+    for back in 0..count {
+        out.push(b" ");
+        out.push_decimal(u64::from(addresses[addresses.len() - 1 - back]));
+    }
+    out.push(b"\n");
+}
+
+/// Appends the return addresses that were pushed, or those that were removed.
+fn append_moved(out: &mut Text, before: &[u32], after: &[u32])
+    ensures { Adds out.old out.new (moved_line (reverse before.now) (reverse after.now)) }
+{
+    if before.len() < after.len() {
+        append_newest(out, b"  pushes", after, after.len() - before.len());
+    } else {
+        append_newest(out, b"  removes", before, before.len() - after.len());
+    }
+}
+
+/// Appends what happened to the return addresses, and those that there are then, if they have
+/// changed between two states.
 fn append_returned(out: &mut Text, before: &Present<'_, '_, '_>, after: &Present<'_, '_, '_>)
     ensures { Adds out.old out.new (returned_text (present_state before.now)
         (present_state after.now)) }
 {
-    if return_addresses(before) != return_addresses(after) {
+    let old = return_addresses(before);
+    let new = return_addresses(after);
+    if old != new {
+        append_moved(out, old, new);
         out.push(b"  ");
         append_stack(out, after);
     }
 }
 
 /// Appends the lines of a step from one state to another, at a statement: what it read, which names
-/// it changed, which statements it abstained from, which return addresses there are then, and what
-/// it printed.
+/// it changed, which statements it abstained from, which return addresses it pushed or removed and
+/// which there are then, and what it printed.
 #[tactic(auto, unfolding(ick_machine::specs::Present::present_program))]
 pub fn append_changes(
     out: &mut Text,
