@@ -1,14 +1,21 @@
 -- The answers to commands that show something, and the others.
 use Rattle.std.proofs.Common.{◌≡◌, ◌≢◌, ◌==◌, inl, inr, ℕ, Bool, true, false, List, [], Option, Some, None, is_some}
-use Rattle.std.proofs.Common.{refl, ap, sym, subst, ◌∙◌, codes, length}
+use Rattle.std.proofs.Common.{refl, ap, sym, subst, ◌∙◌, ◌++◌, ◌<◌, codes, length}
 use Rattle.std.specs.Prelude.{Result, OnOk, option_map}
 use Rattle.ick_explorer.specs.declared.errors.RunsError.{RunsError}
 use Rattle.ick_explorer.specs.declared.errors.RunsError.TheVariants.{WorkFull}
 use Rattle.ick_inspect.specs.Text.{Adds}
 use Rattle.ick_inspect.specs.declared.text.Text.{Text}
 use Rattle.ick_inspect.specs.declared.positions.Position.{Position}
-use Rattle.ick_step.specs.Session.{Seen, IsFull}
-use Rattle.ick_session.specs.Answers.{AnswersCommand, shown}
+use Rattle.ick_step.specs.Session.{Seen, IsFull, present}
+use Rattle.ick_syntax.specs.declared.tree.Name.{Name}
+use Rattle.ick_inspect.specs.Names.{variable_text}
+use Rattle.ick_session.specs.Answers.{AnswersCommand, changed_text, shown, watched_text}
+use Rattle.ick_session.specs.Changes.{change_text, had_at}
+use Rattle.ick_session.specs.Held.{Keeps, had}
+use Rattle.ick_session.specs.declared.held.Held.{Held}
+use Rattle.ick_session.specs.Travel.{GoesOn, differs, last_statement}
+use Rattle.ick_session.proofs.TravelLaws.{differs_later}
 use Rattle.ick_session.specs.Commands.{Order, first_word, order_in, order_of, to_choose, to_explain, to_go_back, to_help, to_list, to_next}
 use Rattle.ick_session.specs.Commands.{to_print, to_quit, to_run, to_run_until, to_show_cursor, to_show_output}
 use Rattle.ick_session.specs.Commands.{to_show_stack, to_show_state, to_step, to_watch}
@@ -93,3 +100,17 @@ blank_is line word r e f g =
 pub none_left : (o : Option Command) → ((x : Command) → o ≡ Some x → ⊥) → o ≡ None
 none_left None h = refl
 none_left (Some x) h = absurd (h x refl)
+
+change_same : (changed : Bool) (n m : ℕ) → (changed ≡ true → n ≡ m) → change_text changed n ≡ change_text changed m
+change_same true n m h = ap (change_text true) (h refl)
+change_same false n m h = refl
+
+-- the line of a watched name
+pub watched_is : (name : Name) (most : ℕ) (s t : Seen) (held : Held) (last : ℕ) → Keeps held (present s) name →
+    GoesOn most s t → (length s.answers < length t.answers → last ≡ last_statement t) →
+    changed_text name (present t) (differs (had held) name (present t)) last ≡ watched_text name s t
+watched_is name most s t held last keeps on is =
+    ap (λ h. changed_text name (present t) (differs h name (present t)) last) keeps.had_is
+    ∙ ap (λ x. variable_text (present t) name ++ x ++ codes "\n")
+    (change_same (differs (had_at (present s) name) name (present t)) last (last_statement t)
+    (λ e. is (differs_later name most s t on e)))

@@ -11,9 +11,9 @@ use Rattle.ick_code.specs.Compiled.{code_ops, code_program}
 use Rattle.ick_code.specs.meaning.State.{State}
 use Rattle.ick_inspect.specs.Summary.{stack_text}
 use Rattle.ick_inspect.specs.Text.{numbers_text}
-use Rattle.ick_session.specs.Changes.{abstained_lines, changes_text, newly_line, newly_text, ops_at, printed_text}
-use Rattle.ick_session.specs.Changes.{moved_line, returned_text}
-use Rattle.ick_session.proofs.AddLaws.{pieces_taken}
+use Rattle.ick_session.specs.Changes.{abstained_lines, change_text, changes_text, newly_line, newly_text, ops_at}
+use Rattle.ick_session.specs.Changes.{moved_line, printed_text, returned_text}
+use Rattle.ick_inspect.proofs.AddLaws.{pieces_taken}
 
 pub newly_is : (word : List ℕ) (s t : State) (n k : ℕ) → t.abstained n ≡ true → s.abstained n ≡ false → k ≡ n →
     word ++ decimal k ++ codes "\n" ≡ newly_line word s t n
@@ -90,3 +90,10 @@ changes_same code n s t u v e f h =
 pub on_ok : {A E P : Type 0} (r : Result A E) → P → OnOk r P
 on_ok (Ok x) h = h
 on_ok (Err e) h = tt
+
+pub change_is : (changed : Bool) (n k : ℕ) → changed ≡ true → k ≡ n →
+    codes ", changed by statement " ++ decimal k ≡ change_text changed n
+change_is changed n k is e = rw (is, e) refl
+
+pub no_change : (changed : Bool) (n : ℕ) → changed ≡ false → [] ≡ change_text changed n
+no_change changed n is = rw is refl

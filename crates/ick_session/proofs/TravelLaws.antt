@@ -6,6 +6,7 @@ use Rattle.ick_session.specs.Shown.{here_text}
 use Rattle.std.proofs.Common.{length, take, get_or, Option, Some, None, refl, ap, ap₂, sym, ◌∙◌, subst, arith}
 use borrow.Author.Count.{below_more}
 use Rattle.std.proofs.lemmas.List.{append-nil, get_or_append_left, length-append, take-append-le, take_all, take_more}
+use Rattle.std.proofs.Math.Nat.{eq-or-lt_of_le}
 use Rattle.std.proofs.Math.Seq.{get_or-append_seam}
 use Rattle.ick_syntax.specs.declared.tree.Name.{Name}
 use Rattle.ick_code.specs.meaning.State.{State}
@@ -22,7 +23,7 @@ use Rattle.std.specs.Bool.{beq}
 use Rattle.ick_session.specs.Changes.{Had, alike, had_at}
 use Rattle.ick_session.specs.Held.{Keeps, had}
 use Rattle.ick_session.specs.declared.held.Held.{Held}
-use Rattle.ick_session.specs.Travel.{IsAt, IsLastChange, LastChange, Steps}
+use Rattle.ick_session.specs.Travel.{GoesOn, IsAt, IsLastChange, LastChange, Steps, last_statement}
 use Rattle.ick_session.specs.Travel.{StopsFirst, answer_at, answer_to, differs, is_kept, next_answer, state_after}
 use Rattle.ick_session.specs.Travel.{steps_left, where_text}
 
@@ -45,6 +46,15 @@ last_state t k le = ap (after t.program t.start) (take_all k t.answers le)
 
 longer : (t : Seen) (a : Option Bool) → length (with_answer a t).answers ≡ length t.answers + 1
 longer t a = length-append t.answers (a ∷ [])
+
+-- the statement of one more step
+pub last_made : (chosen : Chosen) (t u : Seen) → Steps chosen t u → last_statement u ≡ (present t).place
+last_made chosen t u (a, given, e) =
+    let size = longer t a in
+    let n : length (with_answer a t).answers - 1 ≡ length t.answers = omega arith in
+    ap last_statement e
+    ∙ ap (λ (s : State). s.place) (ap (state_after (with_answer a t)) n
+    ∙ (kept_state t a (length t.answers) (omega arith) ∙ last_state t (length t.answers) (omega arith)))
 
 -- and so do the answers that are given to them
 kept_given : (chosen : Chosen) (t : Seen) (a : Option Bool) (k : ℕ) → k ≤ length t.answers →
@@ -337,6 +347,39 @@ alike_same a b h =
         ∙ (ap (λ x. record b { arrays = x; dimensions = a.dimensions; elements = a.elements }) h
         ∙ (ap (λ x. record b { dimensions = x; elements = a.elements }) i
         ∙ ap (λ x. record b { elements = x }) j))))
+
+-- what is compared is the same
+alike_self : (a : Had) → alike a a ≡ true
+alike_self a =
+    rw (
+      same_number a.number,
+      same_bool a.ignored,
+      same_number a.numbers,
+      same_number a.arrays,
+      (bytes_eq-Decides a.dimensions a.dimensions).1 refl,
+      (bytes_eq-Decides a.elements a.elements).1 refl,
+    ) refl
+  where
+    same_number : (n : ℕ) → (n == n) ≡ true
+    same_number n = grind (arith, nat_tests)
+
+    same_bool : (b : Bool) → beq b b ≡ true
+    same_bool true = refl
+    same_bool false = refl
+
+-- a name differs only if a step was made
+pub differs_later : (name : Name) (most : ℕ) (s t : Seen) → GoesOn most s t →
+    differs (had_at (present s) name) name (present t) ≡ true → length s.answers < length t.answers
+differs_later name most s t on e = later (eq-or-lt_of_le on.further) where
+  later : (length s.answers ≡ length t.answers) ⊎ (length s.answers < length t.answers) →
+      length s.answers < length t.answers
+  later (inr lt) = lt
+  later (inl size) =
+      let all : t.answers ≡ s.answers = sym (take_all (length s.answers) t.answers (omega arith)) ∙ on.answers in
+      let state : present t ≡ present s = rw (on.program, on.start, all) refl in
+      let is = alike_self (had_at (present s) name) in
+      let differ = ap (differs (had_at (present s) name) name) (sym state) ∙ e in
+      absurd (cc)
 
 pub keeps_in : (held : Held) (s t : State) (name : Name) → s ≡ t → Keeps held s name → Keeps held t name
 keeps_in held s t name e h = subst (λ v. Keeps held v name) e h

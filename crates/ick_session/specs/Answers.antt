@@ -11,17 +11,27 @@ use Rattle.ick_inspect.specs.Summary.{stack_text, state_text, variables_text}
 use Rattle.ick_inspect.specs.declared.positions.Position.{Position}
 use Rattle.ick_step.specs.History.{asks_choice, choices_in}
 use Rattle.ick_step.specs.Session.{Seen, present, with_answer}
-use Rattle.ick_session.specs.Changes.{had_at}
+use Rattle.ick_session.specs.Changes.{change_text, had_at}
 use Rattle.ick_session.specs.Commands.{Order, to_choose, to_explain, to_go_back, to_help, to_list, to_next, to_print}
 use Rattle.ick_session.specs.Commands.{to_quit, to_run, to_run_until, to_show_cursor, to_show_output, to_show_stack}
 use Rattle.ick_session.specs.Commands.{to_show_state, to_step, to_watch}
 use Rattle.ick_session.specs.Help.{help_text}
 use Rattle.ick_session.specs.Stepper.{Fixed}
-use Rattle.ick_session.specs.Travel.{IsAt, IsLastChange, StopsFirst, differs, steps_left, way_text, where_text}
+use Rattle.ick_session.specs.Travel.{IsAt, IsLastChange, StopsFirst, differs, last_statement, steps_left}
+use Rattle.ick_session.specs.Travel.{way_text, where_text}
 
 -- the line of a name
 abbrev pub name_text : Name → Seen → List ℕ
 name_text name s = variable_text (present s) name ++ codes "\n"
+
+-- the line of a name, and which statement changed it, if one did
+abbrev pub changed_text : Name → State → (changed : Bool) → (statement : ℕ) → List ℕ
+changed_text name s changed n = variable_text s name ++ change_text changed n ++ codes "\n"
+
+-- the line of a name behind further steps. If they have changed it, the last of them has
+abbrev pub watched_text : Name → (s t : Seen) → List ℕ
+watched_text name s t =
+    changed_text name (present t) (differs (had_at (present s) name) name (present t)) (last_statement t)
 
 -- the answer to a command that shows something; `quit` has an empty one
 abbrev pub shown : List Position → Seen → Order → Option (List ℕ)
@@ -53,10 +63,12 @@ pub data Chooses (f : Fixed) (positions : List Position) (done : Bool) (s : Seen
       Chooses f positions done s (with_answer (Some done) s)
       (way_text f.limit positions s (with_answer (Some done) s))
 
--- the line of a name, and where the run is before the last step that changed it, or that there is no such step
+-- the line of a name with the statement that changed it last, and where the run is before that step, or that there is
+-- no such step
 pub data Explains (f : Fixed) (positions : List Position) (name : Name) (s t : Seen) : List ℕ → Type 0 where
   changed : (at : ℕ) → IsLastChange s name (length s.answers) (Some at) → IsAt s t at →
-      Explains f positions name s t (name_text name s ++ where_text f.limit positions t)
+      Explains f positions name s t
+      (changed_text name (present s) true (present t).place ++ where_text f.limit positions t)
   not_changed : IsLastChange s name (length s.answers) None → IsAt s t (length s.answers) →
       Explains f positions name s t (name_text name s ++ codes "not changed by any step\n")
 
@@ -69,7 +81,7 @@ AnswersCommand f positions s to_next t text =
     Goes f positions (λ v. not (nat_lt (length (present s).returns) (length v.returns))) any_number s t text
 AnswersCommand f positions s (to_watch name) t text =
     (way : List ℕ) × Goes f positions (differs (had_at (present s) name) name) any_number s t way
-    × (text ≡ way ++ name_text name t)
+    × (text ≡ way ++ watched_text name s t)
 AnswersCommand f positions s (to_go_back n) t text =
     IsAt s t (length s.answers - n) × (text ≡ where_text f.limit positions t)
 AnswersCommand f positions s (to_choose done) t text = Chooses f positions done s t text

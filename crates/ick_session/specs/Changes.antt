@@ -156,3 +156,7 @@ step_text p code s chosen =
 
 abbrev pub ShowsStep : Program → State → (chosen : Bool) → (old new : Text) → Type 0
 ShowsStep p s chosen old new = (code : Code) × IsCompiled p code × Adds old new (step_text p code s chosen)
+
+-- which statement changed a name, if one did
+abbrev pub change_text : Bool → (statement : ℕ) → List ℕ
+change_text changed n = if changed then codes ", changed by statement " ++ decimal n else []

@@ -28,6 +28,10 @@ has_come (Change held) s = differs (had held.now) held.now.name s
 abbrev pub state_after : Seen → ℕ → State
 state_after s k = after s.program s.start (take k s.answers)
 
+-- the statement of the last step of a session
+abbrev pub last_statement : Seen → ℕ
+last_statement s = (state_after s (length s.answers - 1)).place
+
 -- the answer of a step, by what is asked before it and how many choices were answered; none if no step can be made,
 -- since the run has ended or the choice isn't given
 abbrev pub answer_to : Chosen → ℕ → Asking → Option (Option Bool)

@@ -5,10 +5,10 @@ ghost use Rattle.std.specs.List.{flat_map};
 ghost use Rattle.ick_code.specs.Compiled.{code_program, code_slots};
 ghost use Rattle.ick_inspect.specs.Text.{Adds};
 ghost use Rattle.ick_machine.specs.Present.{present_program, present_state};
-ghost use Rattle.ick_session.specs.Changes.{abstained_lines, alike, bytes_text, changed_name};
-ghost use Rattle.ick_session.specs.Changes.{changes_text, had_at, is_of_abstaining, name_line};
-ghost use Rattle.ick_session.specs.Changes.{moved_line, newest_line, newly_line, newly_text};
-ghost use Rattle.ick_session.specs.Changes.{op_text, ops_at, option_line};
+ghost use Rattle.ick_session.specs.Changes.{abstained_lines, alike, bytes_text, change_text};
+ghost use Rattle.ick_session.specs.Changes.{changed_name, changes_text, had_at, is_of_abstaining};
+ghost use Rattle.ick_session.specs.Changes.{moved_line, name_line, newest_line, newly_line};
+ghost use Rattle.ick_session.specs.Changes.{newly_text, op_text, ops_at, option_line};
 ghost use Rattle.ick_session.specs.Changes.{printed_text, read_text, returned_text, slot_name};
 
 use ick_code::{Code, Op, SlotName};
@@ -290,6 +290,16 @@ fn append_returned(out: &mut Text, before: &Present<'_, '_, '_>, after: &Present
         append_moved(out, old, new);
         out.push(b"  ");
         append_stack(out, after);
+    }
+}
+
+/// Appends which statement changed a name, if one did.
+pub fn append_change(out: &mut Text, changed: bool, statement: u32)
+    ensures { Adds out.old out.new (change_text changed statement) }
+{
+    if changed {
+        out.push(b", changed by statement ");
+        out.push_decimal(u64::from(statement));
     }
 }
 

@@ -2,7 +2,7 @@
 
 ghost use Rattle.ick_session.specs.Counted.{Counts};
 
-use crate::changes::append_printed;
+use crate::changes::{append_change, append_printed};
 use crate::commands::{Command, name_of, next_word};
 use crate::counted::count_choices;
 use crate::given::Given;
@@ -63,13 +63,15 @@ impl<'c, 'a> Stepper<'c, 'a> {
     ghost use Rattle.ick_step.specs.Session.{present, with_answer};
     ghost use Rattle.ick_step.specs.Sessions.{session};
     ghost use Rattle.ick_session.specs.Answers.{AnswersCommand, Chooses, Explains, Goes, any_number};
-    ghost use Rattle.ick_session.specs.Answers.{name_text, shown};
+    ghost use Rattle.ick_session.specs.Answers.{changed_text, shown, watched_text};
+    ghost use Rattle.ick_session.specs.Held.{had};
     ghost use Rattle.ick_session.specs.Changes.{had_at, printed_text};
     ghost use Rattle.ick_session.specs.Commands.{names_of, order_of};
     ghost use Rattle.ick_session.specs.Given.{given_by};
     ghost use Rattle.ick_session.specs.Stepper.{IsStepError, fixed, seen};
     ghost use Rattle.ick_session.specs.Travel.{IsAt, IsLastChange, Steps, StopsFirst, differs};
-    ghost use Rattle.ick_session.specs.Travel.{has_come, next_answer, steps_left, way_text, where_text};
+    ghost use Rattle.ick_session.specs.Travel.{has_come, last_statement, next_answer, steps_left};
+    ghost use Rattle.ick_session.specs.Travel.{way_text, where_text};
 
     /// Returns a session that begins in the machine's state, which must have no marks. It may make
     /// as many steps as the limit.
@@ -167,24 +169,29 @@ impl<'c, 'a> Stepper<'c, 'a> {
 
     /// Makes at most so many steps, with the choices that the run is given, and stops as soon as it
     /// has come to the target by a step, or at a choice that isn't given, the end of the run or the
-    /// limit on its steps.
-    fn travel(&mut self, target: &Target<'_>, most: u32) -> Result<(), RunsError>
+    /// limit on its steps. Returns the statement of the last step, or 0 if no step was made.
+    fn travel(&mut self, target: &Target<'_>, most: u32) -> Result<u32, RunsError>
         ensures fixed { fixed self.new ≡ fixed self.old }
         ensures errors { IfErr result (IsStepError (seen self.new)) }
         ensures stops { let s = seen self.old in OnOk result (StopsFirst (given_by self.old.given)
             (has_come target.now) (min most (steps_left self.old.limit s)) s
             (seen self.new)) }
+        ensures last { let t = seen self.new in IfOk result (λ last.
+            length (seen self.old).answers < length t.answers → last ≡ last_statement t) }
     {
         let limit = most.min(self.left());
+        let mut last = 0;
         for _made in 0..limit {
+            let statement = self.place();
             if !self.step()? {
-                return Ok(());
+                return Ok(last);
             }
+            last = statement;
             if self.has_come(target) {
-                return Ok(());
+                return Ok(last);
             }
         }
-        Ok(())
+        Ok(last)
     }
 
     /// Makes a step, if nothing is asked, or a choice that the run is given. Returns whether a step
@@ -218,6 +225,13 @@ impl<'c, 'a> Stepper<'c, 'a> {
             Target::Depth(depth) => return_addresses(&present).len() <= *depth,
             Target::Change(held) => !held.is_in(&present),
         }
+    }
+
+    /// Returns the number of the statement that is met next.
+    fn place(&self) -> u32
+        ensures { result ≡ (present (seen self.now)).place }
+    {
+        place(&self.session.machine().present())
     }
 
     /// Returns how many return addresses there are.
@@ -272,7 +286,7 @@ impl<'c, 'a> Stepper<'c, 'a> {
             (seen self.old) (seen self.new))) }
     {
         let printed = self.printed();
-        self.travel(target, most)?;
+        let _last = self.travel(target, most)?;
         self.append_printed(printed, out);
         self.append_here(positions, out);
         Ok(())
@@ -335,7 +349,21 @@ impl<'c, 'a> Stepper<'c, 'a> {
         }
     }
 
-    /// Travels to the next change of a name, and appends where the run is, and the name's line.
+    /// Appends the line of a name, and that a statement changed it, if it has something else than
+    /// was kept of it.
+    fn append_watched(&self, held: &Held, name: Name, statement: u32, out: &mut Text)
+        requires { held.now.name ≡ name }
+        ensures { let s = present (seen self.now) in Adds out.old out.new
+            (changed_text name s (differs (had held.now) name s) statement) }
+    {
+        let present = self.session.machine().present();
+        append_variable(out, &present, name);
+        append_change(out, !held.is_in(&present), statement);
+        out.push(b"\n");
+    }
+
+    /// Travels to the next change of a name, and appends where the run is, and the name's line with
+    /// the statement that changed it.
     fn answer_watch(
         &mut self,
         alloc: Global,
@@ -349,11 +377,14 @@ impl<'c, 'a> Stepper<'c, 'a> {
         ensures answers { let s = seen self.old in OnOk result ((way : List ℕ)
             × Goes (fixed self.old) positions.now (differs (had_at (present s) name) name)
             any_number s (seen self.new) way
-            × Adds out.old out.new (way ++ name_text name (seen self.new))) }
+            × Adds out.old out.new (way ++ watched_text name s (seen self.new))) }
     {
         let held = Held::of(alloc, &self.session.machine().present(), name)?;
-        self.forward(positions, &Target::Change(&held), u32::MAX, out)?;
-        self.append_name(name, out);
+        let printed = self.printed();
+        let last = self.travel(&Target::Change(&held), u32::MAX)?;
+        self.append_printed(printed, out);
+        self.append_here(positions, out);
+        self.append_watched(&held, name, last, out);
         Ok(())
     }
 
@@ -374,7 +405,8 @@ impl<'c, 'a> Stepper<'c, 'a> {
         gone
     }
 
-    /// Appends a name's line, goes back to the step that made it so, and appends where that is.
+    /// Appends a name's line, goes back to the step that made it so, and appends the step's
+    /// statement and where that is.
     fn answer_why(
         &mut self,
         alloc: Global,
@@ -389,10 +421,13 @@ impl<'c, 'a> Stepper<'c, 'a> {
             × Explains (fixed self.old) positions.now name (seen self.old) (seen self.new) text
             × Adds out.old out.new text) }
     {
-        self.append_name(name, out);
+        append_variable(out, &self.session.machine().present(), name);
         if self.before_change(alloc, name)? {
+            append_change(out, true, self.place());
+            out.push(b"\n");
             self.append_here(positions, out);
         } else {
+            out.push(b"\n");
             out.push(b"not changed by any step\n");
         }
         Ok(())

@@ -1,7 +1,7 @@
 use Rattle.std.proofs.Common.{◌≡◌, ◌<◌, ap, arith, length}
 use Rattle.std.specs.Prelude.{decimal, reverse}
 use Rattle.ick_session.specs.Changes.{newest_line}
-use Rattle.ick_session.proofs.AddLaws.{same, then}
+use Rattle.ick_inspect.proofs.AddLaws.{same, then}
 use Rattle.ick_session.proofs.ChangeLaws.{newest_more, none_newest}
 use Rattle.ick_session.proofs.changes.append_newest.Goals as goal
 

@@ -3,7 +3,7 @@ use Rattle.std.specs.Prelude.{min}
 use Rattle.ick_session.specs.Given.{given_by}
 use Rattle.ick_session.specs.Stepper.{seen}
 use Rattle.ick_session.specs.Travel.{Steps, has_come, steps_left}
-use Rattle.ick_session.proofs.TravelLaws.{made_more, stops_come}
+use Rattle.ick_session.proofs.TravelLaws.{last_made, made_more, stops_come}
 use Rattle.ick_session.proofs.stepper.Stepper.travel.Goals as goal
 
 pub returns-then-has_come-clause-stops : goal.returns-then-has_come-clause-stops
@@ -32,4 +32,10 @@ loop-made-preserved c =
           made_more chosen (has_come c.args.target.now) c.loop-made._made s (seen c.loop-made.self)
           (seen c.step.new.self) c.loop-made.invariant.made made
           (sym c.has_come.ensures ∙ c.if-has_come.false);
+      last = λ _. c.place-statement.ensures ∙ sym (last_made _ _ _ made);
     }
+
+pub returns-then-has_come-clause-last : goal.returns-then-has_come-clause-last
+returns-then-has_come-clause-last c =
+    let stepped : c.in_ok-step.field-0 ≡ true = c.if-not-branch.false in
+    λ _. c.place-statement.ensures ∙ sym (last_made _ _ _ (c.in_ok-step.ensures.made stepped))
