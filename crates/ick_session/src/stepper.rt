@@ -141,6 +141,7 @@ impl<'c, 'a> Stepper<'c, 'a> {
             seen self.new ≡ with_answer (Some done) (seen self.old)) }
         ensures not_chosen { IfOk result (λ chosen. chosen ≡ false → seen self.new ≡ seen self.old) }
     {
+        // The sum below has to fit: there are fewer choices than steps.
         self.law();
         if !self.session.choose(done)? {
             return Ok(false);
@@ -160,6 +161,7 @@ impl<'c, 'a> Stepper<'c, 'a> {
         ensures not_made { IfOk result (λ made. made ≡ false → (seen self.new ≡ seen self.old)
             × (next_answer (given_by self.old.given) (seen self.old) ≡ None)) }
     {
+        // `made` needs that the next choice is the one at the number of those so far.
         self.law();
         let Some(done) = self.given.choice(self.chosen, chance)? else {
             return Ok(false);

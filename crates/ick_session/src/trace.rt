@@ -42,6 +42,7 @@ fn append_step(out: &mut Text, before: &Trailed<'_, '_>, after: &Trailed<'_, '_>
 {
     let old = before.present();
     let new = after.present();
+    // The lines of a step are defined by a code that does what the program does.
     new.lowered.code.law();
     append_passed(out, &old, done);
     append_changes(out, place(&old), &old, &new);
