@@ -1,13 +1,13 @@
 -- States that are kept, and their copies.
-use Rattle.std.proofs.Common.{◌≡◌, ap, ◌∙◌, length, map, take}
+use Rattle.std.proofs.Common.{◌≡◌, ap, ◌∙◌, length, take}
 use Rattle.std.proofs.Props.{props}
 use mathlib.Core.Logic.{∥∥₁_elim}
 use Rattle.ick_code.specs.declared.code.Code.{Code}
 use Rattle.ick_instructions.specs.declared.lowered.LoweredParts.{LoweredParts}
 use Rattle.ick_engine.specs.declared.saved.Saved.{Saved}
 use Rattle.ick_engine.specs.Saved.{AreSame, IsKept, saved_view}
-use Rattle.ick_engine.specs.View.{Input, map_of, parts_of, scalar_names, state_of, used}
-use Rattle.ick_engine.proofs.Restoring.{state_by}
+use Rattle.ick_engine.specs.View.{Input, map_of, parts_of, scalar_names, state_of}
+use Rattle.ick_engine.proofs.Restoring.{all_same, state_by}
 use Rattle.ick_engine.proofs.Saving.{same_parts_trans}
 
 -- a kept state has the same lists as another one, but for spare room of stashes
@@ -40,24 +40,6 @@ copy_kept code lowered one copy is kept =
 pub copy_state : (code : Code) (lowered : LoweredParts) (one copy : Saved) → IsCopy one copy → (input : Input) →
     state_of code lowered input (saved_view copy) ≡ state_of code lowered input (saved_view one)
 copy_state code lowered one copy is input =
-    let by = state_by code lowered input in
-    let names = scalar_names code in
-    let cp = parts_of copy.rest in
-    let op = parts_of one.rest in
-    let cn = map used cp.scalar_stashes in
-    let ca = map used cp.array_stashes in
-    let on = map used op.scalar_stashes in
-    let cr = take (length copy.returns.items) copy.returns.items in
-    let or = take (length one.returns.items) one.returns.items in
-    let cs = map_of names copy.numbers.items 0 in
-    let os = map_of names one.numbers.items 0 in
-    let ch = copy.home.items in
-    let ct = copy.statuses.items in
-    ap (λ n. by n cr cs ch ct cp cn ca) is.place_same
-    ∙ ap (λ l. by one.place (take (length l) l) cs ch ct cp cn ca) is.returns_same
-    ∙ ap (λ l. by one.place or (map_of names l 0) ch ct cp cn ca) is.numbers_same
-    ∙ ap (λ l. by one.place or os l ct cp cn ca) is.home_same
-    ∙ ap (λ l. by one.place or os one.home.items l cp cn ca) is.statuses_same
-    ∙ ap (λ p. by one.place or os one.home.items one.statuses.items p cn ca) is.parts_same.others
-    ∙ ap (λ l. by one.place or os one.home.items one.statuses.items op l ca) is.parts_same.scalars
-    ∙ ap (λ l. by one.place or os one.home.items one.statuses.items op on l) is.parts_same.arrays
+    all_same (state_by code lowered input) is.place_same (ap (λ l. take (length l) l) is.returns_same)
+    (ap (λ l. map_of (scalar_names code) l 0) is.numbers_same) is.home_same is.statuses_same is.parts_same.others
+    is.parts_same.scalars is.parts_same.arrays

@@ -1,5 +1,5 @@
 -- That a run can go on is a proposition, and states are a set: what is known of either comes out of a truncation.
-use Rattle.std.proofs.Common.{◌≡◌, ℕ, ◌+◌, ◌<◌, ◌≤◌, List, [], ◌∷◌, inl, inr, ap, sym, ◌∙◌, arith}
+use Rattle.std.proofs.Common.{◌≡◌, ℕ, ◌<◌, ◌≤◌, List, [], ◌∷◌, inl, inr, ap, arith}
 use Rattle.std.specs.Prelude.{◌⊎◌}
 use Rattle.std.proofs.Props.{props}
 use mathlib.Core.Logic.{∥∥₁_elim}
@@ -11,7 +11,7 @@ use Rattle.ick_instructions.specs.declared.lowered.LoweredParts.{LoweredParts}
 use Rattle.ick_instructions.specs.Registers.{AllBelow, Fits}
 use Rattle.ick_engine.specs.Run.{Stands}
 use Rattle.ick_engine.specs.Steady.{AreStatuses, IsHome, IsSteady, IsReady}
-use Rattle.ick_engine.specs.View.{View, Input, file_of, state_of}
+use Rattle.ick_engine.specs.View.{View}
 
 apart-prop : {P Q : Type 0} → IsProp P → IsProp Q → (P → Q → ⊥) → IsProp (P ⊎ Q)
 apart-prop p q apart (inl a) (inl b) = ap inl (p a b)

@@ -1,11 +1,11 @@
 -- Lists that are copied and compared, and states that are kept.
-use Rattle.std.proofs.Common.{◌≡◌, ℕ, zero, suc, ◌+◌, ◌<◌, ◌≤◌, Bool, List, [], ◌∷◌, ◌++◌, refl, ap, sym, ◌∙◌, subst}
-use Rattle.std.proofs.Common.{length, take, take_all, drop, get_or, map, reverse, arith, if◌then◌else◌}
+use Rattle.std.proofs.Common.{◌≡◌, ℕ, zero, suc, ◌+◌, ◌<◌, ◌≤◌, List, [], ◌∷◌, ◌++◌, refl, ap, sym, ◌∙◌, subst}
+use Rattle.std.proofs.Common.{length, take, take_all, drop, get_or, map, arith, if◌then◌else◌}
 use mathlib.Core.Path.{fun_ext}
 use Rattle.ick_syntax.specs.declared.tree.Name.{Name}
 use Rattle.std.proofs.lemmas.List.{get_or-take, length-take-le, get_or-map, length-map, get_or_append_left}
 use Rattle.std.proofs.Math.Seq.{take-suc}
-use Rattle.ick_code.specs.meaning.State.{Array, State, same_name}
+use Rattle.ick_code.specs.meaning.State.{same_name}
 use Rattle.ick_code.specs.declared.code.Code.{Code}
 use Rattle.ick_instructions.specs.declared.lowered.LoweredParts.{LoweredParts}
 use Rattle.ick_engine.specs.declared.memory.Rest.{Rest}
@@ -13,10 +13,11 @@ use Rattle.ick_engine.specs.declared.saved.Saved.{Saved}
 use Rattle.ick_engine.specs.Run.{Stands}
 use Rattle.ick_engine.specs.Saved.{AreSame, IsLoaded, IsSaved, arrays_on, numbers_on, saved_view}
 use Rattle.ick_engine.specs.Steady.{IsSteady, IsReady, IsProgram}
-use Rattle.ick_engine.specs.Undo.{Like, HighSame, IsRestored}
+use Rattle.ick_engine.specs.Undo.{SameFirst, Like, HighSame, IsRestored}
 use Rattle.ick_engine.specs.View.{View, Parts, Input, state_of, dump_of, file_of, map_of, used as used_values}
-use Rattle.ick_engine.specs.View.{Stash, array_names, array_of, arrays_of, is_hidden, numbers_of, parts_of, scalar_names}
-use Rattle.ick_engine.proofs.Restoring.{restored, state_by as state_from}
+use Rattle.ick_engine.specs.View.{Stash, array_of, arrays_of, is_hidden, numbers_of, parts_of, scalar_names}
+use Rattle.ick_engine.proofs.Restoring.{restored, all_same, state_by}
+use Rattle.ick_engine.proofs.Undoing.{alike}
 use Rattle.ick_engine.proofs.StashLemmas.{parts_same}
 
 map_pushed : {A B : Type 0} (f : A → B) (xs : List A) (x : A) → map f (xs ++ x ∷ []) ≡ map f xs ++ f x ∷ []
@@ -66,6 +67,16 @@ put_count [] ys count = refl
 put_count (x ∷ xs) [] count = absurd (omega (arith, count))
 put_count (x ∷ xs) (y ∷ ys) count = ap suc (put_count xs ys (omega (arith, count)))
 
+first_put : (n : ℕ) (xs old new : List ℕ) → new ≡ take n xs ++ drop (length (take n xs)) old →
+    length (take n xs ++ drop (length (take n xs)) old) ≡ length xs → length (take n xs) ≡ n → SameFirst n xs new
+first_put n xs old new is count long = record {
+  count = ap length is ∙ count;
+  same = λ k low.
+      ap (λ l. get_or l k 0) is
+      ∙ get_or_append_left (take n xs) (drop (length (take n xs)) old) 0 k (omega (arith, low, long))
+      ∙ get_or-take n xs k 0 low;
+}
+
 pub put_same : (given xs ys : List ℕ) → given ≡ xs → given ++ drop (length xs) ys ≡ xs ++ drop (length xs) ys
 put_same given xs ys same = ap (λ l. l ++ drop (length xs) ys) same
 
@@ -73,10 +84,6 @@ pub put_in : (new given kept now old : List ℕ) → new ≡ given ++ drop (leng
     new ≡ kept ++ drop (length kept) old
 put_in new given kept now old is same whole =
     is ∙ ap (λ l. l ++ drop (length l) now) same ∙ ap (λ l. kept ++ drop (length kept) l) whole
-
-pub put_long : (new kept old : List ℕ) → new ≡ kept ++ drop (length kept) old → length kept ≤ length old →
-    length new ≡ length old
-put_long new kept old is count = ap length is ∙ put_count kept old count
 
 -- parts that differ in spare places alone
 pub same_parts_sym : {p q : Parts} → AreSame p q → AreSame q p
@@ -97,38 +104,16 @@ map_used : {A B : Type 0} (f : A → Stash B) (xs : List A) →
 map_used f [] = refl
 map_used f (x ∷ xs) = ap (λ l. used_values (f x) ∷ l) (map_used f xs)
 
-abbrev parts_by : List Array → List Bool → (taken : ℕ) → List ℕ → (last lastin : ℕ) → Parts
-parts_by arrays hidden taken output last lastin = record {
-  arrays = arrays;
-  hidden = hidden;
-  scalar_stashes = [];
-  array_stashes = [];
-  taken = taken;
-  output = output;
-  last = last;
-  lastin = lastin;
-}
-
 pub rest_same : (p q : Rest) → map array_of q.arrays.items ≡ map array_of p.arrays.items →
     map is_hidden q.arrays.items ≡ map is_hidden p.arrays.items →
     map numbers_on q.scalar_stashes.items ≡ map numbers_on p.scalar_stashes.items →
     map arrays_on q.array_stashes.items ≡ map arrays_on p.array_stashes.items → q.taken ≡ p.taken →
     q.output.items ≡ p.output.items → q.last ≡ p.last → q.lastin ≡ p.lastin → AreSame (parts_of p) (parts_of q)
-rest_same p q arrays hidden numbers stashed taken output last lastin =
-    let a = map array_of p.arrays.items in
-    let h = map is_hidden p.arrays.items in
-    record {
-      others =
-          ap (λ l. parts_by l (map is_hidden q.arrays.items) q.taken q.output.items q.last q.lastin) arrays
-          ∙ ap (λ l. parts_by a l q.taken q.output.items q.last q.lastin) hidden
-          ∙ ap (λ n. parts_by a h n q.output.items q.last q.lastin) taken
-          ∙ ap (λ l. parts_by a h p.taken l q.last q.lastin) output
-          ∙ ap (λ n. parts_by a h p.taken p.output.items n q.lastin) last
-          ∙ ap (parts_by a h p.taken p.output.items p.last) lastin;
-      scalars =
-          map_used numbers_of q.scalar_stashes.items ∙ numbers ∙ sym (map_used numbers_of p.scalar_stashes.items);
-      arrays = map_used arrays_of q.array_stashes.items ∙ stashed ∙ sym (map_used arrays_of p.array_stashes.items);
-    }
+rest_same p q arrays hidden numbers stashed taken output last lastin = record {
+  others = cc;
+  scalars = map_used numbers_of q.scalar_stashes.items ∙ numbers ∙ sym (map_used numbers_of p.scalar_stashes.items);
+  arrays = map_used arrays_of q.array_stashes.items ∙ stashed ∙ sym (map_used arrays_of p.array_stashes.items);
+}
 
 -- the first values of a list are those that names lead to
 map_first : {A : Type 0} (names : List Name) (n : ℕ) (xs : List A) (none : A) (name : Name) → length names ≤ n →
@@ -145,36 +130,14 @@ pub kept_state : (code : Code) (lowered : LoweredParts) (saved : Saved) (v : Vie
     state_of code lowered input (saved_view saved) ≡ state_of code lowered input v
 kept_state code lowered saved v count is input =
     let names = scalar_names code in
-    let p = parts_of saved.rest in
     let kept = is.parts_kept in
-    let kn = map used_values p.scalar_stashes in
-    let ka = map used_values p.array_stashes in
-    let vn = map used_values v.parts.scalar_stashes in
-    let kc = map_of names saved.numbers.items 0 in
-    let vc = map_of names v.registers 0 in
-    let kr = take (length saved.returns.items) saved.returns.items in
-    let vr = take v.depth v.returns in
-    let returns : kr ≡ vr =
+    let returns : take (length saved.returns.items) saved.returns.items ≡ take v.depth v.returns =
     take_all (length saved.returns.items) saved.returns.items (omega arith) ∙ is.returns_kept in
-    let scalars : kc ≡ vc =
+    let scalars : map_of names saved.numbers.items 0 ≡ map_of names v.registers 0 =
     ap (λ l. map_of names l 0) is.numbers_kept
     ∙ fun_ext (λ name. map_first names lowered.layout.base v.registers 0 name (omega (arith, count))) in
-    let by = state_from code lowered input in
-    ap (λ n. by n kr kc saved.home.items saved.statuses.items p kn ka) is.place_kept
-    ∙ ap (λ r. by v.place r kc saved.home.items saved.statuses.items p kn ka) returns
-    ∙ ap (λ f. by v.place vr f saved.home.items saved.statuses.items p kn ka) scalars
-    ∙ ap (λ h. by v.place vr vc h saved.statuses.items p kn ka) is.home_kept
-    ∙ ap (λ s. by v.place vr vc v.home s p kn ka) is.statuses_kept
-    ∙ ap (λ q. by v.place vr vc v.home v.statuses q kn ka) kept.others
-    ∙ ap (λ l. by v.place vr vc v.home v.statuses v.parts l ka) kept.scalars
-    ∙ ap (λ l. by v.place vr vc v.home v.statuses v.parts vn l) kept.arrays
-
--- the state by the values on stashes
-abbrev state_by : Code → LoweredParts → Input → View → Parts → List (List ℕ) → List (List Array) → State
-state_by code lowered input v parts numbers arrays = record (state_of code lowered input (record v { parts = parts })) {
-  stashed_scalars = λ name. reverse (map_of (scalar_names code) numbers [] name);
-  stashed_arrays = λ name. reverse (map_of (array_names code) arrays [] name);
-}
+    all_same (state_by code lowered input) is.place_kept returns scalars is.home_kept is.statuses_kept kept.others
+    kept.scalars kept.arrays
 
 module _ (code : Code) (lowered : LoweredParts) (is : IsProgram code lowered) where
   abbrev pub base : ℕ
@@ -183,40 +146,13 @@ module _ (code : Code) (lowered : LoweredParts) (is : IsProgram code lowered) wh
   pub base_low : base ≤ dump_of lowered
   base_low = omega (arith, is.lowered_is.temporaries)
 
-  -- views of which the same is kept
-  pub like_by : (m v : View) → IsSteady code lowered m → IsSteady code lowered v →
-      take base v.registers ≡ take base m.registers → v.home ≡ m.home → v.statuses ≡ m.statuses →
-      v.depth ≡ m.depth → take m.depth v.returns ≡ take m.depth m.returns → v.parts ≡ m.parts →
-      Like base m.depth m v
-  like_by m v marked steady registers home statuses depth returns parts = record {
-    registers_count = steady.registers ∙ sym marked.registers;
-    registers_same = λ r low.
-        sym (get_or-take base v.registers r 0 low) ∙ ap (λ l. get_or l r 0) registers
-        ∙ get_or-take base m.registers r 0 low;
-    home_same = home;
-    statuses_same = statuses;
-    parts_like = parts_same parts;
-    returns_count = steady.returns ∙ sym marked.returns;
-    returns_same = λ k low.
-        sym (get_or-take m.depth v.returns k 0 low) ∙ ap (λ l. get_or l k 0) returns
-        ∙ get_or-take m.depth m.returns k 0 low;
-  }
-
-  depth_by : (m v : View) → IsSteady code lowered m → IsSteady code lowered v →
-      take v.depth v.returns ≡ take m.depth m.returns → v.depth ≡ m.depth
-  depth_by m v marked steady same =
-      sym (length-take-le v.depth v.returns (omega (arith, steady.depth, steady.returns))) ∙ ap length same
-      ∙ length-take-le m.depth m.returns (omega (arith, marked.depth, marked.returns))
-
   -- a view with other spare places
   state_with : (v : View) (q : Parts) → AreSame v.parts q → (input : Input) →
       state_of code lowered input (record v { parts = q }) ≡ state_of code lowered input v
   state_with v q same input =
-      let numbers = map used_values q.scalar_stashes in
-      let arrays = map used_values q.array_stashes in
-      ap (λ p. state_by code lowered input v p numbers arrays) same.others
-      ∙ ap (λ l. state_by code lowered input v v.parts l arrays) same.scalars
-      ∙ ap (λ l. state_by code lowered input v v.parts (map used_values v.parts.scalar_stashes) l) same.arrays
+      let scalars = map_of (scalar_names code) v.registers 0 in
+      all_same (state_by code lowered input) {a = v.place} {b = take v.depth v.returns} {c = scalars} {d = v.home}
+      {e = v.statuses} refl refl refl refl refl same.others same.scalars same.arrays
 
   ready_with : (v : View) (q : Parts) → AreSame v.parts q → IsReady code lowered v →
       IsReady code lowered (record v { parts = q })
@@ -248,49 +184,9 @@ module _ (code : Code) (lowered : LoweredParts) (is : IsProgram code lowered) wh
       one.returns.items ≡ other.returns.items → AreSame (parts_of one.rest) (parts_of other.rest) → (input : Input) →
       state_of code lowered input (saved_view one) ≡ state_of code lowered input (saved_view other)
   same_saved one other place numbers home statuses returns parts input =
-      let v = saved_view one in
-      let p = parts_of other.rest in
-      sym (state_with v p parts input)
-      ∙ ap (λ n. state_of code lowered input (record v { parts = p; place = n })) place
-      ∙ ap (λ l. state_of code lowered input (record v { parts = p; place = other.place; registers = l })) numbers
-      ∙ ap (λ l. state_of code lowered input (record v {
-        parts = p;
-        place = other.place;
-        registers = other.numbers.items;
-        home = l;
-      })) home
-      ∙ ap (λ l. state_of code lowered input (record v {
-        parts = p;
-        place = other.place;
-        registers = other.numbers.items;
-        home = other.home.items;
-        statuses = l;
-      })) statuses
-      ∙ ap (λ l. state_of code lowered input (record v {
-        parts = p;
-        place = other.place;
-        registers = other.numbers.items;
-        home = other.home.items;
-        statuses = other.statuses.items;
-        returns = l;
-        depth = length l;
-      })) returns
-
-  pub same_states : (v m : View) (p q : Parts) → IsReady code lowered v → IsReady code lowered m → v.place ≡ m.place →
-      take base v.registers ≡ take base m.registers → v.home ≡ m.home → v.statuses ≡ m.statuses →
-      take v.depth v.returns ≡ take m.depth m.returns → AreSame v.parts p → AreSame p q → AreSame m.parts q →
-      (input : Input) → state_of code lowered input v ≡ state_of code lowered input m
-  same_states v m p q ready marked place registers home statuses returns kept same kept' input =
-      let parts : AreSame v.parts m.parts =
-      same_parts_trans kept (same_parts_trans same (same_parts_sym kept')) in
-      let v' : View = record v { parts = m.parts } in
-      let ready' = ready_with v m.parts parts ready in
-      let depth = depth_by m v marked.steady ready.steady returns in
-      sym (state_with v m.parts parts input)
-      ∙ (restored code lowered is v' m v' ready'.steady.constants marked
-      (like_by m v' marked.steady ready'.steady registers home statuses depth
-      (subst (λ d. take d v.returns ≡ take m.depth m.returns) depth returns) refl) (λ r high. refl) place depth).states
-      input
+      sym (all_same (state_by code lowered input) (sym place) (sym (ap (λ l. take (length l) l) returns))
+      (sym (ap (λ l. map_of (scalar_names code) l 0) numbers)) (sym home) (sym statuses) parts.others parts.scalars
+      parts.arrays)
 
   -- a state that was put into a memory
   module _ (old m : View) (was : IsSteady code lowered old) (marked : IsReady code lowered m) where
@@ -327,28 +223,14 @@ module _ (code : Code) (lowered : LoweredParts) (is : IsProgram code lowered) wh
         m' : View
         m' = record m { parts = new.parts }
 
-        count : length new.registers ≡ length m.registers
-        count =
-            ap length registers ∙ put_count first old.registers first_low ∙ was.registers
-            ∙ sym marked.steady.registers
-
         like : Like base m.depth m' new
-        like = record {
-          registers_count = count;
-          registers_same = λ r low.
-              ap (λ l. get_or l r 0) registers
-              ∙ get_or_append_left first (drop (length first) old.registers) 0 r (omega (arith, low, first_count))
-              ∙ get_or-take base m.registers r 0 low;
-          home_same = home;
-          statuses_same = statuses;
-          parts_like = parts_same refl;
-          returns_count =
-              ap length returns ∙ put_count used old.returns used_low ∙ was.returns ∙ sym marked.steady.returns;
-          returns_same = λ k low.
-              ap (λ l. get_or l k 0) returns
-              ∙ get_or_append_left used (drop (length used) old.returns) 0 k (omega (arith, low, used_count))
-              ∙ get_or-take m.depth m.returns k 0 low;
-        }
+        like =
+            alike
+            (first_put base m.registers old.registers new.registers registers
+            (put_count first old.registers first_low ∙ was.registers ∙ sym marked.steady.registers) first_count)
+            home statuses (parts_same refl)
+            (first_put m.depth m.returns old.returns new.returns returns
+            (put_count used old.returns used_low ∙ was.returns ∙ sym marked.steady.returns) used_count)
 
         high : HighSame base old new
         high = λ r above.

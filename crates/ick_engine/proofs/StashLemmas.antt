@@ -1,5 +1,5 @@
 -- Stashes that are alike, and changes of one of them.
-use Rattle.std.proofs.Common.{◌≡◌, ℕ, zero, suc, ◌+◌, ◌-◌, ◌<◌, ◌≤◌, List, [], ◌∷◌, ◌++◌, refl, ap, ap₂, sym, ◌∙◌, subst}
+use Rattle.std.proofs.Common.{◌≡◌, ℕ, zero, suc, ◌+◌, ◌-◌, ◌<◌, ◌≤◌, List, [], ◌∷◌, ◌++◌, refl, ap, sym, ◌∙◌, subst}
 use Rattle.std.proofs.Common.{Bool, length, take, map, get_or, arith, true, false}
 use Rattle.std.specs.Prelude.{slice_set, nat_lt, if◌then◌else◌}
 use Rattle.std.proofs.lemmas.Bool.Decides.{nat_tests}
@@ -127,13 +127,6 @@ used_same (a ∷ xs) [] count each = absurd (omega (arith, count))
 used_same (a ∷ xs) (b ∷ ys) count each =
     ap (λ l. l ∷ map used ys) (each 0).values
     ∙ ap (λ l. used a ∷ l) (used_same xs ys (omega (arith, count)) (λ k. each (suc k)))
-
--- a value that is put back
-pub put_full : {A : Type 0} (x : A) (s : Stash A) → length s.items ≤ s.depth → put_on x s ≡ s
-put_full {A} x s full =
-    let no : nat_lt s.depth (length s.items) ≡ false = grind (arith, nat_tests, full) in
-    let mk : List A → ℕ → Stash A = λ l d. record { items = l; depth = d } in
-    ap₂ mk (set_past s.items s.depth x full) (ap (λ b. if b then s.depth + 1 else s.depth) no)
 
 pub put_there : {A : Type 0} (x : A) (s : Stash A) → s.depth < length s.items →
     put_on x s ≡ record { items = slice_set s.items s.depth x; depth = s.depth + 1 }

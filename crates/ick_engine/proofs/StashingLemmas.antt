@@ -14,6 +14,7 @@ use Rattle.ick_engine.specs.Stashes.{IsPutOn, IsTakenOff, ChangesAt, IsRestoredT
 use Rattle.ick_engine.specs.Undo.{StashLike, StashesLike, Like, put_on, taken_off, at_slot, with_array_stashes}
 use Rattle.ick_engine.specs.Undo.{with_arrays, with_scalar_stashes, array_was, given_back, undone}
 use Rattle.ick_engine.specs.View.{View, Parts, Stash, array_of, arrays_of, no_stash}
+use Rattle.ick_engine.proofs.Undoing.{like_parts}
 use Rattle.ick_engine.proofs.StashLemmas.{take_put, put_deeper, set_each, stash_refl, stash_trans, stashes_refl}
 
 -- a value goes to spare room
@@ -160,27 +161,15 @@ taken_like x slot old new h =
 -- a view with stashes like those that it had
 pub like_scalars : (base low : ℕ) (v : View) (stashes : List (Stash ℕ)) → StashesLike v.parts.scalar_stashes stashes →
     Like base low v (with_scalar_stashes stashes v)
-like_scalars base low v stashes like = record {
-  registers_count = refl;
-  registers_same = λ r few. refl;
-  home_same = refl;
-  statuses_same = refl;
-  parts_like = record { others = refl; scalars = like; arrays = stashes_refl v.parts.array_stashes };
-  returns_count = refl;
-  returns_same = λ k few. refl;
-}
+like_scalars base low v stashes like =
+    like_parts base low v (record v.parts { scalar_stashes = stashes })
+    (record { others = refl; scalars = like; arrays = stashes_refl v.parts.array_stashes })
 
 pub like_arrays : (base low : ℕ) (v : View) (stashes : List (Stash Array)) → StashesLike v.parts.array_stashes stashes →
     Like base low v (with_array_stashes stashes v)
-like_arrays base low v stashes like = record {
-  registers_count = refl;
-  registers_same = λ r few. refl;
-  home_same = refl;
-  statuses_same = refl;
-  parts_like = record { others = refl; scalars = stashes_refl v.parts.scalar_stashes; arrays = like };
-  returns_count = refl;
-  returns_same = λ k few. refl;
-}
+like_arrays base low v stashes like =
+    like_parts base low v (record v.parts { array_stashes = stashes })
+    (record { others = refl; scalars = stashes_refl v.parts.scalar_stashes; arrays = like })
 
 -- a stash that has a further place, or another value in a spare one
 pub grown_like : {A : Type 0} (x : A) (s : Stash A) (items : List A) → items ≡ s.items ++ x ∷ [] →

@@ -4,7 +4,7 @@ use Rattle.std.proofs.Common.{subst, inl, inr}
 use Rattle.std.proofs.Common.{length, take, drop, get_or, arith, length-append}
 use Rattle.std.specs.Prelude.{reverse, slice_set}
 use Rattle.std.proofs.lemmas.Bool.{cases_eq}
-use Rattle.std.proofs.lemmas.List.{drop-append-le, reverse-append, length-set, set-set, set-get_or, set_past}
+use Rattle.std.proofs.lemmas.List.{drop-append-le, reverse-append, length-set, set-set, set-get_or}
 use Rattle.std.proofs.lemmas.List.{get_or-set_same, get_or-set_other, length-take-le, take-append-drop}
 use Rattle.std.proofs.Math.Seq.{drop-length}
 use Rattle.std.proofs.Math.ListN.{drop_of_length-le}
@@ -16,42 +16,95 @@ use Rattle.ick_engine.specs.Undo.{scalar_saved, scalar_taken, scalar_restored, a
 use Rattle.ick_engine.specs.Undo.{statuses_were, taken_was}
 use Rattle.ick_engine.specs.Undo.{output_was, last_was, lastin_was, no_change, undone, rewound}
 use Rattle.ick_engine.specs.Undo.{with_arrays, with_number, put_on, taken_off, at_slot, HasPlace}
-use Rattle.ick_engine.specs.Undo.{PartsLike, IsUndoable, Like, HighSame, Rewinds}
-use Rattle.ick_engine.proofs.StashLemmas.{parts_refl, parts_trans, parts_same, taken_off_like, put_on_like}
+use Rattle.ick_engine.specs.Undo.{StashesLike, PartsLike, but_stashes, IsUndoable, SameFirst, Like, HighSame, Rewinds}
+use Rattle.ick_engine.proofs.StashLemmas.{parts_refl, parts_trans, taken_off_like, put_on_like}
 use Rattle.ick_engine.proofs.StashLemmas.{scalars_alike, arrays_alike, array_alike}
 
-pub like_refl : (base deep : ℕ) (v : View) → Like base deep v v
-like_refl base deep v = record {
-  registers_count = refl;
-  registers_same = λ r low. refl;
-  home_same = refl;
-  statuses_same = refl;
-  parts_like = parts_refl v.parts;
-  returns_count = refl;
-  returns_same = λ k low. refl;
+-- lists of which the first numbers are the same
+first_refl : (n : ℕ) (xs : List ℕ) → SameFirst n xs xs
+first_refl n xs = record { count = refl; same = λ k low. refl }
+
+first_trans : {n : ℕ} {xs ys zs : List ℕ} → SameFirst n xs ys → SameFirst n ys zs → SameFirst n xs zs
+first_trans a b = record { count = b.count ∙ a.count; same = λ k low. b.same k low ∙ a.same k low }
+
+first_by : (n : ℕ) (xs ys : List ℕ) → ys ≡ xs → SameFirst n xs ys
+first_by n xs ys is = subst (SameFirst n xs) (sym is) (first_refl n xs)
+
+-- a number behind them is set
+first_above : (n at number : ℕ) (xs : List ℕ) → n ≤ at → SameFirst n xs (slice_set xs at number)
+first_above n at number xs above = record {
+  count = length-set xs at number;
+  same = λ k low. get_or-set_other xs at k number 0 (λ e. absurd (omega (arith, e, low, above)));
 }
+
+-- the next number goes back
+first_more : (at n : ℕ) (xs ys : List ℕ) → n ≡ at + 1 → at < length xs → SameFirst at xs ys →
+    SameFirst n xs (slice_set ys at (get_or xs at 0))
+first_more at n xs ys next there s = record {
+  count = length-set ys at (get_or xs at 0) ∙ s.count;
+  same = λ k low. elim (cases_eq k at) [
+    | inl e ↦
+        subst (λ i. get_or (slice_set ys at (get_or xs at 0)) i 0 ≡ get_or xs i 0) (sym e)
+        (get_or-set_same ys at (get_or xs at 0) 0 (omega (arith, there, s.count)))
+    | inr other ↦ get_or-set_other ys at k (get_or xs at 0) 0 other ∙ s.same k (omega (arith, low, next, other))
+  ];
+}
+
+-- a number is set in both
+set_same : (xs ys : List ℕ) (at n r : ℕ) → length ys ≡ length xs → get_or ys r 0 ≡ get_or xs r 0 →
+    get_or (slice_set ys at n) r 0 ≡ get_or (slice_set xs at n) r 0
+set_same [] [] at n r count same = same
+set_same [] (y ∷ ys) at n r count same = absurd (omega (arith, count))
+set_same (x ∷ xs) [] at n r count same = absurd (omega (arith, count))
+set_same (x ∷ xs) (y ∷ ys) zero n zero count same = refl
+set_same (x ∷ xs) (y ∷ ys) zero n (suc r) count same = same
+set_same (x ∷ xs) (y ∷ ys) (suc at) n zero count same = same
+set_same (x ∷ xs) (y ∷ ys) (suc at) n (suc r) count same = set_same xs ys at n r (omega (arith, count)) same
+
+first_set : {n : ℕ} {xs ys : List ℕ} (at number : ℕ) → SameFirst n xs ys →
+    SameFirst n (slice_set xs at number) (slice_set ys at number)
+first_set {n} {xs} {ys} at number s = record {
+  count = length-set ys at number ∙ s.count ∙ sym (length-set xs at number);
+  same = λ k low. set_same xs ys at number k s.count (s.same k low);
+}
+
+-- views that are alike
+pub alike : {base deep : ℕ} {v w : View} → SameFirst base v.registers w.registers → w.home ≡ v.home →
+    w.statuses ≡ v.statuses → PartsLike v.parts w.parts → SameFirst deep v.returns w.returns → Like base deep v w
+alike registers home statuses parts returns = record {
+  registers = registers;
+  home = home;
+  statuses = statuses;
+  parts = parts;
+  returns = returns;
+}
+
+pub like_refl : (base deep : ℕ) (v : View) → Like base deep v v
+like_refl base deep v =
+    alike (first_refl base v.registers) refl refl (parts_refl v.parts) (first_refl deep v.returns)
 
 pub like_trans : {base deep : ℕ} {u v w : View} → Like base deep u v → Like base deep v w → Like base deep u w
-like_trans a b = record {
-  registers_count = b.registers_count ∙ a.registers_count;
-  registers_same = λ r low. b.registers_same r low ∙ a.registers_same r low;
-  home_same = b.home_same ∙ a.home_same;
-  statuses_same = b.statuses_same ∙ a.statuses_same;
-  parts_like = parts_trans a.parts_like b.parts_like;
-  returns_count = b.returns_count ∙ a.returns_count;
-  returns_same = λ k low. b.returns_same k low ∙ a.returns_same k low;
-}
+like_trans a b =
+    alike (first_trans a.registers b.registers) (b.home ∙ a.home) (b.statuses ∙ a.statuses)
+    (parts_trans a.parts b.parts) (first_trans a.returns b.returns)
 
-like_lower : {base low deep : ℕ} {v w : View} → low ≤ deep → Like base deep v w → Like base low v w
-like_lower fewer a = record {
-  registers_count = a.registers_count;
-  registers_same = a.registers_same;
-  home_same = a.home_same;
-  statuses_same = a.statuses_same;
-  parts_like = a.parts_like;
-  returns_count = a.returns_count;
-  returns_same = λ k low. a.returns_same k (omega (arith, fewer, low));
-}
+pub like_moved : {base deep : ℕ} {v w : View} (place depth : ℕ) → Like base deep v w →
+    Like base deep v (record w { place = place; depth = depth })
+like_moved place depth a = alike a.registers a.home a.statuses a.parts a.returns
+
+pub like_parts : (base deep : ℕ) (v : View) (parts : Parts) → PartsLike v.parts parts →
+    Like base deep v (record v { parts = parts })
+like_parts base deep v parts like =
+    alike (first_refl base v.registers) refl refl like (first_refl deep v.returns)
+
+with_parts : {base deep : ℕ} {v w : View} {p q : Parts} → Like base deep v w → PartsLike p q →
+    Like base deep (record v { parts = p }) (record w { parts = q })
+with_parts l parts = alike l.registers l.home l.statuses parts l.returns
+
+with_others : {base deep : ℕ} {v w : View} {p q : Parts} → Like base deep v w → but_stashes q ≡ but_stashes p →
+    StashesLike p.scalar_stashes q.scalar_stashes → StashesLike p.array_stashes q.array_stashes →
+    Like base deep (record v { parts = p }) (record w { parts = q })
+with_others l others scalars arrays = with_parts l (record { others = others; scalars = scalars; arrays = arrays })
 
 -- what can be undone from a view can be undone from each one like it
 pub alike_rewinds : {base low k : ℕ} {changes : List Change} {v w m : View} → Like base low v w →
@@ -71,15 +124,8 @@ newest_first changes change k within =
 -- a return address that is pushed changes nothing below its depth
 pub pushed_like : (base low depth place : ℕ) (v : View) → low ≤ depth →
     Like base low v (record v { returns = slice_set v.returns depth place })
-pushed_like base low depth place v above = record {
-  registers_count = refl;
-  registers_same = λ r few. refl;
-  home_same = refl;
-  statuses_same = refl;
-  parts_like = parts_refl v.parts;
-  returns_count = length-set v.returns depth place;
-  returns_same = λ k few. get_or-set_other v.returns depth k place 0 (λ e. absurd (omega (arith, e, few, above)));
-}
+pushed_like base low depth place v above =
+    alike (first_refl base v.registers) refl refl (parts_refl v.parts) (first_above low depth place v.returns above)
 
 -- a change that is undone first
 noted : (base : ℕ) (changes : List Change) (low low' k : ℕ) (change : Change) (u v m : View) →
@@ -97,141 +143,47 @@ noted base changes low low' k change u v m h back = record {
       (h.stays (undone change w) (back w like).0 r high ∙ (back w like).1 r high);
 }
 
--- numbers that are set at one place in both of two lists
-set_same : (xs ys : List ℕ) (at n r : ℕ) → length ys ≡ length xs → get_or ys r 0 ≡ get_or xs r 0 →
-    get_or (slice_set ys at n) r 0 ≡ get_or (slice_set xs at n) r 0
-set_same [] [] at n r count same = same
-set_same [] (y ∷ ys) at n r count same = absurd (omega (arith, count))
-set_same (x ∷ xs) [] at n r count same = absurd (omega (arith, count))
-set_same (x ∷ xs) (y ∷ ys) zero n zero count same = refl
-set_same (x ∷ xs) (y ∷ ys) zero n (suc r) count same = same
-set_same (x ∷ xs) (y ∷ ys) (suc at) n zero count same = same
-set_same (x ∷ xs) (y ∷ ys) (suc at) n (suc r) count same = set_same xs ys at n r (omega (arith, count)) same
-
-set_count : (xs ys : List ℕ) (at n : ℕ) → length ys ≡ length xs → length (slice_set ys at n) ≡ length (slice_set xs at n)
-set_count xs ys at n count = length-set ys at n ∙ count ∙ sym (length-set xs at n)
-
 -- views that are alike are so after a change of both is undone
-with_parts_like : {base low : ℕ} {v w : View} (p q : Parts) → Like base low v w → PartsLike p q →
-    Like base low (record v { parts = p }) (record w { parts = q })
-with_parts_like p q like parts = record {
-  registers_count = like.registers_count;
-  registers_same = like.registers_same;
-  home_same = like.home_same;
-  statuses_same = like.statuses_same;
-  parts_like = parts;
-  returns_count = like.returns_count;
-  returns_same = like.returns_same;
-}
-
 pub undone_like : (base low : ℕ) (change : Change) (v w : View) → IsUndoable base change v → Like base low v w →
     Like base low (undone change v) (undone change w)
-undone_like base low (register_was at old) v w can like = record {
-  registers_count = set_count v.registers w.registers at old like.registers_count;
-  registers_same = λ r few.
-      set_same v.registers w.registers at old r like.registers_count (like.registers_same r few);
-  home_same = like.home_same;
-  statuses_same = like.statuses_same;
-  parts_like = like.parts_like;
-  returns_count = like.returns_count;
-  returns_same = like.returns_same;
-}
-undone_like base low (home_was at old) v w can like = record {
-  registers_count = like.registers_count;
-  registers_same = like.registers_same;
-  home_same = ap (λ l. slice_set l at old) like.home_same;
-  statuses_same = like.statuses_same;
-  parts_like = like.parts_like;
-  returns_count = like.returns_count;
-  returns_same = like.returns_same;
-}
-undone_like base low (status_was at old) v w can like = record {
-  registers_count = like.registers_count;
-  registers_same = like.registers_same;
-  home_same = like.home_same;
-  statuses_same = ap (λ l. slice_set l at old) like.statuses_same;
-  parts_like = like.parts_like;
-  returns_count = like.returns_count;
-  returns_same = like.returns_same;
-}
-undone_like base low (return_was at old) v w can like = record {
-  registers_count = like.registers_count;
-  registers_same = like.registers_same;
-  home_same = like.home_same;
-  statuses_same = like.statuses_same;
-  parts_like = like.parts_like;
-  returns_count = set_count v.returns w.returns at old like.returns_count;
-  returns_same = λ k few. set_same v.returns w.returns at old k like.returns_count (like.returns_same k few);
-}
-undone_like base low (element_was slot at old) v w can like =
-    with_parts_like _ _ like (record {
-      others = ap {A = Parts} (λ r. record r { arrays = with_number r.arrays slot at old }) like.parts_like.others;
-      scalars = like.parts_like.scalars;
-      arrays = like.parts_like.arrays;
-    })
-undone_like base low (hidden_was slot old) v w can like =
-    with_parts_like _ _ like (record {
-      others = ap {A = Parts} (λ r. record r { hidden = slice_set r.hidden slot old }) like.parts_like.others;
-      scalars = like.parts_like.scalars;
-      arrays = like.parts_like.arrays;
-    })
-undone_like base low (scalar_saved slot) v w can like =
-    with_parts_like _ _ like (scalars_alike taken_off slot v.parts w.parts like.parts_like
-    (taken_off_like (like.parts_like.scalars.each slot)))
-undone_like base low (scalar_taken slot number) v w can like =
-    with_parts_like _ _ like (scalars_alike (put_on number) slot v.parts w.parts like.parts_like
-    (put_on_like number can (like.parts_like.scalars.each slot)))
-undone_like base low (scalar_restored slot number old) v w can like = record {
-  registers_count = set_count v.registers w.registers slot old like.registers_count;
-  registers_same = λ r few.
-      set_same v.registers w.registers slot old r like.registers_count (like.registers_same r few);
-  home_same = like.home_same;
-  statuses_same = like.statuses_same;
-  parts_like =
-      scalars_alike (put_on number) slot v.parts w.parts like.parts_like
-      (put_on_like number can.1 (like.parts_like.scalars.each slot));
-  returns_count = like.returns_count;
-  returns_same = like.returns_same;
-}
-undone_like base low (array_saved slot) v w can like =
-    with_parts_like _ _ like (arrays_alike taken_off slot v.parts w.parts like.parts_like
-    (taken_off_like (like.parts_like.arrays.each slot)))
-undone_like base low (array_was change slot old) v w can like =
-    with_parts_like _ _ like (array_alike base change slot old v w.parts like.parts_like can)
-undone_like base low (statuses_were old) v w can like = record {
-  registers_count = like.registers_count;
-  registers_same = like.registers_same;
-  home_same = like.home_same;
-  statuses_same = refl;
-  parts_like = like.parts_like;
-  returns_count = like.returns_count;
-  returns_same = like.returns_same;
-}
-undone_like base low (taken_was old) v w can like =
-    with_parts_like _ _ like (record {
-      others = ap {A = Parts} (λ r. record r { taken = old }) like.parts_like.others;
-      scalars = like.parts_like.scalars;
-      arrays = like.parts_like.arrays;
-    })
-undone_like base low (output_was count) v w can like =
-    with_parts_like _ _ like (record {
-      others = ap {A = Parts} (λ r. record r { output = take count r.output }) like.parts_like.others;
-      scalars = like.parts_like.scalars;
-      arrays = like.parts_like.arrays;
-    })
-undone_like base low (last_was old) v w can like =
-    with_parts_like _ _ like (record {
-      others = ap {A = Parts} (λ r. record r { last = old }) like.parts_like.others;
-      scalars = like.parts_like.scalars;
-      arrays = like.parts_like.arrays;
-    })
-undone_like base low (lastin_was old) v w can like =
-    with_parts_like _ _ like (record {
-      others = ap {A = Parts} (λ r. record r { lastin = old }) like.parts_like.others;
-      scalars = like.parts_like.scalars;
-      arrays = like.parts_like.arrays;
-    })
-undone_like base low no_change v w can like = like
+undone_like base low (register_was at old) v w can l =
+    alike (first_set at old l.registers) l.home l.statuses l.parts l.returns
+undone_like base low (home_was at old) v w can l =
+    alike l.registers (ap (λ h. slice_set h at old) l.home) l.statuses l.parts l.returns
+undone_like base low (status_was at old) v w can l =
+    alike l.registers l.home (ap (λ s. slice_set s at old) l.statuses) l.parts l.returns
+undone_like base low (return_was at old) v w can l =
+    alike l.registers l.home l.statuses l.parts (first_set at old l.returns)
+undone_like base low (element_was slot at old) v w can l =
+    with_others l (ap {A = Parts} (λ p. record p { arrays = with_number p.arrays slot at old }) l.parts.others)
+    l.parts.scalars l.parts.arrays
+undone_like base low (hidden_was slot old) v w can l =
+    with_others l (ap {A = Parts} (λ p. record p { hidden = slice_set p.hidden slot old }) l.parts.others)
+    l.parts.scalars l.parts.arrays
+undone_like base low (scalar_saved slot) v w can l =
+    with_parts l (scalars_alike taken_off slot v.parts w.parts l.parts (taken_off_like (l.parts.scalars.each slot)))
+undone_like base low (scalar_taken slot number) v w can l =
+    with_parts l (scalars_alike (put_on number) slot v.parts w.parts l.parts
+    (put_on_like number can (l.parts.scalars.each slot)))
+undone_like base low (scalar_restored slot number old) v w can l =
+    alike (first_set slot old l.registers) l.home l.statuses
+    (scalars_alike (put_on number) slot v.parts w.parts l.parts (put_on_like number can.1 (l.parts.scalars.each slot)))
+    l.returns
+undone_like base low (array_saved slot) v w can l =
+    with_parts l (arrays_alike taken_off slot v.parts w.parts l.parts (taken_off_like (l.parts.arrays.each slot)))
+undone_like base low (array_was change slot old) v w can l =
+    with_parts l (array_alike base change slot old v w.parts l.parts can)
+undone_like base low (statuses_were old) v w can l = alike l.registers l.home refl l.parts l.returns
+undone_like base low (taken_was old) v w can l =
+    with_others l (ap {A = Parts} (λ p. record p { taken = old }) l.parts.others) l.parts.scalars l.parts.arrays
+undone_like base low (output_was count) v w can l =
+    with_others l (ap {A = Parts} (λ p. record p { output = take count p.output }) l.parts.others)
+    l.parts.scalars l.parts.arrays
+undone_like base low (last_was old) v w can l =
+    with_others l (ap {A = Parts} (λ p. record p { last = old }) l.parts.others) l.parts.scalars l.parts.arrays
+undone_like base low (lastin_was old) v w can l =
+    with_others l (ap {A = Parts} (λ p. record p { lastin = old }) l.parts.others) l.parts.scalars l.parts.arrays
+undone_like base low no_change v w can l = l
 
 undone_high : (base : ℕ) (change : Change) (v w : View) → IsUndoable base change v → HighSame base w (undone change w)
 undone_high base (register_was at old) v w can = λ r high.
@@ -262,6 +214,12 @@ notes_change base changes low k change u v m can before h =
     noted base changes low low k change u v m h
     (λ w like. (like_trans before (undone_like base low change u w can like), undone_high base change u w can))
 
+-- a change by which a view came from this one
+notes_back : (base : ℕ) (changes : List Change) (low k : ℕ) (change : Change) (u v m : View) → IsUndoable base change u →
+    undone change u ≡ v → Rewinds base changes low k v m → Rewinds base (changes ++ change ∷ []) low k u m
+notes_back base changes low k change u v m can same h =
+    notes_change base changes low k change u v m can (subst (Like base low v) (sym same) (like_refl base low v)) h
+
 put_back : (xs : List ℕ) (at n : ℕ) → slice_set (slice_set xs at n) at (get_or xs at 0) ≡ xs
 put_back xs at n = set-set xs at n (get_or xs at 0) ∙ set-get_or xs at 0
 
@@ -273,18 +231,9 @@ pub notes_restored : (base : ℕ) (changes : List Change) (low k slot number n :
     Rewinds base (changes ++ scalar_restored slot number (get_or v.registers slot 0) ∷ []) low k
     (record v { registers = slice_set v.registers slot n; parts = p }) m
 notes_restored base changes low k slot number n v m p below place parts h =
-    let old = get_or v.registers slot 0 in
-    notes_change base changes low k (scalar_restored slot number old)
+    notes_change base changes low k (scalar_restored slot number (get_or v.registers slot 0))
     (record v { registers = slice_set v.registers slot n; parts = p }) v m (below, place)
-    (record {
-      registers_count = length-set (slice_set v.registers slot n) slot old ∙ length-set v.registers slot n;
-      registers_same = λ r few. ap (λ l. get_or l r 0) (put_back v.registers slot n);
-      home_same = refl;
-      statuses_same = refl;
-      parts_like = parts;
-      returns_count = refl;
-      returns_same = λ j few. refl;
-    }) h
+    (alike (first_by base v.registers _ (put_back v.registers slot n)) refl refl parts (first_refl low v.returns)) h
 
 -- the same with a register that is never restored
 pub skips_restored : (base : ℕ) (changes : List Change) (low k slot number n : ℕ) (v m : View) (p : Parts) → base ≤ slot →
@@ -296,76 +245,44 @@ pub skips_restored : (base : ℕ) (changes : List Change) (low k slot number n :
 skips_restored base changes low k slot number n v m p above place parts h =
     notes_change base changes low k (scalar_taken slot number)
     (record v { registers = slice_set v.registers slot n; parts = p }) v m place
-    (record {
-      registers_count = length-set v.registers slot n;
-      registers_same = λ r few. get_or-set_other v.registers slot r n 0 (λ e. absurd (omega (arith, e, few, above)));
-      home_same = refl;
-      statuses_same = refl;
-      parts_like = parts;
-      returns_count = refl;
-      returns_same = λ j few. refl;
-    }) h
+    (alike (first_above base slot n v.registers above) refl refl parts (first_refl low v.returns)) h
 
-register_back : (base low at number : ℕ) (v w : View) → at < base → at < length v.registers →
-    Like base low (record v { registers = slice_set v.registers at number }) w →
-    Like base low v (undone (register_was at (get_or v.registers at 0)) w)
-    × HighSame base w (undone (register_was at (get_or v.registers at 0)) w)
-register_back base low at number v w below there like = (
-  record {
-    registers_count =
-        length-set w.registers at old ∙ like.registers_count ∙ length-set v.registers at number;
-    registers_same = same;
-    home_same = like.home_same;
-    statuses_same = like.statuses_same;
-    parts_like = like.parts_like;
-    returns_count = like.returns_count;
-    returns_same = like.returns_same;
-  },
-  λ r high. get_or-set_other w.registers at r old 0 (λ e. absurd (omega (arith, e, high, below))),
-)
-  where
-    old : ℕ
-    old = get_or v.registers at 0
-
-    within : at < length w.registers
-    within = omega (arith, there, like.registers_count, length-set v.registers at number)
-
-    same : (r : ℕ) → r < base → get_or (slice_set w.registers at old) r 0 ≡ get_or v.registers r 0
-    same r below = elim (cases_eq r at) [
-      | inl e ↦
-          ap (λ k. get_or (slice_set w.registers at old) k 0) e ∙ get_or-set_same w.registers at old 0 within
-          ∙ ap (λ k. get_or v.registers k 0) (sym e)
-      | inr other ↦
-          get_or-set_other w.registers at r old 0 other ∙ like.registers_same r below
-          ∙ get_or-set_other v.registers at r number 0 other
-    ]
+register_back : (at number : ℕ) (v : View) →
+    undone (register_was at (get_or v.registers at 0)) (record v { registers = slice_set v.registers at number }) ≡ v
+register_back at number v = ap {A = List ℕ} (λ l. record v { registers = l }) (put_back v.registers at number)
 
 pub notes_register : (base : ℕ) (changes : List Change) (low k at number : ℕ) (v m : View) → at < base →
-    at < length v.registers → Rewinds base changes low k v m →
+    Rewinds base changes low k v m →
     Rewinds base (changes ++ register_was at (get_or v.registers at 0) ∷ []) low k
     (record v { registers = slice_set v.registers at number }) m
-notes_register base changes low k at number v m below there h =
-    noted base changes low low k (register_was at (get_or v.registers at 0))
-    (record v { registers = slice_set v.registers at number }) v m h
-    (λ w like. register_back base low at number v w below there like)
+notes_register base changes low k at number v m below h =
+    notes_back base changes low k (register_was at (get_or v.registers at 0))
+    (record v { registers = slice_set v.registers at number }) v m below (register_back at number v) h
 
 -- a register of which the newest change was noted
 pub keeps_register : (base : ℕ) (changes older : List Change) (low k at old number : ℕ) (v m : View) → at < base →
-    at < length v.registers → changes ≡ older ++ register_was at old ∷ [] → k ≤ length older →
-    Rewinds base changes low k v m →
+    changes ≡ older ++ register_was at old ∷ [] → k ≤ length older → Rewinds base changes low k v m →
     Rewinds base changes low k (record v { registers = slice_set v.registers at number }) m
-keeps_register base changes older low k at old number v m below there is few h = record {
+keeps_register base changes older low k at old number v m below is few h = record {
   within = h.within;
-  leads = λ w like.
-      subst (Like base m.depth m) (same w) (h.leads (before w) (register_back base low at number v w below there like).0);
+  leads = λ w like. subst (Like base m.depth m) (same w) (h.leads (before w) (back w like));
   stays = λ w like r high.
-      let back = register_back base low at number v w below there like in
       subst (λ u. get_or u.registers r 0 ≡ get_or w.registers r 0) (same w)
-      (h.stays (before w) back.0 r high ∙ back.1 r high);
+      (h.stays (before w) (back w like) r high ∙ undone_high base change after w below r high);
 }
   where
+    change : Change
+    change = register_was at (get_or v.registers at 0)
+
+    after : View
+    after = record v { registers = slice_set v.registers at number }
+
     before : View → View
-    before w = undone (register_was at (get_or v.registers at 0)) w
+    before w = undone change w
+
+    back : (w : View) → Like base low after w → Like base low v (before w)
+    back w like =
+        subst (λ u. Like base low u (before w)) (register_back at number v) (undone_like base low change after w below like)
 
     first : reverse (drop k changes) ≡ register_was at old ∷ reverse (drop k older)
     first = ap (λ l. reverse (drop k l)) is ∙ newest_first older (register_was at old) k few
@@ -383,54 +300,23 @@ pub skips_register : (base : ℕ) (changes : List Change) (low k at number : ℕ
     Rewinds base changes low k (record v { registers = slice_set v.registers at number }) m
 skips_register base changes low k at number v m above h =
     alike_rewinds
-    (record {
-      registers_count = length-set v.registers at number;
-      registers_same = λ r low. get_or-set_other v.registers at r number 0 (λ e. absurd (omega (arith, e, low, above)));
-      home_same = refl;
-      statuses_same = refl;
-      parts_like = parts_refl v.parts;
-      returns_count = refl;
-      returns_same = λ k low. refl;
-    }) h
+    (alike (first_above base at number v.registers above) refl refl (parts_refl v.parts) (first_refl low v.returns)) h
 
 pub notes_home : (base : ℕ) (changes : List Change) (low k at number : ℕ) (v m : View) → Rewinds base changes low k v m →
     Rewinds base (changes ++ home_was at (get_or v.home at 0) ∷ []) low k
     (record v { home = slice_set v.home at number }) m
 notes_home base changes low k at number v m h =
-    noted base changes low low k (home_was at (get_or v.home at 0)) (record v { home = slice_set v.home at number }) v m h
-    (λ w like. (
-      record {
-        registers_count = like.registers_count;
-        registers_same = like.registers_same;
-        home_same = ap (λ l. slice_set l at (get_or v.home at 0)) like.home_same ∙ put_back v.home at number;
-        statuses_same = like.statuses_same;
-        parts_like = like.parts_like;
-        returns_count = like.returns_count;
-        returns_same = like.returns_same;
-      },
-      λ r high. refl,
-    ))
+    notes_back base changes low k (home_was at (get_or v.home at 0)) (record v { home = slice_set v.home at number }) v m
+    tt (ap {A = List ℕ} (λ l. record v { home = l }) (put_back v.home at number)) h
 
 pub notes_status : (base : ℕ) (changes : List Change) (low k at number : ℕ) (v m : View) →
     Rewinds base changes low k v m →
     Rewinds base (changes ++ status_was at (get_or v.statuses at 0) ∷ []) low k
     (record v { statuses = slice_set v.statuses at number }) m
 notes_status base changes low k at number v m h =
-    noted base changes low low k (status_was at (get_or v.statuses at 0))
-    (record v { statuses = slice_set v.statuses at number }) v m h
-    (λ w like. (
-      record {
-        registers_count = like.registers_count;
-        registers_same = like.registers_same;
-        home_same = like.home_same;
-        statuses_same =
-            ap (λ l. slice_set l at (get_or v.statuses at 0)) like.statuses_same ∙ put_back v.statuses at number;
-        parts_like = like.parts_like;
-        returns_count = like.returns_count;
-        returns_same = like.returns_same;
-      },
-      λ r high. refl,
-    ))
+    notes_back base changes low k (status_was at (get_or v.statuses at 0))
+    (record v { statuses = slice_set v.statuses at number }) v m tt
+    (ap {A = List ℕ} (λ l. record v { statuses = l }) (put_back v.statuses at number)) h
 
 -- an element
 element_same : (arrays : List Array) (slot at number : ℕ) → slot < length arrays →
@@ -450,59 +336,20 @@ pub notes_element : (base : ℕ) (changes : List Change) (low k slot at number :
     (changes ++ element_was slot at (get_or (get_or v.parts.arrays slot no_array).elements at 0) ∷ []) low k
     (with_arrays (with_number v.parts.arrays slot at number) v) m
 notes_element base changes low k slot at number v m there h =
-    notes_change base changes low k (element_was slot at (get_or (get_or v.parts.arrays slot no_array).elements at 0))
+    notes_back base changes low k (element_was slot at (get_or (get_or v.parts.arrays slot no_array).elements at 0))
     (with_arrays (with_number v.parts.arrays slot at number) v) v m tt
-    (record {
-      registers_count = refl;
-      registers_same = λ r few. refl;
-      home_same = refl;
-      statuses_same = refl;
-      parts_like =
-          parts_same (ap {A = List Array} (λ l. record v.parts { arrays = l }) (element_same v.parts.arrays slot at number there));
-      returns_count = refl;
-      returns_same = λ j few. refl;
-    }) h
-
--- an element that isn't there
-pub element_past : (arrays : List Array) (slot at number : ℕ) → length (get_or arrays slot no_array).elements ≤ at →
-    with_number arrays slot at number ≡ arrays
-element_past arrays slot at number past =
-    let a = get_or arrays slot no_array in
-    ap (λ l. slice_set arrays slot (record a { elements = l })) (set_past a.elements at number past)
-    ∙ set-get_or arrays slot no_array
+    (ap {A = List Array} (λ l. with_arrays l v) (element_same v.parts.arrays slot at number there)) h
 
 -- the return address below the depth is noted
 pub notes_return : (base : ℕ) (changes : List Change) (low at k : ℕ) (v m : View) → low ≡ at + 1 →
     at < length v.returns → Rewinds base changes low k v m →
     Rewinds base (changes ++ return_was at (get_or v.returns at 0) ∷ []) at k v m
 notes_return base changes low at k v m next there h =
-    noted base changes low at k (return_was at old) v v m h
-    (λ w like. (
-      record {
-        registers_count = like.registers_count;
-        registers_same = like.registers_same;
-        home_same = like.home_same;
-        statuses_same = like.statuses_same;
-        parts_like = like.parts_like;
-        returns_count = length-set w.returns at old ∙ like.returns_count;
-        returns_same = same w like;
-      },
+    noted base changes low at k (return_was at (get_or v.returns at 0)) v v m h
+    (λ w l. (
+      alike l.registers l.home l.statuses l.parts (first_more at low v.returns w.returns next there l.returns),
       λ r high. refl,
     ))
-  where
-    old : ℕ
-    old = get_or v.returns at 0
-
-    same : (w : View) → Like base at v w → (j : ℕ) → j < low →
-        get_or (slice_set w.returns at old) j 0 ≡ get_or v.returns j 0
-    same w like j few = elim (cases_eq j at) [
-      | inl e ↦
-          ap (λ i. get_or (slice_set w.returns at old) i 0) e
-          ∙ get_or-set_same w.returns at old 0 (omega (arith, there, like.returns_count))
-          ∙ ap (λ i. get_or v.returns i 0) (sym e)
-      | inr other ↦
-          get_or-set_other w.returns at j old 0 other ∙ like.returns_same j (omega (arith, few, next, other))
-    ]
 
 -- a mark
 pub marks_here : (base : ℕ) (changes : List Change) (v : View) → Rewinds base changes v.depth (length changes) v v
@@ -512,14 +359,6 @@ marks_here base changes v = record {
       subst (λ es. Like base v.depth v (rewound (reverse es) w)) (sym (drop-length changes)) like;
   stays = λ w like r high.
       subst (λ es. get_or (rewound (reverse es) w).registers r 0 ≡ get_or w.registers r 0) (sym (drop-length changes)) refl;
-}
-
-pub marks_older : (base : ℕ) (changes : List Change) (low deep k : ℕ) (v m : View) → low ≤ deep →
-    Rewinds base changes low k v m → Rewinds base changes deep k v m
-marks_older base changes low deep k v m fewer h = record {
-  within = h.within;
-  leads = λ w like. h.leads w (like_lower fewer like);
-  stays = λ w like. h.stays w (like_lower fewer like);
 }
 
 -- the newest change undone, and all of them
@@ -558,15 +397,3 @@ composed base changes low k j v m n h below = record {
         (ap (drop j) (sym (take-append-drop k changes)) ∙ drop-append-le j (take k changes) (drop k changes) below.within)
         ∙ ap (λ es. rewound es w) (reverse-append (drop j (take k changes)) (drop k changes))
         ∙ rewound-append (reverse (drop k changes)) (reverse (drop j (take k changes))) w
-
-pub like_moved : {base deep : ℕ} {v w : View} (place depth : ℕ) → Like base deep v w →
-    Like base deep v (record w { place = place; depth = depth })
-like_moved place depth a = record {
-  registers_count = a.registers_count;
-  registers_same = a.registers_same;
-  home_same = a.home_same;
-  statuses_same = a.statuses_same;
-  parts_like = a.parts_like;
-  returns_count = a.returns_count;
-  returns_same = a.returns_same;
-}

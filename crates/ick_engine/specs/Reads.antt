@@ -22,10 +22,6 @@ line_outcome (BadWord begin end to) input from s go =
     faults NoDigit (input.word begin end) (record s { input = input.left to })
 line_outcome (TooLarge to) input from s go = faults SixtyFour [] (record s { input = input.left to })
 
--- what comes of the next line that a state has
-abbrev pub line_read : State → (ℕ → State → Outcome) → Outcome
-line_read s go = with_input s.input s go
-
 -- the next line from a position on
 abbrev pub IsNext : Line → ℕ → Input → Input → Type 0
 IsNext line from before after =

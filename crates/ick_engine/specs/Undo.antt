@@ -171,16 +171,19 @@ pub record PartsLike (p q : Parts) : Type 0 where
   pub scalars : StashesLike p.scalar_stashes q.scalar_stashes
   pub arrays : StashesLike p.array_stashes q.array_stashes
 
+-- lists of one length, of which the first numbers are the same
+pub record SameFirst (n : ℕ) (xs ys : List ℕ) : Type 0 where
+  pub count : length ys ≡ length xs
+  pub same : (k : ℕ) → k < n → get_or ys k 0 ≡ get_or xs k 0
+
 -- views that differ in their place, their depth, the registers from a number on, the return addresses from a depth
 -- on, and in what is spare behind stashed values alone
 pub record Like (base deep : ℕ) (v w : View) : Type 0 where
-  pub registers_count : length w.registers ≡ length v.registers
-  pub registers_same : (r : ℕ) → r < base → get_or w.registers r 0 ≡ get_or v.registers r 0
-  pub home_same : w.home ≡ v.home
-  pub statuses_same : w.statuses ≡ v.statuses
-  pub parts_like : PartsLike v.parts w.parts
-  pub returns_count : length w.returns ≡ length v.returns
-  pub returns_same : (k : ℕ) → k < deep → get_or w.returns k 0 ≡ get_or v.returns k 0
+  pub registers : SameFirst base v.registers w.registers
+  pub home : w.home ≡ v.home
+  pub statuses : w.statuses ≡ v.statuses
+  pub parts : PartsLike v.parts w.parts
+  pub returns : SameFirst deep v.returns w.returns
 
 -- registers from a number on are the same
 abbrev pub HighSame : ℕ → View → View → Type 0

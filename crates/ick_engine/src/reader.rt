@@ -7,7 +7,7 @@ ghost use Rattle.ick_engine.specs.View.{Input};
 use ick_bits::NoMemory;
 
 /// A line of input that was read.
-#[derive(Clone, Copy, Debug)]
+#[derive(Clone, Copy)]
 pub enum Line {
     /// No input was left.
     Nothing,

@@ -8,7 +8,7 @@ use crate::reader::{Line, Reader};
 use ick_bits::{DigitFault, NoMemory, digits_value};
 
 /// Reads the input of a run from a text.
-#[derive(Clone, Copy, Debug)]
+#[derive(Clone, Copy)]
 pub struct TextReader<'c> {
     text: &'c [u8],
 }

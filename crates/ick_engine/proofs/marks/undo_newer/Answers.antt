@@ -1,4 +1,4 @@
-use Rattle.std.proofs.Common.{◌≡◌, ◌≤◌, refl, sym, arith, length, take_all}
+use Rattle.std.proofs.Common.{◌≤◌, refl, sym, arith, length, take_all}
 use Rattle.ick_engine.specs.Memory.{view_in}
 use Rattle.ick_engine.specs.View.{View}
 use Rattle.ick_engine.specs.TrailChanges.{changes_in}

@@ -67,4 +67,4 @@ returns-clause-notes g c = λ k v m registers same h.
     subst (λ l. StashesLike l back) (sym same) (taken_like number c.args.slot old new at) in
     let p : Parts = record v.parts { scalar_stashes = new } in
     c.note_restored.ensures.notes k number v m p registers at.here.place
-    (like_scalars ((g.N.Notes.fixed c.args.notes.now).base) (g.N.Notes.low c.args.notes.now) v back like).parts_like h
+    (like_scalars ((g.N.Notes.fixed c.args.notes.now).base) (g.N.Notes.low c.args.notes.now) v back like).parts h

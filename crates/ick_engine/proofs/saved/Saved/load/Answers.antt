@@ -1,10 +1,10 @@
-use Rattle.std.proofs.Common.{◌≡◌, ap, sym, ◌∙◌, length, refl}
+use Rattle.std.proofs.Common.{ap, sym, ◌∙◌, length, refl}
 use Rattle.ick_engine.specs.Memory.{view_in}
-use Rattle.ick_engine.specs.Saved.{IsLoaded, IsSaved, saved_view}
+use Rattle.ick_engine.specs.Saved.{IsLoaded, IsSaved}
 use Rattle.ick_engine.specs.Steady.{IsProgram, IsReady}
 use Rattle.ick_engine.specs.View.{View, parts_of}
-use Rattle.ick_engine.proofs.Readiness.{as_long, at_most, ready_of, state_of_both}
-use Rattle.ick_engine.proofs.Saving.{first, first_low, kept_state, loaded, put_in, used, used_low}
+use Rattle.ick_engine.proofs.Readiness.{ready_of, state_of_both}
+use Rattle.ick_engine.proofs.Saving.{first, kept_state, loaded, put_in, used}
 use Rattle.ick_engine.proofs.saved.Saved.load.Goals as goal
 
 pub returns-clause-loaded : goal.returns-clause-loaded

@@ -1,4 +1,3 @@
-use Rattle.std.proofs.Common.{◌∙◌}
 use Rattle.ick_engine.proofs.Saving.{same_saved}
 use Rattle.ick_engine.proofs.saved.Saved.same.Goals as goal
 

@@ -1,4 +1,4 @@
-use Rattle.std.proofs.Common.{refl, ◌++◌, [], ◌∷◌, sym, ap, subst, arith, length, get_or}
+use Rattle.std.proofs.Common.{refl, ◌++◌, [], ◌∷◌, sym, subst, arith, get_or}
 use Rattle.std.specs.Prelude.{slice_set}
 use Rattle.ick_engine.specs.declared.change.Entry.TheVariants.{Register}
 use Rattle.ick_engine.specs.Undo.{Rewinds, register_was}
@@ -22,7 +22,7 @@ returns-then-has_noted-clause-notes c = λ k number v m same h.
       h.0,
       subst (λ l. Rewinds t.base (changes_in t) t.low k (record v { registers = slice_set l c.args.at number }) m) same
           (keeps_register t.base (changes_in t) noted.older t.low k c.args.at noted.old number v m c.if-at-self.false
-          (omega (arith, c.requires.there, ap length same)) noted.noted_is (omega (arith, h.0, noted.newer)) h.1),
+          noted.noted_is (omega (arith, h.0, noted.newer)) h.1),
     )
 
 pub returns-clause-notes : goal.returns-clause-notes
@@ -35,8 +35,7 @@ returns-clause-notes c = λ k number v m same h.
           (Register c.args.at (get_or c.args.registers.now c.args.at 0)) refl c.push_reserved.ensures.items))
           (subst (λ l. Rewinds t.base (changes_in t ++ register_was c.args.at (get_or l c.args.at 0) ∷ []) t.low k
           (record v { registers = slice_set l c.args.at number }) m) same
-          (notes_register t.base (changes_in t) t.low k c.args.at number v m c.if-at-self.false
-          (omega (arith, c.requires.there, ap length same)) h.1)),
+          (notes_register t.base (changes_in t) t.low k c.args.at number v m c.if-at-self.false h.1)),
     )
 
 pub returns-clause-changes : goal.returns-clause-changes
