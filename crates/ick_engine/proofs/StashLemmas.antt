@@ -47,7 +47,8 @@ parts_trans a b = record {
 pub parts_same : {p q : Parts} → q ≡ p → PartsLike p q
 parts_same {p} e = subst (PartsLike p) (sym e) (parts_refl p)
 
-take_less : {A : Type 0} (k n : ℕ) (xs : List A) → k ≤ n → take k (take n xs) ≡ take k xs
+-- the first values of the first ones
+pub take_less : {A : Type 0} (k n : ℕ) (xs : List A) → k ≤ n → take k (take n xs) ≡ take k xs
 take_less zero n xs h = refl
 take_less (suc k) zero xs h = absurd (omega (arith, h))
 take_less (suc k) (suc n) [] h = refl

@@ -72,43 +72,30 @@ pub fn copy_arrays(alloc: Global, arrays: &[Array]) -> Result<Vec<Array>, NoMemo
     Ok(copies)
 }
 
-/// Copies the numbers on a stash. The copy has no spare room.
-fn copy_number_stash(alloc: Global, stash: &NumberStash) -> Result<NumberStash, NoMemory>
-    ensures { IfOk result (λ copy. numbers_on copy ≡ numbers_on stash.now) }
-{
-    Ok(NumberStash {
-        items: copy_first(alloc, &stash.items, stash.depth)?,
-        depth: stash.depth,
-    })
-}
-
-/// Copies the numbers on stashes.
+/// Copies the numbers on stashes. The copies have no spare room.
 fn copy_number_stashes(alloc: Global, stashes: &[NumberStash]) -> Result<Vec<NumberStash>, NoMemory>
     ensures { IfOk result (λ copies. map numbers_on copies.items ≡ map numbers_on stashes.now) }
 {
     let mut copies = Vec::new(alloc);
     for stash in stashes {
-        copies.push(copy_number_stash(alloc, stash)?)?;
+        copies.push(NumberStash {
+            items: copy_first(alloc, &stash.items, stash.depth)?,
+            depth: stash.depth,
+        })?;
     }
     Ok(copies)
 }
 
-/// Copies the arrays on a stash. The copy has no spare room.
-fn copy_array_stash(alloc: Global, stash: &ArrayStash) -> Result<ArrayStash, NoMemory>
-    ensures { IfOk result (λ copy. arrays_on copy ≡ arrays_on stash.now) }
-{
-    let items = copy_arrays(alloc, &stash.items[..stash.depth])?;
-    let depth = items.len();
-    Ok(ArrayStash { items, depth })
-}
-
-/// Copies the arrays on stashes.
+/// Copies the arrays on stashes. The copies have no spare room.
 fn copy_array_stashes(alloc: Global, stashes: &[ArrayStash]) -> Result<Vec<ArrayStash>, NoMemory>
     ensures { IfOk result (λ copies. map arrays_on copies.items ≡ map arrays_on stashes.now) }
 {
     let mut copies = Vec::new(alloc);
     for stash in stashes {
-        copies.push(copy_array_stash(alloc, stash)?)?;
+        copies.push(ArrayStash {
+            items: copy_arrays(alloc, &stash.items[..stash.depth])?,
+            depth: stash.depth,
+        })?;
     }
     Ok(copies)
 }

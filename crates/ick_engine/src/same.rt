@@ -32,13 +32,6 @@ fn same_arrays(one: &[Array], other: &[Array]) -> bool
     true
 }
 
-/// Returns whether the same numbers are on two stashes.
-fn same_number_stash(one: &NumberStash, other: &NumberStash) -> bool
-    ensures { result ≡ true → numbers_on one.now ≡ numbers_on other.now }
-{
-    one.items[..one.depth] == other.items[..other.depth]
-}
-
 /// Returns whether the same numbers are on the stashes of two lists.
 fn same_number_stashes(one: &[NumberStash], other: &[NumberStash]) -> bool
     ensures { result ≡ true → map numbers_on one.now ≡ map numbers_on other.now }
@@ -47,18 +40,12 @@ fn same_number_stashes(one: &[NumberStash], other: &[NumberStash]) -> bool
         return false;
     }
     for at in 0..one.len() {
-        if !same_number_stash(&one[at], &other[at]) {
+        let (stash, kept) = (&one[at], &other[at]);
+        if stash.items[..stash.depth] != kept.items[..kept.depth] {
             return false;
         }
     }
     true
-}
-
-/// Returns whether the same arrays are on two stashes.
-fn same_array_stash(one: &ArrayStash, other: &ArrayStash) -> bool
-    ensures { result ≡ true → arrays_on one.now ≡ arrays_on other.now }
-{
-    same_arrays(&one.items[..one.depth], &other.items[..other.depth])
 }
 
 /// Returns whether the same arrays are on the stashes of two lists.
@@ -69,7 +56,8 @@ fn same_array_stashes(one: &[ArrayStash], other: &[ArrayStash]) -> bool
         return false;
     }
     for at in 0..one.len() {
-        if !same_array_stash(&one[at], &other[at]) {
+        let (stash, kept) = (&one[at], &other[at]);
+        if !same_arrays(&stash.items[..stash.depth], &kept.items[..kept.depth]) {
             return false;
         }
     }
