@@ -238,18 +238,15 @@ any_default (x ∷ xs) (suc k) d e low = any_default xs k d e (omega (arith, low
 -- the newest array of the stash in a slot is taken off
 pub drops_at : (xs : List ArrayStash) (slot : ℕ) (stash met new : ArrayStash) (e : Kept) → slot < length xs →
     stash ≡ get_or xs slot stash → met ≡ get_or xs slot met → arrays_of new ≡ taken_off (arrays_of met) →
-    0 < (get_or (map arrays_of xs) slot no_stash).depth → e ≡ get_or stash.items.items (stash.depth - 1) e →
+    0 < stash.depth → e ≡ get_or stash.items.items (stash.depth - 1) e →
     ChangesAt slot (IsTakenOff (array_of e)) (map arrays_of xs) (map arrays_of (slice_set xs slot new))
 drops_at xs slot stash met new e low is met_is new_is some e_is =
     let x = array_of e in
     let at = stash.depth - 1 in
     let same : met ≡ stash = met_is ∙ any_default xs slot met stash low ∙ sym is in
-    let depth : (get_or (map arrays_of xs) slot no_stash).depth ≡ stash.depth =
-    ap (λ s. s.depth) (get_or-map arrays_of xs slot stash no_stash low ∙ ap arrays_of (sym is)) in
-    let next : stash.depth - 1 + 1 ≡ stash.depth = omega (arith, some, depth) in
-    let inside : stash.depth - 1 < length stash.items.items = omega (arith, stash.there, some, depth) in
-    let inside' : stash.depth - 1 < length (map array_of stash.items.items) =
-    omega (arith, inside, length-map stash.items.items array_of) in
+    let next : at + 1 ≡ stash.depth = omega (arith, some) in
+    let inside : at < length stash.items.items = omega (arith, stash.there, some) in
+    let inside' : at < length (map array_of stash.items.items) = omega (arith, inside, length-map stash.items.items array_of) in
     changes_at arrays_of (IsTakenOff x) xs slot stash new low is
     (subst (IsTakenOff x (arrays_of stash)) (sym (new_is ∙ ap (λ s. taken_off (arrays_of s)) same))
     (take_newest x (arrays_of stash) at next inside'

@@ -282,72 +282,6 @@ pub fn restore_scalar<N: Notes>(
     true
 }
 
-/// Takes the newest array off the stash in a slot, and notes that. If memory runs out, nothing
-/// changes.
-fn drop_stashed<N: Notes>(
-    stashes: &mut Vec<ArrayStash>,
-    notes: &mut N,
-    slot: u32,
-) -> Result<(), NoMemory>
-    requires slot { slot < length stashes.old.items }
-    requires some { 0 < (get_or (map arrays_of stashes.old.items) slot no_stash).depth }
-    requires room { 0 < N.room notes.old }
-    ensures taken { OnOk result ((array : ArrayValue) × ChangesAt slot (IsTakenOff array)
-        (map arrays_of stashes.old.items) (map arrays_of stashes.new.items)) }
-    ensures same { OnErr result (map arrays_of stashes.new.items
-        ≡ map arrays_of stashes.old.items) }
-    ensures room { N.room notes.old ≤ N.room notes.new + 1 }
-    ensures low { N.low notes.new ≡ N.low notes.old }
-    ensures base { N.fixed notes.new ≡ N.fixed notes.old }
-    ensures changes { Extends (N.changes notes.old) (N.changes notes.new) }
-    ensures notes { (k : ℕ) (v m : View) →
-        v.parts.array_stashes ≡ map arrays_of stashes.old.items → N.Undoes notes.old k v m →
-        N.Undoes notes.new k (with_array_stashes (map arrays_of stashes.new.items) v) m }
-{
-    // `notes` needs that views that are alike are undone alike.
-    notes.law();
-    let stash = &stashes[slot as usize];
-    notes.note_array(ArrayChange::Taken, slot, &stash.items[stash.depth - 1])?;
-    stashes[slot as usize].drop_newest();
-    Ok(())
-}
-
-/// Exchanges the array in a slot for the newest one of its stash, and notes that. If memory runs
-/// out, nothing changes.
-fn exchange_stashed<N: Notes>(
-    arrays: &mut Vec<Array>,
-    stashes: &mut Vec<ArrayStash>,
-    notes: &mut N,
-    slot: u32,
-) -> Result<(), NoMemory>
-    requires array { slot < length arrays.old.items }
-    requires slot { slot < length stashes.old.items }
-    requires some { 0 < (get_or (map arrays_of stashes.old.items) slot no_stash).depth }
-    requires room { 0 < N.room notes.old }
-    ensures taken { OnOk result (IsExchanged slot (map array_of arrays.old.items)
-        (map array_of arrays.new.items) (map arrays_of stashes.old.items)
-        (map arrays_of stashes.new.items)) }
-    ensures arrays { OnErr result (map array_of arrays.new.items
-        ≡ map array_of arrays.old.items) }
-    ensures stashes { OnErr result (map arrays_of stashes.new.items
-        ≡ map arrays_of stashes.old.items) }
-    ensures hidden { map is_hidden arrays.new.items ≡ map is_hidden arrays.old.items }
-    ensures room { N.room notes.old ≤ N.room notes.new + 1 }
-    ensures low { N.low notes.new ≡ N.low notes.old }
-    ensures base { N.fixed notes.new ≡ N.fixed notes.old }
-    ensures changes { Extends (N.changes notes.old) (N.changes notes.new) }
-    ensures notes { (k : ℕ) (v m : View) → v.parts.arrays ≡ map array_of arrays.old.items →
-        v.parts.array_stashes ≡ map arrays_of stashes.old.items → N.Undoes notes.old k v m →
-        N.Undoes notes.new k (with_array_stashes (map arrays_of stashes.new.items)
-        (with_arrays (map array_of arrays.new.items) v)) m }
-{
-    // `notes` needs that views that are alike are undone alike.
-    notes.law();
-    notes.note_array(ArrayChange::Restored, slot, &arrays[slot as usize])?;
-    stashes[slot as usize].exchange(&mut arrays[slot as usize]);
-    Ok(())
-}
-
 /// Retrieves the array in a slot from its stash, and notes that (Revised Manual, 4.4.6). The newest
 /// array is taken off. It becomes the array in the slot, unless that one is ignored. An empty stash
 /// is a fault. Then, and if memory runs out, nothing changes.
@@ -373,17 +307,23 @@ pub fn restore_array<N: Notes>(
         N.Undoes notes.new k (with_array_stashes (map arrays_of stashes.new.items)
         (with_arrays (map array_of arrays.new.items) v)) m }
 {
-    if stashes[slot as usize].depth == 0 {
+    // `notes` needs that views that are alike are undone alike.
+    notes.law();
+    let stash = &stashes[slot as usize];
+    if stash.depth == 0 {
         return Err(Halt::Fault(FaultKind::NothingStashed));
     }
     if arrays[slot as usize].hidden {
-        let Ok(()) = drop_stashed(stashes, notes, slot) else {
+        let newest = &stash.items[stash.depth - 1];
+        let Ok(()) = notes.note_array(ArrayChange::Taken, slot, newest) else {
             return Err(Halt::NoMemory);
         };
+        stashes[slot as usize].drop_newest();
         return Ok(());
     }
-    let Ok(()) = exchange_stashed(arrays, stashes, notes, slot) else {
+    let Ok(()) = notes.note_array(ArrayChange::Restored, slot, &arrays[slot as usize]) else {
         return Err(Halt::NoMemory);
     };
+    stashes[slot as usize].exchange(&mut arrays[slot as usize]);
     Ok(())
 }
