@@ -15,7 +15,7 @@ use Rattle.ick_engine.specs.Undo.{Change, register_was, home_was, status_was, re
 use Rattle.ick_engine.specs.Undo.{scalar_saved, scalar_taken, scalar_restored, array_saved, array_was}
 use Rattle.ick_engine.specs.Undo.{statuses_were, taken_was}
 use Rattle.ick_engine.specs.Undo.{output_was, last_was, lastin_was, no_change, undone, rewound}
-use Rattle.ick_engine.specs.Undo.{with_arrays, with_number, put_on, taken_off, at_slot, HasPlace}
+use Rattle.ick_engine.specs.Undo.{with_arrays, with_number, put_on, taken_off, at_slot}
 use Rattle.ick_engine.specs.Undo.{StashesLike, PartsLike, but_stashes, IsUndoable, SameFirst, Like, HighSame, Rewinds}
 use Rattle.ick_engine.proofs.StashLemmas.{parts_refl, parts_trans, taken_off_like, put_on_like}
 use Rattle.ick_engine.proofs.StashLemmas.{scalars_alike, arrays_alike, array_alike}
@@ -31,11 +31,12 @@ first_by : (n : ℕ) (xs ys : List ℕ) → ys ≡ xs → SameFirst n xs ys
 first_by n xs ys is = subst (SameFirst n xs) (sym is) (first_refl n xs)
 
 -- a number behind them is set
-first_above : (n at number : ℕ) (xs : List ℕ) → n ≤ at → SameFirst n xs (slice_set xs at number)
-first_above n at number xs above = record {
-  count = length-set xs at number;
-  same = λ k low. get_or-set_other xs at k number 0 (λ e. absurd (omega (arith, e, low, above)));
-}
+first_above : (n at number : ℕ) (xs ys : List ℕ) → xs ≡ ys → n ≤ at → SameFirst n xs (slice_set ys at number)
+first_above n at number xs ys same above =
+    subst (λ l. SameFirst n l (slice_set ys at number)) (sym same) (record {
+      count = length-set ys at number;
+      same = λ k low. get_or-set_other ys at k number 0 (λ e. absurd (omega (arith, e, low, above)));
+    })
 
 -- the next number goes back
 first_more : (at n : ℕ) (xs ys : List ℕ) → n ≡ at + 1 → at < length xs → SameFirst at xs ys →
@@ -125,7 +126,8 @@ newest_first changes change k within =
 pub pushed_like : (base low depth place : ℕ) (v : View) → low ≤ depth →
     Like base low v (record v { returns = slice_set v.returns depth place })
 pushed_like base low depth place v above =
-    alike (first_refl base v.registers) refl refl (parts_refl v.parts) (first_above low depth place v.returns above)
+    alike (first_refl base v.registers) refl refl (parts_refl v.parts) 
+    (first_above low depth place v.returns v.returns refl above)
 
 -- a change that is undone first
 noted : (base : ℕ) (changes : List Change) (low low' k : ℕ) (change : Change) (u v m : View) →
@@ -206,64 +208,58 @@ undone_high base (last_was old) v w can = λ r high. refl
 undone_high base (lastin_was old) v w can = λ r high. refl
 undone_high base no_change v w can = λ r high. refl
 
--- a change by which a view came from one like another
-pub notes_change : (base : ℕ) (changes : List Change) (low k : ℕ) (change : Change) (u v m : View) →
-    IsUndoable base change u → Like base low v (undone change u) → Rewinds base changes low k v m →
+-- a change whose undoing gives a view back
+pub notes_back : (base : ℕ) (changes : List Change) (low k : ℕ) (change : Change) (u v m : View) →
+    IsUndoable base change u → undone change u ≡ v → Rewinds base changes low k v m →
     Rewinds base (changes ++ change ∷ []) low k u m
-notes_change base changes low k change u v m can before h =
-    noted base changes low low k change u v m h
-    (λ w like. (like_trans before (undone_like base low change u w can like), undone_high base change u w can))
-
--- a change by which a view came from this one
-notes_back : (base : ℕ) (changes : List Change) (low k : ℕ) (change : Change) (u v m : View) → IsUndoable base change u →
-    undone change u ≡ v → Rewinds base changes low k v m → Rewinds base (changes ++ change ∷ []) low k u m
 notes_back base changes low k change u v m can same h =
-    notes_change base changes low k change u v m can (subst (Like base low v) (sym same) (like_refl base low v)) h
+    noted base changes low low k change u v m h
+    (λ w like. (
+      subst (λ x. Like base low x (undone change w)) same (undone_like base low change u w can like),
+      undone_high base change u w can,
+    ))
 
 put_back : (xs : List ℕ) (at n : ℕ) → slice_set (slice_set xs at n) at (get_or xs at 0) ≡ xs
 put_back xs at n = set-set xs at n (get_or xs at 0) ∙ set-get_or xs at 0
 
--- a number of a stash becomes the number of its scalar
-pub notes_restored : (base : ℕ) (changes : List Change) (low k slot number n : ℕ) (v m : View) (p : Parts) → slot < base →
-    HasPlace p.scalar_stashes slot →
+-- undoing the change of a register, of a home and of a status
+pub register_back : (at number : ℕ) (registers : List ℕ) (v : View) → v.registers ≡ registers →
+    undone (register_was at (get_or registers at 0)) (record v { registers = slice_set registers at number }) ≡ v
+register_back at number registers v same =
+    ap {A = List ℕ} (λ l. record v { registers = l }) (put_back registers at number ∙ sym same)
+
+pub home_back : (at number : ℕ) (home : List ℕ) (v : View) → v.home ≡ home →
+    undone (home_was at (get_or home at 0)) (record v { home = slice_set home at number }) ≡ v
+home_back at number home v same = ap {A = List ℕ} (λ l. record v { home = l }) (put_back home at number ∙ sym same)
+
+pub status_back : (at number : ℕ) (statuses : List ℕ) (v : View) → v.statuses ≡ statuses →
+    undone (status_was at (get_or statuses at 0)) (record v { statuses = slice_set statuses at number }) ≡ v
+status_back at number statuses v same =
+    ap {A = List ℕ} (λ l. record v { statuses = l }) (put_back statuses at number ∙ sym same)
+
+-- a number of a stash became the number of its scalar
+pub restored_back : (base low slot number n : ℕ) (registers : List ℕ) (v : View) (p : Parts) → v.registers ≡ registers →
     PartsLike v.parts (record p { scalar_stashes = at_slot (put_on number) slot p.scalar_stashes }) →
-    Rewinds base changes low k v m →
-    Rewinds base (changes ++ scalar_restored slot number (get_or v.registers slot 0) ∷ []) low k
-    (record v { registers = slice_set v.registers slot n; parts = p }) m
-notes_restored base changes low k slot number n v m p below place parts h =
-    notes_change base changes low k (scalar_restored slot number (get_or v.registers slot 0))
-    (record v { registers = slice_set v.registers slot n; parts = p }) v m (below, place)
-    (alike (first_by base v.registers _ (put_back v.registers slot n)) refl refl parts (first_refl low v.returns)) h
+    Like base low v (undone (scalar_restored slot number (get_or registers slot 0))
+    (record v { registers = slice_set registers slot n; parts = p }))
+restored_back base low slot number n registers v p same parts =
+    alike (first_by base v.registers _ (put_back registers slot n ∙ sym same)) refl refl parts (first_refl low v.returns)
 
 -- the same with a register that is never restored
-pub skips_restored : (base : ℕ) (changes : List Change) (low k slot number n : ℕ) (v m : View) (p : Parts) → base ≤ slot →
-    HasPlace p.scalar_stashes slot →
+pub taken_back : (base low slot number n : ℕ) (registers : List ℕ) (v : View) (p : Parts) → v.registers ≡ registers →
+    base ≤ slot →
     PartsLike v.parts (record p { scalar_stashes = at_slot (put_on number) slot p.scalar_stashes }) →
-    Rewinds base changes low k v m →
-    Rewinds base (changes ++ scalar_taken slot number ∷ []) low k
-    (record v { registers = slice_set v.registers slot n; parts = p }) m
-skips_restored base changes low k slot number n v m p above place parts h =
-    notes_change base changes low k (scalar_taken slot number)
-    (record v { registers = slice_set v.registers slot n; parts = p }) v m place
-    (alike (first_above base slot n v.registers above) refl refl parts (first_refl low v.returns)) h
-
-register_back : (at number : ℕ) (v : View) →
-    undone (register_was at (get_or v.registers at 0)) (record v { registers = slice_set v.registers at number }) ≡ v
-register_back at number v = ap {A = List ℕ} (λ l. record v { registers = l }) (put_back v.registers at number)
-
-pub notes_register : (base : ℕ) (changes : List Change) (low k at number : ℕ) (v m : View) → at < base →
-    Rewinds base changes low k v m →
-    Rewinds base (changes ++ register_was at (get_or v.registers at 0) ∷ []) low k
-    (record v { registers = slice_set v.registers at number }) m
-notes_register base changes low k at number v m below h =
-    notes_back base changes low k (register_was at (get_or v.registers at 0))
-    (record v { registers = slice_set v.registers at number }) v m below (register_back at number v) h
+    Like base low v (undone (scalar_taken slot number)
+    (record v { registers = slice_set registers slot n; parts = p }))
+taken_back base low slot number n registers v p same above parts =
+    alike (first_above base slot n v.registers registers same above) refl refl parts (first_refl low v.returns)
 
 -- a register of which the newest change was noted
-pub keeps_register : (base : ℕ) (changes older : List Change) (low k at old number : ℕ) (v m : View) → at < base →
-    changes ≡ older ++ register_was at old ∷ [] → k ≤ length older → Rewinds base changes low k v m →
-    Rewinds base changes low k (record v { registers = slice_set v.registers at number }) m
-keeps_register base changes older low k at old number v m below is few h = record {
+pub keeps_register : (base : ℕ) (changes older : List Change) (low k at old number : ℕ) (registers : List ℕ) (v m : View) →
+    v.registers ≡ registers → at < base → changes ≡ older ++ register_was at old ∷ [] → k ≤ length older →
+    Rewinds base changes low k v m →
+    Rewinds base changes low k (record v { registers = slice_set registers at number }) m
+keeps_register base changes older low k at old number registers v m from below is few h = record {
   within = h.within;
   leads = λ w like. subst (Like base m.depth m) (same w) (h.leads (before w) (back w like));
   stays = λ w like r high.
@@ -272,17 +268,18 @@ keeps_register base changes older low k at old number v m below is few h = recor
 }
   where
     change : Change
-    change = register_was at (get_or v.registers at 0)
+    change = register_was at (get_or registers at 0)
 
     after : View
-    after = record v { registers = slice_set v.registers at number }
+    after = record v { registers = slice_set registers at number }
 
     before : View → View
     before w = undone change w
 
     back : (w : View) → Like base low after w → Like base low v (before w)
     back w like =
-        subst (λ u. Like base low u (before w)) (register_back at number v) (undone_like base low change after w below like)
+        subst (λ u. Like base low u (before w)) (register_back at number registers v from)
+        (undone_like base low change after w below like)
 
     first : reverse (drop k changes) ≡ register_was at old ∷ reverse (drop k older)
     first = ap (λ l. reverse (drop k l)) is ∙ newest_first older (register_was at old) k few
@@ -291,32 +288,17 @@ keeps_register base changes older low k at old number v m below is few h = recor
     same w =
         ap (λ es. rewound es (before w)) first
         ∙ ap {A = List ℕ} (λ l. rewound (reverse (drop k older)) (record w { registers = l }))
-        (set-set w.registers at (get_or v.registers at 0) old)
+        (set-set w.registers at (get_or registers at 0) old)
         ∙ sym (ap (λ es. rewound es w) first)
 
 -- a register that is never restored
-pub skips_register : (base : ℕ) (changes : List Change) (low k at number : ℕ) (v m : View) → base ≤ at →
-    Rewinds base changes low k v m →
-    Rewinds base changes low k (record v { registers = slice_set v.registers at number }) m
-skips_register base changes low k at number v m above h =
+pub skips_register : (base : ℕ) (changes : List Change) (low k at number : ℕ) (registers : List ℕ) (v m : View) →
+    v.registers ≡ registers → base ≤ at → Rewinds base changes low k v m →
+    Rewinds base changes low k (record v { registers = slice_set registers at number }) m
+skips_register base changes low k at number registers v m same above h =
     alike_rewinds
-    (alike (first_above base at number v.registers above) refl refl (parts_refl v.parts) (first_refl low v.returns)) h
-
-pub notes_home : (base : ℕ) (changes : List Change) (low k at number : ℕ) (v m : View) → Rewinds base changes low k v m →
-    Rewinds base (changes ++ home_was at (get_or v.home at 0) ∷ []) low k
-    (record v { home = slice_set v.home at number }) m
-notes_home base changes low k at number v m h =
-    notes_back base changes low k (home_was at (get_or v.home at 0)) (record v { home = slice_set v.home at number }) v m
-    tt (ap {A = List ℕ} (λ l. record v { home = l }) (put_back v.home at number)) h
-
-pub notes_status : (base : ℕ) (changes : List Change) (low k at number : ℕ) (v m : View) →
-    Rewinds base changes low k v m →
-    Rewinds base (changes ++ status_was at (get_or v.statuses at 0) ∷ []) low k
-    (record v { statuses = slice_set v.statuses at number }) m
-notes_status base changes low k at number v m h =
-    notes_back base changes low k (status_was at (get_or v.statuses at 0))
-    (record v { statuses = slice_set v.statuses at number }) v m tt
-    (ap {A = List ℕ} (λ l. record v { statuses = l }) (put_back v.statuses at number)) h
+    (alike (first_above base at number v.registers registers same above) refl refl (parts_refl v.parts)
+    (first_refl low v.returns)) h
 
 -- an element
 element_same : (arrays : List Array) (slot at number : ℕ) → slot < length arrays →
@@ -330,15 +312,12 @@ element_same arrays slot at number there =
     ∙ ap (λ l. slice_set arrays slot (record a { elements = l })) (put_back a.elements at number)
     ∙ set-get_or arrays slot no_array
 
-pub notes_element : (base : ℕ) (changes : List Change) (low k slot at number : ℕ) (v m : View) →
-    slot < length v.parts.arrays → Rewinds base changes low k v m →
-    Rewinds base
-    (changes ++ element_was slot at (get_or (get_or v.parts.arrays slot no_array).elements at 0) ∷ []) low k
-    (with_arrays (with_number v.parts.arrays slot at number) v) m
-notes_element base changes low k slot at number v m there h =
-    notes_back base changes low k (element_was slot at (get_or (get_or v.parts.arrays slot no_array).elements at 0))
-    (with_arrays (with_number v.parts.arrays slot at number) v) v m tt
-    (ap {A = List Array} (λ l. with_arrays l v) (element_same v.parts.arrays slot at number there)) h
+pub element_back : (slot at number : ℕ) (arrays : List Array) (v : View) → v.parts.arrays ≡ arrays →
+    slot < length arrays →
+    undone (element_was slot at (get_or (get_or arrays slot no_array).elements at 0))
+    (with_arrays (with_number arrays slot at number) v) ≡ v
+element_back slot at number arrays v same there =
+    ap {A = List Array} (λ l. with_arrays l v) (element_same arrays slot at number there ∙ sym same)
 
 -- the return address below the depth is noted
 pub notes_return : (base : ℕ) (changes : List Change) (low at k : ℕ) (v m : View) → low ≡ at + 1 →

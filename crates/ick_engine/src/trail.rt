@@ -161,26 +161,22 @@ impl Notes for Trail {
         if self.has_noted(at) {
             return;
         }
-        let old = registers[at as usize];
-        self.entries.push_reserved(Entry::Register(at, old));
+        self.note(Entry::Register(at, registers[at as usize]));
     }
 
     #[inline(always)]
     fn note_home(&mut self, home: &[u32], at: u32) {
-        let old = home[at as usize];
-        self.entries.push_reserved(Entry::Home(at, old));
+        self.note(Entry::Home(at, home[at as usize]));
     }
 
     #[inline(always)]
     fn note_status(&mut self, statuses: &[u8], at: u32) {
-        let old = statuses[at as usize];
-        self.entries.push_reserved(Entry::Status(at, old));
+        self.note(Entry::Status(at, statuses[at as usize]));
     }
 
     #[inline(always)]
     fn note_element(&mut self, arrays: &[Array], slot: u32, at: u32) {
-        let old = element_of(arrays, slot, at);
-        self.entries.push_reserved(Entry::Element(slot, at, old));
+        self.note(Entry::Element(slot, at, element_of(arrays, slot, at)));
     }
 
     #[inline(always)]
@@ -197,12 +193,11 @@ impl Notes for Trail {
 
     fn note_restored(&mut self, registers: &[u32], slot: u32, number: u32) {
         if slot >= self.base {
-            self.entries.push_reserved(Entry::ScalarTaken(slot, number));
+            self.note(Entry::ScalarTaken(slot, number));
             return;
         }
         let old = registers[slot as usize];
-        self.entries
-            .push_reserved(Entry::ScalarRestored(slot, number, old));
+        self.note(Entry::ScalarRestored(slot, number, old));
     }
 
     fn make_room(&mut self, more: usize) -> Result<(), NoMemory> {

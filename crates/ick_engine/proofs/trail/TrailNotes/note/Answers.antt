@@ -1,8 +1,8 @@
-use Rattle.std.proofs.Common.{sym, subst}
+use Rattle.std.proofs.Common.{refl, sym, subst}
 use Rattle.ick_engine.specs.TrailChanges.{changes_in}
 use Rattle.ick_engine.specs.Undo.{Rewinds, change_of, undone}
 use Rattle.ick_engine.proofs.Changes.{fixed_grown, newest_alone, grown}
-use Rattle.ick_engine.proofs.Undoing.{like_refl, notes_change}
+use Rattle.ick_engine.proofs.Undoing.{notes_back}
 use Rattle.ick_engine.proofs.trail.TrailNotes.note.Goals as goal
 
 pub returns-clause-changes : goal.returns-clause-changes
@@ -17,8 +17,8 @@ returns-clause-notes c = λ k v m can h.
       subst (λ es. Rewinds t.base es t.low k v m)
           (sym (newest_alone t c.push_reserved.new.self.items t.entries.items c.args.entry c.requires.alone
           c.push_reserved.ensures.items))
-          (notes_change t.base (changes_in t) t.low k (change_of c.args.entry) v (undone (change_of c.args.entry) v) m can
-          (like_refl t.base t.low (undone (change_of c.args.entry) v)) h.1),
+          (notes_back t.base (changes_in t) t.low k (change_of c.args.entry) v (undone (change_of c.args.entry) v) m can refl
+          h.1),
     )
 
 pub returns-clause-base : goal.returns-clause-base

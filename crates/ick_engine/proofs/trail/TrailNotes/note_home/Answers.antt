@@ -1,28 +1,10 @@
-use Rattle.std.proofs.Common.{refl, ◌++◌, [], ◌∷◌, sym, subst, get_or}
+use Rattle.std.proofs.Common.{sym, subst}
 use Rattle.std.specs.Prelude.{slice_set}
-use Rattle.ick_engine.specs.declared.change.Entry.TheVariants.{Home}
-use Rattle.ick_engine.specs.Undo.{Rewinds, home_was}
-use Rattle.ick_engine.specs.TrailChanges.{changes_in}
-use Rattle.ick_engine.proofs.Changes.{fixed_grown, newest_alone, grown}
-use Rattle.ick_engine.proofs.Undoing.{notes_home}
+use Rattle.ick_engine.specs.TrailChanges.{UndoesBy}
+use Rattle.ick_engine.proofs.Undoing.{home_back}
 use Rattle.ick_engine.proofs.trail.TrailNotes.note_home.Goals as goal
 
 pub returns-clause-notes : goal.returns-clause-notes
 returns-clause-notes c = λ k number v m same h.
-    let t = c.args.self.now in (
-      h.0,
-      subst (λ es. Rewinds t.base es t.low k (record v { home = slice_set c.args.home.now c.args.at number }) m)
-          (sym (newest_alone t c.push_reserved.new.self.items t.entries.items (Home c.args.at (get_or c.args.home.now c.args.at 0)) refl
-          c.push_reserved.ensures.items))
-          (subst (λ l. Rewinds t.base (changes_in t ++ home_was c.args.at (get_or l c.args.at 0) ∷ []) t.low k
-          (record v { home = slice_set l c.args.at number }) m) same
-          (notes_home t.base (changes_in t) t.low k c.args.at number v m h.1)),
-    )
-
-pub returns-clause-changes : goal.returns-clause-changes
-returns-clause-changes c =
-    grown c.args.self.now c.push_reserved.new.self.items c.args.self.now.entries.items
-    (Home c.args.at (get_or c.args.home.now c.args.at 0)) refl c.push_reserved.ensures.items
-
-pub returns-clause-base : goal.returns-clause-base
-returns-clause-base c = fixed_grown c.args.self.now _ (returns-clause-changes c)
+    c.note.ensures.notes k (record v { home = slice_set c.args.home.now c.args.at number }) m tt
+    (subst (λ u. UndoesBy c.args.self.now k u m) (sym (home_back c.args.at number c.args.home.now v same)) h)

@@ -1,8 +1,8 @@
-use Rattle.std.proofs.Common.{[], ◌∷◌, sym, subst}
+use Rattle.std.proofs.Common.{refl, [], ◌∷◌, sym, subst}
 use Rattle.ick_engine.specs.TrailChanges.{changes_in}
 use Rattle.ick_engine.specs.Undo.{Rewinds, statuses_were, undone}
 use Rattle.ick_engine.proofs.Changes.{fixed_grown, newest_statuses}
-use Rattle.ick_engine.proofs.Undoing.{like_refl, notes_change}
+use Rattle.ick_engine.proofs.Undoing.{notes_back}
 use Rattle.ick_engine.proofs.trail.TrailNotes.note_statuses.Goals as goal
 
 pub returns-clause-changes : goal.returns-clause-changes
@@ -23,7 +23,7 @@ returns-clause-notes c = λ k v m can h.
       subst (λ es. Rewinds t.base es t.low k v m)
           (sym (newest_statuses t c.push_reserved.new.self.items c.push.new.self.items c.in_ok-copy_bytes.field-0
           c.args.statuses.now c.push_reserved.ensures.items c.in_ok-push.ensures.items c.in_ok-copy_bytes.ensures))
-          (notes_change t.base (changes_in t) t.low k change v (undone change v) m can (like_refl t.base t.low (undone change v)) h.1),
+          (notes_back t.base (changes_in t) t.low k change v (undone change v) m can refl h.1),
     )
 
 pub returns-clause-base : goal.returns-clause-base
