@@ -3,14 +3,14 @@
 use crate::appended::{decimal, growth, quoted};
 use crate::bodies::body;
 use crate::digits::{digits, white};
+use crate::failure::Failure;
 use crate::messages::message;
 use crate::numerals::{letters, numeral};
 use crate::operators::{mingled, selected, unary, width};
 use crate::programs::answer_by_program;
 use crate::sources::refusal;
-use crate::stop::Stop;
 use crate::tape::{tape_byte, tape_number};
-use crate::texts::{Text, append_stop};
+use crate::texts::{Text, append_failure};
 use ick_bits::NoMemory;
 use std::alloc::Global;
 use test_rows::{Row, Tally, read_rows};
@@ -37,25 +37,25 @@ fn check(alloc: Global, row: &Row, tally: &mut Tally, out: &mut Vec<u8>) -> Resu
     tally.check(out, row, found.bytes()?)
 }
 
-/// Appends the answer to a row to an empty text, or why its call stopped.
+/// Appends the answer to a row to an empty text, or why its call failed.
 fn find(alloc: Global, row: &Row, found: &mut Text) {
-    if let Err(stop) = whole_answer(alloc, row, found) {
+    if let Err(failure) = whole_answer(alloc, row, found) {
         found.clear();
-        append_stop(found, stop);
+        append_failure(found, failure);
     }
 }
 
 /// Appends the answer to a row, and stops if the text ran out of memory.
-fn whole_answer(alloc: Global, row: &Row, out: &mut Text) -> Result<(), Stop> {
+fn whole_answer(alloc: Global, row: &Row, out: &mut Text) -> Result<(), Failure> {
     let answered = answer(alloc, row, out);
     match out.bytes() {
         Ok(_) => answered,
-        Err(_) => Err(Stop::NoMemory),
+        Err(_) => Err(Failure::NoMemory),
     }
 }
 
 /// Appends the answer to a row about numbers, or looks for its call among those about texts.
-fn answer(alloc: Global, row: &Row, out: &mut Text) -> Result<(), Stop> {
+fn answer(alloc: Global, row: &Row, out: &mut Text) -> Result<(), Failure> {
     if row.calls(b"value") {
         width(row, out)
     } else if row.calls(b"mingle") {
@@ -74,7 +74,7 @@ fn answer(alloc: Global, row: &Row, out: &mut Text) -> Result<(), Stop> {
 }
 
 /// Appends the answer to a row about texts, or looks for its call among those about sources.
-fn answer_of_text(alloc: Global, row: &Row, out: &mut Text) -> Result<(), Stop> {
+fn answer_of_text(alloc: Global, row: &Row, out: &mut Text) -> Result<(), Failure> {
     if row.calls(b"numeral") {
         numeral(row, out)
     } else if row.calls(b"letters") {
@@ -97,7 +97,7 @@ fn answer_of_text(alloc: Global, row: &Row, out: &mut Text) -> Result<(), Stop> 
 }
 
 /// Appends the answer to a row about a source, or looks for its call among those about programs.
-fn answer_of_source(alloc: Global, row: &Row, out: &mut Text) -> Result<(), Stop> {
+fn answer_of_source(alloc: Global, row: &Row, out: &mut Text) -> Result<(), Failure> {
     if row.calls(b"refusal") {
         refusal(alloc, row, out)
     } else if row.calls(b"body") {

@@ -1,7 +1,7 @@
 //! Texts in double quotes, decimal numbers, and growth that is refused.
 
+use crate::failure::Failure;
 use crate::fields::number;
-use crate::stop::Stop;
 use crate::texts::{Text, append_number};
 use ick_bits::{
     Fault, FaultKind, NoMemory, append_decimal, append_message, append_numeral, append_quoted,
@@ -10,13 +10,13 @@ use std::alloc::Global;
 use test_rows::Row;
 
 /// Appends a text in double quotes.
-pub fn quoted(row: &Row, out: &mut Text) -> Result<(), Stop> {
+pub fn quoted(row: &Row, out: &mut Text) -> Result<(), Failure> {
     out.append_quoted(row.field(b"text"));
     Ok(())
 }
 
 /// Appends a text with a decimal number behind it.
-pub fn decimal(row: &Row, out: &mut Text) -> Result<(), Stop> {
+pub fn decimal(row: &Row, out: &mut Text) -> Result<(), Failure> {
     append_number(out, row.field(b"before"), number(row, b"number")?);
     Ok(())
 }
@@ -38,7 +38,7 @@ fn append_turn(out: &mut Vec<u8>, turn: u32) -> Result<(), NoMemory> {
 
 /// Appends whether a text that could not grow stayed as it was. `rt try --fail-alloc N` makes a
 /// growth fail: later calls succeed.
-pub fn growth(alloc: Global, out: &mut Text) -> Result<(), Stop> {
+pub fn growth(alloc: Global, out: &mut Text) -> Result<(), Failure> {
     let mut grown = Vec::new(alloc);
     out.append(grow(&mut grown));
     Ok(())

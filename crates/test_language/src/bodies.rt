@@ -1,7 +1,7 @@
 //! Bodies of statements as text.
 
 use crate::expressions::{append_element, append_expression, append_expressions};
-use crate::stop::Stop;
+use crate::failure::Failure;
 use crate::texts::{Text, append_name, append_number, append_shown};
 use ick_bits::FaultKind;
 use ick_source::{Refusal, read_source};
@@ -14,18 +14,18 @@ const FRONT: &[u8] = b"(1) PLEASE X (5) DO X (6) DO X (7) DO X DO ";
 
 /// Appends a body as text, with the byte where it ends. The answer is `-` if there is no body, and
 /// `M`, `N` or `L` if a mesh, a name or a label is out of range.
-pub fn body(alloc: Global, row: &Row, out: &mut Text) -> Result<(), Stop> {
+pub fn body(alloc: Global, row: &Row, out: &mut Text) -> Result<(), Failure> {
     let mut source = Text::new(alloc);
     source.append(FRONT);
     source.append(row.field(b"text"));
     match source.bytes() {
         Ok(source) => append_body(alloc, source, out),
-        Err(_) => Err(Stop::NoMemory),
+        Err(_) => Err(Failure::NoMemory),
     }
 }
 
 /// Appends the body of the fifth statement of a source, or why it is refused.
-fn append_body(alloc: Global, source: &[u8], out: &mut Text) -> Result<(), Stop> {
+fn append_body(alloc: Global, source: &[u8], out: &mut Text) -> Result<(), Failure> {
     match read_source(alloc, source) {
         Ok(program) => append_fifth(alloc, &program, out),
         Err(refusal) => append_range(out, refusal),
@@ -33,9 +33,9 @@ fn append_body(alloc: Global, source: &[u8], out: &mut Text) -> Result<(), Stop>
 }
 
 /// Appends the body of the fifth statement of a program.
-fn append_fifth(alloc: Global, program: &Program<'_>, out: &mut Text) -> Result<(), Stop> {
+fn append_fifth(alloc: Global, program: &Program<'_>, out: &mut Text) -> Result<(), Failure> {
     let Some(statement) = program.statements().get(4) else {
-        return Err(Stop::Statements);
+        return Err(Failure::Statements);
     };
     append_statement(alloc, out, statement);
     Ok(())
@@ -43,12 +43,12 @@ fn append_fifth(alloc: Global, program: &Program<'_>, out: &mut Text) -> Result<
 
 /// Appends a letter for the kind of number that is out of range in the fifth statement. Stops if
 /// `read_source` refused the source for another reason.
-fn append_range(out: &mut Text, refusal: Refusal) -> Result<(), Stop> {
+fn append_range(out: &mut Text, refusal: Refusal) -> Result<(), Failure> {
     match refusal {
         Refusal::Fault(FaultKind::MeshTooLarge, 5) => out.push(b'M'),
         Refusal::Fault(FaultKind::NameRange, 5) => out.push(b'N'),
         Refusal::Fault(FaultKind::LabelRange, 5) => out.push(b'L'),
-        _ => return Err(Stop::Source(refusal)),
+        _ => return Err(Failure::Source(refusal)),
     }
     Ok(())
 }

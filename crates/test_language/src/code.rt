@@ -3,7 +3,7 @@
 ghost use Rattle.std.specs.Prelude.{◌≤◌, length};
 ghost use Rattle.ick_code.specs.Compiled.{code_program};
 
-use crate::stop::Stop;
+use crate::failure::Failure;
 use crate::texts::{Text, append_name, append_number, append_shown};
 use ick_code::{Code, Op};
 use std::alloc::Global;
@@ -17,9 +17,9 @@ fn append_ops(alloc: Global, out: &mut Text, ops: &[Op]) {
 }
 
 /// Appends how many operands the one statement of a source keeps at most, and its operations.
-pub fn compiled(alloc: Global, code: &Code<'_>, out: &mut Text) -> Result<(), Stop> {
+pub fn compiled(alloc: Global, code: &Code<'_>, out: &mut Text) -> Result<(), Failure> {
     if code.count() != 1 {
-        return Err(Stop::Statements);
+        return Err(Failure::Statements);
     }
     append_number(out, b"operands ", code.operands() as u64);
     append_ops(alloc, out, code.ops(1));
@@ -27,7 +27,7 @@ pub fn compiled(alloc: Global, code: &Code<'_>, out: &mut Text) -> Result<(), St
 }
 
 /// Appends a line for each statement of a source: its number, chance, kind, text and operations.
-pub fn compiled_statements(alloc: Global, code: &Code<'_>, out: &mut Text) -> Result<(), Stop> {
+pub fn compiled_statements(alloc: Global, code: &Code<'_>, out: &mut Text) -> Result<(), Failure> {
     for number in 1..=code.count() {
         append_statement(alloc, out, code, number);
     }
@@ -52,7 +52,7 @@ fn append_statement(alloc: Global, out: &mut Text, code: &Code<'_>, number: u32)
 }
 
 /// Appends the variables and the arrays of a source in the order of their slots.
-pub fn slots(code: &Code<'_>, out: &mut Text) -> Result<(), Stop> {
+pub fn slots(code: &Code<'_>, out: &mut Text) -> Result<(), Failure> {
     out.append(b"scalars");
     for slot in 0..code.scalars() {
         append_name(out, b" ", &code.scalar(slot));

@@ -1,12 +1,12 @@
 //! Lines of digit names, and white bytes.
 
-use crate::stop::Stop;
+use crate::failure::Failure;
 use crate::texts::{Text, append_number};
 use ick_bits::{DigitFault, digits_value, is_white};
 use test_rows::Row;
 
 /// Appends the number of a line of digit names, or why it has none.
-pub fn digits(row: &Row, out: &mut Text) -> Result<(), Stop> {
+pub fn digits(row: &Row, out: &mut Text) -> Result<(), Failure> {
     match digits_value(row.field(b"line")) {
         Ok(number) => out.append_decimal(u64::from(number)),
         Err(DigitFault::TooLarge) => out.append(b"too large"),
@@ -19,7 +19,7 @@ pub fn digits(row: &Row, out: &mut Text) -> Result<(), Stop> {
 }
 
 /// Appends `W` for each white byte and `-` for each other byte.
-pub fn white(row: &Row, out: &mut Text) -> Result<(), Stop> {
+pub fn white(row: &Row, out: &mut Text) -> Result<(), Failure> {
     for byte in row.field(b"bytes") {
         out.push(if is_white(*byte) { b'W' } else { b'-' });
     }

@@ -5,9 +5,9 @@
 //! |---|---|
 //! | `answers` | the answer of each call that a row can name |
 //! | `programs` | the answer of each call that works on the program of a row's source |
-//! | `stop` | why a call stopped |
+//! | `failure` | why a call failed |
 //! | `fields` | numbers and values from the fields of a row |
-//! | `texts` | the text of an answer, and the numbers, values, names, faults and stops in it |
+//! | `texts` | the text of an answer, and the numbers, values, names, faults and failures in it |
 //! | `operators` | mingle, select and the unary operators |
 //! | `numerals` | numerals, and the letters that they have |
 //! | `digits` | lines of digit names, and white bytes |
@@ -25,13 +25,13 @@ mod bodies;
 mod code;
 mod digits;
 mod expressions;
+mod failure;
 mod fields;
 mod messages;
 mod numerals;
 mod operators;
 mod programs;
 mod sources;
-mod stop;
 mod tape;
 mod texts;
 

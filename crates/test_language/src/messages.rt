@@ -1,7 +1,7 @@
 //! Messages of faults.
 
+use crate::failure::Failure;
 use crate::fields::number_32;
-use crate::stop::Stop;
 use crate::texts::Text;
 use ick_bits::{Fault, FaultKind};
 use std::alloc::Global;
@@ -32,25 +32,25 @@ const KINDS: [FaultKind; 20] = [
 ];
 
 /// Returns the kind of fault that a field names.
-fn kind_named(alloc: Global, row: &Row) -> Result<FaultKind, Stop> {
+fn kind_named(alloc: Global, row: &Row) -> Result<FaultKind, Failure> {
     for kind in &KINDS {
         if is_named(alloc, *kind, row.field(b"kind"))? {
             return Ok(*kind);
         }
     }
-    Err(Stop::Field)
+    Err(Failure::Field)
 }
 
 /// Whether a kind of fault has this name.
-fn is_named(alloc: Global, kind: FaultKind, name: &[u8]) -> Result<bool, Stop> {
+fn is_named(alloc: Global, kind: FaultKind, name: &[u8]) -> Result<bool, Failure> {
     match format!(in alloc; "{kind:?}") {
         Ok(shown) => Ok(shown.as_bytes() == name),
-        Err(_) => Err(Stop::NoMemory),
+        Err(_) => Err(Failure::NoMemory),
     }
 }
 
 /// Appends the number of a kind of fault, and the message of a fault of this kind.
-pub fn message(alloc: Global, row: &Row, out: &mut Text) -> Result<(), Stop> {
+pub fn message(alloc: Global, row: &Row, out: &mut Text) -> Result<(), Failure> {
     let fault = Fault {
         kind: kind_named(alloc, row)?,
         statement: number_32(row, b"statement")?,

@@ -1,19 +1,19 @@
 //! Numerals, and the letters that they have.
 
+use crate::failure::Failure;
 use crate::fields::number_32;
-use crate::stop::Stop;
 use crate::texts::Text;
 use ick_bits::Symbol;
 use test_rows::Row;
 
 /// Appends the two lines of a numeral.
-pub fn numeral(row: &Row, out: &mut Text) -> Result<(), Stop> {
+pub fn numeral(row: &Row, out: &mut Text) -> Result<(), Failure> {
     out.append_numeral(number_32(row, b"number")?);
     Ok(())
 }
 
 /// Appends how many letters a numeral has, and which.
-pub fn letters(row: &Row, out: &mut Text) -> Result<(), Stop> {
+pub fn letters(row: &Row, out: &mut Text) -> Result<(), Failure> {
     let symbols = ick_bits::numeral(number_32(row, b"number")?);
     append_symbols(out, symbols.as_slice());
     Ok(())

@@ -1,8 +1,8 @@
 //! The answer of each call that works on the program of a row's source.
 
 use crate::code::{compiled, compiled_statements, slots};
+use crate::failure::Failure;
 use crate::sources::{gerunds, kind, listing, politeness};
-use crate::stop::Stop;
 use crate::texts::Text;
 use ick_code::{Code, compile};
 use ick_source::read_source;
@@ -32,13 +32,13 @@ fn works_on_program(row: &Row) -> bool {
 }
 
 /// Appends the answer to a row whose call works on the program of its source.
-pub fn answer_by_program(alloc: Global, row: &Row, out: &mut Text) -> Result<(), Stop> {
+pub fn answer_by_program(alloc: Global, row: &Row, out: &mut Text) -> Result<(), Failure> {
     if !works_on_program(row) {
-        return Err(Stop::Call);
+        return Err(Failure::Call);
     }
     match read_source(alloc, row.field(b"source")) {
         Ok(program) => answer_on_program(alloc, &program, row, out),
-        Err(refusal) => Err(Stop::Source(refusal)),
+        Err(refusal) => Err(Failure::Source(refusal)),
     }
 }
 
@@ -48,7 +48,7 @@ fn answer_on_program(
     program: &Program<'_>,
     row: &Row,
     out: &mut Text,
-) -> Result<(), Stop> {
+) -> Result<(), Failure> {
     if row.calls(b"listing") {
         listing(program, out)
     } else if row.calls(b"kind") {
@@ -68,15 +68,20 @@ fn answer_by_code(
     program: &Program<'_>,
     row: &Row,
     out: &mut Text,
-) -> Result<(), Stop> {
+) -> Result<(), Failure> {
     match compile(alloc, program) {
         Ok(code) => answer_on_code(alloc, &code, row, out),
-        Err(_) => Err(Stop::NoMemory),
+        Err(_) => Err(Failure::NoMemory),
     }
 }
 
 /// Appends the answer to a row on its code.
-fn answer_on_code(alloc: Global, code: &Code<'_>, row: &Row, out: &mut Text) -> Result<(), Stop> {
+fn answer_on_code(
+    alloc: Global,
+    code: &Code<'_>,
+    row: &Row,
+    out: &mut Text,
+) -> Result<(), Failure> {
     if row.calls(b"compile") {
         compiled(alloc, code, out)
     } else if row.calls(b"code") {
@@ -84,6 +89,6 @@ fn answer_on_code(alloc: Global, code: &Code<'_>, row: &Row, out: &mut Text) -> 
     } else if row.calls(b"slots") {
         slots(code, out)
     } else {
-        Err(Stop::Call)
+        Err(Failure::Call)
     }
 }

@@ -1,6 +1,6 @@
 //! The text of an answer, and the numbers, values, names, faults and stops in it.
 
-use crate::stop::Stop;
+use crate::failure::Failure;
 use ick_bits::{
     Fault, FaultKind, NoMemory, Value, Width, append_decimal, append_message, append_numeral,
     append_quoted,
@@ -94,14 +94,14 @@ impl Text {
     }
 }
 
-/// Appends why a call stopped.
-pub fn append_stop(out: &mut Text, stop: Stop) {
-    match stop {
-        Stop::NoMemory => out.append(b"out of memory"),
-        Stop::Source(refusal) => append_refusal(out, refusal),
-        Stop::Statements => out.append(b"another number of statements"),
-        Stop::Field => out.append(b"a field is not as the call wants it"),
-        Stop::Call => out.append(b"no such call"),
+/// Appends why a call failed.
+pub fn append_failure(out: &mut Text, failure: Failure) {
+    match failure {
+        Failure::NoMemory => out.append(b"out of memory"),
+        Failure::Source(refusal) => append_refusal(out, refusal),
+        Failure::Statements => out.append(b"another number of statements"),
+        Failure::Field => out.append(b"a field is not as the call wants it"),
+        Failure::Call => out.append(b"no such call"),
     }
 }
 

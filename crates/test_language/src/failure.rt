@@ -1,10 +1,10 @@
-//! Why a call stopped.
+//! Why a call failed.
 
 use ick_source::Refusal;
 
-/// Why a call of a row stopped before it had an answer.
+/// Why a call of a row failed before it had an answer.
 #[derive(Clone, Copy)]
-pub enum Stop {
+pub enum Failure {
     /// Out of memory.
     NoMemory,
     /// The source is refused.
