@@ -55,21 +55,12 @@ pub fn make_mark(trail: &mut Trail, memory: &Memory) -> Mark
     }
 }
 
-/// Puts a number back, if there is such an index.
-fn put_back(numbers: &mut Vec<u32>, at: u32, old: u32)
-    ensures { numbers.new.items ≡ slice_set numbers.old.items at old }
+/// Puts a value back, if there is such an index.
+fn put_back<T: Copy>(values: &mut Vec<T>, at: u32, old: T)
+    ensures { values.new.items ≡ slice_set values.old.items at old }
 {
-    if (at as usize) < numbers.len() {
-        numbers[at as usize] = old;
-    }
-}
-
-/// Puts a status back, if there is such an index.
-fn put_status(statuses: &mut Vec<u8>, at: u32, old: u8)
-    ensures { statuses.new.items ≡ slice_set statuses.old.items at old }
-{
-    if (at as usize) < statuses.len() {
-        statuses[at as usize] = old;
+    if (at as usize) < values.len() {
+        values[at as usize] = old;
     }
 }
 
@@ -108,7 +99,7 @@ fn undo(memory: &mut Memory, entry: Entry)
     match entry {
         Entry::Register(at, old) => put_back(&mut memory.registers, at, old),
         Entry::Home(at, old) => put_back(&mut memory.home, at, old),
-        Entry::Status(at, old) => put_status(&mut memory.statuses, at, old),
+        Entry::Status(at, old) => put_back(&mut memory.statuses, at, old),
         Entry::Return(at, old) => put_back(&mut memory.returns, at, old),
         Entry::Element(slot, at, old) => put_element(&mut rest.arrays, slot, at, old),
         Entry::Hidden(slot, old) => put_hidden(&mut rest.arrays, slot, old),

@@ -176,7 +176,8 @@ impl Notes for Trail {
 
     #[inline(always)]
     fn note_element(&mut self, arrays: &[Array], slot: u32, at: u32) {
-        self.note(Entry::Element(slot, at, element_of(arrays, slot, at)));
+        let old = arrays[slot as usize].elements[at as usize];
+        self.note(Entry::Element(slot, at, old));
     }
 
     #[inline(always)]
@@ -225,13 +226,4 @@ impl Notes for Trail {
         self.entries.push_reserved(Entry::Statuses);
         Ok(())
     }
-}
-
-/// Returns the number of an element.
-fn element_of(arrays: &[Array], slot: u32, at: u32) -> u32
-    requires slot { slot < length arrays.now }
-    requires at { at < length (get_or (map array_of arrays.now) slot no_array).elements }
-    ensures { result ≡ get_or (get_or (map array_of arrays.now) slot no_array).elements at 0 }
-{
-    arrays[slot as usize].elements[at as usize]
 }

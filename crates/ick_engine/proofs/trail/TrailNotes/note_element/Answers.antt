@@ -1,6 +1,8 @@
-use Rattle.std.proofs.Common.{sym, subst, arith}
+use Rattle.std.proofs.Common.{◌≡◌, sym, ap, ◌∙◌, subst, arith, length, get_or}
 use Rattle.std.specs.Prelude.{map}
-use Rattle.std.proofs.lemmas.List.{length-map}
+use Rattle.std.proofs.lemmas.Grind.{get_or_default_zero}
+use Rattle.std.proofs.lemmas.List.{get_or-map, length-map}
+use Rattle.ick_code.specs.meaning.State.{Array, no_array}
 use Rattle.ick_engine.specs.TrailChanges.{UndoesBy}
 use Rattle.ick_engine.specs.Undo.{undone, with_arrays, with_number, element_was}
 use Rattle.ick_engine.specs.View.{array_of}
@@ -11,9 +13,18 @@ pub returns-clause-notes : goal.returns-clause-notes
 returns-clause-notes c = λ k number v m same h.
     let t = c.args.self.now in
     let slot = c.args.slot in
+    let at = c.args.at in
+    let a = get_or c.args.arrays.now slot c.index-arrays-slot.result in
+    let old = c.index-old.result.now in
     let arrays = map array_of c.args.arrays.now in
-    let w = with_arrays (with_number arrays slot c.args.at number) v in
+    let w = with_arrays (with_number arrays slot at number) v in
+    let here : get_or arrays slot no_array ≡ array_of a =
+    get_or-map array_of c.args.arrays.now slot c.index-arrays-slot.result no_array c.requires.slot in
+    let old_is : old ≡ get_or (get_or arrays slot no_array).elements at 0 =
+    c.index-old.ensures
+    ∙ get_or_default_zero a.elements.items at old (omega (arith, c.requires.at, ap (λ (x : Array). length x.elements) here))
+    ∙ sym (ap (λ (x : Array). get_or x.elements at 0) here) in
     c.note.ensures.notes k w m tt
-    (subst (λ n. UndoesBy t k (undone (element_was slot c.args.at n) w) m) (sym c.element_of.ensures)
-    (subst (λ u. UndoesBy t k u m) (sym (element_back slot c.args.at number arrays v same
+    (subst (λ n. UndoesBy t k (undone (element_was slot at n) w) m) (sym old_is)
+    (subst (λ u. UndoesBy t k u m) (sym (element_back slot at number arrays v same
     (omega (arith, c.requires.slot, length-map c.args.arrays.now array_of)))) h))
