@@ -1,5 +1,5 @@
 -- That a run can go on is a proposition, and states are a set: what is known of either comes out of a truncation.
-use Rattle.std.proofs.Common.{◌≡◌, ℕ, ◌<◌, ◌≤◌, List, [], ◌∷◌, inl, inr, ap, arith}
+use Rattle.std.proofs.Common.{◌≡◌, ℕ, ◌<◌, List, [], ◌∷◌, inl, inr, ap, arith}
 use Rattle.std.specs.Prelude.{◌⊎◌}
 use Rattle.std.proofs.Props.{props}
 use mathlib.Core.Logic.{∥∥₁_elim}
@@ -56,9 +56,3 @@ state_set = hlevel (props, ending_set)
 
 pub state_of_both : (s t : State) {A : Type 0} → ∥ A ∥₁ → (A → s ≡ t) → s ≡ t
 state_of_both s t h f = ∥∥₁_elim h (state_set s t) f
-
-pub at_most : (m n : ℕ) {A : Type 0} → ∥ A ∥₁ → (A → m ≤ n) → m ≤ n
-at_most m n h f = ∥∥₁_elim h (hlevel props) f
-
-pub as_long : (m n : ℕ) {A : Type 0} → ∥ A ∥₁ → (A → m ≡ n) → m ≡ n
-as_long m n h f = ∥∥₁_elim h (hlevel props) f

@@ -3,7 +3,7 @@ use Rattle.std.proofs.Common.{◌≡◌, ℕ, zero, suc, ◌+◌, ◌<◌, ◌�
 use Rattle.std.proofs.Common.{length, take, take_all, drop, get_or, map, arith, if◌then◌else◌}
 use mathlib.Core.Path.{fun_ext}
 use Rattle.ick_syntax.specs.declared.tree.Name.{Name}
-use Rattle.std.proofs.lemmas.List.{get_or-take, length-take-le, get_or-map, length-map, get_or_append_left}
+use Rattle.std.proofs.lemmas.List.{length-append, length-drop, map-append, get_or-take, length-take-le, get_or-map, length-map, get_or_append_left}
 use Rattle.std.proofs.Math.Seq.{take-suc}
 use Rattle.ick_code.specs.meaning.State.{same_name}
 use Rattle.ick_code.specs.declared.code.Code.{Code}
@@ -18,11 +18,8 @@ use Rattle.ick_engine.specs.View.{View, Parts, Input, state_of, dump_of, file_of
 use Rattle.ick_engine.specs.View.{Stash, array_of, arrays_of, is_hidden, numbers_of, parts_of, scalar_names}
 use Rattle.ick_engine.proofs.Restoring.{restored, all_same, state_by}
 use Rattle.ick_engine.proofs.Undoing.{alike}
+use Rattle.ick_engine.proofs.Steadiness.{steady_by}
 use Rattle.ick_engine.proofs.StashLemmas.{parts_same}
-
-map_pushed : {A B : Type 0} (f : A → B) (xs : List A) (x : A) → map f (xs ++ x ∷ []) ≡ map f xs ++ f x ∷ []
-map_pushed f [] x = refl
-map_pushed f (y ∷ xs) x = ap (λ l. f y ∷ l) (map_pushed f xs x)
 
 -- a copy that is made value by value
 pub copied_next : {A B : Type 0} (f : A → B) (xs copies copies' : List A) (at : ℕ) (x y : A) → at < length xs →
@@ -32,7 +29,7 @@ copied_next f xs copies copies' at x y within read pushed same done =
     let there : get_or (map f xs) at (f y) ≡ f y = get_or-map f xs at y (f y) within ∙ ap f (sym read) in
     let inside : at < length (map f xs) = subst (λ n. at < n) (sym (length-map xs f)) within in
     let one : suc at ≡ at + 1 = omega arith in
-    ap (map f) pushed ∙ map_pushed f copies x
+    ap (map f) pushed ∙ map-append f copies (x ∷ [])
     ∙ ap (λ l. l ++ f x ∷ []) done
     ∙ ap (λ z. take at (map f xs) ++ z ∷ []) (same ∙ sym there)
     ∙ sym (take-suc (map f xs) at (f y) inside) ∙ ap (λ n. take n (map f xs)) one
@@ -63,9 +60,7 @@ put_high (x ∷ xs) (y ∷ ys) zero count high = absurd (omega (arith, high))
 put_high (x ∷ xs) (y ∷ ys) (suc r) count high = put_high xs ys r (omega (arith, count)) (omega (arith, high))
 
 put_count : (xs ys : List ℕ) → length xs ≤ length ys → length (xs ++ drop (length xs) ys) ≡ length ys
-put_count [] ys count = refl
-put_count (x ∷ xs) [] count = absurd (omega (arith, count))
-put_count (x ∷ xs) (y ∷ ys) count = ap suc (put_count xs ys (omega (arith, count)))
+put_count xs ys count = omega (arith, length-append xs (drop (length xs) ys), length-drop (length xs) ys, count)
 
 first_put : (n : ℕ) (xs old new : List ℕ) → new ≡ take n xs ++ drop (length (take n xs)) old →
     length (take n xs ++ drop (length (take n xs)) old) ≡ length xs → length (take n xs) ≡ n → SameFirst n xs new
@@ -103,6 +98,9 @@ map_used : {A B : Type 0} (f : A → Stash B) (xs : List A) →
     map used_values (map f xs) ≡ map (λ x. used_values (f x)) xs
 map_used f [] = refl
 map_used f (x ∷ xs) = ap (λ l. used_values (f x) ∷ l) (map_used f xs)
+
+as_many : {A : Type 0} (new old : List (Stash A)) → map used_values new ≡ map used_values old → length new ≡ length old
+as_many new old same = sym (length-map new used_values) ∙ ap length same ∙ length-map old used_values
 
 pub rest_same : (p q : Rest) → map array_of q.arrays.items ≡ map array_of p.arrays.items →
     map is_hidden q.arrays.items ≡ map is_hidden p.arrays.items →
@@ -157,23 +155,10 @@ module _ (code : Code) (lowered : LoweredParts) (is : IsProgram code lowered) wh
   ready_with : (v : View) (q : Parts) → AreSame v.parts q → IsReady code lowered v →
       IsReady code lowered (record v { parts = q })
   ready_with v q same ready = record {
-    steady = record {
-      registers = ready.steady.registers;
-      home = ready.steady.home;
-      homes = ready.steady.homes;
-      statuses = ready.steady.statuses;
-      returns = ready.steady.returns;
-      depth = ready.steady.depth;
-      constants = ready.steady.constants;
-      arrays = ap (λ p. length p.arrays) same.others ∙ ready.steady.arrays;
-      hidden = ap (λ p. length p.hidden) same.others ∙ ready.steady.hidden;
-      scalar_stashes =
-          sym (length-map q.scalar_stashes used_values) ∙ ap length same.scalars
-          ∙ length-map v.parts.scalar_stashes used_values ∙ ready.steady.scalar_stashes;
-      array_stashes =
-          sym (length-map q.array_stashes used_values) ∙ ap length same.arrays
-          ∙ length-map v.parts.array_stashes used_values ∙ ready.steady.array_stashes;
-    };
+    steady =
+        steady_by ready.steady v.registers q refl ready.steady.constants (ap (λ p. length p.arrays) same.others)
+        (ap (λ p. length p.hidden) same.others) (as_many q.scalar_stashes v.parts.scalar_stashes same.scalars)
+        (as_many q.array_stashes v.parts.array_stashes same.arrays);
     stands = λ input.
         subst (Stands code lowered (file_of lowered v.registers)) (sym (state_with v q same input)) (ready.stands input);
   }

@@ -3,7 +3,7 @@ use Rattle.std.proofs.Common.{◌≡◌, ℕ, zero, suc, ◌+◌, ◌-◌, ◌<�
 use Rattle.std.proofs.Common.{Bool, length, take, map, get_or, arith, true, false}
 use Rattle.std.specs.Prelude.{slice_set, nat_lt, if◌then◌else◌}
 use Rattle.std.proofs.lemmas.Bool.Decides.{nat_tests}
-use Rattle.std.proofs.lemmas.List.{length-set, set_past, map-set, get_or-map}
+use Rattle.std.proofs.lemmas.List.{take-take, take_more_set, length-set, set_past, map-set, get_or-map}
 use Rattle.ick_code.specs.meaning.State.{Array, no_array}
 use Rattle.ick_engine.specs.declared.change.ArrayChange.{ArrayChange}
 use Rattle.ick_engine.specs.declared.change.ArrayChange.TheVariants as now
@@ -47,18 +47,11 @@ parts_trans a b = record {
 pub parts_same : {p q : Parts} → q ≡ p → PartsLike p q
 parts_same {p} e = subst (PartsLike p) (sym e) (parts_refl p)
 
--- the first values of the first ones
-pub take_less : {A : Type 0} (k n : ℕ) (xs : List A) → k ≤ n → take k (take n xs) ≡ take k xs
-take_less zero n xs h = refl
-take_less (suc k) zero xs h = absurd (omega (arith, h))
-take_less (suc k) (suc n) [] h = refl
-take_less (suc k) (suc n) (x ∷ xs) h = ap (λ l. x ∷ l) (take_less k n xs (omega (arith, h)))
-
 -- the values below one less
 pub fewer_used : {A : Type 0} (n : ℕ) (xs ys : List A) → take n ys ≡ take n xs → take (n - 1) ys ≡ take (n - 1) xs
 fewer_used n xs ys same =
     let less : n - 1 ≤ n = omega arith in
-    sym (take_less (n - 1) n ys less) ∙ ap (take (n - 1)) same ∙ take_less (n - 1) n xs less
+    sym (take-take (n - 1) n ys less) ∙ ap (take (n - 1)) same ∙ take-take (n - 1) n xs less
 
 pub taken_off_like : {A : Type 0} {a b : Stash A} → StashLike a b → StashLike (taken_off a) (taken_off b)
 taken_off_like {a} {b} p = record {
@@ -69,15 +62,6 @@ taken_off_like {a} {b} p = record {
       ∙ fewer_used a.depth a.items b.items (ap (λ d. take d b.items) (sym p.depth_same) ∙ p.values);
 }
 
--- one more value behind the first ones
-pub take_put : {A : Type 0} (n : ℕ) (xs : List A) (x : A) → n < length xs →
-    take (n + 1) (slice_set xs n x) ≡ take n xs ++ x ∷ []
-take_put n [] x low = absurd (omega (arith, low))
-take_put zero (y ∷ xs) x low = refl
-take_put (suc n) (y ∷ xs) x low =
-    let one : suc n + 1 ≡ suc (n + 1) = omega arith in
-    ap (λ k. take k (slice_set (y ∷ xs) (suc n) x)) one ∙ ap (λ l. y ∷ l) (take_put n xs x (omega (arith, low)))
-
 pub put_deeper : {A : Type 0} (x : A) (s : Stash A) → s.depth < length s.items → (put_on x s).depth ≡ s.depth + 1
 put_deeper x s low =
     let yes : nat_lt s.depth (length s.items) ≡ true = grind (arith, nat_tests, low) in
@@ -85,7 +69,7 @@ put_deeper x s low =
 
 pub put_used : {A : Type 0} (x : A) (s : Stash A) → s.depth < length s.items → used (put_on x s) ≡ used s ++ x ∷ []
 put_used x s low =
-    ap (λ d. take d (slice_set s.items s.depth x)) (put_deeper x s low) ∙ take_put s.depth s.items x low
+    ap (λ d. take d (slice_set s.items s.depth x)) (put_deeper x s low) ∙ take_more_set s.items s.depth x low
 
 pub put_on_like : {A : Type 0} {a b : Stash A} (x : A) → a.depth < length a.items → StashLike a b →
     StashLike (put_on x a) (put_on x b)

@@ -1,11 +1,11 @@
 -- Values that are put on stashes and taken off.
-use Rattle.std.proofs.Common.{◌≡◌, ℕ, zero, suc, ◌+◌, ◌-◌, ◌<◌, ◌≤◌, List, [], ◌∷◌, ◌++◌, refl, ap, ap₂, sym, ◌∙◌, subst}
+use Rattle.std.proofs.Common.{take_all, ◌≡◌, ℕ, zero, suc, ◌+◌, ◌-◌, ◌<◌, ◌≤◌, List, [], ◌∷◌, ◌++◌, refl, ap, ap₂, sym, ◌∙◌, subst}
 use Rattle.std.proofs.Common.{length, take, map, get_or, arith}
 use Rattle.std.specs.Prelude.{nat_lt, Result, Ok, Err, OnErr, ◌==◌, slice_set, if◌then◌else◌}
 use Rattle.std.proofs.Common.{true, false}
 use Rattle.std.proofs.lemmas.Bool.Decides.{nat_tests}
-use Rattle.std.proofs.lemmas.List.{length-set, length-map, length-append, map-set, get_or-map, set-set, set-get_or, get_or-set_same, take-set-le}
-use Rattle.std.proofs.Math.Seq.{take-suc}
+use Rattle.std.proofs.lemmas.List.{take_more_set, take-append-le, length-set, length-map, length-append, map-set, get_or-map, set-set, set-get_or, get_or-set_same, take-set-le}
+use Rattle.std.proofs.Math.Seq.{take-append-add, take-suc}
 use Rattle.ick_code.specs.meaning.State.{Array, no_array}
 use Rattle.ick_engine.specs.declared.change.ArrayChange.TheVariants as now
 use Rattle.ick_engine.specs.declared.memory.Array.{Array as Kept}
@@ -15,7 +15,7 @@ use Rattle.ick_engine.specs.Undo.{StashLike, StashesLike, Like, put_on, taken_of
 use Rattle.ick_engine.specs.Undo.{with_arrays, with_scalar_stashes, array_was, given_back, undone}
 use Rattle.ick_engine.specs.View.{View, Parts, Stash, array_of, arrays_of, no_stash}
 use Rattle.ick_engine.proofs.Undoing.{like_parts}
-use Rattle.ick_engine.proofs.StashLemmas.{take_put, put_deeper, set_each, stash_refl, stash_trans, stashes_refl}
+use Rattle.ick_engine.proofs.StashLemmas.{put_deeper, set_each, stash_refl, stash_trans, stashes_refl}
 
 -- a value goes to spare room
 pub put_spare : {A : Type 0} (x : A) (s : Stash A) → s.depth < length s.items →
@@ -24,7 +24,7 @@ put_spare x s low =
     let one : s.depth + 1 - 1 ≡ s.depth = omega arith in
     let few : s.depth ≤ s.depth = omega arith in
     record {
-      values = take_put s.depth s.items x low;
+      values = take_more_set s.items s.depth x low;
       back = record {
         depth_same = one;
         places = omega (arith, length-set s.items s.depth x);
@@ -32,32 +32,22 @@ put_spare x s low =
       };
     }
 
-take_front : {A : Type 0} (xs ys : List A) (n : ℕ) → n ≤ length xs → take n (xs ++ ys) ≡ take n xs
-take_front xs ys zero few = refl
-take_front [] ys (suc n) few = absurd (omega (arith, few))
-take_front (x ∷ xs) ys (suc n) few = ap (λ l. x ∷ l) (take_front xs ys n (omega (arith, few)))
-
-take_one_more : {A : Type 0} (xs : List A) (x : A) (n : ℕ) → n ≡ length xs → take (n + 1) (xs ++ x ∷ []) ≡ take n xs ++ x ∷ []
-take_one_more [] x zero is = refl
-take_one_more [] x (suc n) is = absurd (omega (arith, is))
-take_one_more (y ∷ xs) x zero is = absurd (omega (arith, is))
-take_one_more (y ∷ xs) x (suc n) is =
-    let one : suc n + 1 ≡ suc (n + 1) = omega arith in
-    ap (λ k. take k (y ∷ (xs ++ x ∷ []))) one ∙ ap (λ l. y ∷ l) (take_one_more xs x n (omega (arith, is)))
-
 -- and to a new one behind them
 pub put_behind : {A : Type 0} (x : A) (s : Stash A) (items : List A) → items ≡ s.items ++ x ∷ [] →
     s.depth ≡ length s.items → IsPutOn x s (record { items = items; depth = s.depth + 1 })
 put_behind x s items is full =
     let one : s.depth + 1 - 1 ≡ s.depth = omega arith in
     record {
-      values = ap (take (s.depth + 1)) is ∙ take_one_more s.items x s.depth full;
+      values =
+          ap (take (s.depth + 1)) is ∙ ap (λ n. take (n + 1) (s.items ++ x ∷ [])) full
+          ∙ take-append-add s.items (x ∷ []) 1
+          ∙ ap (λ l. l ++ x ∷ []) (sym (take_all s.depth s.items (omega (arith, full))));
       back = record {
         depth_same = one;
         places = omega (arith, ap length is, length-append s.items (x ∷ []));
         values =
             ap (λ d. take d items) one ∙ ap (take s.depth) is
-            ∙ take_front s.items (x ∷ []) s.depth (omega (arith, full));
+            ∙ take-append-le s.depth s.items (x ∷ []) (omega (arith, full));
       };
     }
 
@@ -146,17 +136,19 @@ set_twice slot P f old new h =
     let n = get_or new slot no_stash in
     ap (λ l. slice_set l slot (f n)) h.others ∙ set-set old slot n (f n)
 
-pub saved_like : {A : Type 0} (x : A) (slot : ℕ) (old new : List (Stash A)) → ChangesAt slot (IsPutOn x) old new →
-    StashesLike old (at_slot taken_off slot new)
-saved_like x slot old new h =
-    subst (StashesLike old) (sym (set_twice slot (IsPutOn x) taken_off old new h))
-    (set_like old slot (taken_off (get_or new slot no_stash)) h.here.back)
+pub saved_like : {A : Type 0} (x : A) (slot : ℕ) (held old new : List (Stash A)) → held ≡ old →
+    ChangesAt slot (IsPutOn x) old new → StashesLike held (at_slot taken_off slot new)
+saved_like x slot held old new same h =
+    subst (λ l. StashesLike l (at_slot taken_off slot new)) (sym same)
+    (subst (StashesLike old) (sym (set_twice slot (IsPutOn x) taken_off old new h))
+    (set_like old slot (taken_off (get_or new slot no_stash)) h.here.back))
 
-pub taken_like : {A : Type 0} (x : A) (slot : ℕ) (old new : List (Stash A)) → ChangesAt slot (IsTakenOff x) old new →
-    StashesLike old (at_slot (put_on x) slot new)
-taken_like x slot old new h =
-    subst (StashesLike old) (sym (set_twice slot (IsTakenOff x) (put_on x) old new h))
-    (set_like old slot (put_on x (get_or new slot no_stash)) h.here.back)
+pub taken_like : {A : Type 0} (x : A) (slot : ℕ) (held old new : List (Stash A)) → held ≡ old →
+    ChangesAt slot (IsTakenOff x) old new → StashesLike held (at_slot (put_on x) slot new)
+taken_like x slot held old new same h =
+    subst (λ l. StashesLike l (at_slot (put_on x) slot new)) (sym same)
+    (subst (StashesLike old) (sym (set_twice slot (IsTakenOff x) (put_on x) old new h))
+    (set_like old slot (put_on x (get_or new slot no_stash)) h.here.back))
 
 -- a view with stashes like those that it had
 pub like_scalars : (base low : ℕ) (v : View) (stashes : List (Stash ℕ)) → StashesLike v.parts.scalar_stashes stashes →
@@ -177,7 +169,7 @@ pub grown_like : {A : Type 0} (x : A) (s : Stash A) (items : List A) → items �
 grown_like x s items is few = record {
   depth_same = refl;
   places = omega (arith, ap length is, length-append s.items (x ∷ []));
-  values = ap (take s.depth) is ∙ take_front s.items (x ∷ []) s.depth few;
+  values = ap (take s.depth) is ∙ take-append-le s.depth s.items (x ∷ []) few;
 }
 
 pub spare_like : {A : Type 0} (x : A) (s : Stash A) → StashLike s (record { items = slice_set s.items s.depth x; depth = s.depth })
@@ -273,4 +265,4 @@ exchanged_like base low slot v x new there h =
     (sym (ap (λ b. given (if b then given_back slot old p else p)) within
     ∙ ap (λ l. given (put l (at_slot (put_on (get_or changed slot no_array)) slot new))) back
     ∙ ap (λ a. given (put arrays (at_slot (put_on a) slot new))) present))
-    (like_arrays base low v (at_slot (put_on x) slot new) (taken_like x slot v.parts.array_stashes new h))
+    (like_arrays base low v (at_slot (put_on x) slot new) (taken_like x slot v.parts.array_stashes v.parts.array_stashes new refl h))

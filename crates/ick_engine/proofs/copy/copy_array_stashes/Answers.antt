@@ -1,9 +1,8 @@
 use Rattle.std.proofs.Common.{ap, sym, ◌∙◌, map, take, arith}
-use Rattle.std.proofs.lemmas.List.{take-map}
+use Rattle.std.proofs.lemmas.List.{take-map, take-take}
 use Rattle.ick_engine.specs.Saved.{arrays_on}
 use Rattle.ick_engine.specs.View.{array_of}
 use Rattle.ick_engine.proofs.Saving.{copied_next}
-use Rattle.ick_engine.proofs.StashLemmas.{take_less}
 use Rattle.ick_engine.proofs.copy.copy_array_stashes.Goals as goal
 
 pub loop-stash-preserved : goal.loop-stash-preserved
@@ -14,5 +13,5 @@ loop-stash-preserved c =
     (ap (take stash.depth) (c.in_ok-copy_arrays.ensures.arrays
     ∙ ap (λ l. map array_of (take stash.depth l)) c.deref.ensures.value
     ∙ sym (take-map array_of stash.depth stash.items.items))
-    ∙ take_less stash.depth stash.depth (map array_of stash.items.items) (omega arith))
+    ∙ take-take stash.depth stash.depth (map array_of stash.items.items) (omega arith))
     c.loop-stash.invariant

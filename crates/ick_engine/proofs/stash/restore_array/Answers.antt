@@ -5,7 +5,7 @@ use Rattle.std.proofs.lemmas.List.{get_or-map, length-map, map-set}
 use Rattle.ick_code.specs.meaning.State.{no_array}
 use Rattle.ick_engine.specs.declared.change.ArrayChange.TheVariants as now
 use Rattle.ick_engine.specs.Stashes.{IsTakenOff, IsRetrieved, ChangesAt}
-use Rattle.ick_engine.specs.Undo.{Like, StashesLike, array_was, at_slot, put_on, undone, with_array_stashes, with_arrays}
+use Rattle.ick_engine.specs.Undo.{Like, array_was, undone, with_array_stashes, with_arrays}
 use Rattle.ick_engine.specs.View.{View, array_of, arrays_of, is_hidden}
 use Rattle.ick_engine.proofs.StashingLemmas.{changes_at, drops_at, exchanged_like, like_arrays, taken_like}
 use Rattle.ick_engine.proofs.stash.restore_array.Goals as goal
@@ -38,13 +38,10 @@ returns-then-index-clause-notes g c = λ k v m arrays same h.
     drops_at c.args.stashes.now.items c.args.slot c.index-stash.result.now c.index_mut.result.now c.drop_newest.new.self
     c.index-newest.result.now c.requires.slot c.index-stash.ensures c.index_mut.ensures.value c.drop_newest.ensures
     (omega arith) c.index-newest.ensures in
-    let back = at_slot (put_on x) c.args.slot new in
-    let like : StashesLike v.parts.array_stashes back =
-    subst (λ l. StashesLike l back) (sym same) (taken_like x c.args.slot old new at) in
     subst (λ l. g.N.Notes.Undoes c.note_array.new.self k (with_array_stashes new (with_arrays l v)) m) arrays
     (c.in-Ok.ensures.notes k (with_array_stashes new v) m at.here.place
-    (c.law.ensures.alike k v (with_array_stashes back v) m
-    (like_arrays ((g.N.Notes.fixed c.args.notes.now).base) (g.N.Notes.low c.args.notes.now) v back like) h))
+    (c.law.ensures.alike k v _ m
+    (like_arrays _ _ v _ (taken_like x c.args.slot _ old new same at)) h))
 
 pub returns-clause-retrieved : goal.returns-clause-retrieved
 returns-clause-retrieved g c =

@@ -1,7 +1,7 @@
 use Rattle.std.proofs.Common.{sym, ◌∙◌, subst, map, get_or}
 use Rattle.std.specs.Prelude.{slice_set}
 use Rattle.ick_engine.specs.Stashes.{IsTakenOff, ChangesAt}
-use Rattle.ick_engine.specs.Undo.{StashesLike, at_slot, put_on, with_scalar_stashes}
+use Rattle.ick_engine.specs.Undo.{with_scalar_stashes}
 use Rattle.ick_engine.specs.View.{Parts, no_stash, numbers_of}
 use Rattle.ick_engine.proofs.StashingLemmas.{changes_at, kept_at, like_scalars, restored_elsewhere, restored_here, taken_like}
 use Rattle.ick_engine.proofs.stash.restore_scalar.Goals as goal
@@ -37,13 +37,10 @@ returns-then-home-slot-clause-notes g c = λ k v m registers same h.
     let at : ChangesAt c.args.slot (IsTakenOff number) old new =
     changes_at numbers_of (IsTakenOff number) c.args.stashes.now.items c.args.slot c.index_mut.result.now
     c.take_newest.new.self c.requires.slot c.index_mut.ensures.value c.in-Some.ensures.some in
-    let back = at_slot (put_on number) c.args.slot new in
-    let like : StashesLike v.parts.scalar_stashes back =
-    subst (λ l. StashesLike l back) (sym same) (taken_like number c.args.slot old new at) in
     subst (λ r. g.N.Notes.Undoes c.note.new.self k (with_scalar_stashes new (record v { registers = r })) m) registers
     (c.note.ensures.notes k (with_scalar_stashes new v) m at.here.place
-    (c.law.ensures.alike k v (with_scalar_stashes back v) m
-    (like_scalars ((g.N.Notes.fixed c.args.notes.now).base) (g.N.Notes.low c.args.notes.now) v back like) h))
+    (c.law.ensures.alike k v _ m
+    (like_scalars _ _ v _ (taken_like number c.args.slot _ old new same at)) h))
 
 pub returns-clause-restored : goal.returns-clause-restored
 returns-clause-restored g c =
@@ -62,9 +59,6 @@ returns-clause-notes g c = λ k v m registers same h.
     let at : ChangesAt c.args.slot (IsTakenOff number) old new =
     changes_at numbers_of (IsTakenOff number) c.args.stashes.now.items c.args.slot c.index_mut.result.now
     c.take_newest.new.self c.requires.slot c.index_mut.ensures.value c.in-Some.ensures.some in
-    let back = at_slot (put_on number) c.args.slot new in
-    let like : StashesLike v.parts.scalar_stashes back =
-    subst (λ l. StashesLike l back) (sym same) (taken_like number c.args.slot old new at) in
     let p : Parts = record v.parts { scalar_stashes = new } in
     c.note_restored.ensures.notes k number v m p registers at.here.place
-    (like_scalars ((g.N.Notes.fixed c.args.notes.now).base) (g.N.Notes.low c.args.notes.now) v back like).parts h
+    (like_scalars 0 0 v _ (taken_like number c.args.slot _ old new same at)).parts h

@@ -3,7 +3,7 @@ use Rattle.std.specs.Prelude.{slice_set}
 use Rattle.std.proofs.lemmas.List.{get_or-map}
 use Rattle.ick_code.specs.meaning.State.{no_array}
 use Rattle.ick_engine.specs.Stashes.{IsPutOn, ChangesAt}
-use Rattle.ick_engine.specs.Undo.{StashesLike, at_slot, taken_off, with_array_stashes}
+use Rattle.ick_engine.specs.Undo.{StashesLike, with_array_stashes}
 use Rattle.ick_engine.specs.View.{array_of, arrays_of}
 use Rattle.ick_engine.proofs.StashingLemmas.{changes_at, like_arrays, like_at, on_err, saved_like}
 use Rattle.ick_engine.proofs.stash.save_array.Goals as goal
@@ -22,7 +22,7 @@ returns-in_err-save-clause-notes g c = λ k v m same h.
     (like_at arrays_of c.args.stashes.now.items c.args.slot c.index_mut.result.now c.save.new.self c.requires.slot
     c.index_mut.ensures.value c.in_err-save.ensures.err) in
     c.law.ensures.alike k v (with_array_stashes new v) m
-    (like_arrays ((g.N.Notes.fixed c.args.notes.now).base) (g.N.Notes.low c.args.notes.now) v new like) h
+    (like_arrays _ _ v new like) h
 
 pub returns-clause-saved : goal.returns-clause-saved
 returns-clause-saved g c =
@@ -44,9 +44,6 @@ returns-clause-notes g c = λ k v m same h.
     let at : ChangesAt c.args.slot (IsPutOn x) old new =
     changes_at arrays_of (IsPutOn x) c.args.stashes.now.items c.args.slot c.index_mut.result.now c.save.new.self
     c.requires.slot c.index_mut.ensures.value c.in_ok-save.ensures.ok in
-    let back = at_slot taken_off c.args.slot new in
-    let like : StashesLike v.parts.array_stashes back =
-    subst (λ l. StashesLike l back) (sym same) (saved_like x c.args.slot old new at) in
     c.note.ensures.notes k (with_array_stashes new v) m tt
-    (c.law.ensures.alike k v (with_array_stashes back v) m
-    (like_arrays ((g.N.Notes.fixed c.args.notes.now).base) (g.N.Notes.low c.args.notes.now) v back like) h)
+    (c.law.ensures.alike k v _ m
+    (like_arrays _ _ v _ (saved_like x c.args.slot _ old new same at)) h)

@@ -1,7 +1,7 @@
 use Rattle.std.proofs.Common.{sym, ◌∙◌, subst, map}
 use Rattle.std.specs.Prelude.{slice_set}
 use Rattle.ick_engine.specs.Stashes.{IsPutOn, ChangesAt}
-use Rattle.ick_engine.specs.Undo.{StashesLike, at_slot, taken_off, with_scalar_stashes}
+use Rattle.ick_engine.specs.Undo.{with_scalar_stashes}
 use Rattle.ick_engine.specs.View.{no_stash, numbers_of}
 use Rattle.ick_engine.proofs.StashingLemmas.{on_err, changes_at, kept_at, like_scalars, saved_like}
 use Rattle.ick_engine.proofs.stash.save_scalar.Goals as goal
@@ -31,9 +31,6 @@ returns-clause-notes g c = λ k v m same h.
     let at : ChangesAt c.args.slot (IsPutOn c.args.number) old new =
     changes_at numbers_of (IsPutOn c.args.number) c.args.stashes.now.items c.args.slot c.index_mut.result.now c.save.new.self
     c.requires.slot c.index_mut.ensures.value c.in_ok-save.ensures.ok in
-    let back = at_slot taken_off c.args.slot new in
-    let like : StashesLike v.parts.scalar_stashes back =
-    subst (λ l. StashesLike l back) (sym same) (saved_like c.args.number c.args.slot old new at) in
     c.note.ensures.notes k (with_scalar_stashes new v) m tt
-    (c.law.ensures.alike k v (with_scalar_stashes back v) m
-    (like_scalars ((g.N.Notes.fixed c.args.notes.now).base) (g.N.Notes.low c.args.notes.now) v back like) h)
+    (c.law.ensures.alike k v _ m
+    (like_scalars _ _ v _ (saved_like c.args.number c.args.slot _ old new same at)) h)
