@@ -35,8 +35,8 @@ fits-prop name s = hlevel (props, below-prop)
 stands-prop : (code : Code) (lowered : LoweredParts) (regs : List ℕ) (s : State) → IsProp (Stands code lowered regs s)
 stands-prop code lowered regs s = hlevel (props, fits-prop)
 
-statuses-prop : (code : Code) (statuses : List ℕ) → IsProp (AreStatuses code statuses)
-statuses-prop code statuses = hlevel props
+statuses-prop : (code : Code) (lowered : LoweredParts) (statuses : List ℕ) → IsProp (AreStatuses code lowered statuses)
+statuses-prop code lowered statuses = hlevel props
 
 steady-prop : (code : Code) (lowered : LoweredParts) (v : View) → IsProp (IsSteady code lowered v)
 steady-prop code lowered v = hlevel (props, homes-prop, statuses-prop)
