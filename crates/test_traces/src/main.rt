@@ -9,7 +9,7 @@ ghost use Rattle.ick_traces.specs.Fixed.{AreAllowed};
 ghost use Rattle.ick_traces.specs.Traces.{AreTraces};
 
 use ick_code::{Code, compile};
-use ick_engine::{Exit, Memory, Nobody, TextReader, fresh_memory};
+use ick_engine::{Exit, Memory, NoTraces, Nobody, TextReader, fresh_memory};
 use ick_instructions::Lowered;
 use ick_lowering::lower;
 use ick_source::read_source;
@@ -51,10 +51,11 @@ fn show_code(rt: &HostRuntime, code: &Code<'_>, steps: u32) -> io::Result<()> {
         return Err(ErrorKind::OutOfMemory.into());
     };
     memory.cursor.left = steps;
-    let Exit::Limit = memory.run_steps(&lowered, &mut Nobody, &mut TextReader::new(b"")) else {
+    let Exit::Limit = memory.run_steps(&lowered, &mut Nobody, &mut TextReader::new(b""), &NoTraces)
+    else {
         return Err(ErrorKind::InvalidData.into());
     };
-    let Ok(fixed) = fixed_statements(rt.alloc(), &lowered, &memory.statuses) else {
+    let Ok(fixed) = fixed_statements(rt.alloc(), &lowered) else {
         return Err(ErrorKind::OutOfMemory.into());
     };
     match build_traces(rt.alloc(), &lowered, fixed) {
