@@ -11,7 +11,7 @@ use Rattle.ick_instructions.specs.declared.lowered.LoweredParts.{LoweredParts}
 use Rattle.ick_engine.specs.declared.memory.Rest.{Rest}
 use Rattle.ick_engine.specs.declared.saved.Saved.{Saved}
 use Rattle.ick_engine.specs.Run.{Stands}
-use Rattle.ick_engine.specs.Saved.{AreSame, IsLoaded, IsSaved, arrays_on, numbers_on, saved_view}
+use Rattle.ick_engine.specs.Saved.{AreSame, HasLists, IsLoaded, IsSaved, arrays_on, numbers_on, saved_view}
 use Rattle.ick_engine.specs.Steady.{IsSteady, IsReady, IsProgram}
 use Rattle.ick_engine.specs.Undo.{SameFirst, Like, HighSame, IsRestored}
 use Rattle.ick_engine.specs.View.{View, Parts, Input, state_of, dump_of, file_of, map_of, used as used_values}
@@ -136,6 +136,15 @@ kept_state code lowered saved v count is input =
     ∙ fun_ext (λ name. map_first names lowered.layout.base v.registers 0 name (omega (arith, count))) in
     all_same (state_by code lowered input) is.place_kept returns scalars is.home_kept is.statuses_kept kept.others
     kept.scalars kept.arrays
+
+-- lists that a memory may take in place of its own
+pub lists_of : (code : Code) (lowered : LoweredParts) (v : View) → IsSteady code lowered v → HasLists code v.parts
+lists_of code lowered v steady = record {
+  arrays = steady.arrays;
+  hidden = steady.hidden;
+  scalar_stashes = steady.scalar_stashes;
+  array_stashes = steady.array_stashes;
+}
 
 module _ (code : Code) (lowered : LoweredParts) (is : IsProgram code lowered) where
   abbrev pub base : ℕ

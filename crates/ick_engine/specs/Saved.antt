@@ -8,7 +8,8 @@ use Rattle.ick_engine.specs.declared.memory.NumberStash.{NumberStash}
 use Rattle.ick_engine.specs.declared.saved.Saved.{Saved}
 use Rattle.ick_engine.specs.Steady.{IsReady}
 use Rattle.ick_engine.specs.Undo.{but_stashes}
-use Rattle.ick_engine.specs.View.{View, Parts, Input, arrays_of, numbers_of, parts_of, state_of, used}
+use Rattle.ick_engine.specs.View.{View, Parts, Input, array_names, arrays_of, numbers_of, parts_of, scalar_names}
+use Rattle.ick_engine.specs.View.{state_of, used}
 
 -- the values on a stash
 abbrev pub numbers_on : NumberStash → List ℕ
@@ -47,6 +48,13 @@ saved_view saved = record {
 -- a state of this program is kept, from which a run can go on
 abbrev pub IsKept : Code → LoweredParts → Saved → Type 0
 IsKept code lowered saved = ∥ ((m : View) × IsReady code lowered m × IsSaved lowered saved m) ∥₁
+
+-- parts that have a value and a stash for each scalar and array
+pub record HasLists (code : Code) (p : Parts) : Type 0 where
+  pub arrays : length p.arrays ≡ length (array_names code)
+  pub hidden : length p.hidden ≡ length (array_names code)
+  pub scalar_stashes : length p.scalar_stashes ≡ length (scalar_names code)
+  pub array_stashes : length p.array_stashes ≡ length (array_names code)
 
 -- a run can go on from a view, in the state of another one
 pub record IsLoaded (code : Code) (lowered : LoweredParts) (m v : View) : Type 0 where

@@ -123,3 +123,21 @@ pub fn put_first(numbers: &mut [u32], first: &[u32])
 {
     numbers[..first.len()].copy_from_slice(first);
 }
+
+/// Puts numbers in place of all that a list has, whose buffer stays if it has the room.
+pub fn put_numbers(list: &mut Vec<u32>, numbers: &[u32]) -> Result<(), NoMemory>
+    ensures { OnOk result (list.new.items ≡ numbers.now) }
+{
+    list.clear();
+    list.extend_from_slice(numbers)?;
+    Ok(())
+}
+
+/// Puts bytes in place of all that a list has, whose buffer stays if it has the room.
+pub fn put_bytes(list: &mut Vec<u8>, bytes: &[u8]) -> Result<(), NoMemory>
+    ensures { OnOk result (list.new.items ≡ bytes.now) }
+{
+    list.clear();
+    list.extend_from_slice(bytes)?;
+    Ok(())
+}

@@ -2,13 +2,16 @@
 
 ghost use Rattle.std.specs.Prelude.{◌≡◌, ◌+◌, ◌≤◌, true, length};
 
-use crate::copy::{copy_bytes, copy_first, copy_numbers, copy_rest, put_first};
+use crate::copy::{
+    copy_bytes, copy_first, copy_numbers, copy_rest, put_bytes, put_first, put_numbers,
+};
 use crate::memory::{Array, ArrayStash, Memory, NumberStash, Rest};
 use crate::same::same_rest;
 use ick_bits::NoMemory;
 use ick_instructions::Lowered;
 use std::alloc::Global;
 use std::hash::{FoldHasher, Hasher};
+use std::mem::swap;
 
 /// A state of a run. It has no temporaries, no constants, and only those return addresses and
 /// places of stashes that are used.
@@ -114,11 +117,11 @@ fn mix_rest(hash: u64, rest: &Rest) -> u64 {
 }
 
 impl Saved {
-    ghost use Rattle.std.specs.Prelude.{◌≡◌, ◌++◌, ◌≤◌, true, drop, length, IfOk, OnErr, OnOk};
+    ghost use Rattle.std.specs.Prelude.{◌≡◌, ◌++◌, ◌≤◌, true, drop, length, IfOk, OnOk};
     ghost use Rattle.ick_engine.specs.Memory.{view_in};
-    ghost use Rattle.ick_engine.specs.Saved.{IsKept, IsLoaded, IsSaved, saved_view};
+    ghost use Rattle.ick_engine.specs.Saved.{HasLists, IsKept, IsLoaded, IsSaved, saved_view};
     ghost use Rattle.ick_engine.specs.Steady.{IsReady, IsSteady};
-    ghost use Rattle.ick_engine.specs.View.{Input, View, state_of};
+    ghost use Rattle.ick_engine.specs.View.{Input, View, parts_of, state_of};
     ghost use Rattle.ick_code.specs.declared.code.Code.{Code};
     ghost use Rattle.ick_instructions.specs.declared.lowered.LoweredParts.{LoweredParts};
 
@@ -144,27 +147,43 @@ impl Saved {
         })
     }
 
-    /// Puts the state into a memory of the same program. A run need not be able to go on from the
-    /// memory. The number of steps left and the answer stay. If memory runs out, nothing changes.
-    pub fn load(
-        &self,
-        alloc: Global,
-        memory: &mut Memory,
-        program: &Lowered<'_, '_>,
-    ) -> Result<(), NoMemory>
-        requires kept { IsKept program.now.code.now program.now.parts self.now }
+    /// Puts the state into a memory of the same program, and takes the memory's arrays, stashes and
+    /// tape in exchange. So it takes no memory, and it keeps its buffers for `renew`, but no state.
+    /// A run need not be able to go on from the memory. The number of steps left and the answer
+    /// stay.
+    pub fn exchange(&mut self, memory: &mut Memory, program: &Lowered<'_, '_>)
+        requires kept { IsKept program.now.code.now program.now.parts self.old }
         requires steady { IsSteady program.now.code.now program.now.parts (view_in memory.old) }
-        ensures loaded { OnOk result (IsLoaded program.now.code.now program.now.parts
-            (saved_view self.now) (view_in memory.new)) }
-        ensures err { OnErr result (memory.new ≡ memory.old) }
+        ensures loaded { IsLoaded program.now.code.now program.now.parts (saved_view self.old)
+            (view_in memory.new) }
+        ensures spare { HasLists program.now.code.now (parts_of self.new.rest) }
     {
         // `loaded` needs that the instructions are those of the code.
         program.law();
         let code = program.code;
         code.law();
-        let rest = copy_rest(alloc, &self.rest)?;
         self.put_lists(memory);
-        memory.rest = rest;
+        swap(&mut memory.rest, &mut self.rest);
+    }
+
+    /// Keeps the state that a memory represents, in the buffers of a state that `exchange` took. The
+    /// memory takes other arrays and stashes and another tape in exchange, so a run can't go on from
+    /// it. `NoMemory` is returned only if a growth was refused, and then no state is kept.
+    pub fn renew(&mut self, memory: &mut Memory, program: &Lowered<'_, '_>) -> Result<(), NoMemory>
+        requires ready { IsReady program.now.code.now program.now.parts (view_in memory.old) }
+        requires spare { HasLists program.now.code.now (parts_of self.old.rest) }
+        ensures saved { OnOk result (IsSaved program.now.parts self.new (view_in memory.old)) }
+        ensures steady { IsSteady program.now.code.now program.now.parts (view_in memory.new) }
+    {
+        // `put_numbers` needs that a memory has a register for each scalar.
+        program.law();
+        let base = program.layout().base as usize;
+        put_numbers(&mut self.numbers, &memory.registers[..base])?;
+        put_numbers(&mut self.home, &memory.home)?;
+        put_bytes(&mut self.statuses, &memory.statuses)?;
+        put_numbers(&mut self.returns, &memory.returns[..memory.cursor.depth])?;
+        self.place = memory.cursor.place;
+        swap(&mut self.rest, &mut memory.rest);
         Ok(())
     }
 
@@ -198,6 +217,7 @@ impl Saved {
         ensures statuses { memory.new.statuses.items ≡ self.now.statuses.items }
         ensures place { memory.new.cursor.place ≡ self.now.place }
         ensures depth { memory.new.cursor.depth ≡ length self.now.returns.items }
+        ensures rest { memory.new.rest ≡ memory.old.rest }
     {
         put_first(memory.registers.as_mut_slice(), &self.numbers);
         put_first(memory.returns.as_mut_slice(), &self.returns);
@@ -254,6 +274,14 @@ impl Saved {
         ensures { result.now ≡ self.now.rest.output.items }
     {
         &self.rest.output
+    }
+
+    /// Returns what the run has written so far, and leaves no state behind.
+    pub fn into_output(self) -> Vec<u8>
+        ensures { result.items ≡ self.rest.output.items }
+    {
+        let rest = self.rest;
+        rest.output
     }
 
     /// Returns true only if both states are the same.
