@@ -112,7 +112,7 @@ fn total(outcomes: &[Outcome], alloc: Global) -> Result<Natural, NoMemory>
 {
     let mut sum = Natural::zero(alloc);
     'outcomes: for outcome in outcomes {
-        sum = sum.plus(&outcome.count, alloc)?;
+        sum = sum.plus(&outcome.count)?;
     }
     Ok(sum)
 }

@@ -69,8 +69,8 @@ fn merge<S: Drop>(alloc: Global, one: &mut Node<S>, more: Node<S>) -> Result<(),
         }) }
     ensures state { OnOk result (one.new.state ≡ one.old.state) }
 {
-    one.count = one.count.plus(&more.count, alloc)?;
-    one.weight = one.weight.plus(&more.weight, alloc)?;
+    one.count = more.count.plus(&one.count)?;
+    one.weight = more.weight.plus(&one.weight, alloc)?;
     if !keeps(&one.choices, &more.choices) {
         one.choices = more.choices;
     }
@@ -247,6 +247,16 @@ fn choose<'c, P: States<'c>>(
     })
 }
 
+/// Copies choices, with room for one more.
+fn copy_choices(alloc: Global, choices: &[bool]) -> Result<SmallVec<bool, 24>, NoMemory>
+    ensures { IfOk result (λ copy. copy.items ≡ choices.now) }
+{
+    let mut copy = SmallVec::new(alloc);
+    copy.reserve(choices.len() + 1)?;
+    copy.extend_from_slice(choices)?;
+    Ok(copy)
+}
+
 /// Returns the node after a choice, and after the steps behind it while nothing is asked. The node
 /// before it stays. `chance` is that of the statement that is met.
 #[tactic(auto, using(crate::proofs::Uses::part_fits))]
@@ -272,7 +282,7 @@ fn choose_from<'c, P: States<'c>>(
 {
     let left = node.left - 1;
     let (state, made) = program.step_from(tools, &node.state, done, left)?;
-    let mut choices = SmallVec::from_slice(alloc, &node.choices)?;
+    let mut choices = copy_choices(alloc, &node.choices)?;
     choices.push(done)?;
     let copy = node.weight.copy()?;
     let weight = copy.part(hundredths(chance, done))?;

@@ -64,8 +64,8 @@ pub(crate) fn add_runs(alloc: Global, row: &mut Outcome, more: Outcome) -> Resul
       first = lesser row.old.first.items more.first.items;
     }) }
 {
-    row.count = row.count.plus(&more.count, alloc)?;
-    row.weight = row.weight.plus(&more.weight, alloc)?;
+    row.count = more.count.plus(&row.count)?;
+    row.weight = more.weight.plus(&row.weight, alloc)?;
     if !keeps(&row.first, &more.first) {
         row.first = more.first;
     }
