@@ -52,9 +52,9 @@ fn find_node<'c, P: States<'c>>(
     None
 }
 
-/// Returns the hash by which a node is looked for.
-fn hash_of<'c, P: States<'c>>(program: &P, node: &Node<P::State>) -> u64 {
-    program.hash(&node.state) ^ u64::from(node.left).wrapping_mul(0x9e37_79b9_7f4a_7c15)
+/// Returns the hash by which a node with this state and so many steps left is looked for.
+pub(crate) fn hash_of<'c, P: States<'c>>(program: &P, state: &P::State, left: u32) -> u64 {
+    program.hash(state) ^ u64::from(left).wrapping_mul(0x9e37_79b9_7f4a_7c15)
 }
 
 /// Merges a node into another with the same state.
@@ -94,7 +94,7 @@ fn admit<'c, P: States<'c>>(
         (nodes_of (P.seen program.now) pending.new.nodes.items)) }
     ensures pending { OnOk result (AreSound (P.suits program.now) pending.new.nodes.items) }
 {
-    let hash = hash_of(program, &node);
+    let hash = node.hash;
     let hint = pending.hints.find(hash);
     match find_node(program, &pending.nodes, hint, &node) {
         Some(at) => {
@@ -235,12 +235,15 @@ fn choose<'c, P: States<'c>>(
 {
     let left = node.left - 1;
     let (state, made) = program.step(tools, node.state, done, left)?;
+    let left = left - made;
+    let hash = hash_of(program, &state, left);
     let mut choices = node.choices;
     choices.push(done)?;
     let weight = node.weight.part(hundredths(chance, done))?;
     Ok(Node {
         state,
-        left: left - made,
+        left,
+        hash,
         count: node.count,
         weight,
         choices,
@@ -282,13 +285,16 @@ fn choose_from<'c, P: States<'c>>(
 {
     let left = node.left - 1;
     let (state, made) = program.step_from(tools, &node.state, done, left)?;
+    let left = left - made;
+    let hash = hash_of(program, &state, left);
     let mut choices = copy_choices(alloc, &node.choices)?;
     choices.push(done)?;
     let copy = node.weight.copy()?;
     let weight = copy.part(hundredths(chance, done))?;
     Ok(Node {
         state,
-        left: left - made,
+        left,
+        hash,
         count: node.count.copy()?,
         weight,
         choices,
@@ -344,9 +350,12 @@ fn pass<'c, P: States<'c>>(
 {
     let left = node.left - 1;
     let (state, made) = program.step(tools, node.state, false, left)?;
+    let left = left - made;
+    let hash = hash_of(program, &state, left);
     Ok(Node {
         state,
-        left: left - made,
+        left,
+        hash,
         count: node.count,
         weight: node.weight,
         choices: node.choices,

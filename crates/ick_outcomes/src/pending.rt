@@ -9,11 +9,13 @@ use crate::natural::Natural;
 use smallvec::SmallVec;
 
 /// A state, how many steps it has left, how many runs lead to it, their weight together, and the
-/// choices of the first of them.
+/// choices of the first of them. An equal node is looked for by the hash, on which no contract
+/// rests.
 #[derive(Drop)]
 pub(crate) struct Node<S: Drop> {
     pub(crate) state: S,
     pub(crate) left: u32,
+    pub(crate) hash: u64,
     pub(crate) count: Natural,
     pub(crate) weight: Fraction,
     pub(crate) choices: SmallVec<bool, 24>,

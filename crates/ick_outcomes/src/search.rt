@@ -10,11 +10,12 @@ use crate::filing::no_rows;
 use crate::fraction::Fraction;
 use crate::hints::Hints;
 use crate::natural::Natural;
-use crate::node::{make, put};
+use crate::node::{hash_of, make, put};
 use crate::outcome::Outcome;
 use crate::pending::{Node, Waiting};
 use crate::states::States;
 use crate::table::Table;
+use ick_bits::NoMemory;
 use smallvec::SmallVec;
 use std::alloc::Global;
 
@@ -26,6 +27,16 @@ fn no_nodes<S: Drop>(alloc: Global) -> Waiting<S>
         nodes: Vec::new(alloc),
         hints: Hints::new(alloc),
     }
+}
+
+/// Returns an empty list of nodes, with room for so many.
+fn room_for_nodes<S: Drop>(alloc: Global, count: usize) -> Result<Waiting<S>, NoMemory>
+    ensures { IfOk result (λ waiting. waiting.nodes.items ≡ []) }
+{
+    Ok(Waiting {
+        nodes: Vec::with_capacity(alloc, count)?,
+        hints: Hints::new(alloc),
+    })
 }
 
 /// Returns whether no node waits.
@@ -83,7 +94,7 @@ fn round<'c, P: States<'c>>(
         runs_in (nodes_of (P.seen program.now) waiting.nodes.items) (rows_of rows.old.rows.items) }
     ensures tools { P.serves program.now tools.new }
 {
-    let mut later = no_nodes(alloc);
+    let mut later = room_for_nodes(alloc, waiting.nodes.len())?;
     'nodes: for node in waiting.nodes {
         make(alloc, program, tools, node, left, &mut later, rows)?;
         if later.nodes.len() > most {
@@ -114,9 +125,11 @@ pub(crate) fn count_outcomes<'c, P: States<'c>>(
 {
     let mut rows = no_rows(alloc);
     let mut pending = no_nodes(alloc);
+    let hash = hash_of(program, &state, limit);
     let node = Node {
         state,
         left: limit,
+        hash,
         count: Natural::one(alloc)?,
         weight: Fraction::one(alloc)?,
         choices: SmallVec::new(alloc),
