@@ -1,5 +1,6 @@
 -- The answers to commands.
-use Rattle.std.specs.Prelude.{◌≡◌, ◌<◌, ◌-◌, ◌==◌, ℕ, Bool, true, false, not, nat_lt, min, List, [], ◌++◌, codes, length}
+use Rattle.std.specs.Prelude.{◌≡◌, ◌<◌, ◌-◌, ◌==◌, ℕ, Bool, true, false, not, nat_lt, min, List, []}
+use Rattle.std.specs.Prelude.{◌++◌, codes, length}
 use Rattle.std.specs.Prelude.{Option, Some, None}
 use Rattle.ick_syntax.specs.declared.tree.Name.{Name}
 use Rattle.ick_code.specs.meaning.State.{State}
@@ -46,7 +47,8 @@ shown positions s to_quit = Some []
 shown positions s _ = None
 
 -- steps to the first state of a kind, at most so many; the answer has what they printed, and where the run is then
-abbrev pub Goes : Fixed → List Position → (State → Bool) → (most : ℕ) → Seen → Seen → List ℕ → Type 0
+abbrev pub Goes : Fixed → List Position → (State → Bool) → (most : ℕ) →
+    (s t : Seen) → (text : List ℕ) → Type 0
 Goes f positions here most s t text =
     StopsFirst f.given here (min most (steps_left f.limit s)) s t × (text ≡ way_text f.limit positions s t)
 
@@ -73,7 +75,8 @@ pub data Explains (f : Fixed) (positions : List Position) (name : Name) (s t : S
       Explains f positions name s t (name_text name s ++ codes "not changed by any step\n")
 
 -- a command leads from one state of a session to another, and has this answer
-abbrev pub AnswersCommand : Fixed → List Position → (s : Seen) → Order → (t : Seen) → (text : List ℕ) → Type 0
+abbrev pub AnswersCommand : Fixed → List Position → (s : Seen) → Order → (t : Seen) →
+    (text : List ℕ) → Type 0
 AnswersCommand f positions s (to_step n) t text = Goes f positions (λ v. false) n s t text
 AnswersCommand f positions s to_run t text = Goes f positions (λ v. false) any_number s t text
 AnswersCommand f positions s (to_run_until n) t text = Goes f positions (λ v. v.place == n) any_number s t text

@@ -1,5 +1,6 @@
 -- The commands of a session, and the lines that write them.
-use Rattle.std.specs.Prelude.{ℕ, zero, suc, ◌^◌, ◌==◌, ◌&&◌, nat_lt, not, Bool, true, false, List, [], ◌∷◌}
+use Rattle.std.specs.Prelude.{ℕ, zero, suc, ◌^◌, ◌==◌, ◌&&◌, nat_lt, not, Bool, true, false, List, []}
+use Rattle.std.specs.Prelude.{◌∷◌}
 use Rattle.std.specs.Prelude.{length, drop, find, filter_map, codes, is_some, option_map, option_and_then}
 use Rattle.std.specs.Prelude.{Option, Some, None, if◌then◌else◌}
 use Rattle.std.specs.List.{list_all, prefix_len, starts_with, take_while}
@@ -100,8 +101,9 @@ order_of command.Quit = to_quit
 
 -- the verbs in their order, with their words
 abbrev pub verbs : List Verb
-verbs = verb.Step ∷ verb.Back ∷ verb.Next ∷ verb.Until ∷ verb.Run ∷ verb.Choose ∷ verb.Print ∷ verb.Stack ∷ verb.State
-    ∷ verb.List ∷ verb.Watch ∷ verb.Why ∷ verb.Output ∷ verb.Cursor ∷ verb.Help ∷ verb.Quit ∷ []
+verbs = verb.Step ∷ verb.Back ∷ verb.Next ∷ verb.Until ∷ verb.Run ∷ verb.Choose ∷ verb.Print ∷ verb.Stack
+    ∷ verb.State ∷ verb.List ∷ verb.Watch ∷ verb.Why ∷ verb.Output ∷ verb.Cursor ∷ verb.Help
+    ∷ verb.Quit ∷ []
 
 abbrev pub verb_word : Verb → List ℕ
 verb_word verb.Step = codes "step"

@@ -1,5 +1,6 @@
 -- The answers to lines, one after another.
-use Rattle.std.specs.Prelude.{◌≡◌, ◌≢◌, ◌==◌, ℕ, Bool, true, false, List, [], ◌∷◌, ◌++◌, codes, length, if◌then◌else◌}
+use Rattle.std.specs.Prelude.{◌≡◌, ◌≢◌, ◌==◌, ℕ, Bool, true, false, List, [], ◌∷◌, ◌++◌}
+use Rattle.std.specs.Prelude.{codes, length, if◌then◌else◌}
 use Rattle.std.specs.Prelude.{Some, None}
 use Rattle.ick_inspect.specs.declared.positions.Position.{Position}
 use Rattle.ick_inspect.specs.declared.text.Text.{Text}
@@ -32,5 +33,6 @@ pub data AnswersLine (f : Fixed) (positions : List Position) (s : Seen) (line : 
 pub data Talks (f : Fixed) (positions : List Position) : (s : Seen) → (lines : List (List ℕ)) → (t : Seen)
     → (text : List ℕ) → Type 0 where
   no_line : (s : Seen) → Talks f positions s [] s []
-  one_more : (s t u : Seen) (lines : List (List ℕ)) (line text more : List ℕ) → Talks f positions s lines t text →
-      AnswersLine f positions t line u more true → Talks f positions s (lines ++ line ∷ []) u (text ++ more)
+  one_more : (s t u : Seen) (lines : List (List ℕ)) (line text more : List ℕ) →
+      Talks f positions s lines t text → AnswersLine f positions t line u more true →
+      Talks f positions s (lines ++ line ∷ []) u (text ++ more)

@@ -1,5 +1,6 @@
 -- Where steps stop that lead to a state of some kind, and which step last changed a name.
-use Rattle.std.specs.Prelude.{◌≡◌, ℕ, ◌+◌, ◌-◌, ◌==◌, ◌<◌, ◌≤◌, ◌⊎◌, Bool, true, false, not, nat_lt, List, [], ◌++◌}
+use Rattle.std.specs.Prelude.{◌≡◌, ℕ, ◌+◌, ◌-◌, ◌==◌, ◌<◌, ◌≤◌, ◌⊎◌, Bool, true}
+use Rattle.std.specs.Prelude.{false, not, nat_lt, List, [], ◌++◌}
 use Rattle.std.specs.Prelude.{codes, get_or, length, option_map, take, if◌then◌else◌, Option, None, Some}
 use Rattle.ick_syntax.specs.declared.tree.Name.{Name}
 use Rattle.ick_code.specs.meaning.Move.{Asking, plain, choice, ended, ask}
@@ -64,7 +65,8 @@ pub record GoesOn (most : ℕ) (s t : Seen) : Type 0 where
 
 -- each further step had the answer that was given
 pub record AreGiven (chosen : Chosen) (s t : Seen) : Type 0 where
-  pub each : (k : ℕ) → length s.answers ≤ k → k < length t.answers → answer_at chosen t k ≡ Some (get_or t.answers k None)
+  pub each : (k : ℕ) → length s.answers ≤ k → k < length t.answers →
+      answer_at chosen t k ≡ Some (get_or t.answers k None)
 
 -- it has passed no state of a kind before its last one
 pub record Passes (here : State → Bool) (s t : Seen) : Type 0 where

@@ -1,6 +1,7 @@
 //! The commands of a session.
 
-ghost use Rattle.std.specs.Prelude.{◌≡◌, ◌≤◌, None, Some, if◌then◌else◌, length, option_map};
+ghost use Rattle.std.specs.Prelude.{◌≡◌, ◌≤◌, None, Some, if◌then◌else◌, length};
+ghost use Rattle.std.specs.Prelude.{option_map};
 ghost use Rattle.std.specs.List.{prefix_len};
 ghost use Rattle.ick_bits.specs.White.{is_white_byte};
 ghost use Rattle.ick_session.specs.Commands.{alone, are_names, behind_word, choice_in, count_in};

@@ -43,7 +43,8 @@ impl Held {
 
     /// Returns whether a state has the same at the name.
     pub fn is_in(&self, present: &Present<'_, '_, '_>) -> bool
-        ensures { result ≡ alike (had self.now) (had_at (present_state present.now) self.now.name) }
+        ensures { result ≡ alike (had self.now)
+            (had_at (present_state present.now) self.now.name) }
     {
         self.number == number(present, self.name)
             && self.ignored == is_ignored(present, self.name)

@@ -1,5 +1,5 @@
-//! The commands of a session that steps through a run, and what they show. The crate has no devices:
-//! a line and a session give a text and the session after it.
+//! The commands of a session that steps through a run, and what they show. The crate has no
+//! devices: a line and a session give a text and the session after it.
 //!
 //! | Module | What it has |
 //! |---|---|

@@ -49,7 +49,8 @@ pub enum Target<'h> {
 }
 
 impl<'c, 'a> Stepper<'c, 'a> {
-    ghost use Rattle.std.specs.Prelude.{◌≡◌, ◌<◌, ◌-◌, ◌++◌, ℕ, Bool, true, false, Option};
+    ghost use Rattle.std.specs.Prelude.{◌≡◌, ◌<◌, ◌-◌, ◌++◌, ℕ, Bool, true};
+    ghost use Rattle.std.specs.Prelude.{false, Option};
     ghost use Rattle.std.specs.Prelude.{Some, None, IfErr, IfOk, OnOk, [], codes, is_some};
     ghost use Rattle.std.specs.Prelude.{length, min, List};
     ghost use Rattle.ick_code.specs.meaning.Move.{ask, choice};
@@ -62,7 +63,8 @@ impl<'c, 'a> Stepper<'c, 'a> {
     ghost use Rattle.ick_step.specs.History.{asks_choice, choices_in};
     ghost use Rattle.ick_step.specs.Session.{present, with_answer};
     ghost use Rattle.ick_step.specs.Sessions.{session};
-    ghost use Rattle.ick_session.specs.Answers.{AnswersCommand, Chooses, Explains, Goes, any_number};
+    ghost use Rattle.ick_session.specs.Answers.{AnswersCommand, Chooses, Explains, Goes};
+    ghost use Rattle.ick_session.specs.Answers.{any_number};
     ghost use Rattle.ick_session.specs.Answers.{changed_text, shown, watched_text};
     ghost use Rattle.ick_session.specs.Held.{had};
     ghost use Rattle.ick_session.specs.Changes.{had_at, printed_text};
@@ -139,7 +141,8 @@ impl<'c, 'a> Stepper<'c, 'a> {
             IfOk result (λ chosen. chosen ≡ asks_choice (ask s.program (present s))) }
         ensures chosen { IfOk result (λ chosen. chosen ≡ true →
             seen self.new ≡ with_answer (Some done) (seen self.old)) }
-        ensures not_chosen { IfOk result (λ chosen. chosen ≡ false → seen self.new ≡ seen self.old) }
+        ensures not_chosen { IfOk result (λ chosen. chosen ≡ false →
+            seen self.new ≡ seen self.old) }
     {
         // The sum below has to fit: there are fewer choices than steps.
         self.law();
@@ -158,7 +161,8 @@ impl<'c, 'a> Stepper<'c, 'a> {
         ensures errors { IfErr result (IsStepError (seen self.new)) }
         ensures made { IfOk result (λ made. made ≡ true →
             Steps (given_by self.old.given) (seen self.old) (seen self.new)) }
-        ensures not_made { IfOk result (λ made. made ≡ false → (seen self.new ≡ seen self.old)
+        ensures not_made { IfOk result (λ made. made ≡ false →
+            (seen self.new ≡ seen self.old)
             × (next_answer (given_by self.old.given) (seen self.old) ≡ None)) }
     {
         // `made` needs that the next choice is the one at the number of those so far.
@@ -203,7 +207,8 @@ impl<'c, 'a> Stepper<'c, 'a> {
         ensures errors { IfErr result (IsStepError (seen self.new)) }
         ensures made { IfOk result (λ made. made ≡ true →
             Steps (given_by self.old.given) (seen self.old) (seen self.new)) }
-        ensures not_made { IfOk result (λ made. made ≡ false → (seen self.new ≡ seen self.old)
+        ensures not_made { IfOk result (λ made. made ≡ false →
+            (seen self.new ≡ seen self.old)
             × (next_answer (given_by self.old.given) (seen self.old) ≡ None)) }
     {
         match self.session.machine().asks() {
@@ -456,7 +461,8 @@ impl<'c, 'a> Stepper<'c, 'a> {
         out: &mut Text,
     ) -> Result<(), RunsError>
         requires positions { length positions.now ≡ length (seen self.old).program }
-        requires moves { is_some (shown positions.now (seen self.old) (order_of command)) ≡ false }
+        requires moves { is_some (shown positions.now (seen self.old) (order_of command))
+            ≡ false }
         ensures fixed { fixed self.new ≡ fixed self.old }
         ensures errors { IfErr result (IsStepError (seen self.new)) }
         ensures answers { OnOk result ((text : List ℕ)
@@ -567,8 +573,8 @@ impl<'c, 'a> Stepper<'c, 'a> {
         requires { length positions.now ≡ length (seen self.old).program }
         ensures fixed { fixed self.new ≡ fixed self.old }
         ensures errors { IfErr result (IsStepError (seen self.new)) }
-        ensures shows { is_some (shown positions.now (seen self.old) (order_of command.entry)) ≡ true
-            → (self.new ≡ self.old) × IfErr result (λ e. e ≡ RunsError.NoMemory) }
+        ensures shows { is_some (shown positions.now (seen self.old) (order_of command.entry))
+            ≡ true → (self.new ≡ self.old) × IfErr result (λ e. e ≡ RunsError.NoMemory) }
         ensures answers { OnOk result ((text : List ℕ)
             × AnswersCommand (fixed self.old) positions.now (seen self.old)
             (order_of command.entry) (seen self.new) text

@@ -56,7 +56,8 @@ pub fn trace_step(machines: &mut Pair<'_, '_>, out: &mut Text, done: bool) -> Re
     requires going { IsGoing (ask (trailed_machine machines.old.before).program
         (trailed_machine machines.old.before).state) }
     requires room { (trailed_machine machines.old.before).work < 2 ^ 64 - 1 }
-    ensures same { OnOk result (trailed_machine machines.new.after ≡ trailed_machine machines.new.before) }
+    ensures same { OnOk result (trailed_machine machines.new.after
+        ≡ trailed_machine machines.new.before) }
     ensures step { let seen = trailed_machine machines.old.before in OnOk result (
         trailed_machine machines.new.before ≡ record seen {
           state = advance seen.program seen.state done;

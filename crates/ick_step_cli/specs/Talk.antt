@@ -28,7 +28,8 @@ pub data IsOver (f : Fixed) (positions : List Position) (s : Seen) (lines : List
   at_end : (t : Seen) (text : List ℕ) → Talks f positions s lines t text →
       after ≡ before ++ output_text f positions s text → IsOver f positions s lines before after
   at_quit : (done left : List (List ℕ)) (line : List ℕ) (t u : Seen) (text last : List ℕ) →
-      lines ≡ done ++ line ∷ left → Talks f positions s done t text → AnswersLine f positions t line u last false →
+      lines ≡ done ++ line ∷ left → Talks f positions s done t text →
+      AnswersLine f positions t line u last false →
       after ≡ before ++ output_text f positions s text → IsOver f positions s lines before after
 
 -- something failed: a prefix of the answers to the first lines was written
@@ -49,6 +50,7 @@ IsFailure (Answered status message) = ⊥
 IsFailure _ = Unit {0}
 
 -- what a session writes, by how it ends
-abbrev pub Writes : Fixed → List Position → Seen → (lines : List (List ℕ)) → JobEnd → (before after : List ℕ) → Type 0
+abbrev pub Writes : Fixed → List Position → Seen → (lines : List (List ℕ)) → JobEnd →
+    (before after : List ℕ) → Type 0
 Writes f positions s lines (Answered status message) before after = IsOver f positions s lines before after
 Writes f positions s lines _ before after = IsCut f positions s lines before after

@@ -1,7 +1,8 @@
 //! From a job to its answer: the source is read, then compiled, then the input is read, then the
 //! run is traced or stepped through.
 
-ghost use Rattle.std.specs.Prelude.{◌≡◌, ◌+◌, ◌<◌, ◌≤◌, ◌^◌, [], IfErr, IfOk, length};
+ghost use Rattle.std.specs.Prelude.{◌≡◌, ◌+◌, ◌<◌, ◌≤◌, ◌^◌, [], IfErr};
+ghost use Rattle.std.specs.Prelude.{IfOk, length};
 ghost use Rattle.ick_code.specs.Compiled.{code_program};
 ghost use Rattle.ick_explorer.specs.Writes.{write_failures};
 ghost use Rattle.ick_cli.specs.JobEnd.{Leaves, LeavesStreams, LeavesWriter};

@@ -1,6 +1,7 @@
 //! A session: commands line by line, and their answers.
 
-ghost use Rattle.std.specs.Prelude.{◌≡◌, ◌+◌, ◌<◌, ◌^◌, ◌++◌, ◌∷◌, ℕ, IfErr, IfOk, OnOk, [], length};
+ghost use Rattle.std.specs.Prelude.{◌≡◌, ◌+◌, ◌<◌, ◌^◌, ◌++◌, ◌∷◌, ℕ};
+ghost use Rattle.std.specs.Prelude.{IfErr, IfOk, OnOk, [], length};
 ghost use Rattle.std.specs.Prelude.{true, false, take};
 ghost use Rattle.ick_explorer.specs.Whole.{read_failures};
 ghost use Rattle.ick_cli.specs.JobEnd.{LeavesStreams, LeavesWriter};
@@ -51,8 +52,8 @@ fn say<W: ByteSink>(out: &mut Text, writer: &mut W) -> Result<(), JobEnd>
         LeavesWriter job_end (W.failed writer.old) (W.failed writer.new)) }
     ensures all { W.told ≡ true → OnOk result ((out.old.refused ≡ false)
         × (W.written writer.new ≡ W.written writer.old ++ out.old.bytes.items)) }
-    ensures cut { W.told ≡ true → IfErr result (λ job_end. IsFailure job_end
-        × (n : ℕ) × (W.written writer.new ≡ W.written writer.old ++ take n out.old.bytes.items)
+    ensures cut { W.told ≡ true → IfErr result (λ job_end. IsFailure job_end × (n : ℕ)
+        × (W.written writer.new ≡ W.written writer.old ++ take n out.old.bytes.items)
         × (out.old.refused ≡ true → n ≡ 0)) }
 {
     let Ok(bytes) = out.bytes() else {
@@ -84,7 +85,8 @@ pub fn talk<R: ByteSource, W: ByteSink>(
     requires writes { W.failed writer.old + 1 < 2 ^ 64 }
     ensures leaves { LeavesStreams result (R.failed reader.old) (R.failed reader.new)
         (W.failed writer.old) (W.failed writer.new) }
-    ensures writes { R.told ≡ true → W.told ≡ true → Writes (fixed stepper.old) positions.now
+    ensures writes { R.told ≡ true → W.told ≡ true →
+        Writes (fixed stepper.old) positions.now
         (seen stepper.old) (lines_of (R.left reader.old)) result
         (W.written writer.old) (W.written writer.new) }
 {
