@@ -1,4 +1,4 @@
--- What is served of outcomes over memory.
+-- A call of `ick_outcomes_serve` over devices in memory.
 use Rattle.std.proofs.Common.{◌≡◌, inl, inr, ℕ, List, Option, Some, None, arith, refl, subst}
 use Rattle.std.specs.Prelude.{true, if◌then◌else◌, is_some, option_map}
 use Rattle.clap.specs.Words.{Text}

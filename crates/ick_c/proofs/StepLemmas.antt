@@ -1,4 +1,4 @@
--- What is served of steps over memory.
+-- A call of `ick_step_serve` over devices in memory.
 use Rattle.std.proofs.Common.{ℕ, List, refl}
 use Rattle.std.specs.Prelude.{true}
 use Rattle.clap.specs.Words.{Text}

@@ -16,16 +16,16 @@ use ick_runs::{Cursor, RunsError};
 use ick_states::Runs;
 use std::alloc::Global;
 
-/// A text with a line for each run of a listing, or the number of the first line that no listing of
-/// the program over the input has.
+/// A text that names, in a line for each run of a listing, the statements that asked for its
+/// choices; or the number of the first line that no listing of the program over the input has.
 #[derive(Drop)]
 pub enum Asked {
     Text(Vec<u8>),
     Foreign(u64),
 }
 
-/// Returns what the choices of a listing were asked by, over an input. `NoMemory` is the only
-/// refusal.
+/// Finds which statements asked for the choices of the runs in a listing of a program over an
+/// input. `NoMemory` is the only refusal.
 pub fn asked_by(
     alloc: Global,
     code: &Code<'_>,
@@ -42,7 +42,8 @@ pub fn asked_by(
     lines_asked(alloc, &runs, &mut tools, &first, limit, listing)
 }
 
-/// Returns what the choices of a listing were asked by. The runs begin in the state `first`.
+/// Finds which statements asked for the choices of the runs in a listing. The runs begin in the
+/// state `first`.
 fn lines_asked<'c, P: States<'c>>(
     alloc: Global,
     program: &P,
@@ -75,8 +76,8 @@ fn lines_asked<'c, P: States<'c>>(
     Ok(Asked::Text(text))
 }
 
-/// Returns what the choices of a line of a listing were asked by, or `None` if the line is that of
-/// no run. The runs begin in the state `first`.
+/// Returns the statements that asked for the choices of a line's run, as text. Returns `None` if
+/// the line is not that of a run. The runs begin in the state `first`.
 fn line_asked<'c, P: States<'c>>(
     alloc: Global,
     program: &P,
@@ -108,7 +109,8 @@ fn line_asked<'c, P: States<'c>>(
     }
 }
 
-/// Returns the answer to a word that is refused: memory ran out, or the line is that of no run.
+/// Returns the answer to a line whose first word could not be read as choices: memory ran out, or
+/// the line is not that of a run.
 fn refused_word(error: RunsError) -> Result<Option<Vec<u8>>, NoMemory>
     ensures { IfOk result (λ found. (found ≡ None) × (error ≢ RunsError.NoMemory)) }
 {
@@ -118,8 +120,8 @@ fn refused_word(error: RunsError) -> Result<Option<Vec<u8>>, NoMemory>
     }
 }
 
-/// Returns what choices were asked by, or `None` if the line isn't that of a run with these
-/// choices.
+/// Returns the statements that asked for choices, as text. Returns `None` if the line is not that
+/// of a run with these choices.
 fn run_asked<'c, P: States<'c>>(
     alloc: Global,
     program: &P,

@@ -191,7 +191,7 @@ fn show<W: ByteSink>(found: &Found, writer: &mut W) -> OutcomesEnd
     }
 }
 
-/// Answers code by what the choices of a listing were asked by. The listing is in a file.
+/// Answers code by the statements that asked for the choices of a listing, which is in a file.
 fn answer_listing<L: Files, W: ByteSink>(
     alloc: Global,
     code: &Code<'_>,
@@ -216,7 +216,8 @@ fn answer_listing<L: Files, W: ByteSink>(
     }
 }
 
-/// Answers code by what the choices of a listing were asked by, unless the listing is too long.
+/// Answers code by the statements that asked for the choices of a listing, unless the listing is
+/// too long.
 fn answer_lines<W: ByteSink>(
     alloc: Global,
     code: &Code<'_>,
@@ -240,7 +241,7 @@ fn answer_lines<W: ByteSink>(
     }
 }
 
-/// Writes what choices were asked by, or says which line is of no run.
+/// Writes which statements asked for choices, or says which line is not that of a run.
 fn tell<W: ByteSink>(alloc: Global, asked: &Asked, writer: &mut W) -> JobEnd
     requires { W.failed writer.old + 1 < 2 ^ 64 }
     ensures leaves { LeavesAll (OutcomesEnd.By result) 0 0 0 0
@@ -254,7 +255,7 @@ fn tell<W: ByteSink>(alloc: Global, asked: &Asked, writer: &mut W) -> JobEnd
     }
 }
 
-/// Returns how work ends at a line that is of no run.
+/// Returns how work ends at a line that is not that of a run.
 fn foreign(alloc: Global, number: u64) -> JobEnd
     ensures { EndsBy 64 (foreign_text number) result }
 {
@@ -267,7 +268,7 @@ fn foreign(alloc: Global, number: u64) -> JobEnd
     }
 }
 
-/// Returns the line that names a line of no run.
+/// Returns the error text that names a line which is not that of a run.
 fn foreign_line(alloc: Global, number: u64) -> Result<Vec<u8>, NoMemory>
     ensures { IfOk result (λ text. text.items ≡ foreign_text number) }
 {

@@ -19,7 +19,7 @@ pub enum Found {
     TooManyStates,
 }
 
-/// Returns the text that a question wants of outcomes.
+/// Returns the text of outcomes that a question asks for.
 fn text_of(alloc: Global, outcomes: &[Outcome], question: Question) -> Result<Vec<u8>, NoMemory>
     ensures { IfOk result (λ text. IsTextOf question.exact question.total
         outcomes.now text.items) }

@@ -7,7 +7,8 @@ ghost use Rattle.ick_outcomes_cli.specs.OutcomesEnd.{outcomes_end_status, outcom
 use ick_cli::{JobEnd, Notice, Status, finish};
 use ick_runs::ByteSink;
 
-/// How the work ends: as work of `ick` does, or by a line with status 4 although nothing failed.
+/// How the work ends: by an end that `ick` has too, or by a refusal, which has a line and status 4
+/// although no device failed.
 #[derive(Drop)]
 pub enum OutcomesEnd {
     By(JobEnd),

@@ -200,7 +200,7 @@ fn append_by(
     append_abstained(out, code, op, before, after);
 }
 
-/// Appends bytes in quotes behind a word, unless there are none.
+/// Appends a word and, behind it, bytes in quotes. If there are no bytes, it appends nothing.
 fn append_bytes(out: &mut Text, word: &[u8], bytes: &[u8])
     ensures { Adds out.old out.new (bytes_text word.now bytes.now) }
 {
@@ -211,7 +211,7 @@ fn append_bytes(out: &mut Text, word: &[u8], bytes: &[u8])
     }
 }
 
-/// Appends what was printed behind so many bytes of output.
+/// Appends the output behind its first `before` bytes.
 pub fn append_printed(out: &mut Text, before: usize, after: &Present<'_, '_, '_>)
     ensures { Adds out.old out.new (printed_text before (present_state after.now)) }
 {
@@ -219,7 +219,7 @@ pub fn append_printed(out: &mut Text, before: usize, after: &Present<'_, '_, '_>
     append_bytes(out, b"  prints ", &whole[before.min(whole.len())..]);
 }
 
-/// Appends what was read between two states.
+/// Appends the input that was read between two states.
 fn append_read(out: &mut Text, before: &Present<'_, '_, '_>, after: &Present<'_, '_, '_>)
     ensures { Adds out.old out.new (read_text (present_state before.now)
         (present_state after.now)) }
@@ -254,7 +254,7 @@ fn append_names(
     }
 }
 
-/// Appends so many of the return addresses behind a word, the newest first.
+/// Appends a word and, behind it, the `count` newest return addresses, the newest first.
 fn append_newest(out: &mut Text, word: &[u8], addresses: &[u32], count: usize)
     requires addresses { count ≤ length addresses.now }
     ensures { Adds out.old out.new (newest_line word.now (reverse addresses.now) count) }
@@ -278,8 +278,8 @@ fn append_moved(out: &mut Text, before: &[u32], after: &[u32])
     }
 }
 
-/// Appends what happened to the return addresses, and those that there are then, if they have
-/// changed between two states.
+/// If the return addresses have changed between two states, appends those that were pushed or
+/// removed, and the NEXT stack after the change.
 fn append_returned(out: &mut Text, before: &Present<'_, '_, '_>, after: &Present<'_, '_, '_>)
     ensures { Adds out.old out.new (returned_text (present_state before.now)
         (present_state after.now)) }
@@ -303,9 +303,10 @@ pub fn append_change(out: &mut Text, changed: bool, statement: u32)
     }
 }
 
-/// Appends the lines of a step from one state to another, at a statement: what it read, which names
-/// it changed, which statements it abstained from, which return addresses it pushed or removed and
-/// which there are then, and what it printed.
+/// Appends the lines of a step from one state to another, at a statement. They show the input that
+/// the step read, the names that it changed and the statements that it abstained from or
+/// reinstated. Then come the return addresses that it pushed or removed, the NEXT stack after that,
+/// and the output.
 #[tactic(auto, unfolding(ick_machine::specs::Present::present_program))]
 pub fn append_changes(
     out: &mut Text,

@@ -18,8 +18,8 @@ pub struct Words {
     ghost kept: { ∥ AreWords seed generator drawn.items ∥₁ },
 }
 
-/// The choices that a run is given. Each of them can be asked for again, as a run that is set back
-/// does.
+/// The choices that a run is given. A run that goes back asks for its choices again, and is given
+/// the same ones.
 #[derive(Drop)]
 pub enum Given {
     Listed(Option<Cursor>),

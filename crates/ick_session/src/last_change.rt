@@ -42,8 +42,8 @@ pub fn go_before_change(
     }
 }
 
-/// Makes all steps of the session again, and returns the last one that changed what a name has,
-/// the first step being 0.
+/// Makes all steps of the session again. Returns the number of the last step that changed what a
+/// name has. The first step has the number 0.
 fn last_change(
     alloc: Global,
     run: &mut Session<Trailed<'_, '_>>,

@@ -9,7 +9,7 @@ ghost use Rattle.ick_session.specs.Changes.{passed_text};
 
 use ick_inspect::{Present, Text, is_abstained_from, place};
 
-/// Returns whether a statement is done, if a choice would do it or not.
+/// Returns whether a statement is done. If its chance asks a choice, `chosen` is the answer.
 #[tactic(auto, unfolding(ick_machine::specs::Present::present_program))]
 fn is_done(present: &Present<'_, '_, '_>, statement: u32, chosen: bool) -> bool
     requires first { 1 ≤ statement }
@@ -27,8 +27,8 @@ fn is_done(present: &Present<'_, '_, '_>, statement: u32, chosen: bool) -> bool
     chance == 100
 }
 
-/// Appends that the statement that is met is passed over, unless it is done. `chosen` says whether
-/// a choice would do it.
+/// Appends that the statement that is met next is passed over, unless it is done. If its chance
+/// asks a choice, `chosen` is the answer.
 #[tactic(auto, unfolding(ick_machine::specs::Present::present_program))]
 pub fn append_passed(out: &mut Text, present: &Present<'_, '_, '_>, chosen: bool)
     ensures { let s = present_state present.now in Adds out.old out.new

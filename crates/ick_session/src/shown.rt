@@ -11,7 +11,7 @@ ghost use Rattle.ick_session.specs.Shown.{place_text};
 use ick_inspect::{Position, Present, Text, append_stack, append_statement, place};
 use ick_machine::{Ask, Asks, End, Trailed};
 
-/// Appends that a number is that of no statement.
+/// Appends that no statement has a number.
 fn append_past(out: &mut Text, n: u32)
     ensures { Adds out.old out.new (past_text n) }
 {
@@ -19,8 +19,8 @@ fn append_past(out: &mut Text, n: u32)
     out.push(b" past the last statement");
 }
 
-/// Appends a statement by its number, with its position and its text, or that the number is that of
-/// no statement. There is a position for each statement.
+/// Appends the statement that has a number, with its position and its text, or that no statement
+/// has the number. `positions` has one position for each statement.
 #[tactic(auto, unfolding(ick_machine::specs::Present::present_program))]
 fn append_met(out: &mut Text, positions: &[Position], present: &Present<'_, '_, '_>, n: u32)
     requires { length positions.now ≡ length (present_program present.now) }
@@ -37,8 +37,8 @@ fn append_met(out: &mut Text, positions: &[Position], present: &Present<'_, '_, 
     append_statement(out, present.lowered.code, positions, n);
 }
 
-/// Appends the line of a run that has made so many steps: the number, and the statement that is met
-/// next with its line, its column and its text.
+/// Appends the line of a run: the number of steps that it has made, and the statement that is met
+/// next, with its line, its column and its text.
 pub fn append_place(
     out: &mut Text,
     positions: &[Position],
@@ -85,8 +85,8 @@ fn append_over(out: &mut Text, positions: &[Position], end: End<'_>, present: &P
     }
 }
 
-/// Appends where a machine's run is that has made so many steps, or how it has ended: the number of
-/// steps, and the statement that is met next, or the end. If a choice is asked, that follows.
+/// Appends where a machine's run is: the number of steps that it has made, and the statement that
+/// is met next, or how the run has ended. If a choice is asked, a line with its chance follows.
 pub fn append_here(out: &mut Text, positions: &[Position], steps: usize, machine: &Trailed<'_, '_>)
     requires { length positions.now ≡ length (trailed_machine machine.now).program }
     ensures { Adds out.old out.new (here_text (trailed_machine machine.now).program positions.now

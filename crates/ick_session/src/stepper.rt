@@ -30,7 +30,7 @@ pub struct Stepper<'c, 'a> {
     given: Given,
     /// How many choices the session has answered.
     chosen: usize,
-    /// How many steps the session may have made.
+    /// The greatest number of steps that the session may have made.
     limit: u32,
     ghost kept: { ∥ Counts session chosen ∥₁ },
 }
@@ -153,8 +153,8 @@ impl<'c, 'a> Stepper<'c, 'a> {
         Ok(true)
     }
 
-    /// Makes the step at which a choice of this chance is asked, if the run is given that choice.
-    /// Returns whether it is.
+    /// Makes the step at which a choice of this chance is asked, if the run is given the choice.
+    /// Returns whether the run is given it.
     fn choose_given(&mut self, chance: u8) -> Result<bool, RunsError>
         requires { let s = seen self.old in ask s.program (present s) ≡ choice chance }
         ensures fixed { fixed self.new ≡ fixed self.old }
@@ -173,9 +173,10 @@ impl<'c, 'a> Stepper<'c, 'a> {
         self.choose(done)
     }
 
-    /// Makes at most so many steps, with the choices that the run is given, and stops as soon as it
-    /// has come to the target by a step, or at a choice that isn't given, the end of the run or the
-    /// limit on its steps. Returns the statement of the last step, or 0 if no step was made.
+    /// Makes at most `most` steps, with the choices that the run is given. It stops as soon as a
+    /// step has led to the target. It also stops at a choice that isn't given, at the end of the
+    /// run and at the limit on its steps. Returns the statement of the last step, or 0 if no step
+    /// was made.
     fn travel(&mut self, target: &Target<'_>, most: u32) -> Result<u32, RunsError>
         ensures fixed { fixed self.new ≡ fixed self.old }
         ensures errors { IfErr result (IsStepError (seen self.new)) }
@@ -200,8 +201,8 @@ impl<'c, 'a> Stepper<'c, 'a> {
         Ok(last)
     }
 
-    /// Makes a step, if nothing is asked, or a choice that the run is given. Returns whether a step
-    /// was made.
+    /// Makes a step, unless the run has ended or a choice is asked that isn't given. Returns
+    /// whether a step was made.
     fn step(&mut self) -> Result<bool, RunsError>
         ensures fixed { fixed self.new ≡ fixed self.old }
         ensures errors { IfErr result (IsStepError (seen self.new)) }
@@ -255,7 +256,7 @@ impl<'c, 'a> Stepper<'c, 'a> {
         self.session.machine().output().len()
     }
 
-    /// Appends what was printed behind so many bytes.
+    /// Appends the output behind its first `before` bytes.
     fn append_printed(&self, printed: usize, out: &mut Text)
         ensures { Adds out.old out.new
             (printed_text printed (present (seen self.now))) }
@@ -275,7 +276,7 @@ impl<'c, 'a> Stepper<'c, 'a> {
         }
     }
 
-    /// Travels, and appends what the run has printed on the way, and where it is.
+    /// Travels, and appends what the run has printed on the way, and where the run is then.
     fn forward(
         &mut self,
         positions: &[Position],
@@ -299,8 +300,8 @@ impl<'c, 'a> Stepper<'c, 'a> {
         Ok(())
     }
 
-    /// Makes the step of a choice, and appends what it printed and where the run is, or that none
-    /// is asked.
+    /// Makes the step of a choice, and appends what it printed and where the run is then. If no
+    /// choice is asked, it appends that.
     fn answer_choose(
         &mut self,
         positions: &[Position],
@@ -356,8 +357,8 @@ impl<'c, 'a> Stepper<'c, 'a> {
         }
     }
 
-    /// Appends the line of a name, and that a statement changed it, if it has something else than
-    /// was kept of it.
+    /// Appends the line of a name. If the name no longer has what was kept of it, the line says
+    /// which statement changed it.
     fn append_watched(&self, held: &Held, name: Name, statement: u32, out: &mut Text)
         requires { held.now.name ≡ name }
         ensures { let s = present (seen self.now) in Adds out.old out.new
@@ -412,8 +413,8 @@ impl<'c, 'a> Stepper<'c, 'a> {
         gone
     }
 
-    /// Appends a name's line, goes back to the step that made it so, and appends the step's
-    /// statement and where that is.
+    /// Appends a name's line, and goes back to the state before the last step that changed the
+    /// name. Then it appends that step's statement, and where the run is.
     fn answer_why(
         &mut self,
         alloc: Global,

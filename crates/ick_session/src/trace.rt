@@ -12,8 +12,8 @@ use ick_bits::NoMemory;
 use ick_inspect::{Text, place};
 use ick_machine::{Backtrack, Trailed};
 
-/// Two machines in one state. One makes each step before the other, so that what the step changes
-/// can be seen.
+/// Two machines in one state. One makes each step before the other, so that the states before and
+/// after the step are both there.
 #[derive(Drop)]
 pub struct Pair<'c, 'a> {
     pub before: Trailed<'c, 'a>,
@@ -48,9 +48,9 @@ fn append_step(out: &mut Text, before: &Trailed<'_, '_>, after: &Trailed<'_, '_>
     append_changes(out, place(&old), &old, &new);
 }
 
-/// Makes a step with both machines, and appends its lines: that its statement is passed over, and
-/// what the step changed. Both machines must be in the same state, the run must not have ended, and
-/// their count of work must have room for the step. `NoMemory` is the only refusal.
+/// Makes a step with both machines, and appends its lines: whether its statement is passed over,
+/// and what the step changed. Both machines must be in the same state, and the run must not have
+/// ended. Their count of work must have room for the step. `NoMemory` is the only refusal.
 pub fn trace_step(machines: &mut Pair<'_, '_>, out: &mut Text, done: bool) -> Result<(), NoMemory>
     requires same { trailed_machine machines.old.after ≡ trailed_machine machines.old.before }
     requires going { IsGoing (ask (trailed_machine machines.old.before).program

@@ -51,7 +51,7 @@ fn given_by(alloc: Global, choices: Option<&str>, seed: Option<u64>) -> Result<G
     }
 }
 
-/// Reads the input, which is empty if no file is named. Without it the work ends.
+/// Reads the input, which is empty if no file is named. If it can't be read, the work ends.
 fn input_of<F: Files>(alloc: Global, name: Option<&str>, files: &mut F) -> Result<Vec<u8>, JobEnd>
     requires { F.failed files.old + 1 < 2 ^ 64 }
     ensures ok { IfOk result (λ _. F.failed files.new ≡ F.failed files.old) }
@@ -230,7 +230,7 @@ fn traced<W: ByteSink>(
     Ok(streamed(alloc, stopped)?)
 }
 
-/// Returns how a traced run stopped, as a streamed run stops.
+/// Returns how a traced run stopped, in the form in which `ick run` reports it.
 fn streamed(alloc: Global, stopped: Stopped<'_>) -> Result<Streamed, NoMemory> {
     let mut message = Vec::new(alloc);
     let end = match stopped.end {

@@ -15,8 +15,8 @@ use ick_runs::{ByteSink, ByteSource, ReadFault, write_whole};
 use ick_session::{Stepper, answer_line};
 use std::alloc::Global;
 
-/// Reads a line without its end. Returns whether there is one: the text behind the last line end is
-/// a line unless it is empty.
+/// Reads a line without its line end. Returns whether there is a line. The text behind the last
+/// line end is a line, unless it is empty.
 fn read_line<R: ByteSource>(reader: &mut R, line: &mut Vec<u8>) -> Result<bool, ReadFault>
     requires { R.failed reader.old + 1 < 2 ^ 64 }
     ensures count { R.failed reader.new ≡ R.failed reader.old + read_failures result }
@@ -44,7 +44,8 @@ fn read_line<R: ByteSource>(reader: &mut R, line: &mut Vec<u8>) -> Result<bool, 
     Err(ReadFault::NoMemory)
 }
 
-/// Writes a text and clears it. Without the text the work ends.
+/// Writes a text and clears it. If memory was refused for the text, or the writer fails, the work
+/// ends.
 fn say<W: ByteSink>(out: &mut Text, writer: &mut W) -> Result<(), JobEnd>
     requires { W.failed writer.old + 1 < 2 ^ 64 }
     ensures ok { OnOk result (W.failed writer.new ≡ W.failed writer.old) }
@@ -71,8 +72,8 @@ fn say<W: ByteSink>(out: &mut Text, writer: &mut W) -> Result<(), JobEnd>
 /// Answers the commands that the reader has, one a line, until `quit` or the end. Each answer is
 /// written before the next command is read. Returns how the work ends.
 ///
-/// There is a position for each statement. The counts of failures of both devices must be below
-/// their greatest values.
+/// `positions` has one position for each statement. The counts of failures of both devices must be
+/// below their greatest values.
 pub fn talk<R: ByteSource, W: ByteSink>(
     alloc: Global,
     positions: &[Position],

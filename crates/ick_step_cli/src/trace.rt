@@ -10,7 +10,7 @@ use ick_machine::{Ask, Asks, End, Trailed};
 use ick_runs::{ByteSink, RunsError, write_whole};
 use ick_session::{Given, Pair, append_answered, append_here, append_place, trace_step};
 
-/// How many bytes of lines are written at a time, or a few more.
+/// The number of bytes from which on lines are written.
 const BLOCK: usize = 65_536;
 
 /// How a traced run stopped, and after how many steps.
@@ -105,8 +105,8 @@ fn trace_steps<'c, 'a, W: ByteSink>(
 }
 
 /// Traces a run of at most `limit` steps: writes the lines of each step, and where the run stopped.
-/// Returns how it stopped. Both machines must be in the same state, and have the same count of
-/// work, which must have the limit left. There is a position for each statement.
+/// Returns how it stopped. Both machines must be in the same state, with the same count of work.
+/// The count must have room for `limit` steps. `positions` has one position for each statement.
 ///
 /// The refusals are `NoMemory`, and `Write` if the writer fails.
 pub fn trace<'c, 'a, W: ByteSink>(

@@ -1,6 +1,6 @@
-//! What is below the usage and the arguments in the text of help.
+//! The text that help prints below the usage and the arguments.
 
-/// Of `ick-outcomes --help`.
+/// The text of `ick-outcomes --help`.
 pub const OUTCOMES: &str =
     "Prints a line for each outcome of the program: the number of its runs, their weight, the
 choices of the first of them, the end and the output. Then comes DONE. An outcome is an

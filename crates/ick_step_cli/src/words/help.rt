@@ -1,6 +1,6 @@
-//! What is below the usage and the arguments in the text of help.
+//! The text that help prints below the usage and the arguments.
 
-/// Of `ick-step --help`.
+/// The text of `ick-step --help`.
 pub const STEP: &str =
     "Reads commands from standard input, one a line, and prints the answer to each. The command
 `help` lists the commands. With --trace it reads no commands, and prints a line for each step:
