@@ -6,7 +6,7 @@
 //! If a call is refused memory, its name goes to standard error. The program then looks at what
 //! must hold after the refusal, and makes the same call again if it may. It takes no memory of its
 //! own while it makes calls, and writes to standard output once after each row. So
-//! `tests/faults/refusals.py` can refuse each request of each row in turn.
+//! `tests/failures/refusals.py` can refuse each request of each row in turn.
 //!
 //! | Module | What it has |
 //! |---|---|
