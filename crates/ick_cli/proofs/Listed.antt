@@ -53,7 +53,7 @@ is_listed s count e answer stands is =
     (List Bool)). StandsFrom e.program s e.limit from e.present e.marks e.points) same stands.at_position)) is in
     record { runs = found.0; listing = found.1; shown_is = found.2 }
 
--- what is known of the job's end by what was written
+-- the answer is right if all of its text was written
 pub wrote_all : (told : Bool) (s : State) (count : ℕ) (old new : Explored) (w w' : List ℕ) (says : Listed2)
     (answer : Answer) → told ≡ true
     → ((cs : List (List Bool)) → IsListingAt s old cs → Writes told s cs count old new w w' (Ok says))

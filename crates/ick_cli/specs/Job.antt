@@ -50,9 +50,12 @@ parsed_number bits text =
     let digits = without_leading_plus text in
     if is_numeral digits && nat_lt (digits_value 10 digits) (2 ^ bits) then Some (digits_value 10 digits) else None
 
--- what the matches of a command have: a text, a number, or the usual number if none is given
+-- what the matches of a command have: a text, whether a flag is given, a number, or the usual number if none is given
 abbrev pub text_in : Text → List Row → Option Text
 text_in id rows = first_of id rows
+
+abbrev pub flag_in : Text → List Row → Bool
+flag_in id rows = option_map_or (λ t. bytes_eq t (codes "true")) (text_in id rows) false
 
 abbrev pub number_in : ℕ → Text → List Row → Option ℕ
 number_in bits id rows = option_and_then (parsed_number bits) (one_of id rows)

@@ -1,7 +1,8 @@
 //! The command line. `serve` does the job that arguments ask for, over devices of the caller.
 //!
 //! - `files`: files that are opened by name
-//! - `words`: commands and options, the job that arguments ask for, and the texts of help
+//! - `words`: commands and options, their values, the job that arguments ask for, and the texts of
+//!   help
 //! - `plan`: what is done with a program, after texts of choices are read
 //! - `notice`: error texts
 //! - `job_end`: how a job ends
@@ -48,4 +49,7 @@ pub use refusing::refused;
 pub use report::finish;
 pub use status::Status;
 pub use usage::answer_words;
-pub use words::{bug_argument, choices_argument, file_argument, limit_argument, seed_argument};
+pub use words::{
+    bug_argument, choices_argument, file_argument, flag_value, limit_argument, long_number_value,
+    number_value, seed_argument, text_value,
+};

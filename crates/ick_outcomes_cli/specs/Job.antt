@@ -1,9 +1,7 @@
 -- The job that arguments ask for, by the matches that clap defines.
-use Rattle.std.specs.Prelude.{◌≡◌, ℕ, Bool, false, List, [], Option, Some, None, codes, is_some, option_map}
-use Rattle.std.specs.Option.{option_map_or}
-use Rattle.std.specs.Str.{bytes_eq}
+use Rattle.std.specs.Prelude.{◌≡◌, ℕ, Bool, List, [], Option, codes, is_some, option_map}
 use Rattle.clap.specs.Words.{Row, Text, fault_of, matches_of}
-use Rattle.ick_cli.specs.Job.{number_or, text_in}
+use Rattle.ick_cli.specs.Job.{flag_in, number_or, text_in}
 use Rattle.ick_outcomes_cli.specs.Words.{outcomes_app}
 use Rattle.ick_outcomes_cli.specs.declared.words.job.Job.{Job}
 use Rattle.ick_outcomes_cli.specs.declared.words.job.Question.{Question}
@@ -22,10 +20,6 @@ wanted j = record {
   listing = option_map (λ s. s.now) j.listing;
   file = option_map (λ s. s.now) j.file;
 }
-
--- whether a flag is given
-abbrev pub flag_in : Text → List Row → Bool
-flag_in id rows = option_map_or (λ t. bytes_eq t (codes "true")) (text_in id rows) false
 
 -- what the matches have, with the usual number if none is given
 abbrev pub question_in : List Row → Question

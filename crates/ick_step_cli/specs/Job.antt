@@ -1,9 +1,7 @@
 -- The job that arguments ask for, by the matches that clap defines.
-use Rattle.std.specs.Prelude.{◌≡◌, Bool, false, List, [], Option, codes, option_map}
-use Rattle.std.specs.Option.{option_map_or}
-use Rattle.std.specs.Str.{bytes_eq}
+use Rattle.std.specs.Prelude.{◌≡◌, Bool, List, [], Option, codes, option_map}
 use Rattle.clap.specs.Words.{Row, Text, fault_of, matches_of}
-use Rattle.ick_cli.specs.Job.{Task, run_in, text_in, to_run}
+use Rattle.ick_cli.specs.Job.{Task, flag_in, run_in, text_in, to_run}
 use Rattle.ick_step_cli.specs.Words.{step_app}
 use Rattle.ick_step_cli.specs.declared.words.job.Job.{Job}
 
@@ -21,10 +19,6 @@ wanted j = record {
   trace = j.trace;
   file = option_map (λ s. s.now) j.file;
 }
-
--- whether a flag is given
-abbrev pub flag_in : Text → List Row → Bool
-flag_in id rows = option_map_or (λ t. bytes_eq t (codes "true")) (text_in id rows) false
 
 abbrev pub wanted_in : List Row → Wanted
 wanted_in rows = record {

@@ -1,13 +1,14 @@
 //! The job that arguments ask for.
-ghost use Rattle.std.specs.Prelude.{◌≡◌, IfOk, option_map};
+ghost use Rattle.std.specs.Prelude.{◌≡◌, IfOk};
 ghost use Rattle.clap.specs.Words.{fault_of, found_of, rows_of, subcommand_rows_of};
 ghost use Rattle.clap.specs.Kinds.{FailsBy};
 ghost use Rattle.clap.specs.Walk.{texts};
 ghost use Rattle.ick_cli.specs.Words.{ick_app};
-ghost use Rattle.ick_cli.specs.Job.{asked, asked_in, asked_of, job_of, number_in, run_in};
-ghost use Rattle.ick_cli.specs.Job.{runs_in, task_named, task_of, text_in};
+ghost use Rattle.ick_cli.specs.Job.{asked, asked_in, asked_of, job_of, run_in, runs_in};
+ghost use Rattle.ick_cli.specs.Job.{task_named, task_of};
 
 use crate::words::command::ick_command;
+use crate::words::values::{long_number_value, number_value, text_value};
 use clap::{ArgMatches, Error};
 use std::alloc::Global;
 
@@ -75,7 +76,7 @@ fn job_by<'a>(name: &str, matches: &ArgMatches<'a>) -> Job<'a>
 {
     Job {
         subcommand: subcommand_named(name, matches),
-        file: text(matches, "file"),
+        file: text_value(matches, "file"),
     }
 }
 
@@ -99,9 +100,9 @@ fn run_in<'a>(matches: &ArgMatches<'a>) -> Subcommand<'a>
     ensures { task_of result ≡ run_in (rows_of (found_of matches.now)) }
 {
     Subcommand::Run {
-        choices: text(matches, "choices"),
-        seed: long_number(matches, "seed"),
-        limit: number(matches, "limit").unwrap_or(1_000_000),
+        choices: text_value(matches, "choices"),
+        seed: long_number_value(matches, "seed"),
+        limit: number_value(matches, "limit").unwrap_or(1_000_000),
     }
 }
 
@@ -110,29 +111,8 @@ fn runs_in<'a>(matches: &ArgMatches<'a>) -> Subcommand<'a>
     ensures { task_of result ≡ runs_in (rows_of (found_of matches.now)) }
 {
     Subcommand::Runs {
-        from: text(matches, "from"),
-        count: number(matches, "count").unwrap_or(1000),
-        limit: number(matches, "limit").unwrap_or(10_000),
+        from: text_value(matches, "from"),
+        count: number_value(matches, "count").unwrap_or(1000),
+        limit: number_value(matches, "limit").unwrap_or(10_000),
     }
-}
-
-/// Returns the text that an option was given.
-fn text<'a>(matches: &ArgMatches<'a>, id: &str) -> Option<&'a str>
-    ensures { option_map (λ s. s.now) result ≡ text_in id.now (rows_of (found_of matches.now)) }
-{
-    matches.get_str(id)
-}
-
-/// Returns the number that an option was given.
-fn number(matches: &ArgMatches<'_>, id: &str) -> Option<u32>
-    ensures { result ≡ number_in 32 id.now (rows_of (found_of matches.now)) }
-{
-    matches.get_one::<u32>(id)
-}
-
-/// Returns the number of up to 64 bits that an option was given.
-fn long_number(matches: &ArgMatches<'_>, id: &str) -> Option<u64>
-    ensures { result ≡ number_in 64 id.now (rows_of (found_of matches.now)) }
-{
-    matches.get_one::<u64>(id)
 }

@@ -1,15 +1,15 @@
 //! The job that arguments ask for.
 
-ghost use Rattle.std.specs.Prelude.{◌≡◌, IfOk, option_map};
+ghost use Rattle.std.specs.Prelude.{◌≡◌, IfOk};
 ghost use Rattle.clap.specs.Kinds.{FailsBy};
 ghost use Rattle.clap.specs.Walk.{texts};
 ghost use Rattle.clap.specs.Words.{fault_of, found_of, rows_of};
-ghost use Rattle.ick_cli.specs.Job.{number_in, text_in};
-ghost use Rattle.ick_outcomes_cli.specs.Job.{flag_in, job_of, wanted, wanted_in};
+ghost use Rattle.ick_outcomes_cli.specs.Job.{job_of, wanted, wanted_in};
 ghost use Rattle.ick_outcomes_cli.specs.Words.{outcomes_app};
 
 use crate::words::command::outcomes_command;
 use clap::{ArgMatches, Error};
+use ick_cli::{flag_value, number_value, text_value};
 use std::alloc::Global;
 
 /// What is to be found out of the outcomes of a program.
@@ -23,8 +23,8 @@ pub struct Question {
     pub total: bool,
 }
 
-/// What the arguments ask for: the outcomes of the source, or what the choices of a listing were
-/// asked by. The source is in a file, or the reader has it if no file is named.
+/// What the arguments ask for: the outcomes of the source, or the statements that asked for the
+/// choices of a listing. The source is in a file, or the reader has it if no file is named.
 #[derive(Clone, Copy)]
 pub struct Job<'a> {
     pub question: Question,
@@ -51,36 +51,12 @@ fn job_in<'a>(matches: &ArgMatches<'a>) -> Job<'a>
 {
     Job {
         question: Question {
-            most: number(matches, "most").unwrap_or(1_000_000),
-            exact: flag(matches, "exact"),
-            total: flag(matches, "total"),
+            most: number_value(matches, "most").unwrap_or(1_000_000),
+            exact: flag_value(matches, "exact"),
+            total: flag_value(matches, "total"),
         },
-        limit: number(matches, "limit").unwrap_or(10_000),
-        listing: text(matches, "asked"),
-        file: text(matches, "file"),
+        limit: number_value(matches, "limit").unwrap_or(10_000),
+        listing: text_value(matches, "asked"),
+        file: text_value(matches, "file"),
     }
-}
-
-/// Returns the text that an option was given.
-fn text<'a>(matches: &ArgMatches<'a>, id: &str) -> Option<&'a str>
-    ensures { option_map (λ s. s.now) result ≡ text_in id.now (rows_of (found_of matches.now)) }
-{
-    matches.get_str(id)
-}
-
-/// Returns whether a flag was given.
-fn flag(matches: &ArgMatches<'_>, id: &str) -> bool
-    ensures { result ≡ flag_in id.now (rows_of (found_of matches.now)) }
-{
-    match text(matches, id) {
-        Some(given) => given == "true",
-        None => false,
-    }
-}
-
-/// Returns the number that an option was given.
-fn number(matches: &ArgMatches<'_>, id: &str) -> Option<u32>
-    ensures { result ≡ number_in 32 id.now (rows_of (found_of matches.now)) }
-{
-    matches.get_one::<u32>(id)
 }

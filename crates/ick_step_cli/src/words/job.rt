@@ -1,15 +1,15 @@
 //! The job that arguments ask for.
 
-ghost use Rattle.std.specs.Prelude.{◌≡◌, IfOk, option_map};
+ghost use Rattle.std.specs.Prelude.{◌≡◌, IfOk};
 ghost use Rattle.clap.specs.Kinds.{FailsBy};
 ghost use Rattle.clap.specs.Walk.{texts};
 ghost use Rattle.clap.specs.Words.{fault_of, found_of, rows_of};
-ghost use Rattle.ick_cli.specs.Job.{number_in, text_in};
-ghost use Rattle.ick_step_cli.specs.Job.{flag_in, job_of, wanted, wanted_in};
+ghost use Rattle.ick_step_cli.specs.Job.{job_of, wanted, wanted_in};
 ghost use Rattle.ick_step_cli.specs.Words.{step_app};
 
 use crate::words::command::step_command;
 use clap::{ArgMatches, Error};
+use ick_cli::{flag_value, long_number_value, number_value, text_value};
 use std::alloc::Global;
 
 /// What the arguments ask for: a session or a trace of a run of the source. The source is in a
@@ -42,42 +42,11 @@ fn job_in<'a>(matches: &ArgMatches<'a>) -> Job<'a>
     ensures { wanted result ≡ wanted_in (rows_of (found_of matches.now)) }
 {
     Job {
-        choices: text(matches, "choices"),
-        seed: long_number(matches, "seed"),
-        limit: number(matches, "limit").unwrap_or(1_000_000),
-        input: text(matches, "input"),
-        trace: flag(matches, "trace"),
-        file: text(matches, "file"),
+        choices: text_value(matches, "choices"),
+        seed: long_number_value(matches, "seed"),
+        limit: number_value(matches, "limit").unwrap_or(1_000_000),
+        input: text_value(matches, "input"),
+        trace: flag_value(matches, "trace"),
+        file: text_value(matches, "file"),
     }
-}
-
-/// Returns the text that an option was given.
-fn text<'a>(matches: &ArgMatches<'a>, id: &str) -> Option<&'a str>
-    ensures { option_map (λ s. s.now) result ≡ text_in id.now (rows_of (found_of matches.now)) }
-{
-    matches.get_str(id)
-}
-
-/// Returns whether a flag was given.
-fn flag(matches: &ArgMatches<'_>, id: &str) -> bool
-    ensures { result ≡ flag_in id.now (rows_of (found_of matches.now)) }
-{
-    match text(matches, id) {
-        Some(given) => given == "true",
-        None => false,
-    }
-}
-
-/// Returns the number that an option was given.
-fn number(matches: &ArgMatches<'_>, id: &str) -> Option<u32>
-    ensures { result ≡ number_in 32 id.now (rows_of (found_of matches.now)) }
-{
-    matches.get_one::<u32>(id)
-}
-
-/// Returns the number of up to 64 bits that an option was given.
-fn long_number(matches: &ArgMatches<'_>, id: &str) -> Option<u64>
-    ensures { result ≡ number_in 64 id.now (rows_of (found_of matches.now)) }
-{
-    matches.get_one::<u64>(id)
 }

@@ -5,7 +5,7 @@ use Rattle.clap.specs.Words.{found_of}
 use Rattle.clap.proofs.WalkLemmas.{one_text-rows}
 use Rattle.ick_cli.specs.Job.{parsed_number}
 use Rattle.ick_cli.proofs.Numbers.{read_number}
-use Rattle.ick_outcomes_cli.proofs.words.job.number.Goals as goal
+use Rattle.ick_cli.proofs.words.values.number_value.Goals as goal
 
 pub returns : goal.returns
 returns c =
