@@ -70,8 +70,8 @@ fn show_code(rt: &HostRuntime, code: &Code<'_>, steps: u32) -> io::Result<()> {
 
 /// Prints each instruction of traces, and where it is in the program.
 fn print_traces(rt: &HostRuntime, traces: &Traces) -> io::Result<()> {
-    for at in 0..traces.code.len().min(traces.marks.len()) {
-        let (i, m) = (traces.code[at], traces.marks[at]);
+    for at in 0..traces.code.len().min(traces.origins.len()) {
+        let (i, m) = (traces.code[at], traces.origins[at]);
         let (operation, here, steps, pending) = (i.operation, m.here, m.steps, m.count);
         println!(rt;
             "{at}: {operation:?} of statement {here} after {steps} steps, {pending} pending"
