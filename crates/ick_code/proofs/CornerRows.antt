@@ -18,7 +18,7 @@ use Rattle.ick_syntax.specs.StatementTree.{StatementTree}
 use Rattle.ick_syntax.specs.BodyTree.{calculate, dimension, next, resume, stash, retrieve, ignore, remember}
 use Rattle.ick_syntax.specs.BodyTree.{abstain_label, abstain_kinds, reinstate_label, reinstate_kinds, give_up}
 use Rattle.ick_code.specs.meaning.State.{State, gave_up, faulted}
-use Rattle.ick_code.specs.meaning.Outcome.{done, faults}
+use Rattle.ick_code.specs.meaning.Completion.{done, faults}
 use Rattle.ick_code.specs.meaning.Control.{resume as do_resume, forget as do_forget}
 use Rattle.ick_code.specs.meaning.Move.{advance, first_state, ask, plain, choice}
 use Rattle.ick_code.proofs.RowWords.{plainly, labelled, reads, prints, one, two, double, tail, other_tail, hybrid, at}

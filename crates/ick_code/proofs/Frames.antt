@@ -21,7 +21,7 @@ use Rattle.ick_syntax.specs.StatementTree.{StatementTree}
 use Rattle.ick_code.specs.meaning.State.{State, Array, with_entry, statement_at}
 use Rattle.ick_code.specs.meaning.Value.{value_of, values_of, and_then, element_value, element_offset, product}
 use Rattle.ick_code.specs.meaning.Value.{binary_value, unary_value}
-use Rattle.ick_code.specs.meaning.Outcome.{Outcome, done, faults, then_do, with_value, in_turn}
+use Rattle.ick_code.specs.meaning.Completion.{Completion, done, faults, then_do, with_value, in_turn}
 use Rattle.ick_code.specs.meaning.Store.{set_scalar, set_array, store, store_at, store_within, resize, most_elements}
 use Rattle.ick_code.specs.meaning.Store.{zeros, bound_of}
 use Rattle.ick_code.specs.meaning.Control.{place_of, call, resume, resume_at, most_returns}
@@ -36,8 +36,8 @@ use Rattle.ick_code.specs.meaning.Do.{do_statement}
 use Rattle.ick_code.specs.meaning.Move.{is_done, meet, advance}
 use Rattle.ick_code.specs.Laws.{after_output}
 
--- an outcome before which this was written
-abbrev framed : List ℕ → Outcome → Outcome
+-- what came of doing something, after this output
+abbrev framed : List ℕ → Completion → Completion
 framed o (done s) = done (after_output o s)
 framed o (faults kind subject s) = faults kind subject (after_output o s)
 
@@ -46,10 +46,10 @@ if_state : (o : List ℕ) (t : Bool) (x y x' y' : State) → x' ≡ after_output
 if_state o true x y x' y' e f = e
 if_state o false x y x' y' e f = f
 
-if_outcome : (o : List ℕ) (t : Bool) (x y x' y' : Outcome) → x' ≡ framed o x →
+if_completion : (o : List ℕ) (t : Bool) (x y x' y' : Completion) → x' ≡ framed o x →
     y' ≡ framed o y → (if t then x' else y') ≡ framed o (if t then x else y)
-if_outcome o true x y x' y' e f = e
-if_outcome o false x y x' y' e f = f
+if_completion o true x y x' y' e f = e
+if_completion o false x y x' y' e f = f
 
 -- values
 and_same : {A B : Type 0} (r r' : Result A FaultKind) (go go' : A → Result B FaultKind) →
@@ -72,19 +72,19 @@ mutual
   values_same o (more t ts) s =
       and_same _ _ _ _ (value_same o t s) (λ v. ap (λ r. and_then r (λ vs. Ok (v ∷ vs))) (values_same o ts s))
 
-value_frame : {A : Type 0} (o : List ℕ) (r r' : Result A FaultKind) (s : State) (go go' : A → Outcome) →
+value_frame : {A : Type 0} (o : List ℕ) (r r' : Result A FaultKind) (s : State) (go go' : A → Completion) →
     r' ≡ r → ((a : A) → go' a ≡ framed o (go a)) →
     with_value r' (after_output o s) go' ≡ framed o (with_value r s go)
 value_frame {A} o (Ok a) r' s go go' e f = ap (λ x. with_value x (after_output o s) go') e ∙ f a
 value_frame {A} o (Err kind) r' s go go' e f = ap (λ x. with_value x (after_output o s) go') e
 
-then_frame : (o : List ℕ) (x x' : Outcome) (go go' : State → Outcome) →
+then_frame : (o : List ℕ) (x x' : Completion) (go go' : State → Completion) →
     x' ≡ framed o x → ((s : State) → go' (after_output o s) ≡ framed o (go s)) →
     then_do x' go' ≡ framed o (then_do x go)
 then_frame o (done s) x' go go' e f = ap (λ y. then_do y go') e ∙ f s
 then_frame o (faults kind subject s) x' go go' e f = ap (λ y. then_do y go') e
 
-turn_frame : {A : Type 0} (o : List ℕ) (f : A → State → Outcome) → ((a : A) (s : State) →
+turn_frame : {A : Type 0} (o : List ℕ) (f : A → State → Completion) → ((a : A) (s : State) →
     f a (after_output o s) ≡ framed o (f a s)) → (xs : List A) (s : State) →
     in_turn f xs (after_output o s) ≡ framed o (in_turn f xs s)
 turn_frame {A} o f h [] s = refl
@@ -102,13 +102,13 @@ array_frame o name array s = if_state o (s.ignored name) _ _ _ _ refl refl
 
 store_frame : (o : List ℕ) (name : Name) (n : ℕ) (s : State) →
     store name n (after_output o s) ≡ framed o (store name n s)
-store_frame o name n s = if_outcome o (nat_lt n (bound_of name.kind)) _ _ _ _ (ap done (scalar_frame o name n s)) refl
+store_frame o name n s = if_completion o (nat_lt n (bound_of name.kind)) _ _ _ _ (ap done (scalar_frame o name n s)) refl
 
 within_frame : (o : List ℕ) (name : Name) (place : Option ℕ) (n : ℕ) (s : State) →
     store_within name place n (after_output o s) ≡ framed o (store_within name place n s)
 within_frame o name None n s = refl
 within_frame o name (Some place) n s =
-    if_outcome o (nat_lt n (bound_of name.kind)) _ _ _ _ (ap done (array_frame o name _ s)) refl
+    if_completion o (nat_lt n (bound_of name.kind)) _ _ _ _ (ap done (array_frame o name _ s)) refl
 
 store_at_frame : (o : List ℕ) (name : Name) (subs : List Value) (n : ℕ) (s : State) →
     store_at name subs n (after_output o s) ≡ framed o (store_at name subs n s)
@@ -117,8 +117,8 @@ store_at_frame o name subs n s = within_frame o name (element_offset (s.arrays n
 resize_frame : (o : List ℕ) (name : Name) (dimensions : List ℕ) (s : State) →
     resize name dimensions (after_output o s) ≡ framed o (resize name dimensions s)
 resize_frame o name dimensions s =
-    if_outcome o (list_any (λ d. d == 0) dimensions) _ _ _ _ refl
-    (if_outcome o (nat_lt most_elements (product dimensions)) _ _ _ _ refl
+    if_completion o (list_any (λ d. d == 0) dimensions) _ _ _ _ refl
+    (if_completion o (nat_lt most_elements (product dimensions)) _ _ _ _ refl
     (ap done (array_frame o name (zeros dimensions) s)))
 
 store_to_frame : (o : List ℕ) (target : Tree) (n : ℕ) (s : State) →
@@ -132,7 +132,7 @@ store_to_frame o (joined op a b) n s = refl
 
 -- control
 call_frame : (o : List ℕ) (to : ℕ) (s : State) → call to (after_output o s) ≡ framed o (call to s)
-call_frame o to s = if_outcome o (nat_lt (length s.returns) most_returns) _ _ _ _ refl refl
+call_frame o to s = if_completion o (nat_lt (length s.returns) most_returns) _ _ _ _ refl refl
 
 resume_at_frame : (o : List ℕ) (to : Option ℕ) (n : ℕ) (s : State) →
     resume_at to n (after_output o s) ≡ framed o (resume_at to n s)
@@ -163,7 +163,7 @@ retrieve_array_frame o name (array ∷ rest) s =
 retrieve_frame : (o : List ℕ) (name : Name) (s : State) →
     retrieve name (after_output o s) ≡ framed o (retrieve name s)
 retrieve_frame o name s =
-    if_outcome o (is_array name.kind) _ _ _ _ (retrieve_array_frame o name (s.stashed_arrays name) s)
+    if_completion o (is_array name.kind) _ _ _ _ (retrieve_array_frame o name (s.stashed_arrays name) s)
     (retrieve_scalar_frame o name (s.stashed_scalars name) s)
 
 abstained_frame : (o : List ℕ) (program : List StatementTree) (on : Bool) (n : ℕ) (s : State) →
@@ -173,14 +173,14 @@ abstained_frame o program on n s =
     refl
 
 -- input and output
-number_frame : (o line : List ℕ) (r : Result ℕ DigitFault) (s : State) (go go' : ℕ → State → Outcome) →
+number_frame : (o line : List ℕ) (r : Result ℕ DigitFault) (s : State) (go go' : ℕ → State → Completion) →
     ((n : ℕ) (s : State) → go' n (after_output o s) ≡ framed o (go n s)) →
     with_number line r (after_output o s) go' ≡ framed o (with_number line r s go)
 number_frame o line (Ok n) s go go' f = f n s
 number_frame o line (Err (Word from to)) s go go' f = refl
 number_frame o line (Err TooLarge) s go go' f = refl
 
-input_frame : (o input : List ℕ) (s : State) (go go' : ℕ → State → Outcome) → ((n : ℕ) (s : State) →
+input_frame : (o input : List ℕ) (s : State) (go go' : ℕ → State → Completion) → ((n : ℕ) (s : State) →
     go' n (after_output o s) ≡ framed o (go n s)) →
     with_input input (after_output o s) go' ≡ framed o (with_input input s go)
 input_frame o [] s go go' f = refl
@@ -227,7 +227,7 @@ printed_frame o s elements =
 print_array_frame : (o : List ℕ) (array : Name) (s : State) →
     print_array array (after_output o s) ≡ framed o (print_array array s)
 print_array_frame o array s =
-    if_outcome o (length (s.arrays array).dimensions == 1) _ _ _ _
+    if_completion o (length (s.arrays array).dimensions == 1) _ _ _ _
     (ap done (printed_frame o s (s.arrays array).elements)) refl
 
 read_array_frame : (o : List ℕ) (array : Name) (s : State) →
@@ -235,7 +235,7 @@ read_array_frame : (o : List ℕ) (array : Name) (s : State) →
 read_array_frame o array s =
     let count = length (s.arrays array).elements in
     let filled = with_elements (s.arrays array) (tape_numbers count s.lastin s.input) in
-    if_outcome o (length (s.arrays array).dimensions == 1) _ _ _ _
+    if_completion o (length (s.arrays array).dimensions == 1) _ _ _ _
     (ap done (array_frame o array filled (take_bytes count s))) refl
 
 read_place_frame : (o : List ℕ) (place : ItemTree) (s : State) →
@@ -278,7 +278,7 @@ body_frame o program text (Some give_up) s = refl
 body_frame o program text (Some (write_in places)) s = turn_frame o _ (λ t s. read_place_frame o t s) places s
 body_frame o program text (Some (read_out items)) s = turn_frame o _ (λ t s. item_frame o t s) items s
 
-ended_frame : (o : List ℕ) (n : ℕ) (x : Outcome) → ended_by n (framed o x) ≡ after_output o (ended_by n x)
+ended_frame : (o : List ℕ) (n : ℕ) (x : Completion) → ended_by n (framed o x) ≡ after_output o (ended_by n x)
 ended_frame o n (done s) = refl
 ended_frame o n (faults kind subject s) = refl
 

@@ -16,7 +16,7 @@ use Rattle.ick_syntax.specs.StatementTree.{StatementTree}
 use Rattle.ick_syntax.specs.BodyTree.{give_up, calculate}
 use Rattle.ick_code.specs.meaning.State.{State, with_entry}
 use Rattle.ick_code.specs.meaning.Value.{value_of, scalar_value}
-use Rattle.ick_code.specs.meaning.Outcome.{done, faults}
+use Rattle.ick_code.specs.meaning.Completion.{done, faults}
 use Rattle.ick_code.specs.meaning.Store.{store, resize}
 use Rattle.ick_code.specs.meaning.Control.{call, resume, forget}
 use Rattle.ick_code.specs.meaning.Stash.{stash, retrieve, ignore}

@@ -34,7 +34,7 @@ use Rattle.ick_code.specs.declared.op.SlotName.{SlotName}
 use Rattle.ick_code.specs.declared.op.SlotName.TheVariants.{Array}
 use Rattle.ick_code.specs.meaning.State.{State}
 use Rattle.ick_code.specs.meaning.Value.{value_of, values_of, and_then, element_value, unary_value, binary_value}
-use Rattle.ick_code.specs.meaning.Outcome.{Outcome, done, faults, then_do, with_value, in_turn}
+use Rattle.ick_code.specs.meaning.Completion.{Completion, done, faults, then_do, with_value, in_turn}
 use Rattle.ick_code.specs.meaning.Store.{store_at, resize}
 use Rattle.ick_code.specs.meaning.Control.{place_of, call, forget, resume}
 use Rattle.ick_code.specs.meaning.Stash.{stash, retrieve, ignore}
@@ -199,13 +199,13 @@ module _ (program : List StatementTree) (slots : Slots) (text : List ℕ) where
   then_flow-last (broken kind subject s) = refl
   then_flow-last stuck = refl
 
-  then-with_value : {A : Type 0} (r : Result A FaultKind) (s : State) (go : A → Outcome)
+  then-with_value : {A : Type 0} (r : Result A FaultKind) (s : State) (go : A → Completion)
       (next : List Value → State → Flow) →
       then_flow (flow_of [] (with_value r s go)) next ≡ on r s (λ a. then_flow (flow_of [] (go a)) next)
   then-with_value (Ok a) s go next = refl
   then-with_value (Err kind) s go next = refl
 
-  flow-then_do : (o : Outcome) (f : State → Outcome) (next : List Value → State → Flow) → ((s : State) →
+  flow-then_do : (o : Completion) (f : State → Completion) (next : List Value → State → Flow) → ((s : State) →
       next [] s ≡ flow_of [] (f s)) → then_flow (flow_of [] o) next ≡ flow_of [] (then_do o f)
   flow-then_do (done s) f next same = same s
   flow-then_do (faults kind subject s) f next same = refl
@@ -234,7 +234,7 @@ module _ (program : List StatementTree) (slots : Slots) (text : List ℕ) where
       ∙ sym (then-with_value (values_of ts s) s (λ vs. store_at e.array vs (number_of v) s) (run rest))
 
   -- an operation on an array whole
-  array_goes : (array : Name) (make : ℕ → Op) (f : Name → State → Outcome) →
+  array_goes : (array : Name) (make : ℕ → Op) (f : Name → State → Completion) →
       is_tail array.kind ≡ true →
       Covers slots (array ∷ []) →
       ((slot : ℕ) (s : State) →
@@ -272,7 +272,7 @@ module _ (program : List StatementTree) (slots : Slots) (text : List ℕ) where
       array_goes name ReadArray read_array kinded covered (λ slot s. refl) rest s
 
   -- one operation on the value of a tree
-  value_goes : (t : Tree) (op : Op) (f : Value → State → Outcome) → is_kinded t ≡ true →
+  value_goes : (t : Tree) (op : Op) (f : Value → State → Completion) → is_kinded t ≡ true →
       Covers slots (names_of_tree t) →
       ((v : Value) (s : State) → effect program slots text op (v ∷ []) s ≡ flow_of [] (f v s)) →
       (rest : List Op) (s : State) → run ((ops_of_tree slots t ++ op ∷ []) ++ rest) [] s
@@ -284,7 +284,7 @@ module _ (program : List StatementTree) (slots : Slots) (text : List ℕ) where
       ∙ sym (then-with_value (value_of t s) s (λ v. f v s) (run rest))
 
   -- the same, with nothing after it
-  value_goes_last : (t : Tree) (op : Op) (f : Value → State → Outcome) → is_kinded t ≡ true →
+  value_goes_last : (t : Tree) (op : Op) (f : Value → State → Completion) → is_kinded t ≡ true →
       Covers slots (names_of_tree t) →
       ((v : Value) (s : State) → effect program slots text op (v ∷ []) s ≡ flow_of [] (f v s)) →
       (s : State) →
@@ -306,7 +306,7 @@ module _ (program : List StatementTree) (slots : Slots) (text : List ℕ) where
       array_goes name PrintArray print_array kinded covered (λ slot s. refl) rest s
 
   -- the members of a list, one after another
-  members_run : {A : Type 0} (tree : A → ItemTree) (ops : A → List Op) (f : ItemTree → State → Outcome) →
+  members_run : {A : Type 0} (tree : A → ItemTree) (ops : A → List Op) (f : ItemTree → State → Completion) →
       ((x : A) →
       is_item_kinded (tree x) ≡ true →
       Covers slots (names_of_item (tree x)) →
@@ -329,7 +329,7 @@ module _ (program : List StatementTree) (slots : Slots) (text : List ℕ) where
       ∙ flow-then_do (f t s) (in_turn f ts) (run (flat_map ops xs))
       (λ s. members_run tree ops f one xs are_others have s)
 
-  names_run : (make : SlotName → Op) (f : Name → State → Outcome) → ((slot : SlotName) (s : State) →
+  names_run : (make : SlotName → Op) (f : Name → State → Completion) → ((slot : SlotName) (s : State) →
       effect program slots text (make slot) [] s
       ≡ at_name (name_at slots slot) (λ name. flow_of [] (f name s))) →
       (names : List Name) → Covers slots names → (s : State) →
@@ -341,7 +341,7 @@ module _ (program : List StatementTree) (slots : Slots) (text : List ℕ) where
       ∙ flow-then_do (f name s) (in_turn f names) (run (name_ops slots make names))
       (λ s. names_run make f one names (covers_tail slots name names covered) s)
 
-  gerunds_run : (make : Gerund → Op) (f : Gerund → State → Outcome) → ((gerund : Gerund) (s : State) →
+  gerunds_run : (make : Gerund → Op) (f : Gerund → State → Completion) → ((gerund : Gerund) (s : State) →
       effect program slots text (make gerund) [] s ≡ flow_of [] (f gerund s)) →
       (gerunds : List Gerund) (s : State) → run (gerund_ops make gerunds) [] s ≡ flow_of [] (in_turn f gerunds s)
   gerunds_run make f one [] s = refl

@@ -1,6 +1,6 @@
 pub mod State
 pub mod Value
-pub mod Outcome
+pub mod Completion
 pub mod Store
 pub mod Control
 pub mod Stash

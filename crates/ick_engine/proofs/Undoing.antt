@@ -126,7 +126,7 @@ newest_first changes change k within =
 pub pushed_like : (base low depth place : ℕ) (v : View) → low ≤ depth →
     Like base low v (record v { returns = slice_set v.returns depth place })
 pushed_like base low depth place v above =
-    alike (first_refl base v.registers) refl refl (parts_refl v.parts) 
+    alike (first_refl base v.registers) refl refl (parts_refl v.parts)
     (first_above low depth place v.returns v.returns refl above)
 
 -- a change that is undone first

@@ -3,7 +3,7 @@ use Rattle.std.specs.Prelude.{ℕ, ◌≡◌, Bool, List, [], ◌∷◌, ◌++�
 use Rattle.ick_bits.specs.declared.faults.FaultKind.TheVariants.{NoDigit, NoInput, SixtyFour}
 use Rattle.ick_bits.specs.Tape.{tape_difference}
 use Rattle.ick_code.specs.meaning.State.{State}
-use Rattle.ick_code.specs.meaning.Outcome.{Outcome, faults}
+use Rattle.ick_code.specs.meaning.Completion.{Completion, faults}
 use Rattle.ick_code.specs.meaning.InputOutput.{with_input}
 use Rattle.ick_code.specs.meaning.Tape.{tape_numbers, last_read}
 use Rattle.ick_engine.specs.View.{Input}
@@ -15,7 +15,7 @@ abbrev pub Leads : {R : Type 0} → (R → Input → Type 0) → R → R → (In
 Leads Has old new P = (after : Input) → Has new after → (before : Input) × Has old before × P before after
 
 -- what comes of a line that was taken at a position
-abbrev pub line_outcome : Line → Input → ℕ → State → (ℕ → State → Outcome) → Outcome
+abbrev pub line_outcome : Line → Input → ℕ → State → (ℕ → State → Completion) → Completion
 line_outcome Nothing input from s go = faults NoInput [] (record s { input = input.left from })
 line_outcome (Number n to) input from s go = go n (record s { input = input.left to })
 line_outcome (BadWord begin end to) input from s go =
@@ -25,7 +25,7 @@ line_outcome (TooLarge to) input from s go = faults SixtyFour [] (record s { inp
 -- the next line from a position on
 abbrev pub IsNext : Line → ℕ → Input → Input → Type 0
 IsNext line from before after =
-    (s : State) (go : ℕ → State → Outcome) → s.input ≡ before.left from →
+    (s : State) (go : ℕ → State → Completion) → s.input ≡ before.left from →
     with_input s.input s go ≡ line_outcome line after from s go
 
 -- the next byte from a position on, and where the input goes on

@@ -13,7 +13,7 @@ use Rattle.ick_bits.specs.declared.digits.DigitFault.{DigitFault}
 use Rattle.ick_bits.specs.declared.digits.DigitFault.TheVariants.{Word, TooLarge}
 use Rattle.ick_bits.specs.declared.faults.FaultKind.TheVariants.{NoDigit, NoInput}
 use Rattle.ick_code.specs.meaning.State.{State}
-use Rattle.ick_code.specs.meaning.Outcome.{Outcome, faults}
+use Rattle.ick_code.specs.meaning.Completion.{Completion, faults}
 use Rattle.ick_code.specs.meaning.InputOutput.{with_input, with_number, first_line, later_lines}
 use Rattle.ick_engine.specs.View.{Input}
 use Rattle.ick_engine.specs.declared.reader.Line.TheVariants.{Nothing}
@@ -46,7 +46,7 @@ not_empty (b ∷ line) rest e = cc
 -- what comes of a line that was taken
 module _ (after : Input) (line : List ℕ) (from : ℕ)
     (word : (begin end : ℕ) → after.word begin end ≡ slice_range line begin end) (s : State)
-    (go : ℕ → State → Outcome) where
+    (go : ℕ → State → Completion) where
   by_answer : (answer : Result ℕ DigitFault) →
       with_number line answer (record s { input = after.left from }) go
       ≡ line_outcome (line_with answer from) after from s go

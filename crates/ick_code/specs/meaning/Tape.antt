@@ -6,7 +6,7 @@ use Rattle.ick_bits.specs.Tape.{tape_position, tape_difference, reversed_byte}
 use Rattle.ick_bits.specs.declared.faults.FaultKind.TheVariants.{Hyperspace}
 use Rattle.ick_syntax.specs.declared.tree.Name.{Name}
 use Rattle.ick_code.specs.meaning.State.{State, Array}
-use Rattle.ick_code.specs.meaning.Outcome.{Outcome, done, faults}
+use Rattle.ick_code.specs.meaning.Completion.{Completion, done, faults}
 use Rattle.ick_code.specs.meaning.Store.{set_array}
 
 -- the bytes that elements are printed as, if the tape is at `last`
@@ -32,7 +32,7 @@ last_read (suc n) lastin [] = lastin
 last_read (suc n) lastin (b ∷ bs) = last_read n b bs
 
 -- the elements of an array are printed as bytes
-abbrev pub print_array : Name → State → Outcome
+abbrev pub print_array : Name → State → Completion
 print_array name s =
     if length (s.arrays name).dimensions == 1
     then done (record s {
@@ -50,7 +50,7 @@ abbrev pub with_elements : Array → List ℕ → Array
 with_elements array elements = record array { elements = elements }
 
 -- each element of an array gets the number of a byte; an ignored array takes its bytes and stays as it is
-abbrev pub read_array : Name → State → Outcome
+abbrev pub read_array : Name → State → Completion
 read_array name s =
     if length (s.arrays name).dimensions == 1
     then
