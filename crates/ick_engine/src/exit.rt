@@ -30,5 +30,5 @@ pub enum Exit {
     /// Memory has run out within a statement. What was noted can be undone.
     NoMemory,
     /// The run has ended.
-    Stopped(RawEnd),
+    Ended(RawEnd),
 }

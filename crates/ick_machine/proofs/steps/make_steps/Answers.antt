@@ -61,32 +61,32 @@ returns-in-Room-clause-steps g c = λ done same one goes enough.
     (λ is. (if_room call.result is call.ensures.room).begun) (λ is. if_waits call.result is call.ensures.waits) goes
     enough call.ensures.left one)
 
-pub returns-in-Stopped-clause-runs : goal.returns-in-Stopped-clause-runs
-returns-in-Stopped-clause-runs g c =
-    let told = at_end c.run_steps-exit.result c.in-Stopped.ended c.in-Stopped.is in
+pub returns-in-Ended-clause-runs : goal.returns-in-Ended-clause-runs
+returns-in-Ended-clause-runs g c =
+    let told = at_end c.run_steps-exit.result c.in-Ended.ended c.in-Ended.is in
     let call = c.run_steps-exit in
     has_made c.args.lowered.now.code.now c.args.lowered.now.parts g.R.Reader.Has c.args.reader.now call.new.reader
     c.args.limit
     call.new.self.cursor.left c.args.answer call.new.self.cursor.answer (view_in c.args.memory.now)
-    (view_in call.new.self) call.result told.0 (Some c.in-Stopped.ended) told.3
+    (view_in call.new.self) call.result told.0 (Some c.in-Ended.ended) told.3
     call.ensures.comes
 
-pub returns-in-Stopped-clause-rests : goal.returns-in-Stopped-clause-rests
-returns-in-Stopped-clause-rests g c =
-    let told = at_end c.run_steps-exit.result c.in-Stopped.ended c.in-Stopped.is in
+pub returns-in-Ended-clause-rests : goal.returns-in-Ended-clause-rests
+returns-in-Ended-clause-rests g c =
+    let told = at_end c.run_steps-exit.result c.in-Ended.ended c.in-Ended.is in
     let call = c.run_steps-exit in
     λ none _. has_rested c.args.lowered.now.code.now c.args.lowered.now.parts g.R.Reader.Has c.args.reader.now
     call.new.reader c.args.limit
     call.new.self.cursor.left c.args.answer call.new.self.cursor.answer (view_in c.args.memory.now)
-    (view_in call.new.self) call.result told.0 (Some c.in-Stopped.ended) told.3
+    (view_in call.new.self) call.result told.0 (Some c.in-Ended.ended) told.3
     call.ensures.comes (g.R.Reader.some call.new.reader) call.ensures.left told.1 told.2 none
 
-pub returns-in-Stopped-clause-steps : goal.returns-in-Stopped-clause-steps
-returns-in-Stopped-clause-steps g c =
-    let told = at_end c.run_steps-exit.result c.in-Stopped.ended c.in-Stopped.is in
+pub returns-in-Ended-clause-steps : goal.returns-in-Ended-clause-steps
+returns-in-Ended-clause-steps g c =
+    let told = at_end c.run_steps-exit.result c.in-Ended.ended c.in-Ended.is in
     let call = c.run_steps-exit in
     λ done same one _ _. has_stepped c.args.lowered.now.code.now c.args.lowered.now.parts g.R.Reader.Has
     c.args.reader.now call.new.reader c.args.limit
     call.new.self.cursor.left c.args.answer call.new.self.cursor.answer (view_in c.args.memory.now)
-    (view_in call.new.self) call.result told.0 (Some c.in-Stopped.ended) told.3
+    (view_in call.new.self) call.result told.0 (Some c.in-Ended.ended) told.3
     call.ensures.comes call.ensures.left told.1 told.2 done same one
