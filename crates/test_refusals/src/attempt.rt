@@ -1,7 +1,7 @@
 //! One attempt at a row.
 
 use crate::context::Context;
-use crate::stop::{Stop, Wrong};
+use crate::failure::{Failure, Wrong};
 use crate::{live, machines, runs, served, texts};
 use test_rows::{Row, Tally};
 
@@ -13,8 +13,8 @@ pub fn attempt(context: &mut Context<'_>, row: &Row, tally: &mut Tally) {
     context.other.clear();
     match answered {
         Ok(()) => {}
-        Err(Stop::Wrong(wrong)) => context.answer.say(wrong.text().as_bytes()),
-        Err(Stop::Refused(call)) => {
+        Err(Failure::Wrong(wrong)) => context.answer.say(wrong.text().as_bytes()),
+        Err(Failure::Refused(call)) => {
             context.tell_refused(call.name());
             if row.field(b"wanted").starts_with(context.answer.bytes()) {
                 context.other.say(row.name());
@@ -28,7 +28,7 @@ pub fn attempt(context: &mut Context<'_>, row: &Row, tally: &mut Tally) {
 }
 
 /// Makes the calls of a row, by its field `call`.
-fn answer(context: &mut Context<'_>, row: &Row) -> Result<(), Stop> {
+fn answer(context: &mut Context<'_>, row: &Row) -> Result<(), Failure> {
     if row.field(b"call").starts_with(b"append") {
         texts::answer(context, row)
     } else if row.calls(b"script") || row.calls(b"next") || row.calls(b"write_runs") {
@@ -43,7 +43,7 @@ fn answer(context: &mut Context<'_>, row: &Row) -> Result<(), Stop> {
 }
 
 /// Makes the call of a row that makes a whole run.
-fn answer_of_run(context: &mut Context<'_>, row: &Row) -> Result<(), Stop> {
+fn answer_of_run(context: &mut Context<'_>, row: &Row) -> Result<(), Failure> {
     if row.calls(b"run_with") {
         runs::with_choices(context, row)
     } else if row.calls(b"run_seeded") {
@@ -51,6 +51,6 @@ fn answer_of_run(context: &mut Context<'_>, row: &Row) -> Result<(), Stop> {
     } else if row.calls(b"run_stream") {
         runs::streamed(context, row)
     } else {
-        Err(Stop::Wrong(Wrong::NoSuchCall))
+        Err(Failure::Wrong(Wrong::NoSuchCall))
     }
 }

@@ -1,8 +1,8 @@
 //! Calls of the command line whose writer fails at each byte.
 
 use crate::context::Context;
+use crate::failure::Failure;
 use crate::served::{Rooms, say_status, served};
-use crate::stop::Stop;
 use test_rows::Row;
 
 /// Whether a call left the first bytes of its whole output, and then said that the writer failed
@@ -23,7 +23,7 @@ fn is_cut_short(context: &Context<'_>, code: u8, whole: &[u8], room: usize, is_s
 /// Calls `serve` over writers that take from no byte of the whole output to all, and over an error
 /// stream that takes all bytes or none. The answer is how many calls left what they must, or what
 /// the first other call left.
-pub fn cut_short(context: &mut Context<'_>, row: &Row) -> Result<(), Stop> {
+pub fn cut_short(context: &mut Context<'_>, row: &Row) -> Result<(), Failure> {
     let whole = row.field(b"whole");
     let mut right = 0u64;
     for room in 0..=whole.len() {

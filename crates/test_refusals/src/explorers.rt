@@ -5,8 +5,8 @@ ghost use Rattle.std.specs.Prelude.{◌≡◌, []};
 
 use crate::context::Context;
 use crate::ends::{say_choices, say_end};
+use crate::failure::{Call, Failure, Wrong};
 use crate::fields::{cursor_of, limit, number};
-use crate::stop::{Call, Stop, Wrong};
 use ick_machine::Asks;
 use ick_runs::{Explorer, Run, RunsError, write_runs};
 use test_rows::Row;
@@ -17,7 +17,7 @@ pub fn explore<'c, M: Asks<'c>>(
     context: &mut Context<'_>,
     row: &Row,
     machine: M,
-) -> Result<(), Stop>
+) -> Result<(), Failure>
     requires { (M.seen machine).marks ≡ [] }
 {
     let mut explorer = explorer_of(context, row, machine)?;
@@ -29,7 +29,7 @@ fn explore_with<'c, M: Asks<'c>>(
     context: &mut Context<'_>,
     row: &Row,
     explorer: &mut Explorer<M>,
-) -> Result<(), Stop> {
+) -> Result<(), Failure> {
     list_or_write(context, row, explorer)?;
     say_counts(context, explorer);
     Ok(())
@@ -46,7 +46,7 @@ fn list_or_write<'c, M: Asks<'c>>(
     context: &mut Context<'_>,
     row: &Row,
     explorer: &mut Explorer<M>,
-) -> Result<(), Stop> {
+) -> Result<(), Failure> {
     let count = number(row, b"count", 0)?;
     if row.calls(b"next") {
         list(context, explorer, count)
@@ -60,7 +60,7 @@ fn explorer_of<'c, M: Asks<'c>>(
     context: &Context<'_>,
     row: &Row,
     machine: M,
-) -> Result<Explorer<M>, Stop>
+) -> Result<Explorer<M>, Failure>
     requires { (M.seen machine).marks ≡ [] }
 {
     let (alloc, limit) = (context.alloc(), limit(row)?);
@@ -70,8 +70,8 @@ fn explorer_of<'c, M: Asks<'c>>(
     let cursor = cursor_of(alloc, row)?;
     match Explorer::after(alloc, machine, limit, &cursor) {
         Ok(explorer) => Ok(explorer),
-        Err(RunsError::NoMemory) => Err(Stop::Refused(Call::After)),
-        Err(_) => Err(Stop::Wrong(Wrong::OtherRefusal)),
+        Err(RunsError::NoMemory) => Err(Failure::Refused(Call::After)),
+        Err(_) => Err(Failure::Wrong(Wrong::OtherRefusal)),
     }
 }
 
@@ -80,13 +80,13 @@ fn list<'c, M: Asks<'c>>(
     context: &mut Context<'_>,
     explorer: &mut Explorer<M>,
     count: u32,
-) -> Result<(), Stop> {
+) -> Result<(), Failure> {
     for _ in 0..count {
         match explorer.next() {
             Ok(Some(run)) => say_run(context, &run),
             Ok(None) => return Ok(()),
             Err(RunsError::NoMemory) => return Err(failed(context, explorer, Call::Next)),
-            Err(_) => return Err(Stop::Wrong(Wrong::OtherRefusal)),
+            Err(_) => return Err(Failure::Wrong(Wrong::OtherRefusal)),
         }
     }
     Ok(())
@@ -105,13 +105,13 @@ fn write<'c, M: Asks<'c>>(
     context: &mut Context<'_>,
     explorer: &mut Explorer<M>,
     count: u32,
-) -> Result<(), Stop> {
+) -> Result<(), Failure> {
     match write_runs(context.alloc(), explorer, count, &mut context.answer) {
         Ok(_) => Ok(()),
         Err(RunsError::NoMemory) if is_in_lines(context.answer.bytes()) => {
             Err(failed(context, explorer, Call::WriteRuns))
         }
-        Err(_) => Err(Stop::Wrong(Wrong::OtherRefusal)),
+        Err(_) => Err(Failure::Wrong(Wrong::OtherRefusal)),
     }
 }
 
@@ -126,15 +126,15 @@ fn failed<'c, M: Asks<'c>>(
     context: &mut Context<'_>,
     explorer: &mut Explorer<M>,
     call: Call,
-) -> Stop {
+) -> Failure {
     let work = explorer.work();
     context.other.clear();
     let has_failed = fails_to_write(context, explorer) && fails(explorer) && fails(explorer);
     let is_kept = has_no_more(explorer) && explorer.work() == work;
     if has_failed && is_kept && context.other.bytes().is_empty() {
-        return Stop::Refused(call);
+        return Failure::Refused(call);
     }
-    Stop::Wrong(Wrong::NotFailed)
+    Failure::Wrong(Wrong::NotFailed)
 }
 
 /// Returns whether `write_runs` answers `Failed`. The bytes that it writes go to `other`.

@@ -1,6 +1,6 @@
 //! Numbers, choices, code and cursors from the fields of a row.
 
-use crate::stop::{Call, Stop, Wrong};
+use crate::failure::{Call, Failure, Wrong};
 use ick_code::{Code, compile};
 use ick_runs::{Cursor, RunsError};
 use ick_source::{Refusal, read_source};
@@ -12,47 +12,47 @@ use test_rows::Row;
 const CHOICES: &[bool] = &[true; 100];
 
 /// Returns the number in a field, or `otherwise` if the row has no such field.
-pub fn number(row: &Row, word: &[u8], otherwise: u32) -> Result<u32, Stop> {
+pub fn number(row: &Row, word: &[u8], otherwise: u32) -> Result<u32, Failure> {
     row.short_number(word, otherwise)
-        .ok_or(Stop::Wrong(Wrong::NoNumber))
+        .ok_or(Failure::Wrong(Wrong::NoNumber))
 }
 
 /// Returns the limit on steps of a row, which is 100 if the row names none.
-pub fn limit(row: &Row) -> Result<u32, Stop> {
+pub fn limit(row: &Row) -> Result<u32, Failure> {
     number(row, b"limit", 100)
 }
 
 /// Returns as many choices as a row's field `choices` says, each to do the statement.
-pub fn choices(row: &Row) -> Result<&'static [bool], Stop> {
+pub fn choices(row: &Row) -> Result<&'static [bool], Failure> {
     let count = number(row, b"choices", 0)? as usize;
     Ok(CHOICES.get(..count).unwrap_or(CHOICES))
 }
 
 /// Reads the source of a row.
-pub fn program_of(alloc: Global, row: &Row) -> Result<Program<'_>, Stop> {
+pub fn program_of(alloc: Global, row: &Row) -> Result<Program<'_>, Failure> {
     match read_source(alloc, row.field(b"source")) {
         Ok(program) => Ok(program),
-        Err(Refusal::NoMemory) => Err(Stop::Refused(Call::ReadSource)),
-        Err(_) => Err(Stop::Wrong(Wrong::OtherRefusal)),
+        Err(Refusal::NoMemory) => Err(Failure::Refused(Call::ReadSource)),
+        Err(_) => Err(Failure::Wrong(Wrong::OtherRefusal)),
     }
 }
 
 /// Compiles the source of a row.
-pub fn code_of(alloc: Global, row: &Row) -> Result<Code<'_>, Stop> {
+pub fn code_of(alloc: Global, row: &Row) -> Result<Code<'_>, Failure> {
     let program = program_of(alloc, row)?;
     match compile(alloc, &program) {
         Ok(code) => Ok(code),
-        Err(_) => Err(Stop::Refused(Call::Compile)),
+        Err(_) => Err(Failure::Refused(Call::Compile)),
     }
 }
 
 /// Reads the cursor in a row's field `from`. If memory is refused, texts that are no cursor, or
 /// that have too many choices, must still be refused for that.
-pub fn cursor_of(alloc: Global, row: &Row) -> Result<Cursor, Stop> {
+pub fn cursor_of(alloc: Global, row: &Row) -> Result<Cursor, Failure> {
     match Cursor::from_text(alloc, row.field(b"from"), limit(row)?) {
         Ok(cursor) => Ok(cursor),
-        Err(RunsError::NoMemory) if is_strict(alloc) => Err(Stop::Refused(Call::FromText)),
-        Err(_) => Err(Stop::Wrong(Wrong::OtherRefusal)),
+        Err(RunsError::NoMemory) if is_strict(alloc) => Err(Failure::Refused(Call::FromText)),
+        Err(_) => Err(Failure::Wrong(Wrong::OtherRefusal)),
     }
 }
 

@@ -3,9 +3,9 @@
 
 use crate::context::Context;
 use crate::ends::say_kind;
+use crate::failure::{Call, Failure, Wrong};
 use crate::feeds::TextFeed;
 use crate::fields::code_of;
-use crate::stop::{Call, Stop, Wrong};
 use crate::texts::{Piece, append};
 use ick_code::Code;
 use ick_machine::{Live, LiveAsk};
@@ -15,21 +15,21 @@ use test_rows::Row;
 const MOST: u32 = 10_000;
 
 /// Adds the output of a row's program, its end, and the message of its fault behind the bytes AB.
-pub fn answer(context: &mut Context<'_>, row: &Row) -> Result<(), Stop> {
+pub fn answer(context: &mut Context<'_>, row: &Row) -> Result<(), Failure> {
     let code = code_of(context.alloc(), row)?;
     answer_with(context, row, &code)
 }
 
 /// Makes the machine of a code, and adds its output, its end, and the message of its fault.
-fn answer_with(context: &mut Context<'_>, row: &Row, code: &Code<'_>) -> Result<(), Stop> {
+fn answer_with(context: &mut Context<'_>, row: &Row, code: &Code<'_>) -> Result<(), Failure> {
     match Live::new(context.alloc(), code) {
         Ok(mut live) => answer_on(context, row, &mut live),
-        Err(_) => Err(Stop::Refused(Call::NewLive)),
+        Err(_) => Err(Failure::Refused(Call::NewLive)),
     }
 }
 
 /// Adds the output of a run from the machine's state on, its end, and the message of its fault.
-fn answer_on(context: &mut Context<'_>, row: &Row, live: &mut Live<'_, '_>) -> Result<(), Stop> {
+fn answer_on(context: &mut Context<'_>, row: &Row, live: &mut Live<'_, '_>) -> Result<(), Failure> {
     let mut feed = TextFeed {
         text: row.field(b"input"),
     };
@@ -49,7 +49,7 @@ fn steps(
     context: &mut Context<'_>,
     live: &mut Live<'_, '_>,
     feed: &mut TextFeed<'_>,
-) -> Result<(), Stop> {
+) -> Result<(), Failure> {
     for _ in 0..MOST {
         context.other.clear();
         context.other.say(live.output());
@@ -71,7 +71,7 @@ fn runs(
     context: &mut Context<'_>,
     live: &mut Live<'_, '_>,
     feed: &mut TextFeed<'_>,
-) -> Result<(), Stop> {
+) -> Result<(), Failure> {
     for _ in 0..MOST {
         context.other.clear();
         let (is_refused, call) = match live.asks() {
@@ -90,11 +90,11 @@ fn runs(
 
 /// Returns that a call was refused, if the machine has failed and its output is the one in `other`.
 /// It must have failed still after its output is cleared.
-fn failed(context: &Context<'_>, live: &mut Live<'_, '_>, call: Call) -> Stop {
+fn failed(context: &Context<'_>, live: &mut Live<'_, '_>, call: Call) -> Failure {
     let is_kept = live.output() == context.other.bytes() && live.asks() == LiveAsk::Failed;
     live.clear_output();
     if is_kept && live.output().is_empty() && live.asks() == LiveAsk::Failed {
-        return Stop::Refused(call);
+        return Failure::Refused(call);
     }
-    Stop::Wrong(Wrong::NotFailed)
+    Failure::Wrong(Wrong::NotFailed)
 }

@@ -11,7 +11,7 @@
 //! | Module | What it has |
 //! |---|---|
 //! | `attempt` | one attempt at a row |
-//! | `stop` | why a row has no whole answer |
+//! | `failure` | why a row has no whole answer |
 //! | `context`, `buffer` | the answer, in room that is taken before the first row |
 //! | `ends` | ends of runs, and choices, as text |
 //! | `fields` | numbers, choices, code and cursors from the fields of a row |
@@ -32,6 +32,7 @@ mod cut_short;
 mod devices;
 mod ends;
 mod explorers;
+mod failure;
 mod feeds;
 mod fields;
 mod live;
@@ -40,7 +41,6 @@ mod runs;
 mod scripts;
 mod served;
 mod shelf;
-mod stop;
 mod texts;
 
 use attempt::attempt;

@@ -2,24 +2,24 @@
 
 use crate::context::Context;
 use crate::ends::{say_choices, say_end, say_kind};
+use crate::failure::{Call, Failure, Wrong};
 use crate::fields::{choices, code_of, limit, number};
-use crate::stop::{Call, Stop, Wrong};
 use ick_runs::{Chooser, Ran, RunsError, SliceSource, Streamed, run_seeded, run_stream, run_with};
 use test_rows::Row;
 
 /// Adds the run with the choices of a row.
-pub fn with_choices(context: &mut Context<'_>, row: &Row) -> Result<(), Stop> {
+pub fn with_choices(context: &mut Context<'_>, row: &Row) -> Result<(), Failure> {
     let (input, limit, choices) = (row.field(b"input"), limit(row)?, choices(row)?);
     let code = code_of(context.alloc(), row)?;
     match run_with(context.alloc(), &code, input, limit, choices) {
         Ok(ran) => say_ran(context, &ran),
-        Err(_) => return Err(Stop::Refused(Call::RunWith)),
+        Err(_) => return Err(Failure::Refused(Call::RunWith)),
     }
     Ok(())
 }
 
 /// Adds the choices that the seed of a row draws, and their run.
-pub fn seeded(context: &mut Context<'_>, row: &Row) -> Result<(), Stop> {
+pub fn seeded(context: &mut Context<'_>, row: &Row) -> Result<(), Failure> {
     let (input, limit, seed) = (row.field(b"input"), limit(row)?, number(row, b"seed", 0)?);
     let code = code_of(context.alloc(), row)?;
     match run_seeded(context.alloc(), &code, input, limit, u64::from(seed)) {
@@ -27,7 +27,7 @@ pub fn seeded(context: &mut Context<'_>, row: &Row) -> Result<(), Stop> {
             say_choices(&mut context.answer, &drawn.choices);
             say_ran(context, &drawn.ran);
         }
-        Err(_) => return Err(Stop::Refused(Call::RunSeeded)),
+        Err(_) => return Err(Failure::Refused(Call::RunSeeded)),
     }
     Ok(())
 }
@@ -56,7 +56,7 @@ fn say_ran(context: &mut Context<'_>, ran: &Ran<'_>) {
 }
 
 /// Returns the choices of a row, or those that its seed draws.
-fn chooser(row: &Row) -> Result<Chooser<'static>, Stop> {
+fn chooser(row: &Row) -> Result<Chooser<'static>, Failure> {
     if row.field(b"seed").is_empty() {
         return Ok(Chooser::Listed(choices(row)?));
     }
@@ -64,15 +64,15 @@ fn chooser(row: &Row) -> Result<Chooser<'static>, Stop> {
 }
 
 /// Adds what a streamed run writes, and what the call returns.
-pub fn streamed(context: &mut Context<'_>, row: &Row) -> Result<(), Stop> {
+pub fn streamed(context: &mut Context<'_>, row: &Row) -> Result<(), Failure> {
     let (alloc, limit, chooser) = (context.alloc(), limit(row)?, chooser(row)?);
     let code = code_of(alloc, row)?;
     let mut reader = SliceSource::new(row.field(b"input"));
     let writer = &mut context.answer;
     match run_stream(alloc, &code, &mut reader, writer, limit, chooser) {
         Ok(streamed) => say_streamed(context, &streamed),
-        Err(RunsError::NoMemory) => return Err(Stop::Refused(Call::RunStream)),
-        Err(_) => return Err(Stop::Wrong(Wrong::OtherRefusal)),
+        Err(RunsError::NoMemory) => return Err(Failure::Refused(Call::RunStream)),
+        Err(_) => return Err(Failure::Wrong(Wrong::OtherRefusal)),
     }
     Ok(())
 }

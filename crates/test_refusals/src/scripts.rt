@@ -4,7 +4,7 @@
 use crate::buffer::Buffer;
 use crate::context::Context;
 use crate::ends::say_end;
-use crate::stop::{Stop, Wrong};
+use crate::failure::{Failure, Wrong};
 use ick_machine::{Ask, Asks};
 
 /// More steps than a row makes on a machine.
@@ -23,7 +23,7 @@ pub fn follow<'c, M: Asks<'c>>(
     machine: &mut M,
     name: &str,
     script: &[u8],
-) -> Result<(), Stop> {
+) -> Result<(), Failure> {
     for word in script.split(|byte| *byte == b' ') {
         follow_word(context, machine, name, word)?;
     }
@@ -36,7 +36,7 @@ fn follow_word<'c, M: Asks<'c>>(
     machine: &mut M,
     name: &str,
     word: &[u8],
-) -> Result<(), Stop> {
+) -> Result<(), Failure> {
     if is_word(word, b"mark") {
         make_change(context, machine, name, Change::Mark)
     } else if is_word(word, b"do") {
@@ -93,17 +93,17 @@ fn tell_kept<'c, M: Asks<'c>>(
     machine: &M,
     call: &str,
     name: &str,
-) -> Result<(), Stop> {
+) -> Result<(), Failure> {
     say_machine(&mut context.other, machine);
     tell_same(context, call, name)
 }
 
 /// Tells that a call of a machine was refused, if the two halves of `other` are the same.
-fn tell_same(context: &Context<'_>, call: &str, name: &str) -> Result<(), Stop> {
+fn tell_same(context: &Context<'_>, call: &str, name: &str) -> Result<(), Failure> {
     let seen = context.other.bytes();
     let (before, after) = seen.split_at(seen.len() / 2);
     if before != after {
-        return Err(Stop::Wrong(Wrong::ChangedByRefusal));
+        return Err(Failure::Wrong(Wrong::ChangedByRefusal));
     }
     context.tell_refused_of(call, name);
     Ok(())
@@ -132,14 +132,14 @@ fn make_change<'c, M: Asks<'c>>(
     machine: &mut M,
     name: &str,
     call: Change,
-) -> Result<(), Stop> {
+) -> Result<(), Failure> {
     see(context, machine);
     if !is_refused(machine, call) {
         return Ok(());
     }
     tell_kept(context, machine, call.name(), name)?;
     if is_refused(machine, call) {
-        return Err(Stop::Wrong(Wrong::RefusedTwice));
+        return Err(Failure::Wrong(Wrong::RefusedTwice));
     }
     Ok(())
 }
@@ -165,13 +165,13 @@ fn run<'c, M: Asks<'c>>(
     context: &mut Context<'_>,
     machine: &mut M,
     name: &str,
-) -> Result<(), Stop> {
+) -> Result<(), Failure> {
     if machine.work() > MOST || has_run(machine) {
         return Ok(());
     }
     context.tell_refused_of("run", name);
     if !has_run(machine) {
-        return Err(Stop::Wrong(Wrong::RefusedTwice));
+        return Err(Failure::Wrong(Wrong::RefusedTwice));
     }
     Ok(())
 }

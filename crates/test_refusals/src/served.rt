@@ -4,8 +4,8 @@
 use crate::context::Context;
 use crate::cut_short::cut_short;
 use crate::devices::WornSource;
+use crate::failure::{Call, Failure, Wrong};
 use crate::shelf::Shelf;
-use crate::stop::{Call, Stop, Wrong};
 use arrayvec::ArrayVec;
 use ick_cli::{WordsFault, refuse_words, serve};
 use test_rows::Row;
@@ -29,7 +29,7 @@ pub struct Left {
 }
 
 /// Makes the call of a row that is about the command line.
-pub fn answer(context: &mut Context<'_>, row: &Row) -> Result<(), Stop> {
+pub fn answer(context: &mut Context<'_>, row: &Row) -> Result<(), Failure> {
     if row.calls(b"serve") {
         whole(context, row)
     } else if row.calls(b"devices") {
@@ -43,12 +43,12 @@ pub fn answer(context: &mut Context<'_>, row: &Row) -> Result<(), Stop> {
         refused(context, WordsFault::NoMemory);
         Ok(())
     } else {
-        Err(Stop::Wrong(Wrong::NoSuchCall))
+        Err(Failure::Wrong(Wrong::NoSuchCall))
     }
 }
 
 /// Adds the output of `serve` with the arguments of a row, its status and its error text.
-fn whole(context: &mut Context<'_>, row: &Row) -> Result<(), Stop> {
+fn whole(context: &mut Context<'_>, row: &Row) -> Result<(), Failure> {
     let left = served(context, row, rooms_of(row)?)?;
     say_status(context, left.code);
     Ok(())
@@ -63,7 +63,7 @@ pub fn say_status(context: &mut Context<'_>, code: u8) {
 
 /// Adds how many files `serve` opened with the arguments of a row, and how many bytes of the reader
 /// it left.
-fn of_devices(context: &mut Context<'_>, row: &Row) -> Result<(), Stop> {
+fn of_devices(context: &mut Context<'_>, row: &Row) -> Result<(), Failure> {
     let left = served(context, row, rooms_of(row)?);
     context.answer.clear();
     let left = left?;
@@ -81,7 +81,7 @@ fn refused(context: &mut Context<'_>, fault: WordsFault) {
 }
 
 /// Returns how many bytes the streams of a row take.
-fn rooms_of(row: &Row) -> Result<Rooms, Stop> {
+fn rooms_of(row: &Row) -> Result<Rooms, Failure> {
     Ok(Rooms {
         output: allowed(row, b"room")?,
         errors: allowed(row, b"errorroom")?,
@@ -89,14 +89,14 @@ fn rooms_of(row: &Row) -> Result<Rooms, Stop> {
 }
 
 /// Returns the number in a field, or the greatest one if the row has no such field.
-fn allowed(row: &Row, word: &[u8]) -> Result<u64, Stop> {
+fn allowed(row: &Row, word: &[u8]) -> Result<u64, Failure> {
     row.number(word, u64::MAX)
-        .ok_or(Stop::Wrong(Wrong::NoNumber))
+        .ok_or(Failure::Wrong(Wrong::NoNumber))
 }
 
 /// Calls `serve` with the arguments of a row, over streams with these rooms, and adds the output.
 /// The file `f` has the field `source`, and the file `e` is empty.
-pub fn served(context: &mut Context<'_>, row: &Row, rooms: Rooms) -> Result<Left, Stop> {
+pub fn served(context: &mut Context<'_>, row: &Row, rooms: Rooms) -> Result<Left, Failure> {
     let mut files = Shelf {
         bytes: row.field(b"source"),
         source: WornSource {
@@ -126,7 +126,7 @@ pub fn served(context: &mut Context<'_>, row: &Row, rooms: Rooms) -> Result<Left
     context.answer.say(context.output.bytes());
     let code = status.code();
     if code == 4 && context.errors.bytes() == b"OUT OF MEMORY\n".as_slice() {
-        return Err(Stop::Refused(Call::Serve));
+        return Err(Failure::Refused(Call::Serve));
     }
     Ok(Left {
         code,

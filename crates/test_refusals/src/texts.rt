@@ -1,8 +1,8 @@
 //! Calls that append: after a refusal the target is as before, and the same call then appends.
 
 use crate::context::Context;
+use crate::failure::{Call, Failure, Wrong};
 use crate::fields::{cursor_of, number, program_of};
-use crate::stop::{Call, Stop, Wrong};
 use ick_bits::{
     Fault, FaultKind, NoMemory, append_decimal, append_message, append_numeral, append_quoted,
 };
@@ -53,17 +53,17 @@ impl Piece<'_, '_, '_> {
 }
 
 /// Appends to a target of two bytes without room, and adds the target to the answer.
-pub fn append(context: &mut Context<'_>, piece: &Piece<'_, '_, '_>) -> Result<(), Stop> {
+pub fn append(context: &mut Context<'_>, piece: &Piece<'_, '_, '_>) -> Result<(), Failure> {
     let Ok(mut target) = Vec::from_slice(context.alloc(), b"AB") else {
-        return Err(Stop::Refused(Call::Target));
+        return Err(Failure::Refused(Call::Target));
     };
     if piece.append(&mut target).is_err() {
         if target.as_slice() != b"AB".as_slice() {
-            return Err(Stop::Wrong(Wrong::ChangedByRefusal));
+            return Err(Failure::Wrong(Wrong::ChangedByRefusal));
         }
         context.tell_refused(piece.call());
         if piece.append(&mut target).is_err() {
-            return Err(Stop::Wrong(Wrong::RefusedTwice));
+            return Err(Failure::Wrong(Wrong::RefusedTwice));
         }
     }
     context.answer.say(target.as_slice());
@@ -71,7 +71,7 @@ pub fn append(context: &mut Context<'_>, piece: &Piece<'_, '_, '_>) -> Result<()
 }
 
 /// Appends what the call of a row names.
-pub fn answer(context: &mut Context<'_>, row: &Row) -> Result<(), Stop> {
+pub fn answer(context: &mut Context<'_>, row: &Row) -> Result<(), Failure> {
     if row.calls(b"append_numeral") {
         append(context, &Piece::Numeral(number(row, b"number", 0)?))
     } else if row.calls(b"append_decimal") {
@@ -85,12 +85,12 @@ pub fn answer(context: &mut Context<'_>, row: &Row) -> Result<(), Stop> {
     } else if row.calls(b"append_text") {
         cursor(context, row)
     } else {
-        Err(Stop::Wrong(Wrong::NoSuchCall))
+        Err(Failure::Wrong(Wrong::NoSuchCall))
     }
 }
 
 /// Appends the message of fault 579 of statement 3, whose subject is the row's text.
-fn message(context: &mut Context<'_>, row: &Row) -> Result<(), Stop> {
+fn message(context: &mut Context<'_>, row: &Row) -> Result<(), Failure> {
     let fault = Fault {
         kind: FaultKind::NoDigit,
         statement: 3,
@@ -100,13 +100,13 @@ fn message(context: &mut Context<'_>, row: &Row) -> Result<(), Stop> {
 }
 
 /// Appends the listing of a row's program.
-fn listing(context: &mut Context<'_>, row: &Row) -> Result<(), Stop> {
+fn listing(context: &mut Context<'_>, row: &Row) -> Result<(), Failure> {
     let program = program_of(context.alloc(), row)?;
     append(context, &Piece::Listing(&program))
 }
 
 /// Appends the text of a row's cursor.
-fn cursor(context: &mut Context<'_>, row: &Row) -> Result<(), Stop> {
+fn cursor(context: &mut Context<'_>, row: &Row) -> Result<(), Failure> {
     let cursor = cursor_of(context.alloc(), row)?;
     append(context, &Piece::Choices(&cursor))
 }

@@ -2,6 +2,7 @@
 
 use crate::cursors::cursor;
 use crate::cut_short::cut_short;
+use crate::failure::Failure;
 use crate::fields::code_of;
 use crate::generated::generated;
 use crate::interleaving::interleaving;
@@ -9,9 +10,8 @@ use crate::listings::runs;
 use crate::many::many;
 use crate::seeds::{draw, later_draws, listed_draws, streamed_draws, words};
 use crate::steps::steps;
-use crate::stop::Stop;
 use crate::streams::stream;
-use crate::texts::append_stop;
+use crate::texts::append_failure;
 use crate::whole::{first, write};
 use ick_bits::NoMemory;
 use ick_code::Code;
@@ -31,15 +31,15 @@ pub fn report(alloc: Global, text: &[u8], out: &mut Vec<u8>) -> Result<(), NoMem
 /// Compares the answer to a row with the text that the row wants.
 fn check(alloc: Global, row: &Row, tally: &mut Tally, out: &mut Vec<u8>) -> Result<(), NoMemory> {
     let mut found = Vec::new(alloc);
-    if let Err(stop) = answer(alloc, row, &mut found) {
+    if let Err(failure) = answer(alloc, row, &mut found) {
         found.clear();
-        append_stop(alloc, &mut found, stop)?;
+        append_failure(alloc, &mut found, failure)?;
     }
     tally.check(out, row, &found)
 }
 
 /// Appends the answer to a row.
-fn answer(alloc: Global, row: &Row, out: &mut Vec<u8>) -> Result<(), Stop> {
+fn answer(alloc: Global, row: &Row, out: &mut Vec<u8>) -> Result<(), Failure> {
     if row.calls(b"cursor") {
         cursor(alloc, row, out)
     } else if row.calls(b"draw") {
@@ -58,13 +58,13 @@ fn answer(alloc: Global, row: &Row, out: &mut Vec<u8>) -> Result<(), Stop> {
 }
 
 /// Appends the answer to a row that has a source.
-fn answer_by_code(alloc: Global, row: &Row, out: &mut Vec<u8>) -> Result<(), Stop> {
+fn answer_by_code(alloc: Global, row: &Row, out: &mut Vec<u8>) -> Result<(), Failure> {
     let code = code_of(alloc, row.field(b"source"))?;
     answer_on(alloc, &code, row, out)
 }
 
 /// Appends the answer to a row on its source's code.
-fn answer_on(alloc: Global, code: &Code<'_>, row: &Row, out: &mut Vec<u8>) -> Result<(), Stop> {
+fn answer_on(alloc: Global, code: &Code<'_>, row: &Row, out: &mut Vec<u8>) -> Result<(), Failure> {
     if row.calls(b"runs") || row.calls(b"counts") {
         runs(alloc, code, row, out)
     } else if row.calls(b"many") {
@@ -77,7 +77,12 @@ fn answer_on(alloc: Global, code: &Code<'_>, row: &Row, out: &mut Vec<u8>) -> Re
 }
 
 /// Appends the answer to a row that makes one run at a time of its source's code.
-fn answer_on_one(alloc: Global, code: &Code<'_>, row: &Row, out: &mut Vec<u8>) -> Result<(), Stop> {
+fn answer_on_one(
+    alloc: Global,
+    code: &Code<'_>,
+    row: &Row,
+    out: &mut Vec<u8>,
+) -> Result<(), Failure> {
     if row.calls(b"stream") {
         stream(alloc, code, row, out)
     } else if row.calls(b"interleaving") {
@@ -91,6 +96,6 @@ fn answer_on_one(alloc: Global, code: &Code<'_>, row: &Row, out: &mut Vec<u8>) -
     } else if row.calls(b"streamed draws") {
         streamed_draws(alloc, code, row, out)
     } else {
-        Err(Stop::Call)
+        Err(Failure::Call)
     }
 }

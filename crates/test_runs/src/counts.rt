@@ -1,8 +1,8 @@
 //! The work and the marks of a listing, run by run.
 
 use crate::explorers::pass;
-use crate::stop::Stop;
-use crate::texts::{append_number, append_stop};
+use crate::failure::Failure;
+use crate::texts::{append_failure, append_number};
 use ick_machine::{Asks, Backtrack};
 use ick_runs::Explorer;
 use std::alloc::Global;
@@ -16,11 +16,11 @@ pub fn append_all_counts<'c, M: Asks<'c>>(
     alloc: Global,
     out: &mut Vec<u8>,
     explorer: &mut Explorer<M>,
-) -> Result<(), Stop> {
+) -> Result<(), Failure> {
     append_counts(out, b"", explorer)?;
-    if let Err(stop) = append_further_counts(out, explorer) {
+    if let Err(failure) = append_further_counts(out, explorer) {
         out.extend_from_slice(b", ")?;
-        append_stop(alloc, out, stop)?;
+        append_failure(alloc, out, failure)?;
         append_counts(out, b": ", explorer)?;
     }
     Ok(())
@@ -30,7 +30,7 @@ pub fn append_all_counts<'c, M: Asks<'c>>(
 fn append_further_counts<'c, M: Asks<'c>>(
     out: &mut Vec<u8>,
     explorer: &mut Explorer<M>,
-) -> Result<(), Stop> {
+) -> Result<(), Failure> {
     for _ in 0..MOST {
         if !pass(explorer)? {
             return Ok(out.extend_from_slice(b", done")?);
@@ -45,7 +45,7 @@ fn append_counts<M: Backtrack>(
     out: &mut Vec<u8>,
     before: &[u8],
     explorer: &Explorer<M>,
-) -> Result<(), Stop> {
+) -> Result<(), Failure> {
     append_number(out, before, explorer.work())?;
     append_number(out, b"/", explorer.points() as u64)?;
     if explorer.more() {

@@ -4,9 +4,9 @@ ghost use Rattle.std.specs.Prelude.{◌≡◌};
 
 use crate::devices::WornSink;
 use crate::explorers::by_trailed;
+use crate::failure::Failure;
 use crate::fields::{number, start_of};
 use crate::listings::append_listing;
-use crate::stop::Stop;
 use crate::tasks::Task;
 use crate::texts::{append_error, append_number};
 use ick_bits::append_quoted;
@@ -19,7 +19,12 @@ use test_rows::Row;
 /// Lists the runs of a program on writers that take from `least` to `most` bytes. Appends what
 /// came after the last failure, if it was the same each time and the writers took just those bytes
 /// of the whole listing.
-pub fn cut_short(alloc: Global, code: &Code<'_>, row: &Row, out: &mut Vec<u8>) -> Result<(), Stop> {
+pub fn cut_short(
+    alloc: Global,
+    code: &Code<'_>,
+    row: &Row,
+    out: &mut Vec<u8>,
+) -> Result<(), Failure> {
     let least = number(row, b"least", 0)?;
     let most = number(row, b"most", 0)?;
     for room in least..=most {
@@ -40,7 +45,7 @@ fn is_as_before(
     room: u64,
     is_first: bool,
     out: &mut Vec<u8>,
-) -> Result<bool, Stop> {
+) -> Result<bool, Failure> {
     let start = start_of(row)?;
     let task = Task::CutShort(room, row.field(b"whole"));
     let mut rest = Vec::new(alloc);
@@ -53,7 +58,7 @@ fn is_as_before(
 
 /// Appends that a writer with this room took other bytes, or that another listing followed, if one
 /// is so. Returns whether none is so.
-fn compare(out: &mut Vec<u8>, room: u64, is_front: bool, rest: &[u8]) -> Result<bool, Stop> {
+fn compare(out: &mut Vec<u8>, room: u64, is_front: bool, rest: &[u8]) -> Result<bool, Failure> {
     if is_front && out.as_slice() == rest {
         return Ok(true);
     }
@@ -70,7 +75,7 @@ pub fn list_cut_short<'c, M: Asks<'c>>(
     room: u64,
     whole: &[u8],
     rest: &mut Vec<u8>,
-) -> Result<bool, Stop> {
+) -> Result<bool, Failure> {
     let mut worn = WornSink {
         bytes: Vec::new(alloc),
         room,
@@ -87,7 +92,7 @@ fn list_on<'c, M: Asks<'c>>(
     explorer: &mut Explorer<M>,
     worn: &mut WornSink,
     rest: &mut Vec<u8>,
-) -> Result<(), Stop>
+) -> Result<(), Failure>
     requires { worn.old.failures ≡ 0 }
 {
     match write_runs(alloc, explorer, 1000, worn) {

@@ -4,7 +4,7 @@
 
 ghost use Rattle.std.specs.Prelude.{◌≡◌, [], IfOk};
 
-use crate::stop::Stop;
+use crate::failure::Failure;
 use crate::tasks::{Task, done};
 use ick_bits::NoMemory;
 use ick_code::Code;
@@ -31,7 +31,7 @@ pub fn by_copied(
     start: &Start<'_>,
     task: &Task<'_>,
     out: &mut Vec<u8>,
-) -> Result<bool, Stop> {
+) -> Result<bool, Failure> {
     let machine = Copied::new(alloc, code, start.input, start.work);
     explore(alloc, machine, start, task, out)
 }
@@ -43,7 +43,7 @@ pub fn by_trailed(
     start: &Start<'_>,
     task: &Task<'_>,
     out: &mut Vec<u8>,
-) -> Result<bool, Stop> {
+) -> Result<bool, Failure> {
     let machine = Trailed::new(alloc, code, start.input, start.work);
     explore(alloc, machine, start, task, out)
 }
@@ -55,7 +55,7 @@ fn explore<'c, M: Asks<'c>>(
     start: &Start<'_>,
     task: &Task<'_>,
     out: &mut Vec<u8>,
-) -> Result<bool, Stop>
+) -> Result<bool, Failure>
     requires { IfOk machine (λ machine. (M.seen machine).marks ≡ []) }
 {
     let mut explorer = explorer(alloc, machine?, start)?;
@@ -68,7 +68,7 @@ fn explorer<'c, M: Asks<'c>>(
     alloc: Global,
     machine: M,
     start: &Start<'_>,
-) -> Result<Explorer<M>, Stop>
+) -> Result<Explorer<M>, Failure>
     requires { (M.seen machine).marks ≡ [] }
 {
     if start.from.is_empty() {
@@ -79,11 +79,11 @@ fn explorer<'c, M: Asks<'c>>(
 }
 
 /// Returns the next run.
-pub fn next<'c, M: Asks<'c>>(explorer: &mut Explorer<M>) -> Result<Option<Run<'c>>, Stop> {
+pub fn next<'c, M: Asks<'c>>(explorer: &mut Explorer<M>) -> Result<Option<Run<'c>>, Failure> {
     Ok(explorer.next()?)
 }
 
 /// Passes the next run. Returns whether there was one.
-pub fn pass<'c, M: Asks<'c>>(explorer: &mut Explorer<M>) -> Result<bool, Stop> {
+pub fn pass<'c, M: Asks<'c>>(explorer: &mut Explorer<M>) -> Result<bool, Failure> {
     Ok(next(explorer)?.is_some())
 }

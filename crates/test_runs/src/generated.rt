@@ -1,9 +1,9 @@
 //! Random programs: what an explorer lists is what comes of trying every list of choices.
 
 use crate::explorers::{Start, by_copied, by_trailed};
+use crate::failure::Failure;
 use crate::fields::{code_of, number};
 use crate::same::ended;
-use crate::stop::Stop;
 use crate::tasks::Task;
 use crate::texts::{append_choices, append_number};
 use ick_bits::append_decimal;
@@ -59,7 +59,7 @@ const STATEMENTS: [&[u8]; 32] = [
 ];
 
 /// Returns four to six of the statements, with labels from 1 on. The last is polite.
-fn source_of(alloc: Global, words: &mut Pcg32) -> Result<Vec<u8>, Stop> {
+fn source_of(alloc: Global, words: &mut Pcg32) -> Result<Vec<u8>, Failure> {
     let mut source = Vec::new(alloc);
     let size: u32 = words.next_word();
     let last = 4 + size % 3;
@@ -80,7 +80,7 @@ fn source_of(alloc: Global, words: &mut Pcg32) -> Result<Vec<u8>, Stop> {
 }
 
 /// Returns the list of choices with this number, the first choice first.
-fn choices_of(alloc: Global, number: u32) -> Result<Vec<bool>, Stop> {
+fn choices_of(alloc: Global, number: u32) -> Result<Vec<bool>, Failure> {
     let mut choices = Vec::new(alloc);
     let mut rest = number;
     for _ in 0..LIMIT {
@@ -91,13 +91,21 @@ fn choices_of(alloc: Global, number: u32) -> Result<Vec<bool>, Stop> {
 }
 
 /// Returns what a program does with these choices.
-fn outcome<'c, 'a>(alloc: Global, code: &'c Code<'a>, choices: &[bool]) -> Result<Ran<'c>, Stop> {
+fn outcome<'c, 'a>(
+    alloc: Global,
+    code: &'c Code<'a>,
+    choices: &[bool],
+) -> Result<Ran<'c>, Failure> {
     Ok(run_with(alloc, code, INPUT, LIMIT, choices)?)
 }
 
 /// Returns the run with the list of this number, and with the choices that it used. There is none
 /// if it wants more choices.
-fn run_of<'c, 'a>(alloc: Global, code: &'c Code<'a>, number: u32) -> Result<Option<Run<'c>>, Stop> {
+fn run_of<'c, 'a>(
+    alloc: Global,
+    code: &'c Code<'a>,
+    number: u32,
+) -> Result<Option<Run<'c>>, Failure> {
     let mut choices = choices_of(alloc, number)?;
     let ran = outcome(alloc, code, &choices)?;
     if let Ran::Ended { used, .. } = &ran {
@@ -108,7 +116,7 @@ fn run_of<'c, 'a>(alloc: Global, code: &'c Code<'a>, number: u32) -> Result<Opti
 
 /// Returns the runs that are found by trying each list of choices in turn. There are none if a run
 /// wants more choices than it has steps.
-fn tried<'c, 'a>(alloc: Global, code: &'c Code<'a>) -> Result<Option<Vec<Run<'c>>>, Stop> {
+fn tried<'c, 'a>(alloc: Global, code: &'c Code<'a>) -> Result<Option<Vec<Run<'c>>>, Failure> {
     let mut runs: Vec<Run<'c>> = Vec::new(alloc);
     for number in 0..LISTS {
         let Some(run) = run_of(alloc, code, number)? else {
@@ -122,7 +130,7 @@ fn tried<'c, 'a>(alloc: Global, code: &'c Code<'a>) -> Result<Option<Vec<Run<'c>
 }
 
 /// Whether the machine that copies what it marks lists these runs of a program.
-fn lists<'c, 'a>(alloc: Global, code: &'c Code<'a>, runs: &[Run<'c>]) -> Result<bool, Stop> {
+fn lists<'c, 'a>(alloc: Global, code: &'c Code<'a>, runs: &[Run<'c>]) -> Result<bool, Failure> {
     let task = Task::Compare(runs);
     let mut unused = Vec::new(alloc);
     by_copied(alloc, code, &start(b""), &task, &mut unused)
@@ -139,7 +147,7 @@ fn start(from: &[u8]) -> Start<'_> {
 }
 
 /// Whether after each run come those behind it.
-fn go_on<'c, 'a>(alloc: Global, code: &'c Code<'a>, runs: &[Run<'c>]) -> Result<bool, Stop> {
+fn go_on<'c, 'a>(alloc: Global, code: &'c Code<'a>, runs: &[Run<'c>]) -> Result<bool, Failure> {
     for (at, run) in runs.iter().enumerate() {
         if !goes_on(alloc, code, run, &runs[at + 1..])? {
             return Ok(false);
@@ -154,7 +162,7 @@ fn goes_on<'c, 'a>(
     code: &'c Code<'a>,
     run: &Run<'c>,
     later: &[Run<'c>],
-) -> Result<bool, Stop> {
+) -> Result<bool, Failure> {
     match text_of(alloc, &run.choices)? {
         Some(text) => lists_after(alloc, code, &text, later),
         None => Ok(false),
@@ -168,14 +176,14 @@ fn lists_after<'c, 'a>(
     code: &'c Code<'a>,
     from: &[u8],
     runs: &[Run<'c>],
-) -> Result<bool, Stop> {
+) -> Result<bool, Failure> {
     let task = Task::Compare(runs);
     let mut unused = Vec::new(alloc);
     by_trailed(alloc, code, &start(from), &task, &mut unused)
 }
 
 /// Whether these choices are not those of a run.
-fn is_no_run<'c, 'a>(alloc: Global, code: &'c Code<'a>, choices: &[bool]) -> Result<bool, Stop> {
+fn is_no_run<'c, 'a>(alloc: Global, code: &'c Code<'a>, choices: &[bool]) -> Result<bool, Failure> {
     match text_of(alloc, choices)? {
         Some(text) => is_of_no_run(alloc, code, &text),
         None => Ok(false),
@@ -183,16 +191,16 @@ fn is_no_run<'c, 'a>(alloc: Global, code: &'c Code<'a>, choices: &[bool]) -> Res
 }
 
 /// Whether the cursor of a text is refused, because its choices are not those of a run.
-fn is_of_no_run<'c, 'a>(alloc: Global, code: &'c Code<'a>, from: &[u8]) -> Result<bool, Stop> {
+fn is_of_no_run<'c, 'a>(alloc: Global, code: &'c Code<'a>, from: &[u8]) -> Result<bool, Failure> {
     match lists_after(alloc, code, from, &[]) {
-        Err(Stop::Runs(RunsError::NoSuchRun)) => Ok(true),
-        Err(stop) => Err(stop),
+        Err(Failure::Runs(RunsError::NoSuchRun)) => Ok(true),
+        Err(failure) => Err(failure),
         Ok(_) => Ok(false),
     }
 }
 
 /// Whether no run has these choices alone, and with them a further choice is wanted.
-fn is_prefix<'c, 'a>(alloc: Global, code: &'c Code<'a>, choices: &[bool]) -> Result<bool, Stop> {
+fn is_prefix<'c, 'a>(alloc: Global, code: &'c Code<'a>, choices: &[bool]) -> Result<bool, Failure> {
     let ran = outcome(alloc, code, choices)?;
     Ok(matches!(ran, Ran::Wants { .. }) && is_no_run(alloc, code, choices)?)
 }
@@ -203,7 +211,7 @@ fn has_no_neighbours<'c, 'a>(
     alloc: Global,
     code: &'c Code<'a>,
     run: &Run<'c>,
-) -> Result<bool, Stop> {
+) -> Result<bool, Failure> {
     for count in 0..run.choices.len() {
         if !is_prefix(alloc, code, &run.choices[..count])? {
             return Ok(false);
@@ -213,7 +221,11 @@ fn has_no_neighbours<'c, 'a>(
 }
 
 /// Whether the choices of a run with one more are no run.
-fn has_no_longer<'c, 'a>(alloc: Global, code: &'c Code<'a>, run: &Run<'c>) -> Result<bool, Stop> {
+fn has_no_longer<'c, 'a>(
+    alloc: Global,
+    code: &'c Code<'a>,
+    run: &Run<'c>,
+) -> Result<bool, Failure> {
     let mut choices = run.choices.clone()?;
     choices.push(false)?;
     is_no_run(alloc, code, &choices)
@@ -224,7 +236,7 @@ fn have_no_neighbours<'c, 'a>(
     alloc: Global,
     code: &'c Code<'a>,
     runs: &[Run<'c>],
-) -> Result<bool, Stop> {
+) -> Result<bool, Failure> {
     for run in runs {
         if !has_no_neighbours(alloc, code, run)? {
             return Ok(false);
@@ -235,7 +247,7 @@ fn have_no_neighbours<'c, 'a>(
 
 /// Returns the text of a cursor with these choices, if it has them and its text is printed as it
 /// was read.
-fn text_of(alloc: Global, choices: &[bool]) -> Result<Option<Vec<u8>>, Stop> {
+fn text_of(alloc: Global, choices: &[bool]) -> Result<Option<Vec<u8>>, Failure> {
     let mut text = Vec::new(alloc);
     append_choices(&mut text, choices)?;
     if text.is_empty() {
@@ -249,20 +261,20 @@ fn text_of(alloc: Global, choices: &[bool]) -> Result<Option<Vec<u8>>, Stop> {
 }
 
 /// Whether the cursor of a text has these choices, and is printed as it was read.
-fn is_kept(alloc: Global, text: &[u8], choices: &[bool]) -> Result<bool, Stop> {
+fn is_kept(alloc: Global, text: &[u8], choices: &[bool]) -> Result<bool, Failure> {
     let cursor = Cursor::from_text(alloc, text, u32::MAX)?;
     Ok(cursor.choices() == choices && is_printed(alloc, &cursor, text)?)
 }
 
 /// Whether a cursor is printed as this text.
-fn is_printed(alloc: Global, cursor: &Cursor, text: &[u8]) -> Result<bool, Stop> {
+fn is_printed(alloc: Global, cursor: &Cursor, text: &[u8]) -> Result<bool, Failure> {
     let mut printed = Vec::new(alloc);
     cursor.append_text(&mut printed)?;
     Ok(printed.as_slice() == text)
 }
 
 /// Whether what is listed of a program is what comes of trying every list of choices.
-fn holds(alloc: Global, code: &Code<'_>) -> Result<bool, Stop> {
+fn holds(alloc: Global, code: &Code<'_>) -> Result<bool, Failure> {
     match tried(alloc, code)? {
         Some(runs) => hold(alloc, code, &runs),
         None => Ok(false),
@@ -270,7 +282,7 @@ fn holds(alloc: Global, code: &Code<'_>) -> Result<bool, Stop> {
 }
 
 /// Whether these are the listed runs of a program.
-fn hold<'c, 'a>(alloc: Global, code: &'c Code<'a>, runs: &[Run<'c>]) -> Result<bool, Stop> {
+fn hold<'c, 'a>(alloc: Global, code: &'c Code<'a>, runs: &[Run<'c>]) -> Result<bool, Failure> {
     Ok(
         lists(alloc, code, runs)?
             && lists_after(alloc, code, b"", runs)?
@@ -280,7 +292,7 @@ fn hold<'c, 'a>(alloc: Global, code: &'c Code<'a>, runs: &[Run<'c>]) -> Result<b
 }
 
 /// Counts the random programs for which this holds, and appends the first other one.
-pub fn generated(alloc: Global, row: &Row, out: &mut Vec<u8>) -> Result<(), Stop> {
+pub fn generated(alloc: Global, row: &Row, out: &mut Vec<u8>) -> Result<(), Failure> {
     let mut words = Pcg32::seed_from_u64(number(row, b"seed", 0)?);
     let mut count = 0u64;
     for _ in 0..number(row, b"programs", 0)? {
@@ -292,7 +304,7 @@ pub fn generated(alloc: Global, row: &Row, out: &mut Vec<u8>) -> Result<(), Stop
 }
 
 /// Whether this holds for the next random program. If it is the first other one, it is appended.
-fn next_holds(alloc: Global, words: &mut Pcg32, out: &mut Vec<u8>) -> Result<bool, Stop> {
+fn next_holds(alloc: Global, words: &mut Pcg32, out: &mut Vec<u8>) -> Result<bool, Failure> {
     let source = source_of(alloc, words)?;
     let is_right = holds_of(alloc, &source)?;
     if !is_right && out.is_empty() {
@@ -302,7 +314,7 @@ fn next_holds(alloc: Global, words: &mut Pcg32, out: &mut Vec<u8>) -> Result<boo
 }
 
 /// Whether this holds for the program of a source.
-fn holds_of(alloc: Global, source: &[u8]) -> Result<bool, Stop> {
+fn holds_of(alloc: Global, source: &[u8]) -> Result<bool, Failure> {
     let code = code_of(alloc, source)?;
     holds(alloc, &code)
 }

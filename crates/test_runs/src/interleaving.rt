@@ -2,7 +2,7 @@
 
 ghost use Rattle.std.specs.Prelude.{[], false};
 
-use crate::stop::Stop;
+use crate::failure::Failure;
 use crate::texts::append_number;
 use ick_code::Code;
 use ick_runs::{ByteSink, ByteSource, Chooser, DeviceFault, SliceSource, run_stream};
@@ -68,7 +68,7 @@ pub fn interleaving(
     code: &Code<'_>,
     row: &Row,
     out: &mut Vec<u8>,
-) -> Result<(), Stop> {
+) -> Result<(), Failure> {
     let taken = Cell::new(0);
     let mut reader = WatchingSource {
         rest: SliceSource::new(row.field(b"input")),
@@ -82,7 +82,7 @@ pub fn interleaving(
 }
 
 /// Appends how many bytes the writer had taken before the first read and at the end.
-fn append_taken(out: &mut Vec<u8>, first: u64, all: u64) -> Result<(), Stop> {
+fn append_taken(out: &mut Vec<u8>, first: u64, all: u64) -> Result<(), Failure> {
     append_number(out, b"", first)?;
     append_number(out, b" before the first read, ", all)?;
     Ok(out.extend_from_slice(b" at the end")?)

@@ -8,7 +8,7 @@
 //! |---|---|
 //! | `answers` | the answer of each call that a row can name |
 //! | `measure` | the runs that arguments ask for |
-//! | `stop` | why a call stopped |
+//! | `failure` | why a call failed |
 //! | `fields` | numbers, choices and code from the fields of a row |
 //! | `texts` | answers as text |
 //! | `listings`, `counts`, `many` | listings, and the work that they take |
@@ -30,6 +30,7 @@ mod cursors;
 mod cut_short;
 mod devices;
 mod explorers;
+mod failure;
 mod fields;
 mod generated;
 mod interleaving;
@@ -40,18 +41,17 @@ mod measure;
 mod same;
 mod seeds;
 mod steps;
-mod stop;
 mod streams;
 mod tasks;
 mod texts;
 mod whole;
 
 use answers::report;
+use failure::Failure;
 use measure::measure;
 use std::alloc::Global;
 use std::io::{ErrorKind, Write};
 use std::{env, io};
-use stop::Stop;
 
 fn main(rt: HostRuntime) -> io::Result<()> {
     let alloc = rt.alloc();
@@ -60,7 +60,7 @@ fn main(rt: HostRuntime) -> io::Result<()> {
     let mut arguments = env::args(&rt)?;
     match append_answer(alloc, text.as_bytes(), &mut arguments, &mut out) {
         Ok(()) => rt.stdout().write_all(&out),
-        Err(Stop::Runs(_)) => Err(ErrorKind::OutOfMemory.into()),
+        Err(Failure::Runs(_)) => Err(ErrorKind::OutOfMemory.into()),
         Err(_) => Err(ErrorKind::InvalidInput.into()),
     }
 }
@@ -71,11 +71,11 @@ fn append_answer(
     text: &[u8],
     arguments: &mut env::Args<Global>,
     out: &mut Vec<u8>,
-) -> Result<(), Stop> {
+) -> Result<(), Failure> {
     let _name = arguments.next();
     match arguments.next() {
         Some(word) if word.as_str() == "measure" => measure(alloc, text, arguments, out),
-        Some(_) => Err(Stop::Call),
+        Some(_) => Err(Failure::Call),
         None => Ok(report(alloc, text, out)?),
     }
 }

@@ -4,9 +4,9 @@
 //! argument is a MACHINE: `copied`, `trailed` or `live`. Each run has an empty input and no
 //! choices. For each MACHINE a line has its name and the number of steps that its run made.
 
+use crate::failure::Failure;
 use crate::fields::code_of;
 use crate::steps::append_steps;
-use crate::stop::Stop;
 use std::alloc::Global;
 use std::env::Args;
 
@@ -16,12 +16,12 @@ pub fn measure(
     source: &[u8],
     arguments: &mut Args<Global>,
     out: &mut Vec<u8>,
-) -> Result<(), Stop> {
+) -> Result<(), Failure> {
     let Some(word) = arguments.next() else {
-        return Err(Stop::Number);
+        return Err(Failure::Number);
     };
     let Ok(limit) = word.parse::<u32>() else {
-        return Err(Stop::Number);
+        return Err(Failure::Number);
     };
     let code = code_of(alloc, source)?;
     for name in arguments {

@@ -1,6 +1,6 @@
 //! Runs that are held against one another.
 
-use crate::stop::Stop;
+use crate::failure::Failure;
 use ick_code::Code;
 use ick_machine::{End, EndKind};
 use ick_runs::{Drawn, Ran, Run, run_seeded, run_with};
@@ -31,7 +31,7 @@ pub fn drawn_run<'c, 'a>(
     input: &'c [u8],
     limit: u32,
     seed: u64,
-) -> Result<Option<Run<'c>>, Stop> {
+) -> Result<Option<Run<'c>>, Failure> {
     let Drawn { choices, ran } = run_seeded(alloc, code, input, limit, seed)?;
     Ok(ended(choices, ran))
 }
@@ -43,7 +43,7 @@ pub fn ended_with<'c, 'a>(
     input: &'c [u8],
     limit: u32,
     choices: &[bool],
-) -> Result<Option<Run<'c>>, Stop> {
+) -> Result<Option<Run<'c>>, Failure> {
     let ran = run_with(alloc, code, input, limit, choices)?;
     Ok(ended(Vec::from_slice(alloc, choices)?, ran))
 }

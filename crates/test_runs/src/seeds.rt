@@ -3,9 +3,9 @@
 ghost use Rattle.std.specs.Prelude.{◌<◌, IfSome};
 
 use crate::explorers::{Start, by_trailed};
+use crate::failure::Failure;
 use crate::fields::{code_of, number, short_number};
 use crate::same::{drawn_run, ended, ended_with, is_same, kind_of};
-use crate::stop::Stop;
 use crate::tasks::Task;
 use crate::texts::{append_choices, append_end_name, append_number};
 use ick_bits::{NoMemory, append_quoted};
@@ -22,11 +22,11 @@ use std::alloc::Global;
 use test_rows::Row;
 
 /// Appends whether a statement of a chance is done by a word.
-pub fn draw(row: &Row, out: &mut Vec<u8>) -> Result<(), Stop> {
+pub fn draw(row: &Row, out: &mut Vec<u8>) -> Result<(), Failure> {
     let word = short_number(row, b"word", 0)?;
     let chance = number(row, b"chance", 0)?;
     let Some(chance) = chance_of(chance) else {
-        return Err(Stop::Number);
+        return Err(Failure::Number);
     };
     let answer = if drawn(word, chance) {
         b"done".as_slice()
@@ -48,7 +48,7 @@ fn chance_of(number: u64) -> Option<u8>
 }
 
 /// Returns the first words of the generator that a seed is defined by.
-fn words_of(alloc: Global, seed: u64, count: u32) -> Result<Vec<u32>, Stop> {
+fn words_of(alloc: Global, seed: u64, count: u32) -> Result<Vec<u32>, Failure> {
     let mut generator = Pcg32::seed_from_u64(seed);
     let mut words = Vec::new(alloc);
     for _ in 0..count {
@@ -59,7 +59,7 @@ fn words_of(alloc: Global, seed: u64, count: u32) -> Result<Vec<u32>, Stop> {
 }
 
 /// Writes three statements of this chance.
-fn source_of(alloc: Global, chance: u8) -> Result<Vec<u8>, Stop> {
+fn source_of(alloc: Global, chance: u8) -> Result<Vec<u8>, Failure> {
     let line = format!(in alloc; "DO %{chance} FORGET #0\n")?;
     let mut source = Vec::new(alloc);
     for _ in 0..3u32 {
@@ -70,14 +70,14 @@ fn source_of(alloc: Global, chance: u8) -> Result<Vec<u8>, Stop> {
 }
 
 /// Returns what a seed draws for three statements of this chance.
-fn drawn_by(alloc: Global, seed: u64, chance: u8) -> Result<Vec<bool>, Stop> {
+fn drawn_by(alloc: Global, seed: u64, chance: u8) -> Result<Vec<bool>, Failure> {
     let source = source_of(alloc, chance)?;
     let code = code_of(alloc, &source)?;
     drawn_on(alloc, &code, seed)
 }
 
 /// Returns what a seed draws for a program.
-fn drawn_on(alloc: Global, code: &Code<'_>, seed: u64) -> Result<Vec<bool>, Stop> {
+fn drawn_on(alloc: Global, code: &Code<'_>, seed: u64) -> Result<Vec<bool>, Failure> {
     let Drawn { choices, .. } = run_seeded(alloc, code, b"", 10, seed)?;
     Ok(choices)
 }
@@ -95,7 +95,7 @@ fn is_meant(choices: &[bool], words: &[u32], chance: u8) -> bool
 }
 
 /// Appends the first three words of a seed, and each chance at which a run draws something else.
-pub fn words(alloc: Global, row: &Row, out: &mut Vec<u8>) -> Result<(), Stop> {
+pub fn words(alloc: Global, row: &Row, out: &mut Vec<u8>) -> Result<(), Failure> {
     let seed = number(row, b"seed", 0)?;
     let words = words_of(alloc, seed, 3)?;
     out.extend_from_slice(b"words")?;
@@ -111,7 +111,7 @@ fn append_other_chances(
     out: &mut Vec<u8>,
     seed: u64,
     words: &[u32],
-) -> Result<(), Stop> {
+) -> Result<(), Failure> {
     for chance in 1..100u8 {
         let choices = drawn_by(alloc, seed, chance)?;
         if !is_meant(&choices, words, chance) {
@@ -127,7 +127,7 @@ pub fn later_draws(
     code: &Code<'_>,
     row: &Row,
     out: &mut Vec<u8>,
-) -> Result<(), Stop> {
+) -> Result<(), Failure> {
     let (limit, seed) = (short_number(row, b"limit", 100)?, number(row, b"seed", 0)?);
     let mut machine = Copied::new(alloc, code, row.field(b"input"), 0)?;
     machine.run(limit)?;
@@ -143,9 +143,9 @@ fn drawn_from<'c>(
     machine: Copied<'c, '_>,
     limit: u32,
     seed: u64,
-) -> Result<Option<Run<'c>>, Stop> {
+) -> Result<Option<Run<'c>>, Failure> {
     if machine.work() > u64::from(u32::MAX) {
-        return Err(Stop::Runs(RunsError::WorkFull));
+        return Err(Failure::Runs(RunsError::WorkFull));
     }
     let Drawn { choices, ran } = run_seeded_from(alloc, machine, limit, seed)?;
     Ok(ended(choices, ran))
@@ -167,7 +167,7 @@ pub fn listed_draws(
     code: &Code<'_>,
     row: &Row,
     out: &mut Vec<u8>,
-) -> Result<(), Stop> {
+) -> Result<(), Failure> {
     let limit = short_number(row, b"limit", 10_000)?;
     let mut count = 0u64;
     for seed in 0..number(row, b"seeds", 0)? {
@@ -179,7 +179,7 @@ pub fn listed_draws(
 }
 
 /// Whether the run that a seed draws is listed, and is the run with its choices.
-fn is_listed(alloc: Global, code: &Code<'_>, limit: u32, seed: u64) -> Result<bool, Stop> {
+fn is_listed(alloc: Global, code: &Code<'_>, limit: u32, seed: u64) -> Result<bool, Failure> {
     match drawn_run(alloc, code, b"", limit, seed)? {
         Some(run) => Ok(is_found(alloc, code, limit, &run)? && is_given(alloc, code, limit, &run)?),
         None => Ok(false),
@@ -187,7 +187,7 @@ fn is_listed(alloc: Global, code: &Code<'_>, limit: u32, seed: u64) -> Result<bo
 }
 
 /// Whether a run is that with its choices.
-fn is_given(alloc: Global, code: &Code<'_>, limit: u32, run: &Run<'_>) -> Result<bool, Stop> {
+fn is_given(alloc: Global, code: &Code<'_>, limit: u32, run: &Run<'_>) -> Result<bool, Failure> {
     match ended_with(alloc, code, b"", limit, &run.choices)? {
         Some(given) => Ok(is_same(&given, run)),
         None => Ok(false),
@@ -195,7 +195,7 @@ fn is_given(alloc: Global, code: &Code<'_>, limit: u32, run: &Run<'_>) -> Result
 }
 
 /// Whether a run is listed.
-fn is_found(alloc: Global, code: &Code<'_>, limit: u32, run: &Run<'_>) -> Result<bool, Stop> {
+fn is_found(alloc: Global, code: &Code<'_>, limit: u32, run: &Run<'_>) -> Result<bool, Failure> {
     let start = Start {
         input: b"",
         limit,
@@ -212,7 +212,7 @@ pub fn streamed_draws(
     code: &Code<'_>,
     row: &Row,
     out: &mut Vec<u8>,
-) -> Result<(), Stop> {
+) -> Result<(), Failure> {
     let mut count = 0u64;
     for seed in 0..number(row, b"seeds", 0)? {
         if is_streamed_by(alloc, code, row.field(b"input"), seed)? {
@@ -223,7 +223,12 @@ pub fn streamed_draws(
 }
 
 /// Whether the run that a seed draws is streamed, by the seed and by its choices.
-fn is_streamed_by(alloc: Global, code: &Code<'_>, input: &[u8], seed: u64) -> Result<bool, Stop> {
+fn is_streamed_by(
+    alloc: Global,
+    code: &Code<'_>,
+    input: &[u8],
+    seed: u64,
+) -> Result<bool, Failure> {
     let Some(run) = drawn_run(alloc, code, input, 100, seed)? else {
         return Ok(false);
     };
@@ -237,7 +242,7 @@ fn is_streamed_twice(
     input: &[u8],
     seed: u64,
     run: &Run<'_>,
-) -> Result<bool, Stop> {
+) -> Result<bool, Failure> {
     let by_seed = is_streamed(alloc, code, input, Chooser::Seeded(seed), run)?;
     let by_choices = is_streamed(alloc, code, input, Chooser::Listed(&run.choices), run)?;
     Ok(by_seed && by_choices)
@@ -250,7 +255,7 @@ fn is_streamed(
     input: &[u8],
     chooser: Chooser<'_>,
     run: &Run<'_>,
-) -> Result<bool, Stop> {
+) -> Result<bool, Failure> {
     let mut source = SliceSource::new(input);
     let mut sink = VecSink::new(alloc);
     let streamed = run_stream(alloc, code, &mut source, &mut sink, 100, chooser)?;

@@ -1,15 +1,15 @@
 //! The number of steps of a run on each machine.
 
+use crate::failure::Failure;
 use crate::fields::short_number;
 use crate::machine::Machine;
-use crate::stop::Stop;
 use ick_bits::append_decimal;
 use ick_code::Code;
 use std::alloc::Global;
 use test_rows::Row;
 
 /// Runs the program of a row on each machine, and appends a line for each.
-pub fn steps(alloc: Global, code: &Code<'_>, row: &Row, out: &mut Vec<u8>) -> Result<(), Stop> {
+pub fn steps(alloc: Global, code: &Code<'_>, row: &Row, out: &mut Vec<u8>) -> Result<(), Failure> {
     let limit = short_number(row, b"limit", 1000)?;
     for name in ["copied", "trailed", "live"] {
         append_steps(alloc, code, limit, name, out)?;
@@ -25,9 +25,9 @@ pub fn append_steps(
     limit: u32,
     name: &str,
     out: &mut Vec<u8>,
-) -> Result<(), Stop> {
+) -> Result<(), Failure> {
     let Some(machine) = Machine::named(name) else {
-        return Err(Stop::Machine);
+        return Err(Failure::Machine);
     };
     let steps = machine.run(alloc, code, limit)?;
     out.extend_from_slice(name.as_bytes())?;

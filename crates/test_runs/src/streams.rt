@@ -3,8 +3,8 @@
 ghost use Rattle.std.specs.Prelude.{◌≡◌};
 
 use crate::devices::{WornSink, WornSource};
+use crate::failure::Failure;
 use crate::fields::{choices, number, short_number};
-use crate::stop::Stop;
 use crate::texts::{append_choices, append_end_name, append_error, append_number};
 use ick_bits::{NoMemory, append_quoted};
 use ick_code::Code;
@@ -47,7 +47,7 @@ fn append_devices(
 
 /// Runs the program of a row over a reader that fails after `reads` reads and a writer that fails
 /// after `room` bytes, or that never fail.
-pub fn stream(alloc: Global, code: &Code<'_>, row: &Row, out: &mut Vec<u8>) -> Result<(), Stop> {
+pub fn stream(alloc: Global, code: &Code<'_>, row: &Row, out: &mut Vec<u8>) -> Result<(), Failure> {
     let mut reader = WornSource {
         rest: row.field(b"input"),
         good: number(row, b"reads", u64::MAX)?,
@@ -70,7 +70,7 @@ fn stream_over(
     reader: &mut WornSource<'_>,
     writer: &mut WornSink,
     out: &mut Vec<u8>,
-) -> Result<(), Stop>
+) -> Result<(), Failure>
     requires reads { reader.old.failures ≡ 0 }
     requires writes { writer.old.failures ≡ 0 }
 {

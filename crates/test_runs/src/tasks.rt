@@ -3,10 +3,10 @@
 use crate::counts::append_all_counts;
 use crate::cut_short::list_cut_short;
 use crate::explorers::{next, pass};
+use crate::failure::Failure;
 use crate::listings::append_listing;
 use crate::many::append_many;
 use crate::same::is_same;
-use crate::stop::Stop;
 use ick_machine::Asks;
 use ick_runs::{Explorer, Run};
 use std::alloc::Global;
@@ -38,7 +38,7 @@ pub fn done<'c, M: Asks<'c>>(
     task: &Task<'_>,
     explorer: &mut Explorer<M>,
     out: &mut Vec<u8>,
-) -> Result<bool, Stop> {
+) -> Result<bool, Failure> {
     match *task {
         Task::List(count) => append_listing(alloc, out, explorer, count).and(Ok(true)),
         Task::Count => append_all_counts(alloc, out, explorer).and(Ok(true)),
@@ -50,7 +50,7 @@ pub fn done<'c, M: Asks<'c>>(
 }
 
 /// Whether an explorer gives a run.
-fn finds<'c, M: Asks<'c>>(explorer: &mut Explorer<M>, run: &Run<'_>) -> Result<bool, Stop> {
+fn finds<'c, M: Asks<'c>>(explorer: &mut Explorer<M>, run: &Run<'_>) -> Result<bool, Failure> {
     for _ in 0..MOST {
         match next(explorer)? {
             Some(found) if found.choices == run.choices => return Ok(is_same(&found, run)),
@@ -62,7 +62,7 @@ fn finds<'c, M: Asks<'c>>(explorer: &mut Explorer<M>, run: &Run<'_>) -> Result<b
 }
 
 /// Whether an explorer gives these runs and then none.
-fn gives<'c, M: Asks<'c>>(explorer: &mut Explorer<M>, runs: &[Run<'_>]) -> Result<bool, Stop> {
+fn gives<'c, M: Asks<'c>>(explorer: &mut Explorer<M>, runs: &[Run<'_>]) -> Result<bool, Failure> {
     for wanted in runs {
         if !gives_one(explorer, wanted)? {
             return Ok(false);
@@ -72,7 +72,10 @@ fn gives<'c, M: Asks<'c>>(explorer: &mut Explorer<M>, runs: &[Run<'_>]) -> Resul
 }
 
 /// Whether an explorer gives this run.
-fn gives_one<'c, M: Asks<'c>>(explorer: &mut Explorer<M>, wanted: &Run<'_>) -> Result<bool, Stop> {
+fn gives_one<'c, M: Asks<'c>>(
+    explorer: &mut Explorer<M>,
+    wanted: &Run<'_>,
+) -> Result<bool, Failure> {
     match next(explorer)? {
         Some(found) => Ok(is_same(&found, wanted)),
         None => Ok(false),

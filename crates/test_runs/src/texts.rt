@@ -1,19 +1,19 @@
 //! Answers as text.
 
-use crate::stop::Stop;
+use crate::failure::Failure;
 use ick_bits::{FaultKind, NoMemory, append_decimal};
 use ick_machine::EndKind;
 use ick_runs::RunsError;
 use std::alloc::Global;
 
-/// Appends why a call stopped.
-pub fn append_stop(alloc: Global, out: &mut Vec<u8>, stop: Stop) -> Result<(), NoMemory> {
-    match stop {
-        Stop::Runs(error) => append_error(alloc, out, error),
-        Stop::Source => Ok(out.extend_from_slice(b"the source is refused")?),
-        Stop::Number => Ok(out.extend_from_slice(b"a field is no number")?),
-        Stop::Call => Ok(out.extend_from_slice(b"no such call")?),
-        Stop::Machine => Ok(out.extend_from_slice(b"no such machine")?),
+/// Appends why a call failed.
+pub fn append_failure(alloc: Global, out: &mut Vec<u8>, failure: Failure) -> Result<(), NoMemory> {
+    match failure {
+        Failure::Runs(error) => append_error(alloc, out, error),
+        Failure::Source => Ok(out.extend_from_slice(b"the source is refused")?),
+        Failure::Number => Ok(out.extend_from_slice(b"a field is no number")?),
+        Failure::Call => Ok(out.extend_from_slice(b"no such call")?),
+        Failure::Machine => Ok(out.extend_from_slice(b"no such machine")?),
     }
 }
 

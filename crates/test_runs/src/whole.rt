@@ -3,8 +3,8 @@
 ghost use Rattle.std.specs.Prelude.{◌≤◌, length};
 
 use crate::devices::WornSink;
+use crate::failure::Failure;
 use crate::fields::number;
-use crate::stop::Stop;
 use crate::texts::append_number;
 use ick_bits::append_quoted;
 use ick_runs::{ByteSink, ReadFault, RunsError, SliceSource, VecSink, read_first, write_whole};
@@ -13,7 +13,7 @@ use test_rows::Row;
 
 /// Reads the first bytes of a row's text and writes them to memory. Appends what was written, what
 /// was left, and how many writes failed.
-pub fn first(alloc: Global, row: &Row, out: &mut Vec<u8>) -> Result<(), Stop> {
+pub fn first(alloc: Global, row: &Row, out: &mut Vec<u8>) -> Result<(), Failure> {
     let mut source = SliceSource::new(row.field(b"text"));
     let front = front_of(alloc, &mut source, number(row, b"most", 0)? as usize)?;
     let mut sink = VecSink::new(alloc);
@@ -22,11 +22,11 @@ pub fn first(alloc: Global, row: &Row, out: &mut Vec<u8>) -> Result<(), Stop> {
 }
 
 /// Reads the first bytes of a source.
-fn front_of(alloc: Global, source: &mut SliceSource<'_>, most: usize) -> Result<Vec<u8>, Stop> {
+fn front_of(alloc: Global, source: &mut SliceSource<'_>, most: usize) -> Result<Vec<u8>, Failure> {
     match read_first(alloc, source, most) {
         Ok(front) => Ok(front),
-        Err(ReadFault::NoMemory) => Err(Stop::Runs(RunsError::NoMemory)),
-        Err(ReadFault::Failed) => Err(Stop::Runs(RunsError::Read)),
+        Err(ReadFault::NoMemory) => Err(Failure::Runs(RunsError::NoMemory)),
+        Err(ReadFault::Failed) => Err(Failure::Runs(RunsError::Read)),
     }
 }
 
@@ -36,7 +36,7 @@ fn append_first(
     sink: &VecSink,
     left: &[u8],
     is_refused: bool,
-) -> Result<(), Stop> {
+) -> Result<(), Failure> {
     append_quoted(out, sink.bytes())?;
     out.extend_from_slice(b", left ")?;
     append_quoted(out, left)?;
@@ -49,7 +49,7 @@ fn append_first(
 
 /// Writes a row's text to sinks that take from no byte of it to all. Appends how many writes left
 /// just the bytes that had room, and failed once if these were not all.
-pub fn write(alloc: Global, row: &Row, out: &mut Vec<u8>) -> Result<(), Stop> {
+pub fn write(alloc: Global, row: &Row, out: &mut Vec<u8>) -> Result<(), Failure> {
     let text = row.field(b"text");
     let mut right = 0u64;
     for room in 0..=text.len() {

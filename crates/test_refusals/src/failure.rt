@@ -47,7 +47,7 @@ impl Call {
 
 /// Why a row has no whole answer.
 #[derive(Clone, Copy)]
-pub enum Stop {
+pub enum Failure {
     /// This call was refused memory, and all holds that must hold after that.
     Refused(Call),
     /// Something does not hold that must hold.
