@@ -152,7 +152,7 @@ fn close<'c, P: States<'c>>(
         ≡ ended_row (pending_of (P.seen program.now) node) (finish_of end.entry)) }
 {
     Ok(Outcome {
-        output: Vec::from_slice(alloc, program.output(&node.state))?,
+        output: program.into_output(node.state),
         end: end_word(alloc, end)?,
         count: node.count,
         weight: node.weight,

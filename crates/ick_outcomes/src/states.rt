@@ -30,6 +30,10 @@ pub trait States<'c>: Drop {
     fn output<'s>(&self, state: &'s Self::State) -> &'s [u8]
         ensures { result.now ≡ (seen self.now state.now).state.output };
 
+    /// Returns what the run has written so far, and leaves no state behind.
+    fn into_output(&self, state: Self::State) -> Vec<u8>
+        ensures { result.items ≡ (seen self.now state).state.output };
+
     /// Returns what is asked before the next step (Revised Manual, 4.3): a choice, or nothing, or
     /// how the run ended.
     fn asks(&self, state: &Self::State) -> Ask<'c>

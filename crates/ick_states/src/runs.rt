@@ -106,101 +106,72 @@ impl<'c, 'a> Runs<'c, 'a> {
     }
 
     /// Makes one step of a run that hasn't ended, and then further steps while nothing is asked, at
-    /// most as many as the limit. Returns the state after them, and the number of the further
-    /// steps. The memory represents the state before the first step.
+    /// most as many as the limit. Returns the number of the further steps.
     fn step_in(
         &self,
         memory: &mut Memory,
+        end: &mut Option<RawEnd>,
         done: bool,
         limit: u32,
-    ) -> Result<(KeptRun, u32), NoMemory>
-        requires { IsReady self.now.lowered.code.now self.now.lowered.parts (view_in memory.old) }
+    ) -> Result<u32, NoMemory>
+        requires ready { IsReady self.now.lowered.code.now self.now.lowered.parts
+            (view_in memory.old) }
+        requires going { end.old ≡ None }
         ensures steady { IsSteady self.now.lowered.code.now self.now.lowered.parts
             (view_in memory.new) }
-        ensures kept { IfOk result (λ p. IsKept self.now.lowered.code.now
-            self.now.lowered.parts p.0.saved) }
-        ensures runs { IfOk result (λ p. RunsOn IsPlain (code_program self.now.lowered.code.now)
+        ensures ready { OnOk result (IsReady self.now.lowered.code.now self.now.lowered.parts
+            (view_in memory.new)) }
+        ensures runs { IfOk result (λ made. RunsOn IsPlain
+            (code_program self.now.lowered.code.now)
             (advance (code_program self.now.lowered.code.now)
             (run_state self.now.lowered.code.now self.now.lowered.parts
-            (input_of self.now.input.now) (view_in memory.old) None) done) p.1
-            (seen_of self.now.lowered.code.now self.now.lowered.parts self.now.input.now
-            p.0.saved p.0.end).state) }
-        ensures within { IfOk result (λ p. p.1 ≤ limit) }
+            (input_of self.now.input.now) (view_in memory.old) None) done) made
+            (run_state self.now.lowered.code.now self.now.lowered.parts
+            (input_of self.now.input.now) (view_in memory.new) end.new)) }
+        ensures within { IfOk result (λ made. made ≤ limit) }
     {
         // It has a length, so `Nobody` has room for the changes of any statement.
         let _longest = self.lowered.longest();
-        let mut end = None;
         let mut reader = TextReader::new(self.input);
-        step_once(
-            &self.lowered,
-            memory,
-            &mut end,
-            &mut Nobody,
-            &mut reader,
-            done,
-        )?;
-        let made = self.go_on(memory, &mut end, limit)?;
-        Ok((self.keep(memory, end)?, made))
+        step_once(&self.lowered, memory, end, &mut Nobody, &mut reader, done)?;
+        self.go_on(memory, end, limit)
     }
 
-    /// Makes the steps of `step_in` from a kept state, which is put into the memory.
+    /// Makes the steps of `step_in` from a kept state, and keeps the state after them in its place.
     fn make_steps(
         &self,
         memory: &mut Memory,
-        state: KeptRun,
+        state: &mut KeptRun,
         done: bool,
         limit: u32,
-    ) -> Result<(KeptRun, u32), NoMemory>
+    ) -> Result<u32, NoMemory>
         requires steady { IsSteady self.now.lowered.code.now self.now.lowered.parts
             (view_in memory.old) }
-        requires kept { IsKept self.now.lowered.code.now self.now.lowered.parts state.saved }
+        requires kept { IsKept self.now.lowered.code.now self.now.lowered.parts state.old.saved }
         requires going { IsGoing (ask (code_program self.now.lowered.code.now)
             (seen_of self.now.lowered.code.now self.now.lowered.parts self.now.input.now
-            state.saved state.end).state) }
+            state.old.saved state.old.end).state) }
         ensures steady { IsSteady self.now.lowered.code.now self.now.lowered.parts
             (view_in memory.new) }
-        ensures kept { IfOk result (λ p. IsKept self.now.lowered.code.now
-            self.now.lowered.parts p.0.saved) }
-        ensures runs { IfOk result (λ p. RunsOn IsPlain (code_program self.now.lowered.code.now)
+        ensures kept { OnOk result (IsKept self.now.lowered.code.now
+            self.now.lowered.parts state.new.saved) }
+        ensures runs { IfOk result (λ made. RunsOn IsPlain
+            (code_program self.now.lowered.code.now)
             (advance (code_program self.now.lowered.code.now)
             (seen_of self.now.lowered.code.now self.now.lowered.parts self.now.input.now
-            state.saved state.end).state done) p.1
+            state.old.saved state.old.end).state done) made
             (seen_of self.now.lowered.code.now self.now.lowered.parts self.now.input.now
-            p.0.saved p.0.end).state) }
-        ensures within { IfOk result (λ p. p.1 ≤ limit) }
+            state.new.saved state.new.end).state) }
+        ensures within { IfOk result (λ made. made ≤ limit) }
     {
-        state.saved.restore(memory, &self.lowered);
-        self.step_in(memory, done, limit)
-    }
-
-    /// Makes the steps of `step_in` from a copy of a kept state.
-    fn make_steps_from(
-        &self,
-        memory: &mut Memory,
-        state: &KeptRun,
-        done: bool,
-        limit: u32,
-    ) -> Result<(KeptRun, u32), NoMemory>
-        requires steady { IsSteady self.now.lowered.code.now self.now.lowered.parts
-            (view_in memory.old) }
-        requires kept { IsKept self.now.lowered.code.now self.now.lowered.parts state.now.saved }
-        requires going { IsGoing (ask (code_program self.now.lowered.code.now)
-            (seen_of self.now.lowered.code.now self.now.lowered.parts self.now.input.now
-            state.now.saved state.now.end).state) }
-        ensures steady { IsSteady self.now.lowered.code.now self.now.lowered.parts
-            (view_in memory.new) }
-        ensures kept { IfOk result (λ p. IsKept self.now.lowered.code.now
-            self.now.lowered.parts p.0.saved) }
-        ensures runs { IfOk result (λ p. RunsOn IsPlain (code_program self.now.lowered.code.now)
-            (advance (code_program self.now.lowered.code.now)
-            (seen_of self.now.lowered.code.now self.now.lowered.parts self.now.input.now
-            state.now.saved state.now.end).state done) p.1
-            (seen_of self.now.lowered.code.now self.now.lowered.parts self.now.input.now
-            p.0.saved p.0.end).state) }
-        ensures within { IfOk result (λ p. p.1 ≤ limit) }
-    {
-        state.saved.load(self.alloc, memory, &self.lowered)?;
-        self.step_in(memory, done, limit)
+        state.saved.exchange(memory, &self.lowered);
+        let mut end = None;
+        let made = self.step_in(memory, &mut end, done, limit)?;
+        state.saved.renew(memory, &self.lowered)?;
+        // `runs` needs that the kept state is that of the memory.
+        state.saved.law(&self.lowered);
+        state.end = end;
+        Ok(made)
     }
 }
 
@@ -226,6 +197,11 @@ impl<'c, 'a> States<'c> for Runs<'c, 'a> {
         state.saved.output()
     }
 
+    fn into_output(&self, state: KeptRun) -> Vec<u8> {
+        let saved = state.saved;
+        saved.into_output()
+    }
+
     fn asks(&self, state: &KeptRun) -> Ask<'c> {
         match state.end {
             Some(ended) => Ask::Ended(end_of(self.lowered.code, self.input, ended)),
@@ -244,7 +220,9 @@ impl<'c, 'a> States<'c> for Runs<'c, 'a> {
         done: bool,
         limit: u32,
     ) -> Result<(KeptRun, u32), NoMemory> {
-        self.make_steps(tools, state, done, limit)
+        let mut state = state;
+        let made = self.make_steps(tools, &mut state, done, limit)?;
+        Ok((state, made))
     }
 
     fn step_from(
@@ -254,7 +232,9 @@ impl<'c, 'a> States<'c> for Runs<'c, 'a> {
         done: bool,
         limit: u32,
     ) -> Result<(KeptRun, u32), NoMemory> {
-        self.make_steps_from(tools, state, done, limit)
+        let mut copy = self.copy(state)?;
+        let made = self.make_steps(tools, &mut copy, done, limit)?;
+        Ok((copy, made))
     }
 
     fn copy(&self, state: &KeptRun) -> Result<KeptRun, NoMemory> {

@@ -1,10 +1,10 @@
-use Rattle.std.proofs.Common.{◌≡◌, None}
+use Rattle.std.proofs.Common.{◌≡◌, None, refl}
 use Rattle.ick_code.specs.Compiled.{code_program}
 use Rattle.ick_code.specs.meaning.Move.{advance}
 use Rattle.ick_engine.specs.Memory.{view_in}
 use Rattle.ick_engine.specs.View.{input_of}
 use Rattle.ick_machine.specs.Run.{run_state}
-use Rattle.ick_states.proofs.Keeping.{by_text, same_steps}
+use Rattle.ick_states.proofs.Keeping.{by_text, if_ok, same_steps}
 use Rattle.ick_states.proofs.runs.Runs.step_in.Goals as goal
 
 pub returns-clause-runs : goal.returns-clause-runs
@@ -13,9 +13,8 @@ returns-clause-runs c =
     let parts = c.args.self.now.lowered.parts in
     let program = code_program code in
     let text = c.args.self.now.input.now in
-    let input = input_of text in
     let step = by_text c.new-reader.result c.step_once.new.reader text
     (λ before after. run_state code parts after (view_in c.step_once.new.memory) c.step_once.new.end
     ≡ advance program (run_state code parts before (view_in c.args.memory.now) None) c.args.done)
     c.new-reader.ensures c.in_ok-step_once.ensures.held c.in_ok-step_once.ensures.steps in
-    same_steps program _ _ _ _ c.in_ok-made.made step (c.in_ok-keep.ensures.states input) c.in_ok-made.ensures.runs
+    if_ok _ _ c.go_on.result (λ made runs. same_steps program _ _ _ _ made step refl runs) c.go_on.ensures.runs
