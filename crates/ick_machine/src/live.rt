@@ -12,8 +12,8 @@ use ick_backtrack::{Ask, FeedFault};
 use ick_bits::NoMemory;
 use ick_code::Code;
 use ick_engine::{Memory, RawEnd, fresh_memory};
-use ick_instructions::Lowered;
 use ick_lowering::lower;
+use ick_traces::{Followed, add_traces};
 use std::alloc::Global;
 
 /// Runs a program step by step, and reads its input from a feed when it needs it. Nothing is kept
@@ -23,7 +23,7 @@ use std::alloc::Global;
 /// input, which the feed has, and its output is what was written since it was last cleared.
 #[derive(Drop)]
 pub struct Live<'c, 'a> {
-    lowered: Lowered<'c, 'a>,
+    lowered: Followed<'c, 'a>,
     memory: Memory,
     end: Option<RawEnd>,
     /// The last line that was read.
@@ -54,9 +54,10 @@ impl<'c, 'a> Live<'c, 'a> {
         }) }
     {
         let lowered = lower(alloc, code)?;
-        let memory = fresh_memory(alloc, &lowered)?;
+        let mut memory = fresh_memory(alloc, &lowered)?;
+        let followed = add_traces(alloc, lowered, &mut memory)?;
         Ok(Live {
-            lowered,
+            lowered: followed,
             memory,
             end: None,
             line: Vec::new(alloc),
@@ -74,7 +75,7 @@ impl<'c, 'a> Live<'c, 'a> {
         if self.failed {
             return LiveAsk::Failed;
         }
-        LiveAsk::of(answer(&self.lowered, &self.memory, self.end, &self.line))
+        LiveAsk::of(answer(self.lowered.program(), &self.memory, self.end, &self.line))
     }
 
     /// Makes one step: the statement that is met is done or passed over (Revised Manual, 4.3), or
@@ -105,7 +106,7 @@ impl<'c, 'a> Live<'c, 'a> {
             MeetsInput (seen self.old).program (seen self.old).state }
     {
         let stepped = fed_step(
-            &self.lowered,
+            self.lowered.program(),
             &mut self.memory,
             &mut self.end,
             &mut self.line,
@@ -146,11 +147,12 @@ impl<'c, 'a> Live<'c, 'a> {
             → LeadsToInput old.program (fed (F.left feed.old) old.state) limit }
     {
         let ran = fed_steps(
-            &self.lowered,
+            self.lowered.program(),
             &mut self.memory,
             &mut self.end,
             &mut self.line,
             feed,
+            &self.lowered,
             limit,
         );
         self.failed = ran.is_err();
@@ -192,7 +194,7 @@ impl<'c, 'a> Live<'c, 'a> {
             None => Ok(()),
             Some(ended) => append_end_message(
                 out,
-                Ask::Ended(end_of(self.lowered.code, &self.line, ended)),
+                Ask::Ended(end_of(self.lowered.program().code, &self.line, ended)),
             ),
         }
     }

@@ -30,9 +30,10 @@ returns-in-None c =
 pub returns-in-Some : goal.returns-in-Some
 unfolding seen
 returns-in-Some c =
+    rw (sym c.program.ensures) (
     let live = c.args.self.now in
-    let code = live.lowered.code.now in
-    let lowered = live.lowered.parts in
+    let code = c.program.result.now.code.now in
+    let lowered = c.program.result.now.parts in
     let input = input_after live.line.items [] in
     let v = view_in live.memory in
     let asked = ask (code_program code) (run_state code lowered input v live.end) in
@@ -45,4 +46,4 @@ returns-in-Some c =
       err = c.append_end_message.ensures.err;
       full = c.append_end_message.ensures.full asked same;
       capacity = c.append_end_message.ensures.capacity;
-    }
+    })
