@@ -181,45 +181,46 @@ impl<'c, 'a> States<'c> for Runs<'c, 'a> {
     ghost use Rattle.ick_engine.specs.Steady.{IsSteady};
     ghost use Rattle.ick_states.specs.Seen.{seen_of};
 
-    type State = KeptRun;
+    type State = Box<KeptRun>;
 
     type Tools = Memory;
 
     ghost seen = { λ runs state. seen_of runs.lowered.code.now runs.lowered.parts runs.input.now
-        state.saved state.end };
+        state.value.saved state.value.end };
 
-    ghost suits = { λ runs state. IsKept runs.lowered.code.now runs.lowered.parts state.saved };
+    ghost suits = { λ runs state. IsKept runs.lowered.code.now runs.lowered.parts
+        state.value.saved };
 
     ghost serves = { λ runs memory. IsSteady runs.lowered.code.now runs.lowered.parts
         (view_in memory) };
 
-    fn output<'s>(&self, state: &'s KeptRun) -> &'s [u8] {
+    fn output<'s>(&self, state: &'s Box<KeptRun>) -> &'s [u8] {
         state.saved.output()
     }
 
-    fn into_output(&self, state: KeptRun) -> Vec<u8> {
-        let saved = state.saved;
-        saved.into_output()
+    fn into_output(&self, state: Box<KeptRun>) -> Vec<u8> {
+        let kept = Box::into_inner(state);
+        kept.saved.into_output()
     }
 
-    fn asks(&self, state: &KeptRun) -> Ask<'c> {
+    fn asks(&self, state: &Box<KeptRun>) -> Ask<'c> {
         match state.end {
             Some(ended) => Ask::Ended(end_of(self.lowered.code, self.input, ended)),
             None => asked_in(&self.lowered, &state.saved),
         }
     }
 
-    fn statement(&self, state: &KeptRun) -> u32 {
+    fn statement(&self, state: &Box<KeptRun>) -> u32 {
         state.saved.place()
     }
 
     fn step(
         &self,
         tools: &mut Memory,
-        state: KeptRun,
+        state: Box<KeptRun>,
         done: bool,
         limit: u32,
-    ) -> Result<(KeptRun, u32), NoMemory> {
+    ) -> Result<(Box<KeptRun>, u32), NoMemory> {
         let mut state = state;
         let made = self.make_steps(tools, &mut state, done, limit)?;
         Ok((state, made))
@@ -228,30 +229,31 @@ impl<'c, 'a> States<'c> for Runs<'c, 'a> {
     fn step_from(
         &self,
         tools: &mut Memory,
-        state: &KeptRun,
+        state: &Box<KeptRun>,
         done: bool,
         limit: u32,
-    ) -> Result<(KeptRun, u32), NoMemory> {
+    ) -> Result<(Box<KeptRun>, u32), NoMemory> {
         let mut copy = self.copy(state)?;
         let made = self.make_steps(tools, &mut copy, done, limit)?;
         Ok((copy, made))
     }
 
-    fn copy(&self, state: &KeptRun) -> Result<KeptRun, NoMemory> {
-        Ok(KeptRun {
+    fn copy(&self, state: &Box<KeptRun>) -> Result<Box<KeptRun>, NoMemory> {
+        let copy = KeptRun {
             saved: state.saved.copy(self.alloc)?,
             end: state.end,
-        })
+        };
+        Ok(Box::new(self.alloc, copy)?)
     }
 
-    fn same(&self, one: &KeptRun, other: &KeptRun) -> bool {
+    fn same(&self, one: &Box<KeptRun>, other: &Box<KeptRun>) -> bool {
         match (one.end, other.end) {
             (None, None) => one.saved.same(&other.saved, &self.lowered),
             _ => false,
         }
     }
 
-    fn hash(&self, state: &KeptRun) -> u64 {
+    fn hash(&self, state: &Box<KeptRun>) -> u64 {
         state.saved.hash()
     }
 }
@@ -266,7 +268,7 @@ impl<'c, 'a> Runs<'c, 'a> {
     }
 
     /// Returns the state in which runs begin. `NoMemory` is the only refusal.
-    pub fn first(&self) -> Result<KeptRun, NoMemory>
+    pub fn first(&self) -> Result<Box<KeptRun>, NoMemory>
         ensures state { IfOk result (λ state.
             ⟦<Runs<'c, 'a> as States<'c>>⟧.suits self.now state) }
         ensures first { IfOk result (λ state.
@@ -276,6 +278,7 @@ impl<'c, 'a> Runs<'c, 'a> {
             }) }
     {
         let memory = fresh_memory(self.alloc, &self.lowered)?;
-        self.keep(&memory, None)
+        let state = self.keep(&memory, None)?;
+        Ok(Box::new(self.alloc, state)?)
     }
 }
