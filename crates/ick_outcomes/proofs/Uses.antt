@@ -26,6 +26,7 @@ use Rattle.ick_outcomes.specs.Accounts.{GoesOn, IsChoosing, chosen, SettlesAll, 
 use Rattle.ick_outcomes.specs.Accounts.{AreBelow, AreOver, IsMostLeft, Makes, ended_row}
 use Rattle.ick_outcomes.proofs.Algebra.{none-join}
 use Rattle.ick_outcomes.proofs.Sums.{account-starts, account-goes_on, settles-more, settles-none}
+use Rattle.ick_outcomes.specs.Packed.{choices_of, IsEarlier}
 use Rattle.ick_outcomes.specs.Seen.{natural, pending_of, nodes_of, row_of, rows_of, AreSound}
 use Rattle.ick_outcomes.specs.declared.pending.Node.{Node}
 use Rattle.ick_outcomes.specs.declared.outcome.Outcome.{Outcome}
@@ -49,13 +50,22 @@ pub admits_at : {S : Type 0} (seen : S → Configuration) (ns : List (Node S)) (
     pending_of seen new ≡ record (pending_of seen old) {
       count = natural old.count + natural more.count;
       weight = (pending_of seen old).weight + (pending_of seen more).weight;
-      choices = lesser old.choices.items more.choices.items;
+      choices = lesser (choices_of old.choices) (choices_of more.choices);
     } → Admits (nodes_of seen ns) (pending_of seen more) (nodes_of seen (slice_set ns i new))
 admits_at seen ns i more old new lt m e f =
     subst (λ xs. Admits (nodes_of seen ns) (pending_of seen more) xs) (sym (set-mapped (pending_of seen) ns i new))
     (admits-merge (nodes_of seen ns) i (pending_of seen old) (pending_of seen more) (pending_of seen new)
     (get-mapped (pending_of seen) ns i old lt ∙ ap (λ x. Some (pending_of seen x)) (sym e))
     (subst (λ x. CanMerge (pending_of seen x) (pending_of seen more)) (sym e) (m old)) f)
+
+pub kept_at : {S : Type 0} (ns xs : List (Node S)) (i : ℕ) (old more : Node S) (kept : Bool) → xs ≡ ns →
+    old ≡ slice_index_or ns i old →
+    ((d : Node S) → IsEarlier (choices_of (slice_index_or xs i d).choices) (choices_of more.choices) kept) →
+    IsEarlier (choices_of old.choices) (choices_of more.choices) kept
+kept_at {S} ns xs i old more kept e f h =
+    subst (λ (z : Node S). IsEarlier (choices_of z.choices) (choices_of more.choices) kept) (sym f)
+    (subst (λ (zs : List (Node S)). IsEarlier (choices_of (slice_index_or zs i old).choices) (choices_of more.choices)
+    kept) e (h old))
 
 pub admits_new : {S : Type 0} (seen : S → Configuration) (ns ns' : List (Node S)) (more : Node S) → ns' ≡ ns ++ more ∷ [] →
     Admits (nodes_of seen ns) (pending_of seen more) (nodes_of seen ns')

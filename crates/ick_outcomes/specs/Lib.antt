@@ -3,6 +3,7 @@ pub mod Tallies
 pub mod Summaries
 pub mod Accounts
 pub mod Naturals
+pub mod Packed
 pub mod Seen
 pub mod Fractions
 pub mod Texts

@@ -2,6 +2,7 @@
 use Rattle.std.specs.Prelude.{ℕ, List, map}
 use Rattle.std.specs.List.{All}
 use Rattle.ick_outcomes.specs.Naturals.{value_of}
+use Rattle.ick_outcomes.specs.Packed.{choices_of}
 use Rattle.ick_outcomes.specs.Accounts.{Configuration, Pending}
 use Rattle.ick_outcomes.specs.Summaries.{Row}
 use Rattle.ick_outcomes.specs.declared.natural.Natural.{Natural}
@@ -21,7 +22,7 @@ pending_of seen n = record {
   left = n.left;
   count = natural n.count;
   weight = amount (top_of n.weight) n.weight.places n.left;
-  choices = n.choices.items;
+  choices = choices_of n.choices;
 }
 
 -- the row that an outcome represents

@@ -1,6 +1,6 @@
 //! Compares lists of choices.
 
-ghost use Rattle.std.specs.Prelude.{◌≡◌, ◌≤◌, ◌⊎◌, true, false, length, take};
+ghost use Rattle.std.specs.Prelude.{◌≡◌, ◌≤◌, true, false, length, take};
 ghost use Rattle.ick_explorer.specs.Order.{IsBelow};
 ghost use Rattle.ick_outcomes.specs.Tallies.{lesser};
 
@@ -69,16 +69,5 @@ pub(crate) fn keeps(one: &[bool], other: &[bool]) -> bool
         Order::Short => true,
         Order::Behind => false,
         Order::Longer => false,
-    }
-}
-
-/// Returns whether the lists differ at a position that both have.
-pub(crate) fn differ(one: &[bool], other: &[bool]) -> bool
-    ensures { result ≡ true → IsBelow one.now other.now ⊎ IsBelow other.now one.now }
-{
-    match compare(one, other) {
-        Order::Before => true,
-        Order::Behind => true,
-        _ => false,
     }
 }

@@ -10,13 +10,14 @@
 //! | `errors` | the refusals of a search |
 //! | `pending`, `node`, `hints` | nodes, their steps, and how equal ones are found and merged |
 //! | `outcome`, `table`, `filing`, `index` | outcomes, and how runs are added to them |
-//! | `comparing` | the order of lists of choices |
+//! | `choices`, `comparing` | lists of choices, packed and one by one, and their order |
 //! | `following` | one run, and the statements that asked for its choices |
 //! | `natural`, `fraction`, `text`, `cut` | counts and weights of any length, and their texts |
 //! | `lines` | the text of a summary |
 //! | `laws` | laws of all summaries |
 #![tactic(auto)]
 
+mod choices;
 mod comparing;
 mod cut;
 mod errors;

@@ -7,11 +7,12 @@ ghost use Rattle.ick_backtrack.specs.Asked.{IsGoing, finish_of};
 ghost use Rattle.ick_backtrack.specs.Steps.{IsPlain};
 ghost use Rattle.ick_outcomes.specs.Accounts.{Admits, CanMerge, Counts, Configuration, Settles, Makes};
 ghost use Rattle.ick_outcomes.specs.Accounts.{GoesOn, IsChoosing, AreOver, chosen, ended_row};
+ghost use Rattle.ick_outcomes.specs.Packed.{choices_of, IsEarlier};
 ghost use Rattle.ick_outcomes.specs.Seen.{AreSound, natural, pending_of, row_of, rows_of, nodes_of};
 ghost use Rattle.ick_outcomes.specs.Tallies.{lesser};
 ghost use Rattle.ick_outcomes.specs.Weights.{part};
 
-use crate::comparing::{differ, keeps};
+use crate::choices::earlier;
 use crate::filing::add_outcome;
 use crate::outcome::{Outcome, end_word};
 use crate::pending::{Node, Waiting};
@@ -19,34 +20,48 @@ use crate::states::States;
 use crate::table::Table;
 use ick_backtrack::{Ask, End};
 use ick_bits::NoMemory;
-use smallvec::SmallVec;
 use std::alloc::Global;
 
-/// Returns whether two nodes can be merged.
-fn can_merge<'c, P: States<'c>>(program: &P, one: &Node<P::State>, more: &Node<P::State>) -> bool
-    ensures { result ≡ true → CanMerge (pending_of (P.seen program.now) one.now)
-        (pending_of (P.seen program.now) more.now) }
+/// Returns whether the choices of the first node are the earlier ones, or `None` if the nodes can't
+/// be merged.
+fn can_merge<'c, P: States<'c>>(
+    program: &P,
+    one: &Node<P::State>,
+    more: &Node<P::State>,
+) -> Option<bool>
+    ensures same { IfSome result (λ kept. CanMerge (pending_of (P.seen program.now) one.now)
+        (pending_of (P.seen program.now) more.now)) }
+    ensures kept { IfSome result
+        (IsEarlier (choices_of one.now.choices) (choices_of more.now.choices)) }
 {
-    one.left == more.left
-        && program.same(&one.state, &more.state)
-        && differ(&one.choices, &more.choices)
+    if one.left == more.left && program.same(&one.state, &more.state) {
+        return earlier(&one.choices, &more.choices);
+    }
+    None
 }
 
-/// Returns the index that was hinted at, if the node there can be merged with another.
+/// Returns the index that was hinted at, and whether the choices of the node there are the earlier
+/// ones, if it can be merged with another.
 fn find_node<'c, P: States<'c>>(
     program: &P,
     nodes: &[Node<P::State>],
     hint: Option<usize>,
     more: &Node<P::State>,
-) -> Option<usize>
-    ensures same { IfSome result (λ i. (d : Node P.State) →
-        CanMerge (pending_of (P.seen program.now) (slice_index_or nodes.now i d))
+) -> Option<(usize, bool)>
+    ensures same { IfSome result (λ p. (d : Node P.State) →
+        CanMerge (pending_of (P.seen program.now) (slice_index_or nodes.now p.0 d))
         (pending_of (P.seen program.now) more.now)) }
-    ensures within { IfSome result (λ i. i < length nodes.now) }
+    ensures kept { IfSome result (λ p. (d : Node P.State) →
+        IsEarlier (choices_of (slice_index_or nodes.now p.0 d).choices)
+        (choices_of more.now.choices) p.1) }
+    ensures within { IfSome result (λ p. p.0 < length nodes.now) }
 {
     if let Some(at) = hint {
-        if at < nodes.len() && can_merge(program, &nodes[at], more) {
-            return Some(at);
+        if at < nodes.len() {
+            return match can_merge(program, &nodes[at], more) {
+                Some(kept) => Some((at, kept)),
+                None => None,
+            };
         }
     }
     None
@@ -57,21 +72,31 @@ pub(crate) fn hash_of<'c, P: States<'c>>(program: &P, state: &P::State, left: u3
     program.hash(state) ^ u64::from(left).wrapping_mul(0x9e37_79b9_7f4a_7c15)
 }
 
-/// Merges a node into another with the same state.
+/// Merges a node into another with the same state. `kept` says that the choices of the node that is
+/// there already are the earlier ones.
 #[tactic(auto, using(crate::proofs::Uses::sum_fits, crate::proofs::Uses::merge_sum))]
-fn merge<S: Drop>(alloc: Global, one: &mut Node<S>, more: Node<S>) -> Result<(), NoMemory>
-    requires { one.old.left ≡ more.left }
+fn merge<S: Drop>(
+    alloc: Global,
+    one: &mut Node<S>,
+    more: Node<S>,
+    kept: bool,
+) -> Result<(), NoMemory>
+    requires left { one.old.left ≡ more.left }
+    requires kept { kept ≡ true → lesser (choices_of one.old.choices) (choices_of more.choices)
+        ≡ choices_of one.old.choices }
+    requires given { kept ≡ false → lesser (choices_of one.old.choices) (choices_of more.choices)
+        ≡ choices_of more.choices }
     ensures merged { OnOk result ((seen : S → Configuration) →
         pending_of seen one.new ≡ record (pending_of seen one.old) {
           count = natural one.old.count + natural more.count;
           weight = (pending_of seen one.old).weight + (pending_of seen more).weight;
-          choices = lesser one.old.choices.items more.choices.items;
+          choices = lesser (choices_of one.old.choices) (choices_of more.choices);
         }) }
     ensures state { OnOk result (one.new.state ≡ one.old.state) }
 {
     one.count = more.count.plus(&one.count)?;
     one.weight = more.weight.plus(&one.weight, alloc)?;
-    if !keeps(&one.choices, &more.choices) {
+    if !kept {
         one.choices = more.choices;
     }
     Ok(())
@@ -97,8 +122,8 @@ fn admit<'c, P: States<'c>>(
     let hash = node.hash;
     let hint = pending.hints.find(hash);
     match find_node(program, &pending.nodes, hint, &node) {
-        Some(at) => {
-            merge(alloc, &mut pending.nodes[at], node)?;
+        Some((at, kept)) => {
+            merge(alloc, &mut pending.nodes[at], node, kept)?;
             Ok(())
         }
         None => {
@@ -156,7 +181,7 @@ fn close<'c, P: States<'c>>(
         end: end_word(alloc, end)?,
         count: node.count,
         weight: node.weight,
-        first: node.choices,
+        first: node.choices.all(alloc)?,
     })
 }
 
@@ -250,16 +275,6 @@ fn choose<'c, P: States<'c>>(
     })
 }
 
-/// Copies choices, with room for one more.
-fn copy_choices(alloc: Global, choices: &[bool]) -> Result<SmallVec<bool, 24>, NoMemory>
-    ensures { IfOk result (λ copy. copy.items ≡ choices.now) }
-{
-    let mut copy = SmallVec::new(alloc);
-    copy.reserve(choices.len() + 1)?;
-    copy.extend_from_slice(choices)?;
-    Ok(copy)
-}
-
 /// Returns the node after a choice, and after the steps behind it while nothing is asked. The node
 /// before it stays. `chance` is that of the statement that is met.
 #[tactic(auto, using(crate::proofs::Uses::part_fits))]
@@ -287,7 +302,7 @@ fn choose_from<'c, P: States<'c>>(
     let (state, made) = program.step_from(tools, &node.state, done, left)?;
     let left = left - made;
     let hash = hash_of(program, &state, left);
-    let mut choices = copy_choices(alloc, &node.choices)?;
+    let mut choices = node.choices.copy(alloc)?;
     choices.push(done)?;
     let copy = node.weight.copy()?;
     let weight = copy.part(hundredths(chance, done))?;

@@ -3,10 +3,10 @@
 ghost use Rattle.std.specs.Prelude.{◌+◌, ◌<◌, ◌≤◌};
 ghost use Rattle.ick_outcomes.specs.Naturals.{value_of};
 
+use crate::choices::Choices;
 use crate::fraction::Fraction;
 use crate::hints::Hints;
 use crate::natural::Natural;
-use smallvec::SmallVec;
 
 /// A state, how many steps it has left, how many runs lead to it, their weight together, and the
 /// choices of the first of them. An equal node is looked for by the hash, on which no contract
@@ -18,7 +18,7 @@ pub(crate) struct Node<S: Drop> {
     pub(crate) hash: u64,
     pub(crate) count: Natural,
     pub(crate) weight: Fraction,
-    pub(crate) choices: SmallVec<bool, 24>,
+    pub(crate) choices: Choices,
     pub(crate) ghost fits: { left + weight.places ≤ 4294967295 },
     pub(crate) ghost some: { 0 < value_of count.digits.items },
 }

@@ -5,6 +5,7 @@ ghost use Rattle.ick_outcomes.specs.Accounts.{Configuration, SettlesAll, AreCoun
 ghost use Rattle.ick_outcomes.specs.Summaries.{HasMoreRuns};
 ghost use Rattle.ick_outcomes.specs.Seen.{AreSound, pending_of, rows_of, nodes_of};
 
+use crate::choices::Choices;
 use crate::errors::OutcomesError;
 use crate::filing::no_rows;
 use crate::fraction::Fraction;
@@ -16,7 +17,6 @@ use crate::pending::{Node, Waiting};
 use crate::states::States;
 use crate::table::Table;
 use ick_bits::NoMemory;
-use smallvec::SmallVec;
 use std::alloc::Global;
 
 /// Returns an empty list of nodes.
@@ -132,7 +132,7 @@ pub(crate) fn count_outcomes<'c, P: States<'c>>(
         hash,
         count: Natural::one(alloc)?,
         weight: Fraction::one(alloc)?,
-        choices: SmallVec::new(alloc),
+        choices: Choices::new(alloc),
     };
     put(alloc, program, node, &mut pending, &mut rows)?;
     'rounds: for gone in 0..u64::from(limit) + 1 {

@@ -1,7 +1,8 @@
 use Rattle.std.proofs.Common.{rules, slice_index_or, subst}
 use Rattle.ick_outcomes.specs.Accounts.{CanMerge}
 use Rattle.ick_outcomes.specs.Seen.{pending_of}
-use Rattle.ick_outcomes.proofs.Uses.{admits_at, sound_at}
+use Rattle.ick_outcomes.proofs.Packing.{lesser_earlier, lesser_later}
+use Rattle.ick_outcomes.proofs.Uses.{admits_at, kept_at, sound_at}
 use Rattle.ick_outcomes.proofs.node.admit.Goals as goal
 
 pub returns-in_ok-merge-in-Some-clause-admits : goal.returns-in_ok-merge-in-Some-clause-admits
@@ -17,3 +18,17 @@ pub returns-in_ok-merge-in-Some-clause-pending : goal.returns-in_ok-merge-in-Som
 returns-in_ok-merge-in-Some-clause-pending g c =
     sound_at (g.P.States.suits c.args.program.now) c.args.pending.now.nodes.items c.in-Some.at c.index_mut.result.now
     c.merge.new.one (search rules) (search rules) c.in_ok-merge-in-Some.ensures.state c.requires.pending
+
+pub merge-requires-clause-kept : goal.merge-requires-clause-kept
+merge-requires-clause-kept g c = λ e.
+    lesser_earlier _ _ c.in-Some.kept
+    (kept_at c.args.pending.now.nodes.items _ c.in-Some.at c.index_mut.result.now c.args.node c.in-Some.kept
+    c.deref.ensures.value (search rules) c.in-Some.ensures.kept)
+    e
+
+pub merge-requires-clause-given : goal.merge-requires-clause-given
+merge-requires-clause-given g c = λ e.
+    lesser_later _ _ c.in-Some.kept
+    (kept_at c.args.pending.now.nodes.items _ c.in-Some.at c.index_mut.result.now c.args.node c.in-Some.kept
+    c.deref.ensures.value (search rules) c.in-Some.ensures.kept)
+    e

@@ -1,5 +1,6 @@
 use Rattle.std.proofs.Common.{◌-◌, refl, subst}
 use Rattle.ick_outcomes.specs.Fractions.{top_of, IsPart}
+use Rattle.ick_outcomes.specs.Packed.{choices_of}
 use Rattle.ick_outcomes.specs.Seen.{natural, pending_of}
 use Rattle.ick_outcomes.specs.Weights.{amount}
 use Rattle.ick_outcomes.proofs.Uses.{chosen_goes_on}
@@ -18,8 +19,8 @@ returns-clause-goes_on g c =
       left = left;
       count = natural c.args.node.count;
       weight = amount (top_of r) r.places left;
-      choices = c.push.new.self.items;
+      choices = choices_of c.push.new.self;
     })
     c.args.chance c.in_ok-state.made c.args.done f r c.requires.left c.args.node.fits
     (subst (λ k. IsPart k f r) c.hundredths.ensures.is_part c.in_ok-weight.ensures) refl step.runs step.program
-    step.within refl refl refl c.in_ok-push.ensures.ok
+    step.within refl refl refl c.in_ok-push.ensures
