@@ -9,7 +9,7 @@ use Rattle.std.proofs.lemmas.Grind.{flat_map-append}
 use Rattle.std.proofs.Math.Nat.{mul-le-mul_right}
 use Rattle.std.proofs.Math.Seq.{take-add}
 use Rattle.std.proofs.lemmas.List.{append-nil}
-use Rattle.ick_backtrack.specs.Machine.{Program}
+use Rattle.ick_backtrack.specs.Machine.{Program, Machine}
 use Rattle.ick_code.specs.meaning.State.{State}
 use Rattle.ick_backtrack.specs.Asked.{Finish}
 use Rattle.ick_explorer.specs.declared.errors.RunsError.{RunsError}
@@ -18,8 +18,8 @@ use Rattle.ick_explorer.specs.declared.errors.RunsError.TheVariants.{Write}
 use Rattle.ick_explorer.specs.Runs.{IsWhole}
 use Rattle.ick_explorer.specs.Order.{IsAfter}
 use Rattle.ick_explorer.specs.Listings.{IsListing, IsLast, IsLeastAfter}
-use Rattle.ick_explorer.specs.Standing.{Explored, IsFull, HasFailed}
-use Rattle.ick_explorer.specs.Walks.{Arrives, Reaches}
+use Rattle.ick_explorer.specs.Standing.{Explored, IsFull, HasFailed, Stands}
+use Rattle.ick_explorer.specs.Walks.{Arrives, Reaches, IsOver, EndsHere}
 use Rattle.ick_explorer.specs.Lines.{line_of, compiled_at, line_next, last_line, listed_of, run_line, run_lines}
 use Rattle.ick_explorer.specs.Writes.{position_after, Counts, Gave, Wrote, WroteInPart, Writes}
 use Rattle.ick_explorer.specs.WritingSteps.{WritesOne, WritesNone, WritesPart, Along, WritesNext, Moves, AtEnd}
@@ -47,6 +47,18 @@ full_in most first limit now l i count full same within lt =
 -- what an option holds
 pub some_of : {R : Type 0} (found : Option R) (r : R) (P : R → Type 0) → found ≡ Some r → IfSome found P → P r
 some_of found r P e h = subst (λ x. IfSome x P) e h
+
+-- the explorer reached the run that it found
+pub found_run : (limit : ℕ) (machine : Machine) (s : State) (old new : Explored) (c : List Bool) (found : Option ℕ)
+    (n : ℕ) (f : Finish) → found ≡ Some n → IfSome found (IsOver limit machine) →
+    IfSome found (λ steps. (finish : Finish) → EndsHere limit machine steps finish → (t : State) → Stands t old →
+    Reaches t old new c steps finish) →
+    ((l steps : ℕ) → IsOver l machine steps → EndsHere l machine steps f) → Stands s old → Reaches s old new c n f
+found_run limit machine s old new c found n f is over some ends h =
+    some_of found n
+    (λ steps. (finish : Finish) → EndsHere limit machine steps finish → (t : State) → Stands t old →
+    Reaches t old new c steps finish)
+    is some f (ends limit n (some_of found n (IsOver limit machine) is over)) s h
 
 -- a listing that isn't at its end begins with the least list, and goes on with the listing after it
 pub record Begins (p : Program) (s : State) (l : ℕ) (d : List Bool) (xs : List (List Bool)) : Type 0 where
@@ -176,31 +188,52 @@ pub writes_none : (told : Bool) (s : State) (xs : List (List Bool)) (e : Explore
 writes_none told s xs e w h k =
     record { none = listing_none e.program s e.limit e.from xs h k; same = refl; text = λ t. refl }
 
-pub writes_one : (told : Bool) (s : State) (xs : List (List Bool)) (old new : Explored) (w w' : List ℕ)
-    (c : List Bool) (n : ℕ) (f : Finish) (line : List ℕ) → Reaches s old new c n f →
+-- the explorer reached a run, whose line this is
+pub record HasLine (s : State) (old new : Explored) (c : List Bool) (n : ℕ) (f : Finish) (line : List ℕ) : Type 0 where
+  pub reached : Reaches s old new c n f
+  pub program : new.program ≡ old.program
+  pub limit : new.limit ≡ old.limit
+  pub room : old.work + old.limit < 2 ^ 64
+  pub line_is : line ≡ line_of c f new.present.output
+
+pub found_line : (limit : ℕ) (machine : Machine) (s : State) (old new : Explored) (c : List Bool) (found : Option ℕ)
+    (n : ℕ) (f : Finish) (line : List ℕ) → found ≡ Some n → IfSome found (IsOver limit machine) →
+    IfSome found (λ steps. (finish : Finish) → EndsHere limit machine steps finish → (t : State) → Stands t old →
+    Reaches t old new c steps finish) →
+    ((l steps : ℕ) → IsOver l machine steps → EndsHere l machine steps f) → Stands s old →
     new.program ≡ old.program → new.limit ≡ old.limit → old.work + old.limit < 2 ^ 64 →
-    IsListing old.program s old.limit old.from xs → line ≡ line_of c f new.present.output →
+    line ≡ line_of c f new.present.output → HasLine s old new c n f line
+found_line limit machine s old new c found n f line is over some ends h program same room line_is = record {
+  reached = found_run limit machine s old new c found n f is over some ends h;
+  program = program;
+  limit = same;
+  room = room;
+  line_is = line_is;
+}
+
+pub writes_one : (told : Bool) (s : State) (xs : List (List Bool)) (old new : Explored) (w w' : List ℕ)
+    (c : List Bool) (n : ℕ) (f : Finish) (line : List ℕ) → HasLine s old new c n f line →
+    IsListing old.program s old.limit old.from xs →
     (told ≡ true → w' ≡ w ++ line) → WritesOne told s xs old new w w'
-writes_one told s xs old new w w' c n f line g p l room k e h =
-    let b = listing_begins old.program s old.limit old.from c xs g.least k in record {
+writes_one told s xs old new w w' c n f line g k h =
+    let b = listing_begins old.program s old.limit old.from c xs g.reached.least k in record {
       some = b.some;
-      gave = gave_one s old new c n f xs g p l room b.first;
-      rest = rest_after s old new c (drop 1 xs) p l g.position b.rest;
+      gave = gave_one s old new c n f xs g.reached g.program g.limit g.room b.first;
+      rest = rest_after s old new c (drop 1 xs) g.program g.limit g.reached.position b.rest;
       text = λ t. h t ∙ ap (λ x. w ++ x)
-          (one_line old.program s old.limit c new.present n f xs line g.arrives b.first e);
+          (one_line old.program s old.limit c new.present n f xs line g.reached.arrives b.first g.line_is);
     }
 
 pub writes_part : (told : Bool) (s : State) (xs : List (List Bool)) (old new : Explored) (w w' : List ℕ)
-    (c : List Bool) (n : ℕ) (f : Finish) (line : List ℕ) → Reaches s old new c n f →
-    new.program ≡ old.program → new.limit ≡ old.limit → old.work + old.limit < 2 ^ 64 →
-    IsListing old.program s old.limit old.from xs → line ≡ line_of c f new.present.output →
+    (c : List Bool) (n : ℕ) (f : Finish) (line : List ℕ) → HasLine s old new c n f line →
+    IsListing old.program s old.limit old.from xs →
     (k : ℕ) → (told ≡ true → w' ≡ w ++ take k line) → WritesPart told s xs old new w w' k
-writes_part told s xs old new w w' c n f line g p l room k e m h =
-    let b = listing_begins old.program s old.limit old.from c xs g.least k in record {
+writes_part told s xs old new w w' c n f line g k m h =
+    let b = listing_begins old.program s old.limit old.from c xs g.reached.least k in record {
       some = b.some;
-      gave = gave_one s old new c n f xs g p l room b.first;
+      gave = gave_one s old new c n f xs g.reached g.program g.limit g.room b.first;
       text = λ t. h t ∙ ap (λ x. w ++ take m x)
-          (one_line old.program s old.limit c new.present n f xs line g.arrives b.first e);
+          (one_line old.program s old.limit c new.present n f xs line g.reached.arrives b.first g.line_is);
     }
 
 -- how much of a text was written, where that is told

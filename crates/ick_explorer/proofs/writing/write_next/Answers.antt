@@ -1,14 +1,9 @@
 use Rattle.std.proofs.Common.{◌≡◌, rules, sym, subst, ◌∙◌}
 use Rattle.std.specs.Prelude.{Err}
-use Rattle.ick_code.specs.meaning.State.{State}
-use Rattle.ick_backtrack.specs.Asked.{Finish, finish_of}
 use Rattle.ick_explorer.specs.Explorers.{explored}
-use Rattle.ick_explorer.specs.Lines.{line_of}
-use Rattle.ick_explorer.specs.Standing.{Stands}
-use Rattle.ick_explorer.specs.Walks.{EndsHere, IsOver, Reaches}
 use Rattle.ick_explorer.specs.WritingSteps.{WritesOne, WritesPart, Moves, IsWithin}
 use Rattle.ick_explorer.proofs.KeptLaws.{on_ok}
-use Rattle.ick_explorer.proofs.WritingLaws.{some_of, writes_none, writes_one, writes_part, told_part, move_refused}
+use Rattle.ick_explorer.proofs.WritingLaws.{writes_none, found_line, writes_one, writes_part, told_part, move_refused}
 use Rattle.ick_explorer.proofs.writing.write_next.Goals as goal
 
 pub returns-then-not-more-clause-next : goal.returns-then-not-more-clause-next
@@ -17,59 +12,39 @@ returns-then-not-more-clause-next g c =
 
 pub returns-in-Ok-clause-next : goal.returns-in-Ok-clause-next
 returns-in-Ok-clause-next g c = λ s xs h k.
-    let told = g.W.ByteSink.told in
     let written = g.W.ByteSink.written in
     let old = explored c.args.explorer.now in
     let new = explored c.advance.new.self in
-    let choices = c.advance.new.self.path.choices in
-    let steps = c.in-Some.field-0 in
-    let finish = finish_of c.end_here-end.result in
     let e = c.in_ok-advance.ensures in
-    let limit = c.advance.new.self.limit in
-    let machine = g.M.Backtrack.seen c.advance.new.self.machine in
-    let over : IsOver limit machine steps =
-    some_of c.in_ok-advance.field-0 steps (IsOver limit machine) c.in-Some.is e.over in
-    let moved : Reaches s old new choices steps finish =
-    some_of c.in_ok-advance.field-0 steps
-    (λ n. (f : Finish) → EndsHere limit machine n f → (s' : State) → Stands s' old → Reaches s' old new choices n f)
-    c.in-Some.is e.some finish (c.end_here-end.ensures limit steps over) s h in
-    let line : c.as_slice.result.now ≡ line_of choices finish new.present.output =
-    c.as_slice.ensures.value
-    ∙ on_ok c.build_line.result c.is_err.result c.is_err.ensures.value c.if-is_err.false c.build_line.ensures.line in
-    subst (λ x. WritesOne told s xs old x (written c.args.writer.now) (written c.write_whole.new.sink))
+    let line =
+    found_line c.advance.new.self.limit (g.M.Backtrack.seen c.advance.new.self.machine) s old new
+    c.advance.new.self.path.choices _ _ _ _ c.in-Some.is e.over e.some c.end_here-end.ensures h e.program e.limit e.room
+    (c.as_slice.ensures.value
+    ∙ on_ok c.build_line.result c.is_err.result c.is_err.ensures.value c.if-is_err.false c.build_line.ensures.line) in
+    subst (λ x. WritesOne g.W.ByteSink.told s xs old x (written c.args.writer.now) (written c.write_whole.new.sink))
     (sym c.build_line.ensures.same)
-    (writes_one told s xs old new (written c.args.writer.now) (written c.write_whole.new.sink) choices steps
-    finish c.as_slice.result.now moved e.program e.limit e.room k line c.in-Ok.ensures.all)
+    (writes_one g.W.ByteSink.told s xs old new (written c.args.writer.now) (written c.write_whole.new.sink) _ _ _ _
+    line k c.in-Ok.ensures.all)
 
 pub returns-in-Err-clause-next : goal.returns-in-Err-clause-next
 returns-in-Err-clause-next g c = λ s xs h k.
-    let told = g.W.ByteSink.told in
     let written = g.W.ByteSink.written in
     let old = explored c.args.explorer.now in
     let new = explored c.advance.new.self in
-    let choices = c.advance.new.self.path.choices in
-    let steps = c.in-Some.field-0 in
-    let finish = finish_of c.end_here-end.result in
     let e = c.in_ok-advance.ensures in
-    let limit = c.advance.new.self.limit in
-    let machine = g.M.Backtrack.seen c.advance.new.self.machine in
-    let over : IsOver limit machine steps =
-    some_of c.in_ok-advance.field-0 steps (IsOver limit machine) c.in-Some.is e.over in
-    let moved : Reaches s old new choices steps finish =
-    some_of c.in_ok-advance.field-0 steps
-    (λ n. (f : Finish) → EndsHere limit machine n f → (s' : State) → Stands s' old → Reaches s' old new choices n f)
-    c.in-Some.is e.some finish (c.end_here-end.ensures limit steps over) s h in
-    let line : c.as_slice.result.now ≡ line_of choices finish new.present.output =
-    c.as_slice.ensures.value
-    ∙ on_ok c.build_line.result c.is_err.result c.is_err.ensures.value c.if-is_err.false c.build_line.ensures.line in
+    let line =
+    found_line c.advance.new.self.limit (g.M.Backtrack.seen c.advance.new.self.machine) s old new
+    c.advance.new.self.path.choices _ _ _ _ c.in-Some.is e.over e.some c.end_here-end.ensures h e.program e.limit e.room
+    (c.as_slice.ensures.value
+    ∙ on_ok c.build_line.result c.is_err.result c.is_err.ensures.value c.if-is_err.false c.build_line.ensures.line) in
     let part =
-    told_part told (written c.args.writer.now) (written c.write_whole.new.sink) c.as_slice.result.now
+    told_part g.W.ByteSink.told (written c.args.writer.now) (written c.write_whole.new.sink) c.as_slice.result.now
     c.write_whole.ensures.beginning in (
       part.0,
-      subst (λ x. WritesPart told s xs old x (written c.args.writer.now) (written c.write_whole.new.sink) part.0)
+      subst (λ x. WritesPart g.W.ByteSink.told s xs old x (written c.args.writer.now) (written c.write_whole.new.sink) part.0)
           (sym c.build_line.ensures.same)
-          (writes_part told s xs old new (written c.args.writer.now) (written c.write_whole.new.sink) choices steps
-          finish c.as_slice.result.now moved e.program e.limit e.room k line part.0 part.1),
+          (writes_part g.W.ByteSink.told s xs old new (written c.args.writer.now) (written c.write_whole.new.sink) _ _ _ _
+          line k part.0 part.1),
     )
 
 pub returns-in_err-advance-clause-moves : goal.returns-in_err-advance-clause-moves
