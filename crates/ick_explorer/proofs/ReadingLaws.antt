@@ -5,7 +5,8 @@ use Rattle.std.proofs.Common.{length, take, drop, get_or, refl, ap, sym, ◌∙�
 use Rattle.std.specs.Prelude.{Option, Some, None, replicate}
 use Rattle.std.specs.Char.{digit_value}
 use Rattle.std.specs.Str.Parse.{AllDigits, digits_value}
-use Rattle.std.proofs.lemmas.List.{append-nil, length-append, length-replicate, take-append-drop}
+use Rattle.std.proofs.lemmas.List.{append-nil, drop_more, length-append, length-replicate, take-append-drop, take_rest}
+use Rattle.std.proofs.Math.Seq.{drop-length}
 use Rattle.std.proofs.Math.Nat.{eq-or-lt_of_le}
 use Rattle.std.proofs.lemmas.Str.Parse.{digit_from_value}
 use Rattle.ick_explorer.specs.ChoiceTexts.{digit_of, Group, IsLength, group_text, later_text, groups_text, Differs}
@@ -197,19 +198,6 @@ stretch_size g front =
     length-append front (stretch_of g)
     ∙ ap (λ n. length front + n) (length-replicate (digits_value 10 g.digits) g.choice)
 
--- the text at a position, by its group and what stands after it
-pub front_text : (text : List ℕ) (last : Option Bool) (at after : ℕ) (f : Front) →
-    IsFront last (drop at text) f → after ≡ at + (f.count + 2) →
-    drop at text ≡ group_text (front_group f (drop at text)) ++ drop after text
-front_text text last at after f h e =
-    h.text_is ∙ ap (λ x. group_text (front_group f (drop at text)) ++ x)
-    (drop_twice at (f.count + 2) text ∙ ap (λ n. drop n text) (sym e))
-
-pub front_stops : (text : List ℕ) (last : Option Bool) (at after : ℕ) (f : Front) →
-    IsFront last (drop at text) f → after ≡ at + (f.count + 2) → HasNoDigit (drop after text)
-front_stops text last at after f h e =
-    subst HasNoDigit (drop_twice at (f.count + 2) text ∙ ap (λ n. drop n text) (sym e)) h.stops
-
 -- what was found at the front of a text
 pub front_is : (text : List ℕ) (last : Option Bool) (choice : Bool) (size count : ℕ) → 3 ≤ length text →
     get_or text 0 0 ≡ digit_of choice → get_or text 1 0 ≡ 42 →
@@ -259,3 +247,59 @@ great_size size number limit (inr (a, b)) lt = omega (arith, a, b, lt)
 pub filled : (front choices : List Bool) (g : Group) (size : ℕ) → choices ≡ front ++ replicate size g.choice →
     size ≡ digits_value 10 g.digits → choices ≡ front ++ stretch_of g
 filled front choices g size e f = e ∙ ap (λ n. front ++ replicate n g.choice) f
+
+-- the group at a place of a text, which ends at the place `after`
+pub record HasGroup (text : List ℕ) (last : Option Bool) (at after size : ℕ) (g : Group) : Type 0 where
+  pub differs : Differs last g.choice
+  pub length_is : IsLength g.digits
+  pub size_is : IsCapped size (digits_value 10 g.digits)
+  pub text_is : drop at text ≡ group_text g ++ drop after text
+  pub stops : HasNoDigit (drop after text)
+
+pub group_at : (text : List ℕ) (last : Option Bool) (at : ℕ) (f : Front) →
+    IsFront last (take (length text - at) (drop at text)) f →
+    HasGroup text last at (at + (f.count + 2)) f.size (front_group f (drop at text))
+group_at text last at f front =
+    let h = subst (λ t. IsFront last t f) (take_rest text at) front in
+    record {
+      differs = h.differs;
+      length_is = h.length_is;
+      size_is = h.size;
+      text_is = h.text_is ∙ ap (λ x. group_text (front_group f (drop at text)) ++ x) (drop_twice at (f.count + 2) text);
+      stops = subst HasNoDigit (drop_twice at (f.count + 2) text) h.stops;
+    }
+
+-- behind the choices that were read before it
+module _ {text : List ℕ} {last : Option Bool} {at after size : ℕ} {g : Group} {front : List Bool}
+    (h : HasGroup text last at after size g) (r : IsRead text last at front) where
+  pub group_ends : after ≡ length text → IsGrouped None text (front ++ stretch_of g)
+  group_ends e =
+      read_end text last at front g r
+      (h.text_is ∙ ap (λ x. group_text g ++ x) (ap (λ n. drop n text) e ∙ drop-length text)) h.differs h.length_is
+
+  text_split : after < length text → drop at text ≡ group_text g ++ get_or text after 0 ∷ drop (after + 1) text
+  text_split low = h.text_is ∙ ap (λ x. group_text g ++ x) (drop_more text after 0 low)
+
+  stops_split : after < length text → HasNoDigit (get_or text after 0 ∷ drop (after + 1) text)
+  stops_split low = subst HasNoDigit (drop_more text after 0 low) h.stops
+
+  pub group_goes_on : after < length text → get_or text after 0 ≡ 44 →
+      IsRead text (Some g.choice) (after + 1) (front ++ stretch_of g)
+  group_goes_on low comma =
+      read_on text last at (after + 1) front g (drop (after + 1) text) r
+      (text_split low ∙ ap (λ b. group_text g ++ b ∷ drop (after + 1) text) comma) h.differs h.length_is refl
+
+  pub group_is_last : after < length text → get_or text after 0 ≢ 44 → (c : List Bool) → IsGrouped None text c → ⊥
+  group_is_last low other =
+      no_comma text last at front g (get_or text after 0) (drop (after + 1) text) r (text_split low) h.length_is
+      (stops_split low) other
+
+  pub comma_behind : after < length text → (c : List Bool) → IsGrouped None text c → get_or text after 0 ≡ 44
+  comma_behind low =
+      comma_follows text last at front g (get_or text after 0) (drop (after + 1) text) r (text_split low) h.length_is
+      (stops_split low)
+
+  pub size_exact : (c : List Bool) → IsGrouped None text c → length c < 2 ^ 32 → size ≡ digits_value 10 g.digits
+  size_exact c is few =
+      exact_size size (digits_value 10 g.digits) (length c) h.size_is
+      (stretch_fits text last at front g (drop after text) r h.text_is h.length_is h.stops c is) few
