@@ -44,8 +44,8 @@ impl<M: Backtrack> Explorer<M> {
     ghost use Rattle.ick_explorer.specs.Explorers.{explored};
     ghost use Rattle.ick_code.specs.meaning.State.{State};
     ghost use Rattle.ick_explorer.specs.Runs.{IsWhole};
-    ghost use Rattle.ick_explorer.specs.Standing.{Stands, HasMore, IsAtLast, HasFailed, Gives, IsFull};
-    ghost use Rattle.ick_explorer.specs.Standing.{IsMachineFull, Resumes, zeros_of};
+    ghost use Rattle.ick_explorer.specs.Standing.{Stands, HasMore, IsAtLast, HasFailed, Gives};
+    ghost use Rattle.ick_explorer.specs.Standing.{IsFull, IsMachineFull, Resumes, zeros_of};
     ghost use Rattle.ick_backtrack.specs.Asked.{Finish, finish_of};
     ghost use Rattle.ick_explorer.specs.Lines.{line_of};
     ghost use Rattle.ick_explorer.specs.Walks.{EndsHere, IsOver, Reaches};
