@@ -10,7 +10,7 @@ use Rattle.ick_engine.specs.View.{Input}
 use Rattle.ick_engine.specs.declared.reader.Line.{Line}
 use Rattle.ick_engine.specs.declared.reader.Line.TheVariants.{Nothing, Number, TooLarge, BadWord}
 
--- each input that there may be now comes of one that there may have been before
+-- for each input that may be left now there is one that may have been left before, and the relation holds between both
 abbrev pub Leads : {R : Type 0} → (R → Input → Type 0) → R → R → (Input → Input → Type 0) → Type 0
 Leads Has old new P = (after : Input) → Has new after → (before : Input) × Has old before × P before after
 
@@ -33,7 +33,8 @@ abbrev pub IsByte : Option (ℕ × ℕ) → ℕ → Input → Input → Type 0
 IsByte (Some (b, to)) from before after = before.left from ≡ b ∷ after.left to
 IsByte None from before after = (before.left from ≡ []) × (after.left from ≡ [])
 
--- the number of a byte that was read, or of the end of the input, and what the next one is read after and from
+-- the number that an element gets from a byte or from the end of the input; the byte that was read last; the position
+-- of the next byte
 abbrev pub number_read : ℕ → Option (ℕ × ℕ) → ℕ
 number_read lastin None = 256
 number_read lastin (Some (b, to)) = tape_difference lastin b
@@ -46,7 +47,7 @@ abbrev pub position_after : ℕ → Option (ℕ × ℕ) → ℕ
 position_after from None = from
 position_after from (Some (b, to)) = to
 
--- bytes that were read from a position on into as many elements as were counted, unless these stay as they are
+-- the first `count` elements got the bytes of an input from a position on, unless all elements stay as they are
 pub record HasRead (stays : Bool) (count lastin from : ℕ) (old new : List ℕ) (last to : ℕ)
     (before after : Input) : Type 0 where
   pub elements_are : new ≡ (if stays then old else tape_numbers count lastin (before.left from) ++ drop count old)

@@ -29,7 +29,7 @@ pub record IsNoted (t : Trail) (at : ℕ) : Type 0 where
   pub noted_is : changes_in t ≡ older ++ register_was at old ∷ []
   pub newer : t.kept ≤ length older
 
--- an entry was undone, and what stands apart from it was taken off the trail
+-- an entry was undone, and its array or statuses, if it has any, were taken off the trail
 pub record IsUndone (entry : Entry) (old new : Trail) (v w : View) : Type 0 where
   pub change : Change
   pub off : (older : List Entry) → changes_by old (entry ∷ older) ≡ change ∷ changes_by new older

@@ -64,7 +64,7 @@ pub data Change : Type 0 where
   lastin_was : (old : ℕ) → Change
   no_change : Change
 
--- an entry whose old value stands apart
+-- whether the old value of an entry is kept apart from it
 abbrev pub stands_apart : Entry → Bool
 stands_apart (entry.Array change slot) = true
 stands_apart entry.Statuses = true
@@ -89,7 +89,7 @@ change_of (entry.Output count) = output_was count
 change_of (entry.Last old) = last_was old
 change_of (entry.LastIn old) = lastin_was old
 
--- the changes that entries note, with the arrays and statuses that stand apart; the newest first
+-- the changes that entries note, with the arrays and statuses that are kept apart; the newest first
 abbrev pub changes_of : List Entry → List Array → List (List ℕ) → List Change
 changes_of [] arrays statuses = []
 changes_of (entry.Array change slot ∷ entries) (array ∷ arrays) statuses =
@@ -195,7 +195,7 @@ pub record Rewinds (base : ℕ) (changes : List Change) (low k : ℕ) (v m : Vie
   pub leads : (w : View) → Like base low v w → Like base m.depth m (rewound (reverse (drop k changes)) w)
   pub stays : (w : View) → Like base low v w → HighSame base w (rewound (reverse (drop k changes)) w)
 
--- what no note changes: registers from a number on are never restored, and the changes that belong to older marks
+-- what no note changes: the first register that is never restored, and the changes that belong to older marks
 pub record Fixed : Type 0 where
   pub base : ℕ
   pub kept : List Change
@@ -203,7 +203,7 @@ pub record Fixed : Type 0 where
 abbrev pub fixed_of : ℕ → List Change → Fixed
 fixed_of base kept = record { base = base; kept = kept }
 
--- the same if no change is left that was noted since the newest mark
+-- undoing all changes but the first k does so, and undoes all changes since the newest mark
 abbrev pub RewindsMarked : Fixed → List Change → (low k : ℕ) → View → View → Type 0
 RewindsMarked fixed changes low k v m = (k ≤ length fixed.kept) × Rewinds fixed.base changes low k v m
 
@@ -265,7 +265,7 @@ NotesRestored Undoes old new slot number registers =
     Undoes old k v m →
     Undoes new k (record v { registers = slice_set registers slot n; parts = p }) m
 
--- what can be undone still can
+-- what could be undone before can be undone after
 abbrev pub KeepsUndoing : {N : Type 0} → (N → ℕ → View → View → Type 0) → N → N → Type 0
 KeepsUndoing Undoes old new = (k : ℕ) (v m : View) → Undoes old k v m → Undoes new k v m
 

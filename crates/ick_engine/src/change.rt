@@ -5,7 +5,7 @@ ghost use Rattle.ick_engine.specs.Undo.{stands_apart};
 
 use std::mem::size_of;
 
-/// How an array was changed that stands apart from its entry.
+/// How an array was changed. The array is kept apart from its entry.
 #[derive(Clone, Copy)]
 pub enum ArrayChange {
     /// It was the array, and another one is now.
@@ -40,9 +40,9 @@ pub enum Entry {
     ScalarRestored(u32, u32, u32),
     /// An array was put on the stash of its slot.
     ArraySaved(u32),
-    /// An array in a slot or on its stash. It stands apart.
+    /// An array in a slot or on its stash. It is kept apart.
     Array(ArrayChange, u32),
-    /// All statuses. They stand apart.
+    /// All statuses. They are kept apart.
     Statuses,
     /// How many bytes of the input were taken.
     Taken(usize),
@@ -57,7 +57,7 @@ pub enum Entry {
 const _: () = prove!(size_of::<Entry>() <= 16);
 
 impl Entry {
-    /// Returns whether the old value stands apart from the entry.
+    /// Returns whether the old value is kept apart from the entry.
     #[inline(always)]
     pub fn stands_apart(self) -> bool
         ensures { result ≡ stands_apart self }

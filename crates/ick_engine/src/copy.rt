@@ -101,7 +101,7 @@ fn copy_array_stashes(alloc: Global, stashes: &[ArrayStash]) -> Result<Vec<Array
 }
 
 /// Copies the parts of a state that few instructions change. Stashes of the copy have no spare
-/// places.
+/// room.
 pub fn copy_rest(alloc: Global, rest: &Rest) -> Result<Rest, NoMemory>
     ensures { IfOk result (λ copy. AreSame (parts_of rest.now) (parts_of copy)) }
 {
@@ -116,7 +116,7 @@ pub fn copy_rest(alloc: Global, rest: &Rest) -> Result<Rest, NoMemory>
     })
 }
 
-/// Puts numbers in place of the first ones of a list.
+/// Overwrites the first numbers of a list.
 pub fn put_first(numbers: &mut [u32], first: &[u32])
     requires { length first.now ≤ length numbers.old }
     ensures { numbers.new ≡ first.now ++ drop (length first.now) numbers.old }
@@ -124,7 +124,7 @@ pub fn put_first(numbers: &mut [u32], first: &[u32])
     numbers[..first.len()].copy_from_slice(first);
 }
 
-/// Puts numbers in place of all that a list has, whose buffer stays if it has the room.
+/// Replaces all numbers of a list. The list keeps its buffer if they fit.
 pub fn put_numbers(list: &mut Vec<u32>, numbers: &[u32]) -> Result<(), NoMemory>
     ensures { OnOk result (list.new.items ≡ numbers.now) }
 {
@@ -133,7 +133,7 @@ pub fn put_numbers(list: &mut Vec<u32>, numbers: &[u32]) -> Result<(), NoMemory>
     Ok(())
 }
 
-/// Puts bytes in place of all that a list has, whose buffer stays if it has the room.
+/// Replaces all bytes of a list. The list keeps its buffer if they fit.
 pub fn put_bytes(list: &mut Vec<u8>, bytes: &[u8]) -> Result<(), NoMemory>
     ensures { OnOk result (list.new.items ≡ bytes.now) }
 {

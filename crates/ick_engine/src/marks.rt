@@ -28,8 +28,8 @@ pub struct Mark {
     pub changes: usize,
 }
 
-/// Marks the state of a run. What can be undone up to an older mark still can. All changes noted so
-/// far belong to older marks.
+/// Marks the state of a run. What could be undone up to an older mark can still be undone. All
+/// changes noted so far belong to older marks.
 pub fn make_mark(trail: &mut Trail, memory: &Memory) -> Mark
     requires { trail.old.low ≤ memory.now.cursor.depth }
     ensures place { result.place ≡ memory.now.cursor.place }
@@ -153,7 +153,7 @@ fn undo_array(rest: &mut Rest, change: ArrayChange, slot: u32, old: Array)
     }
 }
 
-/// Undoes a change whose old value stands apart from its entry, and takes it off the trail.
+/// Undoes a change whose old value is kept apart from its entry, and takes it off the trail.
 fn undo_apart(trail: &mut Trail, memory: &mut Memory, entry: Entry)
     requires { stands_apart entry ≡ true }
     ensures entries { trail.new.entries ≡ trail.old.entries }
@@ -192,8 +192,8 @@ fn undo_newest(trail: &mut Trail, memory: &mut Memory, entry: Entry)
     }
 }
 
-/// Undoes all changes behind the first ones, and takes them off the trail. It stands apart from the
-/// test whether there is any, because going back from one choice to another often finds none.
+/// Undoes all changes behind the first ones, and takes them off the trail. The test whether there
+/// is any is another function, because going back from one choice to another often finds none.
 #[inline(never)]
 fn undo_changes(trail: &mut Trail, changes: usize, memory: &mut Memory)
     ensures { AreUndone trail.old trail.new changes (view_in memory.old) (view_in memory.new) }

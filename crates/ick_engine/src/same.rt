@@ -78,7 +78,7 @@ fn same_tape(one: &Rest, other: &Rest) -> bool
 }
 
 /// Returns whether the parts that few instructions change are the same. Spare room of stashes
-/// don't matter.
+/// doesn't matter.
 pub fn same_rest(one: &Rest, other: &Rest) -> bool
     ensures { result ≡ true → AreSame (parts_of one.now) (parts_of other.now) }
 {

@@ -148,9 +148,9 @@ impl Saved {
     }
 
     /// Puts the state into a memory of the same program, and takes the memory's arrays, stashes and
-    /// tape in exchange. So it takes no memory, and it keeps its buffers for `renew`, but no state.
-    /// A run need not be able to go on from the memory. The number of steps left and the answer
-    /// stay.
+    /// tape in exchange. So no memory is allocated. What is left is no state, but buffers for
+    /// `renew`. A run need not be able to go on from the memory. The number of steps left and the
+    /// answer stay.
     pub fn exchange(&mut self, memory: &mut Memory, program: &Lowered<'_, '_>)
         requires kept { IsKept program.now.code.now program.now.parts self.old }
         requires steady { IsSteady program.now.code.now program.now.parts (view_in memory.old) }
@@ -166,9 +166,9 @@ impl Saved {
         swap(&mut memory.rest, &mut self.rest);
     }
 
-    /// Keeps the state that a memory represents, in the buffers of a state that `exchange` took. The
-    /// memory takes other arrays and stashes and another tape in exchange, so a run can't go on from
-    /// it. `NoMemory` is returned only if a growth was refused, and then no state is kept.
+    /// Saves the state that a memory represents, in the buffers that `exchange` left. The memory
+    /// gets other arrays and stashes and another tape, so a run can't go on from it. `NoMemory` is
+    /// returned only if a growth was refused, and then no state is kept.
     pub fn renew(&mut self, memory: &mut Memory, program: &Lowered<'_, '_>) -> Result<(), NoMemory>
         requires ready { IsReady program.now.code.now program.now.parts (view_in memory.old) }
         requires spare { HasLists program.now.code.now (parts_of self.old.rest) }
@@ -188,7 +188,7 @@ impl Saved {
     }
 
     /// Puts the state into a memory of the same program, and leaves none behind, so no memory is
-    /// taken. The number of steps left and the answer stay.
+    /// allocated. The number of steps left and the answer stay.
     pub fn restore(self, memory: &mut Memory, program: &Lowered<'_, '_>)
         requires kept { IsKept program.now.code.now program.now.parts self }
         requires steady { IsSteady program.now.code.now program.now.parts (view_in memory.old) }

@@ -16,7 +16,7 @@ use crate::notes::Notes;
 use crate::reader::Reader;
 use ick_bits::{FaultKind, NoMemory, tape_in, tape_out};
 
-/// Appends the bytes of elements to the output. Returns where the tape stands behind them. If
+/// Appends the bytes of elements to the output. Returns the position of the tape after them. If
 /// memory runs out, the output doesn't change.
 fn append_elements(output: &mut Vec<u8>, last: u8, elements: &Vec<u32>) -> Result<u8, NoMemory>
     ensures output { OnOk result (output.new.items ≡ output.old.items ++ tape_bytes last

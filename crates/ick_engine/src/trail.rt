@@ -14,8 +14,8 @@ use std::alloc::Global;
 
 /// Changes, the newest last, the least depth of the NEXT stack since the newest mark, the first
 /// temporary register, and how many changes were noted before the newest mark. Temporaries, and
-/// what is behind them, are never noted. Arrays and statuses that entries need stand apart, so that
-/// an entry is small.
+/// what is behind them, are never noted. Arrays and statuses are kept apart from their entries, so
+/// that an entry is small.
 #[derive(Drop)]
 pub struct Trail {
     pub(crate) entries: Vec<Entry>,
