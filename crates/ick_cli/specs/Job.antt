@@ -1,4 +1,4 @@
--- The job that words ask for, by the matches that clap defines.
+-- The job that arguments ask for, as clap parses them.
 use Rattle.std.specs.Prelude.{◌≡◌, ◌^◌, ◌&&◌, ℕ, Bool, true, false, List, [], Option, Some, None, codes}
 use Rattle.std.specs.Prelude.{is_some, if◌then◌else◌, nat_lt, option_and_then, option_map, unwrap_or}
 use Rattle.std.specs.Option.{option_map_or}
@@ -50,7 +50,8 @@ parsed_number bits text =
     let digits = without_leading_plus text in
     if is_numeral digits && nat_lt (digits_value 10 digits) (2 ^ bits) then Some (digits_value 10 digits) else None
 
--- what the matches of a command have: a text, whether a flag is given, a number, or the usual number if none is given
+-- the value of an option among the parsed arguments of a command: a text, whether a flag is given, a number, or the
+-- usual number if none is given
 abbrev pub text_in : Text → List Row → Option Text
 text_in id rows = first_of id rows
 
@@ -79,7 +80,7 @@ task_named name rows = if bytes_eq name (codes "check") then to_check
     else (if bytes_eq name (codes "list") then to_list
     else (if bytes_eq name (codes "runs") then runs_in rows else run_in rows))
 
--- what the matches of a command ask for
+-- what the parsed arguments of a command ask for
 abbrev pub asked_of : Text → List Row → Asked
 asked_of name rows = record { task = task_named name rows; file = text_in (codes "file") rows }
 

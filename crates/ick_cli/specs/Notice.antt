@@ -1,4 +1,4 @@
--- The lines that stand in the program, each with its line end.
+-- The lines that the program has itself, each with its line end.
 use Rattle.std.specs.Prelude.{ℕ, List, codes}
 use Rattle.ick_cli.specs.declared.notice.Notice.{Notice}
 use Rattle.ick_cli.specs.declared.notice.Notice.TheVariants.{ChoicesAndSeed, BadCursor, NoSuchRun, SourceTooLong}

@@ -1,4 +1,4 @@
--- Where the explorer of a listing stands, or that it has no position.
+-- The position of the explorer of a listing, or why there is no explorer.
 use Rattle.std.specs.Prelude.{◌≡◌, ◌≤◌, ℕ, Bool, List, Option, Some}
 use Rattle.ick_code.specs.meaning.State.{State}
 use Rattle.ick_backtrack.specs.Machine.{Machine}
@@ -8,7 +8,7 @@ use Rattle.ick_explorer.specs.declared.errors.RunsError.{RunsError}
 use Rattle.ick_explorer.specs.declared.errors.RunsError.TheVariants.{NoMemory, NoSuchRun}
 use Rattle.ick_cli.specs.Tool.{Answer, IsRunsAnswer}
 
--- the explorer stands at a position in the runs from the machine's state, and its count is the limit at most
+-- the explorer is at a position in the runs from the machine's state, and its count is the limit at most
 pub record IsPlaced (m : Machine) (limit : ℕ) (from : Option (List Bool)) (e : Explored) : Type 0 where
   pub stands : Stands m.state e
   pub position : e.from ≡ from

@@ -1,4 +1,4 @@
--- What words leave that ask for no job.
+-- What is left by arguments that ask for no job.
 use Rattle.std.specs.Prelude.{◌≡◌, ◌≢◌, ◌+◌, ◌++◌, ◌⊎◌, ℕ, Bool, true, List, [], ◌∷◌}
 use Rattle.std.specs.Prelude.{take}
 use Rattle.clap.specs.Words.{Kinds}
@@ -10,7 +10,7 @@ use Rattle.ick_cli.specs.declared.driver.WordsFault.TheVariants.{NoMemory, NotTe
 use Rattle.ick_cli.specs.declared.notice.Notice.{Notice}
 use Rattle.ick_cli.specs.declared.notice.Notice.TheVariants.{WriteFailed, OutOfMemory, WordsNotRead}
 
--- a request for help, and a mistake in the words
+-- a request for help, and a mistake in the arguments
 abbrev pub IsRequest : ErrorKind → Type 0
 IsRequest k = (k ≡ kind.DisplayHelp) ⊎ (k ≡ kind.DisplayVersion)
 

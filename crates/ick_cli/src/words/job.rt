@@ -53,7 +53,8 @@ pub fn read_job<'a>(alloc: Global, words: &'a [&'a str]) -> Result<Job<'a>, Erro
     }
 }
 
-/// Returns the job of matches, which is a run without a file if they name no command.
+/// Returns the job that parsed arguments ask for. If they name no command, it is a run without a
+/// file.
 fn job_in<'a>(matches: &ArgMatches<'a>) -> Job<'a>
     ensures { asked result ≡ asked_in (subcommand_rows_of matches.now) }
 {
@@ -70,7 +71,7 @@ fn job_in<'a>(matches: &ArgMatches<'a>) -> Job<'a>
     }
 }
 
-/// Returns the job of the matches of a command.
+/// Returns the job that the parsed arguments of a command ask for.
 fn job_by<'a>(name: &str, matches: &ArgMatches<'a>) -> Job<'a>
     ensures { asked result ≡ asked_of name.now (rows_of (found_of matches.now)) }
 {

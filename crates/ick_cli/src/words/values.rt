@@ -1,4 +1,4 @@
-//! The values that options were given, as the matches of a command have them.
+//! The values that options were given, by the parsed arguments of a command.
 ghost use Rattle.std.specs.Prelude.{◌≡◌, option_map};
 ghost use Rattle.clap.specs.Words.{found_of, rows_of};
 ghost use Rattle.ick_cli.specs.Job.{flag_in, number_in, text_in};
