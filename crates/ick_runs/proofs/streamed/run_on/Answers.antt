@@ -1,16 +1,17 @@
-use Rattle.std.proofs.Common.{◌≡◌, ◌<◌, length, rules, refl, ap, sym, subst, ◌∙◌, arith}
+use Rattle.std.proofs.Common.{◌≡◌, ◌<◌, List, Bool, true, length, rules, refl, ap, sym, subst, ◌∙◌, arith}
 use Rattle.std.specs.Prelude.{Err, Some, None}
 use Rattle.std.proofs.lemmas.Grind.{common_steps}
 use Rattle.ick_code.proofs.AskLaws.{chance_between}
 use Rattle.ick_machine.specs.Live.{seen, fed, fault_message}
 use Rattle.ick_explorer.specs.declared.errors.RunsError.TheVariants.{NoMemory, Read}
 use Rattle.ick_explorer.specs.Runs.{run}
-use Rattle.ick_runs.specs.Chosen.{Picks, answer_of}
+use Rattle.ick_runs.specs.Chosen.{Chosen, IsChosen, Picks, answer_of}
 use Rattle.ick_runs.specs.Streaming.{IsAlong, AreTaken, Stops}
 use Rattle.ick_runs.proofs.ChosenLaws.{all_taken, picked, one_more}
 use Rattle.ick_runs.proofs.StreamLaws.{along_start, none_taken, asks_chance, here_stays, here_ended, here_limit}
 use Rattle.ick_runs.proofs.StreamLaws.{here_wants, taken_choice, choice_turned, choice_refused, plain_turned}
 use Rattle.ick_runs.proofs.StreamLaws.{plain_refused, goes_by_itself, same_error, choice_at_input, plain_at_input}
+use Rattle.ick_runs.proofs.streamed.run_on.Given.{Over}
 use Rattle.ick_runs.proofs.streamed.run_on.Goals as goal
 
 pub along-init : goal.along-init
@@ -93,6 +94,26 @@ returns-in_err-push-clause-run g c = λ t chosen at c' is_chosen.
     (left c.along.reader) r) (sym e)
     (here_stays told first.program begin limit (i.here t) c' (i.taken t chosen at c' is_chosen))
 
+-- the choices are those that were taken, with the one that was answered
+are_taken : (g : Over) (c : goal.After-from_residual-in_err-turn g) → g.R.ByteSource.told ≡ true →
+    (chosen : Chosen) → Picks chosen 0 c.args.picker.now → (c' : List Bool) →
+    IsChosen (seen c.args.machine.now).program
+    (fed (g.R.ByteSource.left c.args.reader.now) (seen c.args.machine.now).state) c.args.limit chosen c' →
+    AreTaken c' c.push.new.self.items
+are_taken g c t chosen at c' is_chosen =
+    let i = c.along.invariant in
+    let first = seen c.args.machine.now in
+    let begin = fed (g.R.ByteSource.left c.args.reader.now) first.state in
+    let taken = c.along.choices.items in
+    let lt : c.along.steps < c.args.limit = grind (arith, common_steps) in
+    let size : length taken ≡ c.len.result = omega (arith, c.len.ensures, c.along.choices.ok.0) in
+    let some : Some c.in-Some.done ≡ answer_of chosen (length taken) c.in-Choice.chance =
+    picked chosen c.along.picker c.len.result (length taken) c.in-Choice.chance (Some c.in-Some.done) size
+    (i.picks chosen at) (c.in-Some.ensures.answer chosen) in
+    taken_choice g.W.ByteSink.told first.program begin c.args.limit (i.here t) c.asks-asked.ensures c.in-Choice.is lt
+    chosen c' c.push.new.self.items c.in-Some.done is_chosen (i.taken t chosen at c' is_chosen) some
+    c.in_ok-push.ensures.items
+
 pub returns-in_err-turn-clause-run : goal.returns-in_err-turn-clause-run
 returns-in_err-turn-clause-run g c = λ t chosen at c' is_chosen.
     let i = c.along.invariant in
@@ -102,23 +123,14 @@ returns-in_err-turn-clause-run g c = λ t chosen at c' is_chosen.
     let first = seen c.args.machine.now in
     let begin = fed (left c.args.reader.now) first.state in
     let limit = c.args.limit in
-    let taken = c.along.choices.items in
     let lt : c.along.steps < limit = grind (arith, common_steps) in
-    let size : length taken ≡ c.len.result = omega (arith, c.len.ensures, c.along.choices.ok.0) in
-    let some : Some c.in-Some.done ≡ answer_of chosen (length taken) c.in-Choice.chance =
-    picked chosen c.along.picker c.len.result (length taken) c.in-Choice.chance (Some c.in-Some.done) size
-    (i.picks chosen at) (c.in-Some.ensures.answer chosen) in
-    let are_taken =
-    taken_choice told first.program begin limit (i.here t) c.asks-asked.ensures c.in-Choice.is lt chosen c'
-    c.push.new.self.items c.in-Some.done is_chosen (i.taken t chosen at c' is_chosen) some
-    c.in_ok-push.ensures.items in
     let e : c.from_residual-in_err-turn.result ≡ Err c.in_err-turn.field-0.0 = search rules in
     subst (λ r. Stops told (run first.program begin limit c') c' c.push.new.self.items
     (fault_message (seen c.turn.new.machine)) (written c.args.writer.now)
     (written c.turn.new.writer) (left c.turn.new.reader) r) (sym e)
     (choice_refused told first.program begin limit (i.here t) c.asks-asked.ensures c.in-Choice.is lt c'
     c.push.new.self.items c.in-Some.done (fed (left c.turn.new.reader) (seen c.turn.new.machine).state)
-    (written c.turn.new.writer) c.in_err-turn.field-0.0 are_taken
+    (written c.turn.new.writer) c.in_err-turn.field-0.0 (are_taken g c t chosen at c' is_chosen)
     c.in_ok-push.ensures.items (c.in_err-turn.ensures.moved t))
 
 pub returns-in_err-turn-clause-input : goal.returns-in_err-turn-clause-input
@@ -128,21 +140,13 @@ returns-in_err-turn-clause-input g c = λ t chosen at c' is_chosen is_read.
     let first = seen c.args.machine.now in
     let begin = fed (left c.args.reader.now) first.state in
     let limit = c.args.limit in
-    let taken = c.along.choices.items in
     let lt : c.along.steps < limit = grind (arith, common_steps) in
-    let size : length taken ≡ c.len.result = omega (arith, c.len.ensures, c.along.choices.ok.0) in
-    let some : Some c.in-Some.done ≡ answer_of chosen (length taken) c.in-Choice.chance =
-    picked chosen c.along.picker c.len.result (length taken) c.in-Choice.chance (Some c.in-Some.done) size
-    (i.picks chosen at) (c.in-Some.ensures.answer chosen) in
-    let are_taken =
-    taken_choice g.W.ByteSink.told first.program begin limit (i.here t) c.asks-asked.ensures c.in-Choice.is lt chosen
-    c' c.push.new.self.items c.in-Some.done is_chosen (i.taken t chosen at c' is_chosen) some
-    c.in_ok-push.ensures.items in
     let e : c.from_residual-in_err-turn.result ≡ Err c.in_err-turn.field-0.0 = search rules in
     let read = ap Err (same_error c.from_residual-in_err-turn.result c.in_err-turn.field-0.0 Read e is_read) in
     choice_at_input g.W.ByteSink.told first.program begin limit (i.here t) c.asks-asked.ensures c.in-Choice.is lt c'
     c.push.new.self.items c.in-Some.done (g.W.ByteSink.written c.turn.new.writer) (i.taken t chosen at c' is_chosen)
-    are_taken c.in_ok-push.ensures.items (c.in_err-turn.ensures.input read) (c.in_err-turn.ensures.unwritten read)
+    (are_taken g c t chosen at c' is_chosen) c.in_ok-push.ensures.items (c.in_err-turn.ensures.input read)
+    (c.in_err-turn.ensures.unwritten read)
 
 pub along-preserved-in-Choice : goal.along-preserved-in-Choice
 along-preserved-in-Choice g c =
