@@ -68,7 +68,7 @@ fn find_node<'c, P: States<'c>>(
 }
 
 /// Returns the hash by which a node with this state and so many steps left is looked for.
-pub(crate) fn hash_of<'c, P: States<'c>>(program: &P, state: &P::State, left: u32) -> u64 {
+fn hash_of<'c, P: States<'c>>(program: &P, state: &P::State, left: u32) -> u64 {
     program.hash(state) ^ u64::from(left).wrapping_mul(0x9e37_79b9_7f4a_7c15)
 }
 
@@ -222,7 +222,11 @@ pub(crate) fn put<'c, P: States<'c>>(
 {
     match end_of(program, &node) {
         Some(end) => file(alloc, program, node, end, rows),
-        None => admit(alloc, program, pending, node),
+        None => {
+            let mut node = node;
+            node.hash = hash_of(program, &node.state, node.left);
+            admit(alloc, program, pending, node)
+        }
     }
 }
 
@@ -261,14 +265,13 @@ fn choose<'c, P: States<'c>>(
     let left = node.left - 1;
     let (state, made) = program.step(tools, node.state, done, left)?;
     let left = left - made;
-    let hash = hash_of(program, &state, left);
     let mut choices = node.choices;
     choices.push(done)?;
     let weight = node.weight.part(hundredths(chance, done))?;
     Ok(Node {
         state,
         left,
-        hash,
+        hash: 0,
         count: node.count,
         weight,
         choices,
@@ -301,7 +304,6 @@ fn choose_from<'c, P: States<'c>>(
     let left = node.left - 1;
     let (state, made) = program.step_from(tools, &node.state, done, left)?;
     let left = left - made;
-    let hash = hash_of(program, &state, left);
     let mut choices = node.choices.copy(alloc)?;
     choices.push(done)?;
     let copy = node.weight.copy()?;
@@ -309,7 +311,7 @@ fn choose_from<'c, P: States<'c>>(
     Ok(Node {
         state,
         left,
-        hash,
+        hash: 0,
         count: node.count.copy()?,
         weight,
         choices,
@@ -366,11 +368,10 @@ fn pass<'c, P: States<'c>>(
     let left = node.left - 1;
     let (state, made) = program.step(tools, node.state, false, left)?;
     let left = left - made;
-    let hash = hash_of(program, &state, left);
     Ok(Node {
         state,
         left,
-        hash,
+        hash: 0,
         count: node.count,
         weight: node.weight,
         choices: node.choices,

@@ -11,7 +11,7 @@ use crate::filing::no_rows;
 use crate::fraction::Fraction;
 use crate::hints::Hints;
 use crate::natural::Natural;
-use crate::node::{hash_of, make, put};
+use crate::node::{make, put};
 use crate::outcome::Outcome;
 use crate::pending::{Node, Waiting};
 use crate::states::States;
@@ -125,11 +125,10 @@ pub(crate) fn count_outcomes<'c, P: States<'c>>(
 {
     let mut rows = no_rows(alloc);
     let mut pending = no_nodes(alloc);
-    let hash = hash_of(program, &state, limit);
     let node = Node {
         state,
         left: limit,
-        hash,
+        hash: 0,
         count: Natural::one(alloc)?,
         weight: Fraction::one(alloc)?,
         choices: Choices::new(alloc),
