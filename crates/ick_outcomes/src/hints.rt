@@ -9,13 +9,16 @@ use std::collections::HashMap;
 #[derive(Drop)]
 pub(crate) struct Hints {
     places: HashMap<u64, usize>,
+    /// For how many hashes there is room as soon as the first one is noted.
+    room: usize,
 }
 
 impl Hints {
-    /// Returns hints for no node.
-    pub(crate) fn new(alloc: Global) -> Hints {
+    /// Returns hints for no node. The first note makes room for so many.
+    pub(crate) fn new(alloc: Global, room: usize) -> Hints {
         Hints {
             places: HashMap::new(alloc),
+            room,
         }
     }
 
@@ -29,6 +32,9 @@ impl Hints {
 
     /// Notes an index for a hash.
     pub(crate) fn note(&mut self, hash: u64, at: usize) -> Result<(), NoMemory> {
+        if self.places.is_empty() {
+            self.places.reserve(self.room)?;
+        }
         self.places.insert(hash, at)?;
         Ok(())
     }

@@ -10,7 +10,7 @@ use crate::natural::Natural;
 
 /// A state, how many steps it has left, how many runs lead to it, their weight together, and the
 /// choices of the first of them. An equal node is looked for by the hash, on which no contract
-/// rests.
+/// rests. It is 0 until the node waits for the first time.
 #[derive(Drop)]
 pub(crate) struct Node<S: Drop> {
     pub(crate) state: S,

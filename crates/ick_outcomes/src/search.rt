@@ -25,7 +25,7 @@ fn no_nodes<S: Drop>(alloc: Global) -> Waiting<S>
 {
     Waiting {
         nodes: Vec::new(alloc),
-        hints: Hints::new(alloc),
+        hints: Hints::new(alloc, 1),
     }
 }
 
@@ -35,7 +35,7 @@ fn room_for_nodes<S: Drop>(alloc: Global, count: usize) -> Result<Waiting<S>, No
 {
     Ok(Waiting {
         nodes: Vec::with_capacity(alloc, count)?,
-        hints: Hints::new(alloc),
+        hints: Hints::new(alloc, count),
     })
 }
 
