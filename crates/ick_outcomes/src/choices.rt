@@ -5,7 +5,7 @@ ghost use Rattle.std.specs.Prelude.{IfOk, IfSome, OnOk};
 ghost use Rattle.ick_explorer.specs.Order.{IsBelow};
 ghost use Rattle.ick_outcomes.specs.Packed.{bit, bits, choices_of, IsEarlier};
 
-use crate::comparing::{Order, compare};
+use crate::comparing::{Order, compare, same_bytes};
 use ick_bits::NoMemory;
 use smallvec::SmallVec;
 use std::alloc::Global;
@@ -72,21 +72,6 @@ fn copy_bytes(alloc: Global, bytes: &[u8]) -> Result<SmallVec<u8, 16>, NoMemory>
     copy.reserve(bytes.len() + 1)?;
     copy.extend_from_slice(bytes)?;
     Ok(copy)
-}
-
-/// Returns the number of bytes up to which two lists are equal, if both have so many.
-fn same_bytes(one: &[u8], other: &[u8]) -> usize
-    ensures one { result ≤ length one.now }
-    ensures other { result ≤ length other.now }
-    ensures same { take result one.now ≡ take result other.now }
-{
-    let least = one.len().min(other.len());
-    'bytes: for at in 0..least {
-        if one[at] != other[at] {
-            return at;
-        }
-    }
-    least
 }
 
 /// Compares the choices behind so many equal bytes.

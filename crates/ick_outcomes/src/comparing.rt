@@ -36,6 +36,21 @@ fn same_front(one: &[bool], other: &[bool]) -> usize
     blocks * BLOCK
 }
 
+/// Returns the number of bytes up to which two lists are equal, if both have so many.
+pub(crate) fn same_bytes(one: &[u8], other: &[u8]) -> usize
+    ensures one { result ≤ length one.now }
+    ensures other { result ≤ length other.now }
+    ensures same { take result one.now ≡ take result other.now }
+{
+    let least = one.len().min(other.len());
+    'bytes: for at in 0..least {
+        if one[at] != other[at] {
+            return at;
+        }
+    }
+    least
+}
+
 /// Compares two lists.
 pub(crate) fn compare(one: &[bool], other: &[bool]) -> Order
     ensures below { result ≡ Order.Before → IsBelow one.now other.now }

@@ -13,7 +13,7 @@
 //! | `choices`, `comparing` | lists of choices, packed and one by one, and their order |
 //! | `following` | one run, and the statements that asked for its choices |
 //! | `natural`, `fraction`, `text`, `cut` | counts and weights of any length, and their texts |
-//! | `lines` | the text of a summary |
+//! | `lines`, `quoting` | the text of a summary |
 //! | `laws` | laws of all summaries |
 #![tactic(auto)]
 
@@ -32,6 +32,7 @@ mod natural;
 mod node;
 mod outcome;
 mod pending;
+mod quoting;
 mod search;
 mod sorting;
 mod states;

@@ -9,24 +9,28 @@ ghost use Rattle.ick_outcomes.specs.Summaries.{count_of};
 use crate::cut::{renew_weight, write_weight};
 use crate::natural::Natural;
 use crate::outcome::Outcome;
+use crate::quoting::renew_quoted;
 use crate::text::{Buffers, number_text};
 use ick_bits::{NoMemory, append_decimal, append_quoted};
 use ick_explorer::append_choices;
 use std::alloc::Global;
 
-/// The texts of the count and of the weight of an outcome.
+/// The texts of the count, of the weight and of the output of an outcome.
 #[derive(Drop)]
 struct Texts {
     count: Buffers,
     weight: Buffers,
+    output: Vec<u8>,
 }
 
 /// Writes the texts of an outcome. The weight is exact, or cut.
 fn write_texts(texts: &mut Texts, outcome: &Outcome, exact: bool) -> Result<(), NoMemory>
     ensures { OnOk result (AreTexts exact outcome.now texts.new.count.text.items
-        texts.new.weight.text.items) }
+        texts.new.weight.text.items texts.new.output.items) }
 {
     texts.count.write_number(&outcome.count)?;
+    texts.output.clear();
+    append_quoted(&mut texts.output, &outcome.output)?;
     write_weight(&mut texts.weight, &outcome.weight, exact)
 }
 
@@ -37,11 +41,13 @@ fn renew_texts(
     outcome: &Outcome,
     exact: bool,
 ) -> Result<(), NoMemory>
-    requires { AreTexts exact last.now texts.old.count.text.items texts.old.weight.text.items }
+    requires { AreTexts exact last.now texts.old.count.text.items texts.old.weight.text.items
+        texts.old.output.items }
     ensures { OnOk result (AreTexts exact outcome.now texts.new.count.text.items
-        texts.new.weight.text.items) }
+        texts.new.weight.text.items texts.new.output.items) }
 {
     texts.count.renew_number(&last.count, &outcome.count)?;
+    renew_quoted(&mut texts.output, &last.output, &outcome.output)?;
     renew_weight(&mut texts.weight, &last.weight, &outcome.weight, exact)
 }
 
@@ -53,9 +59,9 @@ fn put_texts(
     exact: bool,
 ) -> Result<(), NoMemory>
     requires { IfSome last (λ o. AreTexts exact o.now texts.old.count.text.items
-        texts.old.weight.text.items) }
+        texts.old.weight.text.items texts.old.output.items) }
     ensures { OnOk result (AreTexts exact outcome.now texts.new.count.text.items
-        texts.new.weight.text.items) }
+        texts.new.weight.text.items texts.new.output.items) }
 {
     match last {
         Some(last) => renew_texts(texts, last, outcome, exact),
@@ -67,7 +73,8 @@ fn put_texts(
 /// outcome.
 fn append_line(out: &mut Vec<u8>, outcome: &Outcome, texts: &Texts) -> Result<(), NoMemory>
     ensures { OnOk result ((exact : Bool) →
-        AreTexts exact outcome.now texts.now.count.text.items texts.now.weight.text.items →
+        AreTexts exact outcome.now texts.now.count.text.items texts.now.weight.text.items
+        texts.now.output.items →
         AppendsLine exact outcome.now out.old.items out.new.items) }
 {
     out.extend_from_slice(&texts.count.text)?;
@@ -78,7 +85,7 @@ fn append_line(out: &mut Vec<u8>, outcome: &Outcome, texts: &Texts) -> Result<()
     out.push(b' ')?;
     out.extend_from_slice(&outcome.end)?;
     out.push(b' ')?;
-    append_quoted(out, &outcome.output)?;
+    out.extend_from_slice(&texts.output)?;
     out.push(b'\n')?;
     Ok(())
 }
@@ -94,6 +101,7 @@ pub fn summary_text(outcomes: &[Outcome], exact: bool, alloc: Global) -> Result<
     let mut texts = Texts {
         count: Buffers::new(alloc),
         weight: Buffers::new(alloc),
+        output: Vec::new(alloc),
     };
     let mut last = None;
     'outcomes: for outcome in outcomes {

@@ -1,4 +1,4 @@
-use Rattle.std.proofs.Common.{rules, refl, ◌≡◌, ◌++◌}
+use Rattle.std.proofs.Common.{rules, refl, ap, ◌≡◌, ◌∙◌, ◌++◌}
 use Rattle.std.specs.Prelude.{codes}
 use Rattle.ick_bits.specs.Quoted.{quoted}
 use Rattle.ick_explorer.specs.ChoiceTexts.{choices_text}
@@ -21,7 +21,7 @@ returns c = λ exact h.
     let x6 = c.push-3.new.self.items in
     let x7 = c.extend_from_slice-3.new.self.items in
     let x8 = c.push-4.new.self.items in
-    let x9 = c.append_quoted.new.out.items in
+    let x9 = c.extend_from_slice-4.new.self.items in
     let x10 = c.push-5.new.self.items in
     let e1 : x1 ≡ x0 ++ count = search rules in
     let e2 : x2 ≡ x1 ++ codes " " = search rules in
@@ -31,7 +31,7 @@ returns c = λ exact h.
     let e6 : x6 ≡ x5 ++ codes " " = search rules in
     let e7 : x7 ≡ x6 ++ outcome.end.items = search rules in
     let e8 : x8 ≡ x7 ++ codes " " = search rules in
-    let e9 : x9 ≡ x8 ++ output = search rules in
+    let e9 : x9 ≡ x8 ++ c.args.texts.now.output.items = search rules in
     let e10 : x10 ≡ x9 ++ codes "\n" = search rules in
     let s2 = appended x0 count x1 (codes " ") x2 e1 e2 in
     let s3 = appended x0 _ x2 weight x3 s2 e3 in
@@ -40,7 +40,7 @@ returns c = λ exact h.
     let s6 = appended x0 _ x5 (codes " ") x6 s5 e6 in
     let s7 = appended x0 _ x6 outcome.end.items x7 s6 e7 in
     let s8 = appended x0 _ x7 (codes " ") x8 s7 e8 in
-    let s9 = appended x0 _ x8 output x9 s8 e9 in
+    let s9 = appended x0 _ x8 output x9 s8 (e9 ∙ ap (λ z. x8 ++ z) h.written) in
     record {
       line = count ++ codes " " ++ weight ++ codes " " ++ choices ++ codes " " ++ outcome.end.items ++ codes " "
           ++ output ++ codes "\n";
