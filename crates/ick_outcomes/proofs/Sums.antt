@@ -14,7 +14,7 @@ use Rattle.ick_explorer.specs.Runs.{ends}
 use Rattle.ick_explorer.specs.Order.{IsBelow}
 use Rattle.ick_outcomes.specs.Tallies.{Test, Tally, lesser, none, join, after, one, tally, stop_text}
 use Rattle.ick_outcomes.specs.Summaries.{Row}
-use Rattle.ick_outcomes.specs.Accounts.{Pending, ahead, all_ahead, counted_if, counted, all_counted}
+use Rattle.ick_outcomes.specs.Accounts.{Pending, ahead, all_ahead, joined, counted_if, counted, all_counted}
 use Rattle.ick_outcomes.specs.Accounts.{AreApart, AreDistinct, Admits, Counts, Settles, SettlesAll, CanMerge}
 use Rattle.ick_outcomes.specs.Accounts.{chosen, IsAccount, AreBelow, IsMostLeft, Makes}
 use Rattle.ick_outcomes.proofs.Algebra.{join-none, none-join, join-swap, join-assoc, after-merge, after-choice}
@@ -24,15 +24,26 @@ use Rattle.ick_outcomes.proofs.TallyRuns.{tally-ended, tally-limit, tally-plain,
 use Rattle.ick_outcomes.proofs.PlaceByPlace.{lesser-before}
 use Rattle.ick_outcomes.proofs.Ends.{contains-nil, contains-head, contains-tail, contains-cases}
 
--- a node is appended
-all_ahead-push : (q : Test) (ns : List Pending) (n : Pending) →
-    all_ahead q (ns ++ n ∷ []) ≡ join (ahead q n) (all_ahead q ns)
-all_ahead-push q [] n = refl
-all_ahead-push q (x ∷ ns) n =
-    ap (join (ahead q x)) (all_ahead-push q ns n)
-    ∙ (sym (join-assoc (ahead q x) (ahead q n) (all_ahead q ns))
-    ∙ (ap (λ t. join t (all_ahead q ns)) (join-swap (ahead q x) (ahead q n))
-    ∙ join-assoc (ahead q n) (ahead q x) (all_ahead q ns)))
+-- an element is appended
+joined-push : {A : Type 0} (f : A → Tally) (xs : List A) (x : A) → joined f (xs ++ x ∷ []) ≡ join (f x) (joined f xs)
+joined-push f [] x = refl
+joined-push f (y ∷ xs) x =
+    ap (join (f y)) (joined-push f xs x)
+    ∙ (sym (join-assoc (f y) (f x) (joined f xs))
+    ∙ (ap (λ t. join t (joined f xs)) (join-swap (f y) (f x)) ∙ join-assoc (f x) (f y) (joined f xs)))
+
+-- an element is replaced by one that has another tally too
+joined-set : {A : Type 0} (f : A → Tally) (xs : List A) (i : ℕ) (x y : A) (more : Tally) → slice_get xs i ≡ Some x →
+    join more (f x) ≡ f y → joined f (slice_set xs i y) ≡ join more (joined f xs)
+joined-set f [] i x y more h e = let z : None ≡ Some x = h in cc
+joined-set f (m ∷ xs) zero x y more h e =
+    let z : m ≡ x = cc in
+    ap (λ t. join t (joined f xs)) (sym e)
+    ∙ (join-assoc more (f x) (joined f xs) ∙ ap (λ w. join more (join (f w) (joined f xs))) (sym z))
+joined-set f (m ∷ xs) (suc i) x y more h e =
+    ap (join (f m)) (joined-set f xs i x y more h e)
+    ∙ (sym (join-assoc (f m) more (joined f xs))
+    ∙ (ap (λ t. join t (joined f xs)) (join-swap (f m) more) ∙ join-assoc more (f m) (joined f xs)))
 
 pub below-push : (most : ℕ) (ns : List Pending) (n : Pending) → n.left < most → AreBelow most ns →
     AreBelow most (ns ++ n ∷ [])
@@ -41,25 +52,9 @@ below-push most (x ∷ ns) n lt h = (h.0, below-push most ns n lt h.1)
 
 pub admits-push : (ns : List Pending) (n : Pending) → Admits ns n (ns ++ n ∷ [])
 admits-push ns n = record {
-  admitted = λ q. all_ahead-push q ns n;
+  admitted = λ q. joined-push (ahead q) ns n;
   below = λ most lt h. below-push most ns n lt h;
 }
-
--- a node is merged into another one
-all_ahead-set : (q : Test) (ns : List Pending) (i : ℕ) (x n y : Pending) → slice_get ns i ≡ Some x →
-    join (ahead q n) (ahead q x) ≡ ahead q y →
-    all_ahead q (slice_set ns i y) ≡ join (ahead q n) (all_ahead q ns)
-all_ahead-set q [] i x n y h e = let z : None ≡ Some x = h in cc
-all_ahead-set q (m ∷ ns) zero x n y h e =
-    let z : m ≡ x = cc in
-    ap (λ t. join t (all_ahead q ns)) (sym e)
-    ∙ (join-assoc (ahead q n) (ahead q x) (all_ahead q ns)
-    ∙ ap (λ w. join (ahead q n) (join (ahead q w) (all_ahead q ns))) (sym z))
-all_ahead-set q (m ∷ ns) (suc i) x n y h e =
-    ap (join (ahead q m)) (all_ahead-set q ns i x n y h e)
-    ∙ (sym (join-assoc (ahead q m) (ahead q n) (all_ahead q ns))
-    ∙ (ap (λ t. join t (all_ahead q ns)) (join-swap (ahead q m) (ahead q n))
-    ∙ join-assoc (ahead q n) (ahead q m) (all_ahead q ns)))
 
 below-set : (most : ℕ) (ns : List Pending) (i : ℕ) (x y : Pending) → slice_get ns i ≡ Some x →
     y.left ≡ x.left → AreBelow most ns → AreBelow most (slice_set ns i y)
@@ -79,7 +74,7 @@ admits-below ns i x n y h same left below e = record {
       let u : tally n.at.program n.at.state n.left q ≡ t =
       ap (λ z. tally z.program z.state n.left q) (sym same)
       ∙ ap (λ z. tally x.at.program x.at.state z q) (sym left) in
-      all_ahead-set q ns i x n y h
+      joined-set (ahead q) ns i x y (ahead q n) h
       (ap (λ z. join (after n.count n.weight n.choices z) (after x.count x.weight x.choices t)) u
       ∙ (join-swap (after n.count n.weight n.choices t) (after x.count x.weight x.choices t)
       ∙ (after-merge x.count n.count x.weight n.weight x.choices n.choices t below
@@ -98,21 +93,12 @@ admits-above ns i x n y h same left below e = record {
       let u : tally n.at.program n.at.state n.left q ≡ t =
       ap (λ z. tally z.program z.state n.left q) (sym same)
       ∙ ap (λ z. tally x.at.program x.at.state z q) (sym left) in
-      all_ahead-set q ns i x n y h
+      joined-set (ahead q) ns i x y (ahead q n) h
       (ap (λ z. join (after n.count n.weight n.choices z) (after x.count x.weight x.choices t)) u
       ∙ (after-merge n.count x.count n.weight x.weight n.choices x.choices t below
       ∙ ap (λ z. ahead q z) (sym e)));
   below = λ most lt k. below-set most ns i x y h (ap (λ z. z.left) e) k;
 }
-
-pub all_counted-push : (q : Test) (rs : List Row) (r : Row) →
-    all_counted q (rs ++ r ∷ []) ≡ join (counted q r) (all_counted q rs)
-all_counted-push q [] r = refl
-all_counted-push q (x ∷ rs) r =
-    ap (join (counted q x)) (all_counted-push q rs r)
-    ∙ (sym (join-assoc (counted q x) (counted q r) (all_counted q rs))
-    ∙ (ap (λ t. join t (all_counted q rs)) (join-swap (counted q x) (counted q r))
-    ∙ join-assoc (counted q r) (counted q x) (all_counted q rs)))
 
 pub contains-push : {A : Type 0} (xs : List A) (x y : A) → Contains (xs ++ x ∷ []) y → Contains xs y ⊎ (x ≡ y)
 contains-push [] x y m = elim (contains-cases x y [] m) [ inl e ↦ inr e | inr n ↦ absurd (contains-nil y n) ]
@@ -134,7 +120,7 @@ distinct-push (y ∷ rs) r f d = (
 
 -- an outcome that no row has becomes a row
 pub counts-push : (rs : List Row) (r : Row) → ((x : Row) → Contains rs x → AreApart x r) → Counts rs r (rs ++ r ∷ [])
-counts-push rs r f = record { added = λ q. all_counted-push q rs r; apart = distinct-push rs r f }
+counts-push rs r f = record { added = λ q. joined-push (counted q) rs r; apart = distinct-push rs r f }
 
 counted-merge : (q : Test) (x r y : Row) → x.output ≡ r.output → x.end ≡ r.end →
     y ≡ record x { count = x.count + r.count; weight = x.weight + r.weight; first = lesser x.first r.first } →
@@ -151,21 +137,6 @@ counted-merge q x r y o e h =
         let w : r.weight + x.weight ≡ x.weight + r.weight = omega arith in
         same_tally z w (ap (λ c. Some c) (lesser-swap r.first x.first))
     by_test false = join-none none
-
-all_counted-set : (q : Test) (rs : List Row) (i : ℕ) (x r y : Row) → slice_get rs i ≡ Some x →
-    join (counted q r) (counted q x) ≡ counted q y →
-    all_counted q (slice_set rs i y) ≡ join (counted q r) (all_counted q rs)
-all_counted-set q [] i x r y h e = let z : None ≡ Some x = h in cc
-all_counted-set q (m ∷ rs) zero x r y h e =
-    let z : m ≡ x = cc in
-    ap (λ t. join t (all_counted q rs)) (sym e)
-    ∙ (join-assoc (counted q r) (counted q x) (all_counted q rs)
-    ∙ ap (λ w. join (counted q r) (join (counted q w) (all_counted q rs))) (sym z))
-all_counted-set q (m ∷ rs) (suc i) x r y h e =
-    ap (join (counted q m)) (all_counted-set q rs i x r y h e)
-    ∙ (sym (join-assoc (counted q m) (counted q r) (all_counted q rs))
-    ∙ (ap (λ t. join t (all_counted q rs)) (join-swap (counted q m) (counted q r))
-    ∙ join-assoc (counted q r) (counted q m) (all_counted q rs)))
 
 contains-set : (rs : List Row) (i : ℕ) (x y z : Row) → slice_get rs i ≡ Some x → Contains (slice_set rs i y) z →
     Contains rs z ⊎ ((z ≡ y) × Contains rs x)
@@ -202,7 +173,7 @@ pub counts-set : (rs : List Row) (i : ℕ) (x r y : Row) → slice_get rs i ≡ 
     y ≡ record x { count = x.count + r.count; weight = x.weight + r.weight; first = lesser x.first r.first } →
     Counts rs r (slice_set rs i y)
 counts-set rs i x r y h o e f = record {
-  added = λ q. all_counted-set q rs i x r y h (counted-merge q x r y o e f);
+  added = λ q. joined-set (counted q) rs i x y (counted q r) h (counted-merge q x r y o e f);
   apart = distinct-set rs i x y h (ap (λ v. v.output) (sym f)) (ap (λ v. v.end) (sym f));
 }
 
@@ -354,7 +325,7 @@ settles-more most ms n ns ns' ns'' rs rs' rs'' h k = record {
   settled = λ q. k.settled q
       ∙ (ap (join (ahead q n)) (h.settled q)
       ∙ (sym (join-assoc (ahead q n) (all_ahead q ms) (join (all_ahead q ns) (all_counted q rs)))
-      ∙ ap (λ t. join t (join (all_ahead q ns) (all_counted q rs))) (sym (all_ahead-push q ms n))));
+      ∙ ap (λ t. join t (join (all_ahead q ns) (all_counted q rs))) (sym (joined-push (ahead q) ms n))));
   apart = λ d. k.apart (h.apart d);
   fewer = λ a b.
       let i = below-last (suc most) ms n a in

@@ -29,10 +29,14 @@ pub record Pending : Type 0 where
 abbrev pub ahead : Test → Pending → Tally
 ahead q n = after n.count n.weight n.choices (tally n.at.program n.at.state n.left q)
 
+-- the tallies of these elements together
+abbrev pub joined : {A : Type 0} → (A → Tally) → List A → Tally
+joined f [] = none
+joined f (x ∷ xs) = join (f x) (joined f xs)
+
 -- the tally of the runs that go on from these nodes
 abbrev pub all_ahead : Test → List Pending → Tally
-all_ahead q [] = none
-all_ahead q (n ∷ ns) = join (ahead q n) (all_ahead q ns)
+all_ahead q ns = joined (ahead q) ns
 
 -- the tally of these runs if they pass, and of no run if not
 abbrev pub counted_if : Bool → ℕ → ℕ → List Bool → Tally
@@ -45,8 +49,7 @@ counted q r = counted_if (q r.output r.end) r.count r.weight r.first
 
 -- the tally of the runs of these rows
 abbrev pub all_counted : Test → List Row → Tally
-all_counted q [] = none
-all_counted q (r ∷ rs) = join (counted q r) (all_counted q rs)
+all_counted q rs = joined (counted q) rs
 
 -- the test that all outcomes pass
 abbrev pub any_outcome : Test
