@@ -1,7 +1,8 @@
 //! Searches all outcomes of a program.
 
 ghost use Rattle.std.specs.Prelude.{◌≡◌, ◌+◌, ◌<◌, ◌≤◌, ◌⊎◌, [], true, length, IfOk, Err};
-ghost use Rattle.ick_outcomes.specs.Accounts.{Configuration, SettlesAll, AreCounted, IsMostLeft, runs_in};
+ghost use Rattle.ick_outcomes.specs.Accounts.{Configuration, SettlesAll, AreCounted, IsMostLeft};
+ghost use Rattle.ick_outcomes.specs.Accounts.{runs_in};
 ghost use Rattle.ick_outcomes.specs.Summaries.{HasMoreRuns};
 ghost use Rattle.ick_outcomes.specs.Seen.{AreSound, pending_of, rows_of, nodes_of};
 
