@@ -19,7 +19,7 @@ ghost use Rattle.ick_cli.specs.Usage.{words_notice, words_status};
 use crate::dispatch::perform;
 use crate::files::Files;
 use crate::notice::Notice;
-use crate::report::{finish, report};
+use crate::reporting::{finish, report};
 use crate::status::Status;
 use crate::usage::answer_words;
 use crate::words::read_job;

@@ -12,7 +12,7 @@ use ick_runs::{ByteSource, ReadFault, read_first};
 use std::alloc::Global;
 
 /// How many bytes the longest source has, and the longest input (this profile).
-const LONGEST: usize = 1_048_576;
+pub const LONGEST: usize = 1_048_576;
 
 /// Reads a file, and at most one byte more than the longest source. Without the source it returns
 /// how the job ends.

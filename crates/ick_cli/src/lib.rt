@@ -13,7 +13,7 @@
 //! - `commands`: what each command does with a program
 //! - `dispatch`: from a job to its command, by its source and its program
 //! - `status`: the exit status
-//! - `report`: the error text and the status at the end of a call
+//! - `reporting`: the error text and the status at the end of a call
 //! - `usage`: the answer to arguments that ask for no job
 //! - `driver`: the whole, from the arguments to the status
 //! - `laws`: what holds of each task
@@ -30,7 +30,7 @@ mod notice;
 mod output;
 mod plan;
 mod refusing;
-mod report;
+mod reporting;
 mod status;
 mod stopped;
 mod usage;
@@ -39,14 +39,14 @@ mod words;
 pub use commands::ended;
 pub use driver::{WordsFault, refuse_words, serve};
 pub use files::Files;
-pub use input::{read_file, read_front, read_input, read_named};
+pub use input::{LONGEST, read_file, read_front, read_input, read_named};
 pub use job_end::JobEnd;
 pub use laws::one_answer;
 pub use notice::{Message, Notice};
 pub use output::send;
-pub use plan::choices_of;
+pub use plan::{MOST_CHOICES, choices_of};
 pub use refusing::refused;
-pub use report::finish;
+pub use reporting::{finish, report};
 pub use status::Status;
 pub use usage::answer_words;
 pub use words::{

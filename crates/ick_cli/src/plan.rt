@@ -11,8 +11,8 @@ use crate::words::Subcommand;
 use ick_runs::Cursor;
 use std::alloc::Global;
 
-/// How many choices of a run are read at most.
-const MOST_CHOICES: u32 = 1_000_000;
+/// How many choices of a run are read at most (this profile).
+pub const MOST_CHOICES: u32 = 1_000_000;
 
 /// What is done with a program.
 #[derive(Drop)]

@@ -7,7 +7,7 @@ ghost use Rattle.ick_cli.specs.Usage.{IsHelped, IsMistake, IsRefused, IsRequest}
 
 use crate::job_end::JobEnd;
 use crate::notice::Notice;
-use crate::report::{finish, report};
+use crate::reporting::{finish, report};
 use crate::status::Status;
 use clap::Error;
 use clap::error::ErrorKind;

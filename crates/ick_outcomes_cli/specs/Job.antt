@@ -1,4 +1,4 @@
--- The job that arguments ask for, by the matches that clap defines.
+-- The job that arguments ask for, as clap parses them.
 use Rattle.std.specs.Prelude.{◌≡◌, ℕ, Bool, List, [], Option, codes, is_some, option_map}
 use Rattle.clap.specs.Words.{Row, Text, fault_of, matches_of}
 use Rattle.ick_cli.specs.Job.{flag_in, number_or, text_in}
@@ -21,7 +21,7 @@ wanted j = record {
   file = option_map (λ s. s.now) j.file;
 }
 
--- what the matches have, with the usual number if none is given
+-- what the parsed arguments ask of outcomes, with the usual number if none is given
 abbrev pub question_in : List Row → Question
 question_in rows = record {
   most = number_or (codes "most") rows 1000000;

@@ -44,7 +44,7 @@ pub fn serve_outcomes<F: Files, L: Files, R: ByteSource, W: ByteSink, E: ByteSin
     requires writer_sound { W.failed writer.old + 1 < 2 ^ 64 }
     requires errors_sound { E.failed errors.old + 1 < 2 ^ 64 }
 
-    // Words that ask for a job, over devices that do what they say.
+    // Arguments that ask for a job, over devices that do what they say.
     ensures job { HasJob (texts words.entry.now) → F.told ≡ true → L.told ≡ true
         → R.told ≡ true → W.told ≡ true → let job = job_of (texts words.entry.now) in
         let input = input_of job.file (R.left reader.old) in
@@ -61,7 +61,7 @@ pub fn serve_outcomes<F: Files, L: Files, R: ByteSource, W: ByteSink, E: ByteSin
         E.told (E.failed errors.old) (E.failed errors.new)
         (E.written errors.old) (E.written errors.new) result }
 
-    // Other words: a mistake in them, or a request for help.
+    // Other arguments: a mistake in them, or a request for help.
     ensures usage { AreMistakes (fault_of outcomes_app (texts words.entry.now))
         → (writer.new ≡ writer.old) × FinishesDue IsRefused
         E.told (E.failed errors.old) (E.failed errors.new)
@@ -75,7 +75,7 @@ pub fn serve_outcomes<F: Files, L: Files, R: ByteSource, W: ByteSink, E: ByteSin
         → (files.new ≡ files.old) × (listings.new ≡ listings.old)
         × (reader.new ≡ reader.old) }
 
-    // Any words, over any devices.
+    // Any arguments, over any devices.
     ensures said { FinishesDue (IsOutcomesDue
         (counts (F.failed files.old + L.failed listings.old)
         (R.failed reader.old) (W.failed writer.old))

@@ -1,4 +1,4 @@
--- The job that arguments ask for, by the matches that clap defines.
+-- The job that arguments ask for, as clap parses them.
 use Rattle.std.specs.Prelude.{◌≡◌, Bool, List, [], Option, codes, option_map}
 use Rattle.clap.specs.Words.{Row, Text, fault_of, matches_of}
 use Rattle.ick_cli.specs.Job.{Task, flag_in, run_in, text_in, to_run}
@@ -28,7 +28,7 @@ wanted_in rows = record {
   file = text_in (codes "file") rows;
 }
 
--- the arguments ask for a job: by the law of clap their parse fails for want of memory alone
+-- the arguments ask for a job: by the law of clap their parse fails only if memory runs out
 abbrev pub HasJob : List Text → Type 0
 HasJob words = fault_of step_app words ≡ []
 

@@ -12,7 +12,9 @@ use crate::session::talk;
 use crate::trace::{Stopped, trace};
 use crate::words::Job;
 use ick_bits::{NoMemory, append_message};
-use ick_cli::{Files, JobEnd, Notice, choices_of, ended, read_file, read_front, refused};
+use ick_cli::{
+    Files, JobEnd, LONGEST, MOST_CHOICES, Notice, choices_of, ended, read_file, read_front, refused,
+};
 use ick_code::{Code, compile};
 use ick_inspect::{Position, Text, positions_of};
 use ick_machine::{End, EndKind, Trailed};
@@ -20,12 +22,6 @@ use ick_runs::{ByteSink, ByteSource, RunsError, SliceSource, Streamed};
 use ick_session::{Given, Pair, Stepper};
 use ick_source::read_source;
 use std::alloc::Global;
-
-/// How many bytes the longest input has (this profile).
-const LONGEST: usize = 1_048_576;
-
-/// How many choices of a run are read at most (this profile).
-const MOST_CHOICES: u32 = 1_000_000;
 
 /// The run that a job wants.
 #[derive(Drop)]

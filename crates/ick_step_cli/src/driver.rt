@@ -3,14 +3,13 @@
 ghost use Rattle.std.specs.Prelude.{◌≡◌, ◌≢◌, ◌+◌, ◌<◌, ◌^◌, []};
 ghost use Rattle.clap.specs.Walk.{texts};
 ghost use Rattle.clap.specs.Words.{fault_of};
-ghost use Rattle.ick_cli.specs.JobEnd.{job_end_status, job_end_text};
-ghost use Rattle.ick_cli.specs.Serve.{Finishes, FinishesDue, IsDue, IsStatus, counts};
+ghost use Rattle.ick_cli.specs.Serve.{FinishesDue, IsDue, IsStatus, counts};
 ghost use Rattle.ick_cli.specs.Usage.{AreMistakes, AreRequests, IsHelped, IsRefused};
 ghost use Rattle.ick_step_cli.specs.Words.{step_app};
 
 use crate::dispatch::perform;
 use crate::words::read_job;
-use ick_cli::{Files, JobEnd, Status, answer_words, finish};
+use ick_cli::{Files, Status, answer_words, report};
 use ick_runs::{ByteSink, ByteSource};
 use std::alloc::Global;
 
@@ -37,7 +36,7 @@ pub fn serve_step<F: Files, R: ByteSource, W: ByteSink, E: ByteSink>(
     requires writer_sound { W.failed writer.old + 1 < 2 ^ 64 }
     requires errors_sound { E.failed errors.old + 1 < 2 ^ 64 }
 
-    // Words that ask for no job: a mistake in them, or a request for help.
+    // Arguments that ask for no job: a mistake in them, or a request for help.
     ensures usage { AreMistakes (fault_of step_app (texts words.entry.now))
         → (writer.new ≡ writer.old) × FinishesDue IsRefused
         E.told (E.failed errors.old) (E.failed errors.new)
@@ -50,7 +49,7 @@ pub fn serve_step<F: Files, R: ByteSource, W: ByteSink, E: ByteSink>(
     ensures untouched { (fault_of step_app (texts words.entry.now) ≢ [])
         → (files.new ≡ files.old) × (reader.new ≡ reader.old) }
 
-    // Any words, over any devices.
+    // Any arguments, over any devices.
     ensures said { FinishesDue (IsDue
         (counts (F.failed files.old) (R.failed reader.old) (W.failed writer.old))
         (counts (F.failed files.new) (R.failed reader.new) (W.failed writer.new)))
@@ -65,14 +64,4 @@ pub fn serve_step<F: Files, R: ByteSource, W: ByteSink, E: ByteSink>(
         }
         Err(error) => answer_words(alloc, &error, writer, errors),
     }
-}
-
-/// Writes the error text of a job's end, and returns its status.
-fn report<E: ByteSink>(job_end: &JobEnd, errors: &mut E) -> Status
-    requires { E.failed errors.old + 1 < 2 ^ 64 }
-    ensures { Finishes E.told (job_end_status job_end.now) (job_end_text job_end.now)
-        (E.failed errors.old) (E.failed errors.new)
-        (E.written errors.old) (E.written errors.new) result }
-{
-    finish(job_end.status(), job_end.text(), errors)
 }

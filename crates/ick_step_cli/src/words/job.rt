@@ -37,7 +37,7 @@ pub fn read_job<'a>(alloc: Global, words: &'a [&'a str]) -> Result<Job<'a>, Erro
     }
 }
 
-/// Returns the job of matches.
+/// Returns the job that parsed arguments ask for.
 fn job_in<'a>(matches: &ArgMatches<'a>) -> Job<'a>
     ensures { wanted result ≡ wanted_in (rows_of (found_of matches.now)) }
 {
