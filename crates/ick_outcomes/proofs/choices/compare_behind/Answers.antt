@@ -1,131 +1,61 @@
-use Rattle.std.proofs.Common.{rules, arith, sym, ◌≡◌}
-use Rattle.ick_outcomes.proofs.Packing.{below_behind, part_in, part_out}
+use Rattle.std.proofs.Common.{◌≡◌, ℕ, ◌<◌, ◌≤◌, Bool, List, length, take, slice_index_or}
+use Rattle.std.proofs.Common.{arith, sym}
+use Rattle.ick_explorer.specs.Order.{IsBelow}
+use Rattle.ick_outcomes.specs.Packed.{bits, choices_of}
+use Rattle.ick_outcomes.specs.declared.choices.Choices.{Choices}
+use Rattle.ick_outcomes.proofs.Packing.{below_behind, part, part_in, part_out}
 use Rattle.ick_outcomes.proofs.choices.compare_behind.Goals as goal
 
-pub returns-then-at-len-2-clause-before : goal.returns-then-at-len-2-clause-before
-returns-then-at-len-2-clause-before c = λ e.
-    let bytes-one : c.deref.result.now ≡ c.args.one.now.packed.items = search rules in
-    let at-one = c.if-at-len.true in
-    let len-one = c.len.ensures.value in
-    let bytes-other : c.deref-then-at-len-2.result.now ≡ c.args.other.now.packed.items = search rules in
-    let at-other = c.if-at-len-2.true in
-    let len-other = c.len-then-at-len.ensures.value in
-    below_behind c.args.one.now.packed.items c.args.other.now.packed.items c.args.one.now.last.items
-    c.args.other.now.last.items c.args.at _ _ c.requires.same c.requires.one c.requires.other
-    (part_in c.args.one.now.packed.items c.deref.result.now c.args.one.now.last.items c.args.at _ _
-    (omega (arith, at-one, len-one)) bytes-one c.unpack-byte.ensures)
-    (part_in c.args.other.now.packed.items c.deref-then-at-len-2.result.now c.args.other.now.last.items c.args.at _ _
-    (omega (arith, at-other, len-other)) bytes-other c.unpack.ensures)
-    (c.compare.ensures.below e)
+-- the choices of the byte at an index
+of_byte : {ws xs : List ℕ} {a : List Bool} {i n : ℕ} (l : List Bool) → i < n → n ≡ length ws →
+    xs ≡ ws → a ≡ bits 8 (slice_index_or xs i 0) → a ≡ part ws l i
+of_byte l lt n x e = part_in _ _ l _ 0 _ (omega (arith, lt, n)) x e
 
-pub returns-then-at-len-2-clause-behind : goal.returns-then-at-len-2-clause-behind
-returns-then-at-len-2-clause-behind c = λ e.
-    let bytes-one : c.deref.result.now ≡ c.args.one.now.packed.items = search rules in
-    let at-one = c.if-at-len.true in
-    let len-one = c.len.ensures.value in
-    let bytes-other : c.deref-then-at-len-2.result.now ≡ c.args.other.now.packed.items = search rules in
-    let at-other = c.if-at-len-2.true in
-    let len-other = c.len-then-at-len.ensures.value in
-    below_behind c.args.other.now.packed.items c.args.one.now.packed.items c.args.other.now.last.items
-    c.args.one.now.last.items c.args.at _ _ (sym c.requires.same) c.requires.other c.requires.one
-    (part_in c.args.other.now.packed.items c.deref-then-at-len-2.result.now c.args.other.now.last.items c.args.at _ _
-    (omega (arith, at-other, len-other)) bytes-other c.unpack.ensures)
-    (part_in c.args.one.now.packed.items c.deref.result.now c.args.one.now.last.items c.args.at _ _
-    (omega (arith, at-one, len-one)) bytes-one c.unpack-byte.ensures)
-    (c.compare.ensures.above e)
+-- the choices behind the bytes
+of_last : {l a : List Bool} {i n : ℕ} (ws : List ℕ) → n ≤ i → n ≡ length ws → a ≡ l →
+    a ≡ part ws l i
+of_last ws le n e = part_out ws _ _ _ (omega (arith, le, n)) e
 
-pub returns-then-at-len-clause-before : goal.returns-then-at-len-clause-before
-returns-then-at-len-clause-before c = λ e.
-    let bytes-one : c.deref.result.now ≡ c.args.one.now.packed.items = search rules in
-    let at-one = c.if-at-len.true in
-    let len-one = c.len.ensures.value in
-    let last-other : c.deref-then-at-len.result.now ≡ c.args.other.now.last.items = search rules in
-    let at-other = c.if-at-len-2.false in
-    let len-other = c.len-then-at-len.ensures.value in
-    below_behind c.args.one.now.packed.items c.args.other.now.packed.items c.args.one.now.last.items
-    c.args.other.now.last.items c.args.at _ _ c.requires.same c.requires.one c.requires.other
-    (part_in c.args.one.now.packed.items c.deref.result.now c.args.one.now.last.items c.args.at _ _
-    (omega (arith, at-one, len-one)) bytes-one c.unpack-byte.ensures)
-    (part_out c.args.other.now.packed.items c.args.other.now.last.items c.args.at _
-    (omega (arith, at-other, len-other)) last-other)
-    (c.compare-then-at-len.ensures.below e)
+-- the order of the choices behind so many equal bytes decides
+decided : {A B : Type 0} {a b : List Bool} (c d : Choices) (i : ℕ) →
+    record {
+      one : i ≤ length c.packed.items;
+      other : i ≤ length d.packed.items;
+      same : take i c.packed.items ≡ take i d.packed.items;
+    } →
+    a ≡ part c.packed.items c.last.items i → b ≡ part d.packed.items d.last.items i →
+    (A → IsBelow a b) → (B → IsBelow b a) →
+    record {
+      before : A → IsBelow (choices_of c) (choices_of d);
+      behind : B → IsBelow (choices_of d) (choices_of c);
+    }
+decided c d i h p q below above = record {
+  before = λ e. below_behind _ _ _ _ _ _ _ h.same h.one h.other p q (below e);
+  behind = λ e. below_behind _ _ _ _ _ _ _ (sym h.same) h.other h.one q p (above e);
+}
 
-pub returns-then-at-len-clause-behind : goal.returns-then-at-len-clause-behind
-returns-then-at-len-clause-behind c = λ e.
-    let bytes-one : c.deref.result.now ≡ c.args.one.now.packed.items = search rules in
-    let at-one = c.if-at-len.true in
-    let len-one = c.len.ensures.value in
-    let last-other : c.deref-then-at-len.result.now ≡ c.args.other.now.last.items = search rules in
-    let at-other = c.if-at-len-2.false in
-    let len-other = c.len-then-at-len.ensures.value in
-    below_behind c.args.other.now.packed.items c.args.one.now.packed.items c.args.other.now.last.items
-    c.args.one.now.last.items c.args.at _ _ (sym c.requires.same) c.requires.other c.requires.one
-    (part_out c.args.other.now.packed.items c.args.other.now.last.items c.args.at _
-    (omega (arith, at-other, len-other)) last-other)
-    (part_in c.args.one.now.packed.items c.deref.result.now c.args.one.now.last.items c.args.at _ _
-    (omega (arith, at-one, len-one)) bytes-one c.unpack-byte.ensures)
-    (c.compare-then-at-len.ensures.above e)
+pub returns-then-at-len-2 : goal.returns-then-at-len-2
+returns-then-at-len-2 c = decided c.args.one.now c.args.other.now c.args.at c.requires
+    (of_byte _ c.if-at-len.true c.len.ensures.value c.deref.ensures c.unpack-byte.ensures)
+    (of_byte _ c.if-at-len-2.true c.len-then-at-len.ensures.value c.deref-then-at-len-2.ensures
+    c.unpack.ensures)
+    c.compare.ensures.below c.compare.ensures.above
 
-pub returns-then-at-len-3-clause-before : goal.returns-then-at-len-3-clause-before
-returns-then-at-len-3-clause-before c = λ e.
-    let last-one : c.deref-then-at-len-3.result.now ≡ c.args.one.now.last.items = search rules in
-    let at-one = c.if-at-len.false in
-    let len-one = c.len.ensures.value in
-    let bytes-other : c.deref-then-at-len-3-2.result.now ≡ c.args.other.now.packed.items = search rules in
-    let at-other = c.if-at-len-3.true in
-    let len-other = c.len-2.ensures.value in
-    below_behind c.args.one.now.packed.items c.args.other.now.packed.items c.args.one.now.last.items
-    c.args.other.now.last.items c.args.at _ _ c.requires.same c.requires.one c.requires.other
-    (part_out c.args.one.now.packed.items c.args.one.now.last.items c.args.at _
-    (omega (arith, at-one, len-one)) last-one)
-    (part_in c.args.other.now.packed.items c.deref-then-at-len-3-2.result.now c.args.other.now.last.items c.args.at _ _
-    (omega (arith, at-other, len-other)) bytes-other c.unpack-then-at-len-3.ensures)
-    (c.compare-then-at-len-3.ensures.below e)
+pub returns-then-at-len : goal.returns-then-at-len
+returns-then-at-len c = decided c.args.one.now c.args.other.now c.args.at c.requires
+    (of_byte _ c.if-at-len.true c.len.ensures.value c.deref.ensures c.unpack-byte.ensures)
+    (of_last _ c.if-at-len-2.false c.len-then-at-len.ensures.value c.deref-then-at-len.ensures)
+    c.compare-then-at-len.ensures.below c.compare-then-at-len.ensures.above
 
-pub returns-then-at-len-3-clause-behind : goal.returns-then-at-len-3-clause-behind
-returns-then-at-len-3-clause-behind c = λ e.
-    let last-one : c.deref-then-at-len-3.result.now ≡ c.args.one.now.last.items = search rules in
-    let at-one = c.if-at-len.false in
-    let len-one = c.len.ensures.value in
-    let bytes-other : c.deref-then-at-len-3-2.result.now ≡ c.args.other.now.packed.items = search rules in
-    let at-other = c.if-at-len-3.true in
-    let len-other = c.len-2.ensures.value in
-    below_behind c.args.other.now.packed.items c.args.one.now.packed.items c.args.other.now.last.items
-    c.args.one.now.last.items c.args.at _ _ (sym c.requires.same) c.requires.other c.requires.one
-    (part_in c.args.other.now.packed.items c.deref-then-at-len-3-2.result.now c.args.other.now.last.items c.args.at _ _
-    (omega (arith, at-other, len-other)) bytes-other c.unpack-then-at-len-3.ensures)
-    (part_out c.args.one.now.packed.items c.args.one.now.last.items c.args.at _
-    (omega (arith, at-one, len-one)) last-one)
-    (c.compare-then-at-len-3.ensures.above e)
+pub returns-then-at-len-3 : goal.returns-then-at-len-3
+returns-then-at-len-3 c = decided c.args.one.now c.args.other.now c.args.at c.requires
+    (of_last _ c.if-at-len.false c.len.ensures.value c.deref-then-at-len-3.ensures)
+    (of_byte _ c.if-at-len-3.true c.len-2.ensures.value c.deref-then-at-len-3-2.ensures
+    c.unpack-then-at-len-3.ensures)
+    c.compare-then-at-len-3.ensures.below c.compare-then-at-len-3.ensures.above
 
-pub returns-clause-before : goal.returns-clause-before
-returns-clause-before c = λ e.
-    let last-one : c.deref-2.result.now ≡ c.args.one.now.last.items = search rules in
-    let at-one = c.if-at-len.false in
-    let len-one = c.len.ensures.value in
-    let last-other : c.deref-3.result.now ≡ c.args.other.now.last.items = search rules in
-    let at-other = c.if-at-len-3.false in
-    let len-other = c.len-2.ensures.value in
-    below_behind c.args.one.now.packed.items c.args.other.now.packed.items c.args.one.now.last.items
-    c.args.other.now.last.items c.args.at _ _ c.requires.same c.requires.one c.requires.other
-    (part_out c.args.one.now.packed.items c.args.one.now.last.items c.args.at _
-    (omega (arith, at-one, len-one)) last-one)
-    (part_out c.args.other.now.packed.items c.args.other.now.last.items c.args.at _
-    (omega (arith, at-other, len-other)) last-other)
-    (c.compare-2.ensures.below e)
-
-pub returns-clause-behind : goal.returns-clause-behind
-returns-clause-behind c = λ e.
-    let last-one : c.deref-2.result.now ≡ c.args.one.now.last.items = search rules in
-    let at-one = c.if-at-len.false in
-    let len-one = c.len.ensures.value in
-    let last-other : c.deref-3.result.now ≡ c.args.other.now.last.items = search rules in
-    let at-other = c.if-at-len-3.false in
-    let len-other = c.len-2.ensures.value in
-    below_behind c.args.other.now.packed.items c.args.one.now.packed.items c.args.other.now.last.items
-    c.args.one.now.last.items c.args.at _ _ (sym c.requires.same) c.requires.other c.requires.one
-    (part_out c.args.other.now.packed.items c.args.other.now.last.items c.args.at _
-    (omega (arith, at-other, len-other)) last-other)
-    (part_out c.args.one.now.packed.items c.args.one.now.last.items c.args.at _
-    (omega (arith, at-one, len-one)) last-one)
-    (c.compare-2.ensures.above e)
+pub returns : goal.returns
+returns c = decided c.args.one.now c.args.other.now c.args.at c.requires
+    (of_last _ c.if-at-len.false c.len.ensures.value c.deref-2.ensures)
+    (of_last _ c.if-at-len-3.false c.len-2.ensures.value c.deref-3.ensures)
+    c.compare-2.ensures.below c.compare-2.ensures.above
