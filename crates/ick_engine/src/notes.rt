@@ -42,6 +42,10 @@ pub trait Notes: Drop {
     fn count(&self) -> usize
         ensures { result ≡ length (changes self.now) };
 
+    /// Returns whether changes are noted at all.
+    fn notes_changes(&self) -> bool
+        ensures { result ≡ tells };
+
     /// Returns whether so many changes can still be noted, and all return addresses.
     fn has_room(&self, more: usize) -> bool
         ensures { MatchBool result (more + 79 ≤ room self.now) (room self.now < more + 79) };
@@ -98,6 +102,7 @@ pub trait Notes: Drop {
         requires room { 79 ≤ room self.old }
         requires stack { length returns.now ≡ 79 }
         requires there { low self.old ≤ 79 }
+        ensures room { room self.old ≤ room self.new + 79 }
         ensures low { low self.new ≤ depth }
         ensures lower { low self.new ≤ low self.old }
         ensures base { fixed self.new ≡ fixed self.old }
@@ -182,6 +187,11 @@ impl Notes for Nobody {
     #[inline(always)]
     fn count(&self) -> usize {
         0
+    }
+
+    #[inline(always)]
+    fn notes_changes(&self) -> bool {
+        false
     }
 
     #[inline(always)]

@@ -28,7 +28,7 @@ pub struct Trail {
 }
 
 impl Trail {
-    ghost use Rattle.std.specs.Prelude.{◌≡◌, ◌-◌, ◌≤◌, ℕ, true, [], length, OnOk};
+    ghost use Rattle.std.specs.Prelude.{◌≡◌, ◌+◌, ◌-◌, ◌≤◌, ℕ, true, [], length, OnOk};
     ghost use Rattle.std.specs.Prelude.{vec_len, vec_capacity, List};
     ghost use Rattle.ick_instructions.specs.Extends.{Extends};
     ghost use Rattle.ick_engine.specs.declared.trail.Trail.{Trail};
@@ -105,6 +105,8 @@ impl Trail {
         requires room { 79 ≤ vec_capacity self.old.entries - vec_len self.old.entries }
         requires stack { length returns.now ≡ 79 }
         requires there { self.old.low ≤ 79 }
+        ensures room { vec_capacity self.old.entries - vec_len self.old.entries
+            ≤ vec_capacity self.new.entries - vec_len self.new.entries + 79 }
         ensures low { self.new.low ≤ depth }
         ensures lower { self.new.low ≤ self.old.low }
         ensures base { self.new.base ≡ self.old.base }
@@ -142,6 +144,11 @@ impl Notes for Trail {
     #[inline(always)]
     fn count(&self) -> usize {
         self.entries.len()
+    }
+
+    #[inline(always)]
+    fn notes_changes(&self) -> bool {
+        true
     }
 
     #[inline(always)]

@@ -17,6 +17,7 @@ returns-preserved c =
     let there : t.low - 1 < length c.args.returns.now = omega (arith, old.lower, c.requires.there, c.requires.stack) in
     record {
       room = omega (arith, old.room, pushed.len, pushed.capacity);
+      used = omega (arith, old.room, old.used, old.lower, pushed.len, pushed.capacity);
       lower = omega (arith, old.lower);
       base = old.base;
       kept = old.kept;

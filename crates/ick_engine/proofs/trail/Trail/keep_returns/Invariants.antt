@@ -1,4 +1,4 @@
-use Rattle.std.proofs.Common.{◌≡◌, ◌-◌, ◌≤◌, ℕ, vec_len, vec_capacity}
+use Rattle.std.proofs.Common.{◌≡◌, ◌+◌, ◌-◌, ◌≤◌, ℕ, vec_len, vec_capacity}
 use Rattle.ick_instructions.specs.Extends.{Extends}
 use Rattle.ick_engine.specs.TrailChanges.{changes_in}
 use Rattle.ick_engine.specs.Undo.{Rewinds}
@@ -8,6 +8,8 @@ use Rattle.ick_engine.proofs.trail.Trail.keep_returns.Given as goal
 abbrev pub invariant-returns : goal.invariant-returns
 invariant-returns l = record {
   room : l.self.low ≤ vec_capacity l.self.entries - vec_len l.self.entries;
+  used : vec_capacity l.initial.self.entries - vec_len l.initial.self.entries
+      ≤ vec_capacity l.self.entries - vec_len l.self.entries + (l.initial.self.low - l.self.low);
   lower : l.self.low ≤ l.initial.self.low;
   base : l.self.base ≡ l.initial.self.base;
   kept : l.self.kept ≡ l.initial.self.kept;
