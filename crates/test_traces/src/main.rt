@@ -100,6 +100,7 @@ fn print_run(
         memory.statuses.as_slice(),
         memory.returns.as_mut_slice(),
         &mut memory.rest,
+        &mut Nobody,
         &mut memory.cursor,
     );
     let cursor = memory.cursor;
