@@ -9,7 +9,7 @@ ghost use Rattle.ick_traces.specs.Fixed.{AreAllowed};
 ghost use Rattle.ick_traces.specs.Traces.{AreTraces};
 
 use ick_code::{Code, compile};
-use ick_engine::{Exit, Memory, NoTraces, Nobody, TextReader, fresh_memory};
+use ick_engine::{Exit, Memory, NoTraces, Nobody, Notes, TextReader, fresh_memory};
 use ick_instructions::Lowered;
 use ick_lowering::lower;
 use ick_source::read_source;
@@ -91,6 +91,10 @@ fn print_run(
     requires ready { IsReady lowered.now.code.now lowered.now.parts (view_in memory) }
     requires allowed { AreAllowed lowered.now.code.now traces.now.fixed memory.statuses.items }
 {
+    // `follow_traces` asks for the room for the changes of any statement.
+    if !Nobody.has_room(lowered.longest()) {
+        return Err(ErrorKind::OutOfMemory.into());
+    }
     memory.cursor.left = 1000;
     follow_traces(
         lowered,
