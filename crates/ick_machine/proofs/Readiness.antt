@@ -3,31 +3,16 @@ use Rattle.std.proofs.Common.{◌≡◌, ℕ, Bool, false, List}
 use mathlib.Core.Logic.{∥∥₁_elim, ∥∥₁_map}
 use mathlib.Core.Path.{fun_ext}
 use Rattle.ick_code.specs.declared.code.Code.{Code}
-use Rattle.ick_code.specs.meaning.State.{State}
 use Rattle.ick_instructions.specs.declared.lowered.LoweredParts.{LoweredParts}
-use Rattle.ick_engine.specs.Run.{Stands}
 use Rattle.ick_engine.specs.Steady.{IsReady}
 use Rattle.ick_engine.proofs.Readiness.{ready-prop}
+use Rattle.ick_engine.proofs.Steps.{stands_with}
 use Rattle.ick_engine.specs.View.{View, file_of, state_of}
 
 pub ready_unless : (code : Code) (lowered : LoweredParts) (v : View) (failed : Bool) →
     ∥ (failed ≡ false → IsReady code lowered v) ∥₁ → failed ≡ false → IsReady code lowered v
 ready_unless code lowered v failed h =
     ∥∥₁_elim h (λ f g. fun_ext (λ is. ready-prop code lowered v (f is) (g is))) (λ x. x)
-
-stands_with : (code : Code) (lowered : LoweredParts) (regs : List ℕ) (s : State) (o : List ℕ) →
-    Stands code lowered regs s → Stands code lowered regs (record s { output = o })
-stands_with code lowered regs s o h = record {
-  represented = record {
-    holds = record {
-      numbers = h.represented.holds.numbers;
-      fits = λ slot name at.
-          let fit = h.represented.holds.fits slot name at in record { number = fit.number; stashed = fit.stashed };
-    };
-    constant = h.represented.constant;
-  };
-  within = record { place_is = h.within.place_is; returns_are = h.within.returns_are; few = h.within.few };
-}
 
 pub ready_with : (code : Code) (lowered : LoweredParts) (v : View) (o : List ℕ) → IsReady code lowered v →
     IsReady code lowered (record v { parts = record v.parts { output = o } })
@@ -46,7 +31,8 @@ ready_with code lowered v o h = record {
     constants = h.steady.constants;
   };
   stands = λ input.
-      stands_with code lowered (file_of lowered v.registers) (state_of code lowered input v) o (h.stands input);
+      let s = state_of code lowered input v in
+      stands_with code lowered (file_of lowered v.registers) s s.input o s.end (h.stands input);
 }
 
 pub unless_with : (code : Code) (lowered : LoweredParts) (v : View) (failed : Bool) (o : List ℕ) →
