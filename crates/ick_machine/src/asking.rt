@@ -32,10 +32,7 @@ fn word<'c>(text: &'c [u8], from: usize, to: usize) -> &'c [u8]
 fn text_of<'c, 'a>(code: &'c Code<'a>, n: u32) -> &'c [u8]
     ensures { result.now ≡ text_in (statement_at (code_program code.now) n) }
 {
-    if n == 0 {
-        return b"";
-    }
-    if n > code.count() {
+    if n == 0 || n > code.count() {
         return b"";
     }
     code.text(n)
@@ -78,13 +75,11 @@ pub fn is_chance(status: u8) -> bool
 fn asked_at<'c>(status: u8) -> Ask<'c>
     ensures { asked_of result ≡ Some (asked_by status) }
 {
-    if status == 0 {
-        return Ask::Plain;
+    if is_chance(status) {
+        Ask::Choice(100 - status)
+    } else {
+        Ask::Plain
     }
-    if status < 100 {
-        return Ask::Choice(100 - status);
-    }
-    Ask::Plain
 }
 
 /// Returns what is asked before the next step of a run whose input is a text (Revised Manual, 4.3).

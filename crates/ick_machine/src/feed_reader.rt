@@ -102,10 +102,7 @@ impl<F: Feed> Reader for FeedReader<'_, F> {
         if self.ended {
             return Ok(Line::Nothing);
         }
-        if self.fault.is_some() {
-            return Err(NoMemory);
-        }
-        if !self.allowed {
+        if self.fault.is_some() || !self.allowed {
             return Err(NoMemory);
         }
         match self.feed.line(self.line) {
@@ -125,10 +122,7 @@ impl<F: Feed> Reader for FeedReader<'_, F> {
         if self.ended {
             return Ok(None);
         }
-        if self.fault.is_some() {
-            return Err(NoMemory);
-        }
-        if !self.allowed {
+        if self.fault.is_some() || !self.allowed {
             return Err(NoMemory);
         }
         match self.feed.byte() {
