@@ -18,6 +18,7 @@ use ick_bits::{Fault, FaultKind};
 use ick_code::Code;
 use ick_engine::{Memory, RawEnd};
 use ick_instructions::Lowered;
+use ick_traces::Followed;
 
 /// Returns the bytes of a text between two positions. It stops at the end of the text.
 fn word<'c>(text: &'c [u8], from: usize, to: usize) -> &'c [u8]
@@ -84,7 +85,7 @@ fn asked_at<'c>(status: u8) -> Ask<'c>
 
 /// Returns what is asked before the next step of a run whose input is a text (Revised Manual, 4.3).
 pub fn answer<'c, 'a>(
-    lowered: &Lowered<'c, 'a>,
+    lowered: &Followed<'c, 'a>,
     memory: &Memory,
     end: Option<RawEnd>,
     text: &'c [u8],
@@ -94,7 +95,7 @@ pub fn answer<'c, 'a>(
         lowered.now.code.now lowered.now.parts (input_of text.now) (view_in memory.now) end)) }
 {
     if let Some(ended) = end {
-        return Ask::Ended(end_of(lowered.code, text, ended));
+        return Ask::Ended(end_of(lowered.program().code, text, ended));
     }
     asked_at(memory.statuses[memory.cursor.place as usize])
 }

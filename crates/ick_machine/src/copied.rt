@@ -13,8 +13,7 @@ use ick_backtrack::{Ask, Asks, Backtrack};
 use ick_bits::NoMemory;
 use ick_code::Code;
 use ick_engine::{RawEnd, Saved};
-use ick_instructions::Lowered;
-use ick_lowering::lower;
+use ick_traces::Followed;
 use std::alloc::Global;
 
 /// A copy of a state, and how the run had ended.
@@ -29,7 +28,7 @@ pub struct Copy {
 #[derive(Drop)]
 pub struct Copied<'c, 'a> {
     alloc: Global,
-    lowered: Lowered<'c, 'a>,
+    lowered: Followed<'c, 'a>,
     input: &'c [u8],
     running: Running,
     copies: Vec<Copy>,
@@ -55,8 +54,7 @@ impl<'c, 'a> Copied<'c, 'a> {
               work = work;
             }) }
     {
-        let lowered = lower(alloc, code)?;
-        let running = begin(alloc, &lowered, work)?;
+        let (lowered, running) = begin(alloc, code, work)?;
         Ok(Copied {
             alloc,
             lowered,
@@ -115,9 +113,10 @@ impl<'c, 'a> Backtrack for Copied<'c, 'a> {
 
     fn mark(&mut self) -> Result<(), NoMemory> {
         self.law();
-        let saved = Saved::save(self.alloc, &self.running.memory, &self.lowered)?;
+        let program = self.lowered.program();
+        let saved = Saved::save(self.alloc, &self.running.memory, program)?;
         // `ok` of `mark` needs that the kept state is the machine's.
-        saved.law(&self.lowered);
+        saved.law(program);
         self.copies.push(Copy {
             saved,
             end: self.running.end,
@@ -130,7 +129,7 @@ impl<'c, 'a> Backtrack for Copied<'c, 'a> {
         if let Some(copy) = self.copies.pop() {
             let Copy { saved, end } = copy;
             self.running.trail.clear();
-            saved.restore(&mut self.running.memory, &self.lowered);
+            saved.restore(&mut self.running.memory, self.lowered.program());
             self.running.end = end;
         }
     }
@@ -159,11 +158,11 @@ impl<'c, 'a> Asks<'c> for Copied<'c, 'a> {
 
 impl<'c, 'a> Inspect for Copied<'c, 'a> {
     fn place(&self) -> u32 {
-        self.running.memory.place(&self.lowered)
+        self.running.memory.cursor.place
     }
 
     fn return_addresses(&self) -> &[u32] {
         self.law();
-        self.running.memory.return_addresses(&self.lowered)
+        self.running.memory.return_addresses(self.lowered.program())
     }
 }

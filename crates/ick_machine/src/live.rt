@@ -75,7 +75,7 @@ impl<'c, 'a> Live<'c, 'a> {
         if self.failed {
             return LiveAsk::Failed;
         }
-        LiveAsk::of(answer(self.lowered.program(), &self.memory, self.end, &self.line))
+        LiveAsk::of(answer(&self.lowered, &self.memory, self.end, &self.line))
     }
 
     /// Makes one step: the statement that is met is done or passed over (Revised Manual, 4.3), or

@@ -6,6 +6,7 @@ ghost use Rattle.ick_machine.specs.RunIn.{CanGoOn};
 use ick_backtrack::Backtrack;
 use ick_engine::{Memory, RawEnd};
 use ick_instructions::Lowered;
+use ick_traces::Followed;
 
 /// The parts that represent the present state of a machine: the memory, the end of the run, if
 /// there is one, and the whole input. Its type says that the readers of the memory may be called.
@@ -26,7 +27,7 @@ impl<'m, 'c, 'a> Present<'m, 'c, 'a> {
     /// Returns these parts together.
     #[tactic(auto, unfolding(crate::specs::Present::present_program, crate::specs::Present::present_state,))]
     pub(crate) fn new(
-        lowered: &'m Lowered<'c, 'a>,
+        lowered: &'m Followed<'c, 'a>,
         memory: &'m Memory,
         end: Option<RawEnd>,
         input: &'m [u8],
@@ -37,7 +38,7 @@ impl<'m, 'c, 'a> Present<'m, 'c, 'a> {
             ≡ state_in lowered.now (input_of input.now) memory.now end }
     {
         Present {
-            lowered,
+            lowered: lowered.program(),
             memory,
             end,
             input,

@@ -11,11 +11,14 @@ use Rattle.ick_machine.proofs.asking.answer.Goals as goal
 
 pub returns-in-Some : goal.returns-in-Some
 returns-in-Some c =
-    asks_end c.args.lowered.now.code.now c.args.lowered.now.parts (view_in c.args.memory.now) c.requires
-    (input_of c.args.text.now) c.in-Some.ended (finish_of c.end_of.result) c.end_of.ensures
-    ∙ ap (λ o. Some (ask (code_program c.args.lowered.now.code.now)
-    (run_state c.args.lowered.now.code.now c.args.lowered.now.parts (input_of c.args.text.now)
-    (view_in c.args.memory.now) o))) (sym c.in-Some.is)
+    rw (sym c.program.ensures) (
+    let code = c.program.result.now.code.now in
+    let lowered = c.program.result.now.parts in
+    let v = view_in c.args.memory.now in
+    asks_end code lowered v (rw c.program.ensures c.requires) (input_of c.args.text.now) c.in-Some.ended
+    (finish_of c.end_of.result) c.end_of.ensures
+    ∙ ap (λ o. Some (ask (code_program code) (run_state code lowered (input_of c.args.text.now) v o)))
+    (sym c.in-Some.is))
 
 pub index-requires : goal.index-requires
 index-requires c =

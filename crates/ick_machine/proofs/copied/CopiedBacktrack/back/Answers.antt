@@ -11,17 +11,21 @@ use Rattle.ick_machine.proofs.copied.CopiedBacktrack.back.Goals as goal
 
 pub restore-requires-clause-kept : goal.restore-requires-clause-kept
 restore-requires-clause-kept c =
+    rw c.program.ensures (
     let m = c.args.self.now in
     ∥∥₁_elim m.copied (hlevel) (λ are.
     (one_less m.lowered.code.now m.lowered.parts c.pop.new.self.items m.copies.items c.in-Some.copy
-    c.in-Some.ensures.items are).1)
+    c.in-Some.ensures.items are).1))
+
+pub restore-requires-clause-steady : goal.restore-requires-clause-steady
+restore-requires-clause-steady c = rw c.program.ensures c.law.ensures.ready.steady
 
 pub invariant_of-self : goal.invariant_of-self
 invariant_of-self c =
     let m = c.args.self.now in
     record {
       can = ∣ record {
-        ready = c.restore.ensures.ready;
+        ready = rw (sym c.program.ensures) c.restore.ensures.ready;
         low = omega (arith, c.clear.ensures.low);
         base = c.clear.ensures.base ∙ c.law.ensures.can.base;
       } ∣₁;
@@ -33,9 +37,10 @@ invariant_of-self c =
 
 pub returns-in-Some : goal.returns-in-Some
 returns-in-Some c =
+    rw (sym c.program.ensures) (
     let m = c.args.self.now in
-    let code = m.lowered.code.now in
-    let lowered = m.lowered.parts in
+    let code = c.program.result.now.code.now in
+    let lowered = c.program.result.now.parts in
     let input = input_of m.input.now in
     let f = copied_state code lowered input in
     let copy = c.in-Some.copy in
@@ -43,4 +48,4 @@ returns-in-Some c =
     let older = c.pop.new.self.items in
     ap (λ marks. seen_at code s marks m.running.work)
     (ap (map f) c.in-Some.ensures.items ∙ states_pushed f older copy
-    ∙ ap (λ t. map f older ++ (record t { end = (f copy).end }) ∷ []) (sym (c.restore.ensures.states input)))
+    ∙ ap (λ t. map f older ++ (record t { end = (f copy).end }) ∷ []) (sym (c.restore.ensures.states input))))

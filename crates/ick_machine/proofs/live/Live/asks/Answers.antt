@@ -15,19 +15,17 @@ use Rattle.ick_machine.proofs.live.Live.asks.Goals as goal
 
 pub answer-requires : goal.answer-requires
 answer-requires c =
-    rw c.program.ensures (
     let live = c.args.self.now in
-    ready_unless live.lowered.code.now live.lowered.parts (view_in live.memory) live.failed live.ready c.if-self.false)
+    ready_unless live.lowered.code.now live.lowered.parts (view_in live.memory) live.failed live.ready c.if-self.false
 
 pub returns : goal.returns
 unfolding seen
 returns c =
-    rw (sym c.program.ensures) (
     let live = c.args.self.now in
-    let code = c.program.result.now.code.now in
-    let lowered = c.program.result.now.parts in
+    let code = live.lowered.code.now in
+    let lowered = live.lowered.parts in
     let v = view_in live.memory in
     let asked = ask (code_program code) (run_state code lowered (input_after live.line.items []) v live.end) in
     let same = asks_same code lowered live.line.items c.deref.result.now v c.deref.ensures.value live.end
     (asked_of c.answer.result) c.answer.ensures in
-    c.of.ensures asked same ∙ ap (λ b. if b then Failed else live_asked asked) (sym c.if-self.false))
+    c.of.ensures asked same ∙ ap (λ b. if b then Failed else live_asked asked) (sym c.if-self.false)
