@@ -48,15 +48,13 @@ pub fn finish<'c, M: Asks<'c>>(machine: &mut M) -> Result<(), Failure> {
     Err(Failure::NoEnd)
 }
 
-/// Makes a step in a call of `run`. The machine must ask nothing.
-pub fn run_one<'c, M: Asks<'c>>(machine: &mut M) -> Result<(), Failure> {
-    if machine.work() >= u64::MAX {
+/// Makes steps in a call of `run` up to the next choice or the end of the run, a hundred at most.
+/// Returns their number.
+pub fn run<'c, M: Asks<'c>>(machine: &mut M) -> Result<u32, Failure> {
+    if machine.work() >= u64::MAX - 100 {
         return Err(Failure::TooManySteps);
     }
-    if machine.run(1)? != 1 {
-        return Err(Failure::NoStep);
-    }
-    Ok(())
+    Ok(machine.run(100)?)
 }
 
 /// Sets a mark.

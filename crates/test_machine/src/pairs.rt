@@ -29,14 +29,16 @@ fn take_turns<'c, A: Asks<'c>, B: Asks<'c>>(
     Ok(())
 }
 
-/// Makes one random turn on both machines: most often a step, else a change of their marks.
+/// Makes one random turn on both machines: most often steps, else a change of their marks.
 fn turn<'c, A: Asks<'c>, B: Asks<'c>>(
     sides: &mut Sides<A, B>,
     words: &mut Words,
 ) -> Result<(), Failure> {
     let turn = words.below(16);
-    if turn < 10 {
+    if turn < 8 {
         sides.step(words.below(2) == 0)
+    } else if turn < 10 {
+        sides.run()
     } else if turn < 13 {
         sides.mark()
     } else if !sides.is_marked() {

@@ -2,7 +2,7 @@
 
 use crate::alike::are_alike;
 use crate::failure::Failure;
-use crate::machines::{back, drop_mark, goes_on, mark, run_one, step};
+use crate::machines::{back, drop_mark, goes_on, mark, run, step};
 use ick_code::Code;
 use ick_machine::{Ask, Asks, Copied, Trailed};
 use std::alloc::Global;
@@ -64,7 +64,7 @@ impl<'c, A: Asks<'c>, B: Asks<'c>> Sides<A, B> {
         self.are_alike()
     }
 
-    /// Makes a step, unless the run has ended. It is done by operations or by a plan in short.
+    /// Makes a step, unless the run has ended.
     pub fn step(&mut self, done: bool) -> Result<(), Failure> {
         if goes_on(&mut self.one, done)? != goes_on(&mut self.other, done)? {
             return Err(Failure::GoesOnAlone);
@@ -72,11 +72,12 @@ impl<'c, A: Asks<'c>, B: Asks<'c>> Sides<A, B> {
         self.are_alike()
     }
 
-    /// Makes a step where nothing is asked: the one machine by a plan or a list, if the statement
-    /// has one, and the other as in `step`.
-    pub fn run_one(&mut self) -> Result<(), Failure> {
-        run_one(&mut self.one)?;
-        step(&mut self.other, false)?;
+    /// Makes steps up to the next choice or the end of the run, a hundred at most: the one machine
+    /// in one call, which may follow traces, and the other step by step.
+    pub fn run(&mut self) -> Result<(), Failure> {
+        for _ in 0..run(&mut self.one)? {
+            step(&mut self.other, false)?;
+        }
         self.are_alike()
     }
 }
