@@ -76,11 +76,13 @@ pub fn is_chance(status: u8) -> bool
 fn asked_at<'c>(status: u8) -> Ask<'c>
     ensures { asked_of result ≡ Some (asked_by status) }
 {
-    if is_chance(status) {
-        Ask::Choice(100 - status)
-    } else {
-        Ask::Plain
+    if status == 0 {
+        return Ask::Plain;
     }
+    if status < 100 {
+        return Ask::Choice(100 - status);
+    }
+    Ask::Plain
 }
 
 /// Returns what is asked before the next step of a run whose input is a text (Revised Manual, 4.3).
