@@ -274,3 +274,14 @@ pub record IsRestored (code : Code) (lowered : LoweredParts) (m v : View) : Type
   pub alike : Like lowered.layout.base m.depth m v
   pub ready : IsReady code lowered v
   pub states : (input : Input) → state_of code lowered input v ≡ state_of code lowered input m
+
+-- the lists of a view, at no place
+abbrev pub lists_of : View → View
+lists_of v = record v { place = 0; depth = 0 }
+
+-- the changes from one view to another were noted: what could be undone before them can be undone after them
+pub record AreNoted {N : Type 0} (Undoes : N → ℕ → View → View → Type 0) (low : N → ℕ) (fixed : N → Fixed)
+    (old new : N) (v w : View) : Type 0 where
+  pub low_within : low new ≤ w.depth
+  pub base_same : fixed new ≡ fixed old
+  pub follows : (k : ℕ) (m : View) → Undoes old k (lists_of v) m → Undoes new k (lists_of w) m
