@@ -32,14 +32,14 @@ pub trait Reader: Drop {
     /// What every call keeps: the text that is read, or the name of a reference to the source.
     ghost held: { Self → Self.Held };
 
-    /// Whether the loop waits before a statement of input or output that is sure to be done, by
+    /// Whether the loop waits before a statement of input or output that is certain to be done, by
     /// what every call keeps.
     ghost waits: { Self.Held → Bool };
 
     /// Some input may be left.
     ghost some: { (reader : Self) → (input : Input) × Has reader input };
 
-    /// Returns whether the loop waits before a statement of input or output that is sure to be
+    /// Returns whether the loop waits before a statement of input or output that is certain to be
     /// done.
     fn is_waiting(&self) -> bool
         ensures { result ≡ waits (held self.now) };

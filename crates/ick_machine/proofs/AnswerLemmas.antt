@@ -23,9 +23,9 @@ use Rattle.ick_machine.specs.Asked.{is_open, asked_by}
 use Rattle.ick_machine.specs.Run.{ending_of, run_state}
 
 -- what a status lacks to 100, if no choice is asked at it
-sure_lacks : (status : ℕ) → is_open status ≡ false → is_abstained status ≡ false →
+certain_lacks : (status : ℕ) → is_open status ≡ false → is_abstained status ≡ false →
     (lack_of status ≡ 0) ⊎ (100 ≤ lack_of status)
-sure_lacks status sure free = grind (arith, nat_tests, sure, free)
+certain_lacks status certain free = grind (arith, nat_tests, certain, free)
 
 -- and if one is
 open_lacks : (status : ℕ) → is_open status ≡ true → lack_of status ≡ status
@@ -38,14 +38,14 @@ pub open_within : (status : ℕ) → is_open status ≡ true → (0 < status) ×
 open_within status open_ = (grind (arith, nat_tests, open_), grind (arith, nat_tests, open_))
 
 -- whether a chance is between 0 and 100, by what it lacks
-sure_chance : (chance lack : ℕ) → lack ≡ 100 - percent_of chance → (lack ≡ 0) ⊎ (100 ≤ lack) →
+certain_chance : (chance lack : ℕ) → lack ≡ 100 - percent_of chance → (lack ≡ 0) ⊎ (100 ≤ lack) →
     (nat_lt 0 chance && nat_lt chance 100) ≡ false
-sure_chance chance lack is sure = cases (nat_le chance 100) refl
+certain_chance chance lack is certain = cases (nat_le chance 100) refl
   where
     cases : (b : Bool) → nat_le chance 100 ≡ b → (nat_lt 0 chance && nat_lt chance 100) ≡ false
     cases true e =
         let percent : percent_of chance ≡ chance = rw e refl in
-        elim sure [
+        elim certain [
           | inl none ↦ grind (arith, nat_tests, e, is, percent, none)
           | inr many ↦ grind (arith, nat_tests, e, is, percent, many)
         ]
@@ -71,14 +71,14 @@ asked_there : (statement : StatementTree) (status : ℕ) → lack_of status ≡ 
     (if is_uncertain statement (is_abstained status) then choice statement.chance else plain) ≡ asked_by status
 asked_there statement status is = cases (is_open status) refl
   where
-    sure : is_open status ≡ false → (a : Bool) → is_abstained status ≡ a → is_uncertain statement a ≡ false
-    sure open_ true a = refl
-    sure open_ false a = sure_chance statement.chance (lack_of status) is (sure_lacks status open_ a)
+    certain : is_open status ≡ false → (a : Bool) → is_abstained status ≡ a → is_uncertain statement a ≡ false
+    certain open_ true a = refl
+    certain open_ false a = certain_chance statement.chance (lack_of status) is (certain_lacks status open_ a)
 
     cases : (b : Bool) → is_open status ≡ b →
         (if is_uncertain statement (is_abstained status) then choice statement.chance else plain) ≡ asked_by status
     cases false open_ =
-        ap (λ b. if b then choice statement.chance else plain) (sure open_ (is_abstained status) refl)
+        ap (λ b. if b then choice statement.chance else plain) (certain open_ (is_abstained status) refl)
         ∙ sym (ap (λ b. if b then choice (100 - status) else plain) open_)
     cases true open_ =
         let within = open_within status open_ in
@@ -165,8 +165,8 @@ module _ (code : Code) (lowered : LoweredParts) (v : View) (ready : IsReady code
           sym (asks_status status end (no_end end going) is)
           ∙ ap (λ b. if b then choice (100 - status) else plain) (sym says)
 
-      pub sure_free : not chance ≡ true → IsPlain (code_program code) (run_state code lowered input v end)
-      sure_free sure = asked ∙ ap (λ b. if b then choice (100 - status) else plain) (not-true chance sure)
+      pub certain_free : not chance ≡ true → IsPlain (code_program code) (run_state code lowered input v end)
+      certain_free certain = asked ∙ ap (λ b. if b then choice (100 - status) else plain) (not-true chance certain)
 
       pub open_bound : not chance ≡ false → ¬ IsPlain (code_program code) (run_state code lowered input v end)
       open_bound open_ free =

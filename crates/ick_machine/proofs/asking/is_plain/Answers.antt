@@ -1,7 +1,7 @@
 use Rattle.std.proofs.Common.{◌≡◌, get_or, sym, ◌∙◌, arith}
 use Rattle.std.proofs.lemmas.Grind.{get_or_default_zero}
 use Rattle.ick_engine.specs.Memory.{view_in}
-use Rattle.ick_machine.proofs.AnswerLemmas.{some_bound, sure_free, open_bound, place_low}
+use Rattle.ick_machine.proofs.AnswerLemmas.{some_bound, certain_free, open_bound, place_low}
 use Rattle.ick_machine.proofs.asking.is_plain.Goals as goal
 
 status_is : (c : goal.After-is_chance) →
@@ -23,7 +23,7 @@ index-requires c =
 
 pub returns-clause-plain : goal.returns-clause-plain
 returns-clause-plain c = λ input.
-    sure_free c.args.lowered.now.code.now c.args.lowered.now.parts (view_in c.args.memory.now) c.requires input
+    certain_free c.args.lowered.now.code.now c.args.lowered.now.parts (view_in c.args.memory.now) c.requires input
     c.index.result.now c.args.end (sym c.is_some.ensures ∙ c.if-is_some.false) (status_is c) c.is_chance.result
     c.is_chance.ensures
 
