@@ -2,11 +2,10 @@ use Rattle.std.proofs.Common.{◌≡◌, ◌<◌, List, Bool, true, length, rule
 use Rattle.std.specs.Prelude.{Err, Some, None}
 use Rattle.std.proofs.lemmas.Grind.{common_steps}
 use Rattle.ick_code.proofs.AskLaws.{chance_between}
-use Rattle.ick_machine.specs.Live.{seen, fed, fault_message}
+use Rattle.ick_machine.specs.Live.{seen, fed}
 use Rattle.ick_explorer.specs.declared.errors.RunsError.TheVariants.{NoMemory, Read}
-use Rattle.ick_explorer.specs.Runs.{run}
 use Rattle.ick_runs.specs.Chosen.{Chosen, IsChosen, Picks, answer_of}
-use Rattle.ick_runs.specs.Streaming.{IsAlong, AreTaken, Stops}
+use Rattle.ick_runs.specs.Streaming.{IsAlong, AreTaken}
 use Rattle.ick_runs.proofs.ChosenLaws.{all_taken, picked, one_more}
 use Rattle.ick_runs.proofs.StreamLaws.{along_start, none_taken, asks_chance, here_stays, here_ended, here_limit}
 use Rattle.ick_runs.proofs.StreamLaws.{here_wants, taken_choice, choice_turned, choice_refused, plain_turned}
@@ -41,18 +40,14 @@ along-init g c =
 pub returns-in-Ended-clause-run : goal.returns-in-Ended-clause-run
 returns-in-Ended-clause-run g c = λ t chosen at c' is_chosen.
     let i = c.along.invariant in
-    let first = seen c.args.machine.now in
-    let begin = fed (g.R.ByteSource.left c.args.reader.now) first.state in
-    here_ended g.W.ByteSink.told first.program begin c.args.limit (i.here t) c' (i.taken t chosen at c' is_chosen)
+    here_ended _ _ _ _ (i.here t) c' (i.taken t chosen at c' is_chosen)
     c.asks-asked.result c.in-Ended.end c.asks-asked.ensures c.in-Ended.is
 
 pub returns-then-steps-limit-clause-run : goal.returns-then-steps-limit-clause-run
 returns-then-steps-limit-clause-run g c = λ t chosen at c' is_chosen.
     let i = c.along.invariant in
-    let first = seen c.args.machine.now in
-    let begin = fed (g.R.ByteSource.left c.args.reader.now) first.state in
     let all : c.along.steps ≡ c.args.limit = grind (arith, common_steps) in
-    here_limit g.W.ByteSink.told first.program begin c.args.limit (i.here t) c' (i.taken t chosen at c' is_chosen)
+    here_limit _ _ _ _ (i.here t) c' (i.taken t chosen at c' is_chosen)
     c.asks-asked.result c.asks-asked.ensures c.in_default.not-Ended all
 
 pub pick-requires : goal.pick-requires
@@ -66,33 +61,20 @@ pick-requires g c =
 pub returns-in_default-pick-clause-run : goal.returns-in_default-pick-clause-run
 returns-in_default-pick-clause-run g c = λ t chosen at c' is_chosen.
     let i = c.along.invariant in
-    let first = seen c.args.machine.now in
-    let begin = fed (g.R.ByteSource.left c.args.reader.now) first.state in
-    let limit = c.args.limit in
     let taken = c.along.choices.items in
-    let lt : c.along.steps < limit = grind (arith, common_steps) in
+    let lt : c.along.steps < c.args.limit = grind (arith, common_steps) in
     let size : length taken ≡ c.len.result = omega (arith, c.len.ensures, c.along.choices.ok.0) in
     let none : None ≡ answer_of chosen (length taken) c.in-Choice.chance =
     picked chosen c.along.picker c.len.result (length taken) c.in-Choice.chance None size (i.picks chosen at)
     (c.in_default-pick.ensures.answer chosen) in
-    let all = all_taken first.program begin limit chosen c' taken c.in-Choice.chance is_chosen
-    (i.taken t chosen at c' is_chosen) none in
-    here_wants g.W.ByteSink.told first.program begin limit (i.here t) c.asks-asked.ensures c.in-Choice.is lt c' all
+    here_wants _ _ _ _ (i.here t) c.asks-asked.ensures c.in-Choice.is lt c'
+    (all_taken _ _ _ chosen c' taken c.in-Choice.chance is_chosen (i.taken t chosen at c' is_chosen) none)
 
 pub returns-in_err-push-clause-run : goal.returns-in_err-push-clause-run
 returns-in_err-push-clause-run g c = λ t chosen at c' is_chosen.
     let i = c.along.invariant in
-    let told = g.W.ByteSink.told in
-    let left = g.R.ByteSource.left in
-    let written = g.W.ByteSink.written in
-    let first = seen c.args.machine.now in
-    let begin = fed (left c.args.reader.now) first.state in
-    let limit = c.args.limit in
     let e : c.from_residual.result ≡ Err NoMemory = search rules in
-    subst (λ r. Stops told (run first.program begin limit c') c' c.push.new.self.items
-    (fault_message (seen c.along.machine)) (written c.args.writer.now) (written c.along.writer)
-    (left c.along.reader) r) (sym e)
-    (here_stays told first.program begin limit (i.here t) c' (i.taken t chosen at c' is_chosen))
+    rw e (here_stays _ _ _ _ (i.here t) c' (i.taken t chosen at c' is_chosen))
 
 -- the choices are those that were taken, with the one that was answered
 are_taken : (g : Over) (c : goal.After-from_residual-in_err-turn g) → g.R.ByteSource.told ≡ true →
@@ -102,48 +84,33 @@ are_taken : (g : Over) (c : goal.After-from_residual-in_err-turn g) → g.R.Byte
     AreTaken c' c.push.new.self.items
 are_taken g c t chosen at c' is_chosen =
     let i = c.along.invariant in
-    let first = seen c.args.machine.now in
-    let begin = fed (g.R.ByteSource.left c.args.reader.now) first.state in
     let taken = c.along.choices.items in
     let lt : c.along.steps < c.args.limit = grind (arith, common_steps) in
     let size : length taken ≡ c.len.result = omega (arith, c.len.ensures, c.along.choices.ok.0) in
     let some : Some c.in-Some.done ≡ answer_of chosen (length taken) c.in-Choice.chance =
     picked chosen c.along.picker c.len.result (length taken) c.in-Choice.chance (Some c.in-Some.done) size
     (i.picks chosen at) (c.in-Some.ensures.answer chosen) in
-    taken_choice g.W.ByteSink.told first.program begin c.args.limit (i.here t) c.asks-asked.ensures c.in-Choice.is lt
+    taken_choice _ _ _ _ (i.here t) c.asks-asked.ensures c.in-Choice.is lt
     chosen c' c.push.new.self.items c.in-Some.done is_chosen (i.taken t chosen at c' is_chosen) some
     c.in_ok-push.ensures.items
 
 pub returns-in_err-turn-clause-run : goal.returns-in_err-turn-clause-run
 returns-in_err-turn-clause-run g c = λ t chosen at c' is_chosen.
-    let i = c.along.invariant in
-    let told = g.W.ByteSink.told in
-    let left = g.R.ByteSource.left in
-    let written = g.W.ByteSink.written in
-    let first = seen c.args.machine.now in
-    let begin = fed (left c.args.reader.now) first.state in
-    let limit = c.args.limit in
-    let lt : c.along.steps < limit = grind (arith, common_steps) in
+    let lt : c.along.steps < c.args.limit = grind (arith, common_steps) in
     let e : c.from_residual-in_err-turn.result ≡ Err c.in_err-turn.field-0.0 = search rules in
-    subst (λ r. Stops told (run first.program begin limit c') c' c.push.new.self.items
-    (fault_message (seen c.turn.new.machine)) (written c.args.writer.now)
-    (written c.turn.new.writer) (left c.turn.new.reader) r) (sym e)
-    (choice_refused told first.program begin limit (i.here t) c.asks-asked.ensures c.in-Choice.is lt c'
-    c.push.new.self.items c.in-Some.done (fed (left c.turn.new.reader) (seen c.turn.new.machine).state)
-    (written c.turn.new.writer) c.in_err-turn.field-0.0 (are_taken g c t chosen at c' is_chosen)
-    c.in_ok-push.ensures.items (c.in_err-turn.ensures.moved t))
+    rw e (choice_refused _ _ _ _ (c.along.invariant.here t) c.asks-asked.ensures c.in-Choice.is lt c'
+    c.push.new.self.items c.in-Some.done
+    (fed (g.R.ByteSource.left c.turn.new.reader) (seen c.turn.new.machine).state)
+    (g.W.ByteSink.written c.turn.new.writer) c.in_err-turn.field-0.0
+    (are_taken g c t chosen at c' is_chosen) c.in_ok-push.ensures.items (c.in_err-turn.ensures.moved t))
 
 pub returns-in_err-turn-clause-input : goal.returns-in_err-turn-clause-input
 returns-in_err-turn-clause-input g c = λ t chosen at c' is_chosen is_read.
     let i = c.along.invariant in
-    let left = g.R.ByteSource.left in
-    let first = seen c.args.machine.now in
-    let begin = fed (left c.args.reader.now) first.state in
-    let limit = c.args.limit in
-    let lt : c.along.steps < limit = grind (arith, common_steps) in
+    let lt : c.along.steps < c.args.limit = grind (arith, common_steps) in
     let e : c.from_residual-in_err-turn.result ≡ Err c.in_err-turn.field-0.0 = search rules in
     let read = ap Err (same_error c.from_residual-in_err-turn.result c.in_err-turn.field-0.0 Read e is_read) in
-    choice_at_input g.W.ByteSink.told first.program begin limit (i.here t) c.asks-asked.ensures c.in-Choice.is lt c'
+    choice_at_input _ _ _ _ (i.here t) c.asks-asked.ensures c.in-Choice.is lt c'
     c.push.new.self.items c.in-Some.done (g.W.ByteSink.written c.turn.new.writer) (i.taken t chosen at c' is_chosen)
     (are_taken g c t chosen at c' is_chosen) c.in_ok-push.ensures.items (c.in_err-turn.ensures.input read)
     (c.in_err-turn.ensures.unwritten read)
@@ -151,14 +118,8 @@ returns-in_err-turn-clause-input g c = λ t chosen at c' is_chosen is_read.
 pub along-preserved-in-Choice : goal.along-preserved-in-Choice
 along-preserved-in-Choice g c =
     let i = c.along.invariant in
-    let told = g.W.ByteSink.told in
-    let left = g.R.ByteSource.left in
-    let written = g.W.ByteSink.written in
-    let first = seen c.args.machine.now in
-    let begin = fed (left c.args.reader.now) first.state in
-    let limit = c.args.limit in
     let taken = c.along.choices.items in
-    let lt : c.along.steps < limit = grind (arith, common_steps) in
+    let lt : c.along.steps < c.args.limit = grind (arith, common_steps) in
     let size : length taken ≡ c.len.result = omega (arith, c.len.ensures, c.along.choices.ok.0) in
     let more = one_more taken c.push.new.self.items c.in-Some.done c.len.result c.in_ok-push.ensures.items size in
     record {
@@ -172,9 +133,8 @@ along-preserved-in-Choice g c =
           (c.in-Some.ensures.on chosen (subst (λ k. Picks chosen k c.along.picker) size (i.picks chosen at)));
       here = λ t. record {
         along =
-            choice_turned told first.program begin limit (i.here t) c.asks-asked.ensures c.in-Choice.is lt
-            c.push.new.self.items c.in-Some.done (fed (left c.turn.new.reader) (seen c.turn.new.machine).state)
-            (written c.turn.new.writer) c.in_ok-turn.field-0 c.in_ok-push.ensures.items (c.in_ok-turn.ensures.moved t);
+            choice_turned _ _ _ _ (i.here t) c.asks-asked.ensures c.in-Choice.is lt
+            c.push.new.self.items c.in-Some.done _ _ c.in_ok-turn.field-0 c.in_ok-push.ensures.items (c.in_ok-turn.ensures.moved t);
         program = c.in_ok-turn.ensures.program ∙ i.program;
         sound = c.in_ok-turn.ensures.sound;
         empty = c.in_ok-turn.ensures.empty;
@@ -183,7 +143,7 @@ along-preserved-in-Choice g c =
           let some : Some c.in-Some.done ≡ answer_of chosen (length taken) c.in-Choice.chance =
           picked chosen c.along.picker c.len.result (length taken) c.in-Choice.chance (Some c.in-Some.done) size
           (i.picks chosen at) (c.in-Some.ensures.answer chosen) in
-          taken_choice told first.program begin limit (i.here t) c.asks-asked.ensures c.in-Choice.is lt chosen c'
+          taken_choice _ _ _ _ (i.here t) c.asks-asked.ensures c.in-Choice.is lt chosen c'
           c.push.new.self.items c.in-Some.done is_chosen (i.taken t chosen at c' is_chosen) some
           c.in_ok-push.ensures.items;
     }
@@ -197,45 +157,28 @@ stride-requires-clause-quiet g c =
 pub returns-in_err-made-clause-run : goal.returns-in_err-made-clause-run
 returns-in_err-made-clause-run g c = λ t chosen at c' is_chosen.
     let i = c.along.invariant in
-    let told = g.W.ByteSink.told in
-    let left = g.R.ByteSource.left in
-    let written = g.W.ByteSink.written in
-    let first = seen c.args.machine.now in
-    let begin = fed (left c.args.reader.now) first.state in
-    let limit = c.args.limit in
-    let lt : c.along.steps < limit = grind (arith, common_steps) in
+    let lt : c.along.steps < c.args.limit = grind (arith, common_steps) in
     let e : c.from_residual-in_err-made.result ≡ Err c.in_err-made.field-0.0 = search rules in
-    subst (λ r. Stops told (run first.program begin limit c') c' c.along.choices.items
-    (fault_message (seen c.stride.new.machine)) (written c.args.writer.now)
-    (written c.stride.new.writer) (left c.stride.new.reader) r) (sym e)
-    (plain_refused told first.program begin limit (i.here t) c.asks-asked.ensures c.in_default-asked.not-Choice
-    c.in_default.not-Ended lt c' (fed (left c.stride.new.reader) (seen c.stride.new.machine).state)
-    (written c.stride.new.writer) c.in_err-made.field-0.0
+    rw e (plain_refused _ _ _ _ (i.here t) c.asks-asked.ensures c.in_default-asked.not-Choice
+    c.in_default.not-Ended lt c'
+    (fed (g.R.ByteSource.left c.stride.new.reader) (seen c.stride.new.machine).state)
+    (g.W.ByteSink.written c.stride.new.writer) c.in_err-made.field-0.0
     (i.taken t chosen at c' is_chosen) (c.in_err-made.ensures.moved t))
 
 pub returns-in_err-made-clause-input : goal.returns-in_err-made-clause-input
 returns-in_err-made-clause-input g c = λ t chosen at c' is_chosen is_read.
     let i = c.along.invariant in
-    let first = seen c.args.machine.now in
-    let begin = fed (g.R.ByteSource.left c.args.reader.now) first.state in
-    let limit = c.args.limit in
-    let lt : c.along.steps < limit = grind (arith, common_steps) in
+    let lt : c.along.steps < c.args.limit = grind (arith, common_steps) in
     let e : c.from_residual-in_err-made.result ≡ Err c.in_err-made.field-0.0 = search rules in
     let read = ap Err (same_error c.from_residual-in_err-made.result c.in_err-made.field-0.0 Read e is_read) in
-    plain_at_input g.W.ByteSink.told first.program begin limit (i.here t) c.asks-asked.ensures
+    plain_at_input _ _ _ _ (i.here t) c.asks-asked.ensures
     c.in_default-asked.not-Choice c.in_default.not-Ended lt c' (g.W.ByteSink.written c.stride.new.writer)
     (i.taken t chosen at c' is_chosen) (c.in_err-made.ensures.input t read) (c.in_err-made.ensures.unwritten read)
 
 pub along-preserved : goal.along-preserved
 along-preserved g c =
     let i = c.along.invariant in
-    let told = g.W.ByteSink.told in
-    let left = g.R.ByteSource.left in
-    let written = g.W.ByteSink.written in
-    let first = seen c.args.machine.now in
-    let begin = fed (left c.args.reader.now) first.state in
-    let limit = c.args.limit in
-    let lt : c.along.steps < limit = grind (arith, common_steps) in
+    let lt : c.along.steps < c.args.limit = grind (arith, common_steps) in
     record {
       reads = search rules;
       writes = search rules;
@@ -246,10 +189,8 @@ along-preserved g c =
       picks = i.picks;
       here = λ t. record {
         along =
-            plain_turned told first.program begin limit (i.here t) c.asks-asked.ensures c.in_default-asked.not-Choice
-            c.in_default.not-Ended lt c.in_ok-made.made
-            (fed (left c.stride.new.reader) (seen c.stride.new.machine).state)
-            (written c.stride.new.writer) (c.in_ok-made.ensures.moved t);
+            plain_turned _ _ _ _ (i.here t) c.asks-asked.ensures c.in_default-asked.not-Choice
+            c.in_default.not-Ended lt c.in_ok-made.made _ _ (c.in_ok-made.ensures.moved t);
         program = c.in_ok-made.ensures.program ∙ i.program;
         sound = c.in_ok-made.ensures.sound;
         empty = c.in_ok-made.ensures.empty;
