@@ -1,12 +1,20 @@
-use Rattle.std.proofs.Common.{◌≡◌, ◌+◌, ◌<◌, ◌≤◌, ◌∷◌, ◌++◌, [], false, length, take, get_or, ap, sym, ◌∙◌, arith, rules}
-use Rattle.std.specs.Prelude.{Some}
+use Rattle.std.proofs.Common.{◌≡◌, ◌+◌, ◌≤◌, List, ◌∷◌, ◌++◌, [], false, length, take, get_or, ap, sym}
+use Rattle.std.proofs.Common.{◌∙◌, arith, rules}
+use Rattle.std.specs.Prelude.{Option, Some}
 use Rattle.ick_explorer.specs.ChoiceTexts.{Differs}
 use Rattle.ick_explorer.specs.Choices.{seen_stretch, seen_stretches}
+use Rattle.ick_explorer.specs.declared.stretches.Stretch.{Stretch}
 use Rattle.std.proofs.lemmas.Grind.{common_steps}
 use Rattle.std.proofs.lemmas.List.{nil_from_length, length-take-le}
 use Rattle.std.specs.Option.{option_to_list}
 use Rattle.ick_explorer.proofs.StretchLaws.{one_of, first_of_all, grown_at, begun_at, last_size, seen_push}
 use Rattle.ick_explorer.proofs.stretches.lengthen.Goals as goal
+
+-- the stretches are those that are left after the last was popped, and the last
+popped : (kept left : List Stretch) (last : Stretch) (found : Option Stretch) → kept ≡ left ++ option_to_list found →
+    found ≡ Some last → seen_stretches kept ≡ seen_stretches left ++ seen_stretch last ∷ []
+popped kept left last found is some =
+    ap seen_stretches (is ∙ ap (λ o. left ++ option_to_list o) some) ∙ seen_push left last
 
 pub returns-in_default : goal.returns-in_default
 returns-in_default c =
@@ -22,11 +30,7 @@ returns-in_default c =
 pub overflow_add-last : goal.overflow_add-last
 overflow_add-last c =
     let last = c.in-Some.last in
-    let kept : seen_stretches c.args.kept.now.items
-    ≡ seen_stretches c.pop.new.self.items ++ seen_stretch last ∷ [] =
-    ap seen_stretches (c.pop.ensures.items
-    ∙ ap (λ o. c.pop.new.self.items ++ option_to_list o) c.in-Some.is)
-    ∙ seen_push c.pop.new.self.items last in
+    let kept = popped _ _ last _ c.pop.ensures.items c.in-Some.is in
     let within = c.requires.within in
     let le = last_size (take c.args.at c.args.choices.now) (seen_stretches c.pop.new.self.items) (seen_stretch last)
     (sym c.requires.before ∙ kept) in
@@ -37,11 +41,7 @@ overflow_add-last c =
 pub returns-then-last-choice : goal.returns-then-last-choice
 returns-then-last-choice c =
     let last = c.in-Some.last in
-    let kept : seen_stretches c.args.kept.now.items
-    ≡ seen_stretches c.pop.new.self.items ++ seen_stretch last ∷ [] =
-    ap seen_stretches (c.pop.ensures.items
-    ∙ ap (λ o. c.pop.new.self.items ++ option_to_list o) c.in-Some.is)
-    ∙ seen_push c.pop.new.self.items last in
+    let kept = popped _ _ last _ c.pop.ensures.items c.in-Some.is in
     let same : last.choice ≡ get_or c.args.choices.now c.args.at false = search rules in
     ap seen_stretches c.push_reserved-then-last-choice.ensures.items
     ∙ (seen_push c.pop.new.self.items _
@@ -51,11 +51,7 @@ returns-then-last-choice c =
 pub returns : goal.returns
 returns c =
     let last = c.in-Some.last in
-    let kept : seen_stretches c.args.kept.now.items
-    ≡ seen_stretches c.pop.new.self.items ++ seen_stretch last ∷ [] =
-    ap seen_stretches (c.pop.ensures.items
-    ∙ ap (λ o. c.pop.new.self.items ++ option_to_list o) c.in-Some.is)
-    ∙ seen_push c.pop.new.self.items last in
+    let kept = popped _ _ last _ c.pop.ensures.items c.in-Some.is in
     let choice = get_or c.args.choices.now c.args.at false in
     let other : Differs (Some last.choice) choice = search rules in
     ap seen_stretches c.push_reserved-3.ensures.items

@@ -1,50 +1,41 @@
 use Rattle.std.proofs.Common.{◌≡◌, rules, sym, subst, ◌∙◌}
 use Rattle.std.specs.Prelude.{Err}
 use Rattle.ick_explorer.specs.Explorers.{explored}
-use Rattle.ick_explorer.specs.WritingSteps.{WritesOne, WritesPart, Moves, IsWithin}
+use Rattle.ick_backtrack.specs.Asked.{finish_of}
+use Rattle.ick_code.specs.meaning.State.{State}
+use Rattle.ick_explorer.specs.Standing.{Stands}
+use Rattle.ick_explorer.specs.WritingSteps.{Moves, IsWithin}
 use Rattle.ick_explorer.proofs.KeptLaws.{on_ok}
-use Rattle.ick_explorer.proofs.WritingLaws.{writes_none, found_line, writes_one, writes_part, told_part, move_refused}
+use Rattle.ick_explorer.proofs.WritingLaws.{HasLine, writes_none, found_line, writes_one, writes_part, told_part, move_refused}
+use Rattle.ick_explorer.proofs.writing.write_next.Given.{Over}
 use Rattle.ick_explorer.proofs.writing.write_next.Goals as goal
+use Rattle.ick_explorer.proofs.writing.write_next.Goals.{After-as_slice}
 
 pub returns-then-not-more-clause-next : goal.returns-then-not-more-clause-next
 returns-then-not-more-clause-next g c =
     λ s xs h k. writes_none _ s xs (explored c.args.explorer.now) _ (c.more.ensures.last s h (search rules)) k
 
+-- the line is that of the run that was found
+line : (g : Over) (c : After-as_slice g) (s : State) → Stands s (explored c.args.explorer.now) →
+    HasLine s (explored c.args.explorer.now) (explored c.advance.new.self) c.advance.new.self.path.choices
+    c.in-Some.field-0 (finish_of c.end_here-end.result) c.as_slice.result.now
+line g c s h =
+    let e = c.in_ok-advance.ensures in
+    found_line _ _ s _ _ _ _ _ _ _ c.in-Some.is e.over e.some c.end_here-end.ensures h e.program e.limit e.room
+    (c.as_slice.ensures.value
+    ∙ on_ok c.build_line.result c.is_err.result c.is_err.ensures.value c.if-is_err.false c.build_line.ensures.line)
+
 pub returns-in-Ok-clause-next : goal.returns-in-Ok-clause-next
 returns-in-Ok-clause-next g c = λ s xs h k.
-    let written = g.W.ByteSink.written in
-    let old = explored c.args.explorer.now in
-    let new = explored c.advance.new.self in
-    let e = c.in_ok-advance.ensures in
-    let line =
-    found_line c.advance.new.self.limit (g.M.Backtrack.seen c.advance.new.self.machine) s old new
-    c.advance.new.self.path.choices _ _ _ _ c.in-Some.is e.over e.some c.end_here-end.ensures h e.program e.limit e.room
-    (c.as_slice.ensures.value
-    ∙ on_ok c.build_line.result c.is_err.result c.is_err.ensures.value c.if-is_err.false c.build_line.ensures.line) in
-    subst (λ x. WritesOne g.W.ByteSink.told s xs old x (written c.args.writer.now) (written c.write_whole.new.sink))
-    (sym c.build_line.ensures.same)
-    (writes_one g.W.ByteSink.told s xs old new (written c.args.writer.now) (written c.write_whole.new.sink) _ _ _ _
-    line k c.in-Ok.ensures.all)
+    let built = line g (goal.at.returns-in-Ok-clause-next g c).After-as_slice s h in
+    rw c.build_line.ensures.same (writes_one _ s xs _ _ _ _ _ _ _ _ built k c.in-Ok.ensures.all)
 
 pub returns-in-Err-clause-next : goal.returns-in-Err-clause-next
 returns-in-Err-clause-next g c = λ s xs h k.
-    let written = g.W.ByteSink.written in
-    let old = explored c.args.explorer.now in
-    let new = explored c.advance.new.self in
-    let e = c.in_ok-advance.ensures in
-    let line =
-    found_line c.advance.new.self.limit (g.M.Backtrack.seen c.advance.new.self.machine) s old new
-    c.advance.new.self.path.choices _ _ _ _ c.in-Some.is e.over e.some c.end_here-end.ensures h e.program e.limit e.room
-    (c.as_slice.ensures.value
-    ∙ on_ok c.build_line.result c.is_err.result c.is_err.ensures.value c.if-is_err.false c.build_line.ensures.line) in
-    let part =
-    told_part g.W.ByteSink.told (written c.args.writer.now) (written c.write_whole.new.sink) c.as_slice.result.now
-    c.write_whole.ensures.beginning in (
+    let built = line g (goal.at.returns-in-Err-clause-next g c).After-as_slice s h in
+    let part = told_part _ _ _ c.as_slice.result.now c.write_whole.ensures.beginning in (
       part.0,
-      subst (λ x. WritesPart g.W.ByteSink.told s xs old x (written c.args.writer.now) (written c.write_whole.new.sink) part.0)
-          (sym c.build_line.ensures.same)
-          (writes_part g.W.ByteSink.told s xs old new (written c.args.writer.now) (written c.write_whole.new.sink) _ _ _ _
-          line k part.0 part.1),
+      rw c.build_line.ensures.same (writes_part _ s xs _ _ _ _ _ _ _ _ built k part.0 part.1),
     )
 
 pub returns-in_err-advance-clause-moves : goal.returns-in_err-advance-clause-moves
