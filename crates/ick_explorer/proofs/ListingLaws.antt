@@ -1,6 +1,7 @@
 -- Laws of listings: each position has exactly one, and it goes on by the least list.
 use Rattle.std.proofs.Common.{◌≡◌, ℕ, suc, zero, ◌⊎◌, inl, inr, Bool, true, false, List, [], ◌∷◌}
-use Rattle.std.proofs.Common.{refl, ap, sym, ◌∙◌, subst, arith}
+use Rattle.std.proofs.Common.{map, refl, ap, sym, ◌∙◌, subst, arith}
+use Rattle.std.proofs.lemmas.List.{map-id}
 use Rattle.std.specs.Prelude.{Option, Some, None}
 use Rattle.std.specs.List.{Contains}
 use Rattle.ick_backtrack.specs.Machine.{Program}
@@ -9,16 +10,16 @@ use Rattle.ick_explorer.specs.Runs.{IsWhole}
 use Rattle.ick_explorer.specs.Order.{IsBelow, IsAfter, IsIncreasing}
 use Rattle.ick_explorer.specs.Listings.{IsListing, IsLeastAfter, IsLast}
 
-pub contains-nil : (x : List Bool) → Contains [] x → ⊥
+pub contains-nil : {A : Type 0} (x : A) → Contains [] x → ⊥
 contains-nil x (k, lt, e) = omega arith
 
-pub contains-head : (x : List Bool) (xs : List (List Bool)) → Contains (x ∷ xs) x
+pub contains-head : {A : Type 0} (x : A) (xs : List A) → Contains (x ∷ xs) x
 contains-head x xs = (0, omega arith, refl)
 
-pub contains-tail : (x y : List Bool) (xs : List (List Bool)) → Contains xs y → Contains (x ∷ xs) y
+pub contains-tail : {A : Type 0} (x y : A) (xs : List A) → Contains xs y → Contains (x ∷ xs) y
 contains-tail x y xs (k, lt, e) = (suc k, omega arith, e)
 
-pub contains-cases : (x y : List Bool) (xs : List (List Bool)) → Contains (x ∷ xs) y → (x ≡ y) ⊎ Contains xs y
+pub contains-cases : {A : Type 0} (x y : A) (xs : List A) → Contains (x ∷ xs) y → (x ≡ y) ⊎ Contains xs y
 contains-cases x y xs (zero, lt, e) = inl e
 contains-cases x y xs (suc k, lt, e) = inr (k, omega arith, e)
 
@@ -51,36 +52,55 @@ pub after-below : (from : Option (List Bool)) (d e : List Bool) → IsAfter from
 after-below None d e h k = tt
 after-below (Some c) d e h k = below-below c d e h k
 
--- two increasing lists with the same members are the same
-increasing_unique : (xs ys : List (List Bool)) → IsIncreasing xs → IsIncreasing ys →
-    ((c : List Bool) → Contains xs c → Contains ys c) → ((c : List Bool) → Contains ys c → Contains xs c) →
-    xs ≡ ys
-increasing_unique [] [] u v f g = refl
-increasing_unique [] (y ∷ ys) u v f g = absurd (contains-nil y (g y (contains-head y ys)))
-increasing_unique (x ∷ xs) [] u v f g = absurd (contains-nil x (f x (contains-head x xs)))
-increasing_unique (x ∷ xs) (y ∷ ys) u v f g =
+-- if a list has an element, the list of the keys has its key
+pub contains-key : {A B : Type 0} (key : A → B) (xs : List A) (x : A) → Contains xs x →
+    Contains (map key xs) (key x)
+contains-key key [] x m = absurd (contains-nil x m)
+contains-key key (y ∷ xs) x m = elim (contains-cases y x xs m) [
+  | inl e ↦ subst (λ z. Contains (map key (y ∷ xs)) (key z)) e (contains-head (key y) (map key xs))
+  | inr n ↦ contains-tail (key y) (key x) (map key xs) (contains-key key xs x n)
+]
+
+-- two lists with the same members are the same, if the keys in each are increasing
+pub increasing_unique : {A : Type 0} (key : A → List Bool) (xs ys : List A) → IsIncreasing (map key xs) →
+    IsIncreasing (map key ys) → ((a : A) → Contains xs a → Contains ys a) →
+    ((a : A) → Contains ys a → Contains xs a) → xs ≡ ys
+increasing_unique key [] [] u v f g = refl
+increasing_unique key [] (y ∷ ys) u v f g = absurd (contains-nil y (g y (contains-head y ys)))
+increasing_unique key (x ∷ xs) [] u v f g = absurd (contains-nil x (f x (contains-head x xs)))
+increasing_unique key (x ∷ xs) (y ∷ ys) u v f g =
     let same : x ≡ y = elim (contains-cases y x ys (f x (contains-head x xs))) [
       | inl e ↦ sym e
       | inr h ↦ elim (contains-cases x y xs (g y (contains-head y ys))) [
         | inl e ↦ e
-        | inr k ↦ absurd (below_one_way x y (u.0 y k) (v.0 x h))
+        | inr k ↦ absurd (below_one_way (key x) (key y) (u.0 (key y) (contains-key key xs y k))
+            (v.0 (key x) (contains-key key ys x h)))
       ]
     ] in
-    ap (λ zs. x ∷ zs) (increasing_unique xs ys u.1 v.1
-    (λ c h. elim (contains-cases y c ys (f c (contains-tail x c xs h))) [
+    ap (λ zs. x ∷ zs) (increasing_unique key xs ys u.1 v.1
+    (λ a h. elim (contains-cases y a ys (f a (contains-tail x a xs h))) [
       | inr k ↦ k
-      | inl e ↦ absurd (not_below_itself x (subst (λ z. IsBelow x z) (sym (same ∙ e)) (u.0 c h)))
+      | inl e ↦ absurd (not_below_itself (key x) (subst (λ z. IsBelow (key x) (key z)) (sym (same ∙ e))
+          (u.0 (key a) (contains-key key xs a h))))
     ])
-    (λ c h. elim (contains-cases x c xs (g c (contains-tail y c ys h))) [
+    (λ a h. elim (contains-cases x a xs (g a (contains-tail y a ys h))) [
       | inr k ↦ k
-      | inl e ↦ absurd (not_below_itself y (subst (λ z. IsBelow y z) (sym (sym same ∙ e)) (v.0 c h)))
+      | inl e ↦ absurd (not_below_itself (key y) (subst (λ z. IsBelow (key y) (key z)) (sym (sym same ∙ e))
+          (v.0 (key a) (contains-key key ys a h))))
     ]))
     ∙ ap (λ z. z ∷ ys) same
+
+-- two increasing lists with the same members are the same
+pub lists_unique : (xs ys : List (List Bool)) → IsIncreasing xs → IsIncreasing ys →
+    ((c : List Bool) → Contains xs c → Contains ys c) → ((c : List Bool) → Contains ys c → Contains xs c) →
+    xs ≡ ys
+lists_unique xs ys u v = increasing_unique (λ c. c) xs ys (subst IsIncreasing (sym (map-id xs)) u)
+    (subst IsIncreasing (sym (map-id ys)) v)
 
 -- a position has at most one listing
 pub listing_unique : (p : Program) (s : State) (l : ℕ) (from : Option (List Bool)) (xs ys : List (List Bool)) →
     IsListing p s l from xs → IsListing p s l from ys → xs ≡ ys
-listing_unique p s l from xs ys u v = increasing_unique xs ys u.increasing v.increasing
+listing_unique p s l from xs ys u v = lists_unique xs ys u.increasing v.increasing
     (λ c h. v.complete c (u.sound c h).0 (u.sound c h).1)
     (λ c h. u.complete c (v.sound c h).0 (v.sound c h).1)
 

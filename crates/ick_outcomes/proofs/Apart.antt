@@ -4,10 +4,11 @@ use Rattle.std.specs.List.{Contains}
 use Rattle.ick_code.specs.meaning.State.{State}
 use Rattle.ick_backtrack.specs.Machine.{Program}
 use Rattle.ick_explorer.specs.Order.{IsBelow, IsIncreasing}
-use Rattle.ick_explorer.proofs.ListingLaws.{not_below_itself, below_one_way}
+use Rattle.ick_explorer.proofs.ListingLaws.{not_below_itself, below_one_way, contains-head, contains-tail}
+use Rattle.ick_explorer.proofs.ListingLaws.{contains-cases, contains-key}
 use Rattle.ick_outcomes.specs.Summaries.{Row, HasOutcome, IsRow, IsSummary}
 use Rattle.ick_outcomes.specs.Accounts.{AreDistinct}
-use Rattle.ick_outcomes.proofs.Ends.{contains-nil, contains-head, contains-tail, contains-cases, first-has}
+use Rattle.ick_outcomes.proofs.Ends.{first-has}
 
 pub has-other : (p : Program) (s : State) (l : ℕ) (r x : Row) (c : List Bool) → r.output ≡ x.output → r.end ≡ x.end →
     HasOutcome p s l r c → HasOutcome p s l x c
@@ -33,21 +34,13 @@ same-first p s l r x a b h k = elim (not-later p s l r x a b h k) [
   ]
 ]
 
-pub contains-first : (rs : List Row) (x : Row) → Contains rs x → Contains (map (λ r. r.first) rs) x.first
-contains-first [] x m = absurd (contains-nil x m)
-contains-first (r ∷ rs) x m = elim (contains-cases r x rs m) [
-  | inl e ↦
-      subst (λ z. Contains (map (λ r. r.first) (r ∷ rs)) z.first) e (contains-head r.first (map (λ r. r.first) rs))
-  | inr n ↦ contains-tail r.first x.first (map (λ r. r.first) rs) (contains-first rs x n)
-]
-
 apart-by : (p : Program) (s : State) (l : ℕ) (rs : List Row) → IsIncreasing (map (λ r. r.first) rs) →
     ((r : Row) → Contains rs r → IsRow p s l r) → AreDistinct rs
 apart-by p s l [] u f = tt
 apart-by p s l (r ∷ rs) u f = (
   λ x m. λ a b.
       let e = same-first p s l r x a b (f r (contains-head r rs)) (f x (contains-tail r x rs m)) in
-      not_below_itself r.first (subst (λ z. IsBelow r.first z) (sym e) (u.0 x.first (contains-first rs x m))),
+      not_below_itself r.first (subst (λ z. IsBelow r.first z) (sym e) (u.0 x.first (contains-key (λ r. r.first) rs x m))),
   apart-by p s l rs u.1 (λ x m. f x (contains-tail r x rs m)),
 )
 

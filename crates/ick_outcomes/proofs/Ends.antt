@@ -1,6 +1,6 @@
 -- Proves that the rows are a summary if no node waits.
 use Prim.Native.Nat.{zero, suc}
-use Rattle.std.proofs.Common.{◌≡◌, ℕ, ◌*◌, ◌^◌, ◌≤◌, ◌⊎◌, inl, inr, Bool, true, false, ◌&&◌, map}
+use Rattle.std.proofs.Common.{◌≡◌, ℕ, ◌*◌, ◌^◌, ◌≤◌, inl, inr, Bool, true, false, ◌&&◌, map}
 use Rattle.std.proofs.Common.{List, [], ◌∷◌, Some, None, refl, ap, sym, ◌∙◌, subst, arith}
 use Rattle.std.specs.List.{Contains}
 use Rattle.ick_code.specs.meaning.State.{State}
@@ -8,7 +8,7 @@ use Rattle.ick_backtrack.specs.Machine.{Program}
 use Rattle.ick_explorer.specs.Runs.{run, IsWhole}
 use Rattle.ick_explorer.specs.Order.{IsBelow, IsIncreasing}
 use Rattle.ick_explorer.proofs.RunLaws.{compared}
-use Rattle.ick_explorer.proofs.ListingLaws.{not_below_itself, contains-nil as nil-lists, contains-head as head-lists}
+use Rattle.ick_explorer.proofs.ListingLaws.{not_below_itself, contains-nil, contains-head, contains-tail, contains-cases}
 use Rattle.ick_outcomes.specs.Weights.{whole, amount, shares}
 use Rattle.ick_outcomes.specs.Tallies.{Test, Passes, Tally, lesser, lead, none, join, after, tally, stop_text}
 use Rattle.ick_outcomes.proofs.Amounts.{amount-end}
@@ -16,19 +16,6 @@ use Rattle.ick_outcomes.specs.Summaries.{Row, HasOutcome, AreRunsOf, IsRow, IsSu
 use Rattle.ick_outcomes.specs.Accounts.{counted_if, all_counted, AreApart, AreDistinct, AreOrdered}
 use Rattle.ick_outcomes.proofs.Algebra.{join-none, none-join}
 use Rattle.ick_outcomes.proofs.TallyRuns.{IsTallyOf, tallied}
-
-pub contains-nil : {A : Type 0} (x : A) → Contains [] x → ⊥
-contains-nil x (k, lt, e) = omega arith
-
-pub contains-head : {A : Type 0} (x : A) (xs : List A) → Contains (x ∷ xs) x
-contains-head x xs = (0, omega arith, refl)
-
-pub contains-tail : {A : Type 0} (x y : A) (xs : List A) → Contains xs y → Contains (x ∷ xs) y
-contains-tail x y xs (k, lt, e) = (suc k, omega arith, e)
-
-pub contains-cases : {A : Type 0} (x y : A) (xs : List A) → Contains (x ∷ xs) y → (x ≡ y) ⊎ Contains xs y
-contains-cases x y xs (zero, lt, e) = inl e
-contains-cases x y xs (suc k, lt, e) = inr (k, omega arith, e)
 
 -- whether two numbers, or two texts, are equal
 abbrev same_number : ℕ → ℕ → Bool
@@ -200,7 +187,7 @@ row-is p s l rs le f d r m =
 
 some-by : (p : Program) (s : State) (l : ℕ) (q : Test) (t : Tally) (cs : List (List Bool)) (c : List Bool) →
     IsTallyOf p s l q t cs → Passes p s l q c → (d : List Bool) × (t.first ≡ Some d)
-some-by p s l q t [] c u h = absurd (nil-lists c (u.complete c h))
+some-by p s l q t [] c u h = absurd (contains-nil c (u.complete c h))
 some-by p s l q t (d ∷ cs) c u h = (d, u.earliest)
 
 complete-is : (p : Program) (s : State) (l : ℕ) (rs : List Row) →
@@ -242,7 +229,7 @@ lesser-flip (true ∷ c) (true ∷ d) h = ap (λ x. true ∷ x) (lesser-flip c d
 
 -- the first run of a row has its outcome
 pub first-has : (p : Program) (s : State) (l : ℕ) (r : Row) → IsRow p s l r → HasOutcome p s l r r.first
-first-has p s l r h = h.runs.sound r.first (head-lists r.first h.others)
+first-has p s l r h = h.runs.sound r.first (contains-head r.first h.others)
 
 below-later : (p : Program) (s : State) (l : ℕ) (r x : Row) → IsRow p s l r → IsRow p s l x → AreApart r x →
     lesser r.first x.first ≡ r.first → IsBelow r.first x.first

@@ -14,7 +14,7 @@ use Rattle.ick_outcomes.specs.Summaries.{Row, IsSummary}
 use Rattle.ick_outcomes.specs.Accounts.{Pending, ahead, counted, all_counted, AreApart, AreDistinct, AreOrdered}
 use Rattle.ick_outcomes.specs.Accounts.{Counts, Sorts, chosen}
 use Rattle.ick_outcomes.proofs.Algebra.{join-assoc, join-none, lesser-assoc, lesser-swap}
-use Rattle.ick_outcomes.proofs.Ends.{contains-nil, contains-head, contains-tail, contains-cases}
+use Rattle.ick_explorer.proofs.ListingLaws.{contains-nil, contains-head, contains-tail, contains-cases}
 use Rattle.ick_outcomes.proofs.Ends.{test_for, test-self, test-output, test-end}
 use Rattle.ick_outcomes.proofs.OrderedRows.{summary_of}
 use Rattle.ick_outcomes.proofs.Sums.{join-front, counts-set, counts-push}

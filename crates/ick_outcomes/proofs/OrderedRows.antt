@@ -19,8 +19,8 @@ use Rattle.ick_outcomes.specs.Accounts.{counted, all_counted, AreDistinct, AreOr
 use Rattle.ick_outcomes.specs.Seen.{row_of, rows_of}
 use Rattle.ick_outcomes.specs.declared.outcome.Outcome.{Outcome}
 use Rattle.ick_outcomes.proofs.Algebra.{same_tally, lesser-self, sooner-assoc, sooner-swap}
-use Rattle.ick_outcomes.proofs.Ends.{contains-nil, contains-head, contains-tail, contains-cases, summary-is}
-use Rattle.ick_outcomes.proofs.Ends.{test_for, test-self, test-output, test-end}
+use Rattle.ick_explorer.proofs.ListingLaws.{contains-nil, contains-head, contains-tail, contains-cases}
+use Rattle.ick_outcomes.proofs.Ends.{summary-is, test_for, test-self, test-output, test-end}
 use Rattle.ick_outcomes.proofs.Lists.{mapped-at}
 
 -- numbers and weights are sums

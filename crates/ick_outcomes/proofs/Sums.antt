@@ -22,7 +22,7 @@ use Rattle.ick_outcomes.proofs.Algebra.{after-pass, after-none}
 use Rattle.ick_outcomes.proofs.Algebra.{same_tally, lesser-swap}
 use Rattle.ick_outcomes.proofs.TallyRuns.{tally-ended, tally-limit, tally-plain, tally-chosen}
 use Rattle.ick_outcomes.proofs.PlaceByPlace.{lesser-before}
-use Rattle.ick_outcomes.proofs.Ends.{contains-nil, contains-head, contains-tail, contains-cases}
+use Rattle.ick_explorer.proofs.ListingLaws.{contains-nil, contains-head, contains-tail, contains-cases}
 
 -- an element is appended
 joined-push : {A : Type 0} (f : A → Tally) (xs : List A) (x : A) → joined f (xs ++ x ∷ []) ≡ join (f x) (joined f xs)
