@@ -1,14 +1,13 @@
-use Rattle.std.proofs.Common.{◌≡◌, ◌∙◌, inl, inr, ap, arith, false, refl, subst, sym}
-use Rattle.clap.specs.Words.{kind_of}
+use Rattle.std.proofs.Common.{◌≡◌, ◌∙◌, ap, arith, false, refl, subst, sym}
 use Rattle.ick_cli.specs.JobEnd.{input_of, source_of}
 use Rattle.ick_cli.specs.Job.{Asked, asked, has_file}
 use Rattle.std.proofs.lemmas.List.{append-nil}
 use Rattle.ick_cli.specs.Serve.{counts, cut_by_memory, line_without_memory}
 use Rattle.ick_cli.specs.Tool.{IsToolAnswer}
-use Rattle.ick_cli.specs.Usage.{IsMistake, IsRequest, help_without_memory}
+use Rattle.ick_cli.specs.Usage.{help_without_memory}
 use Rattle.ick_cli.specs.Left.{IsLeft}
 use Rattle.ick_cli.specs.Plan.{IsUnplanned}
-use Rattle.ick_cli.proofs.ErrorKinds.{among, memory_is_mistake, memory_ran_out}
+use Rattle.ick_cli.proofs.ErrorKinds.{memory_ran_out, mistaken, requested}
 use Rattle.ick_cli.proofs.Left.{was_answered, without_memory}
 use Rattle.ick_cli.proofs.OneAnswer.{tool_answer}
 use Rattle.ick_cli.proofs.Served.{due, failed_due, finished_status, line_finished, served}
@@ -71,18 +70,13 @@ returns-in-Err-clause-status g c = finished_status _ _ _ _ _ _ _ _ (returns-in-E
 
 pub returns-in-Err-clause-usage : goal.returns-in-Err-clause-usage
 returns-in-Err-clause-usage g c = λ mistakes.
-    elim c.in-Err.ensures.law [
-      | inl e ↦ c.answer_words.ensures.usage (memory_is_mistake (kind_of c.in-Err.error) e)
-      | inr h ↦ c.answer_words.ensures.usage (among IsMistake (kind_of c.in-Err.error) _ mistakes.1 h)
-    ]
+    c.answer_words.ensures.usage (mistaken c.in-Err.error _ mistakes c.in-Err.ensures.law)
 
 pub returns-in-Err-clause-help : goal.returns-in-Err-clause-help
 returns-in-Err-clause-help g c = λ requests.
-    elim c.in-Err.ensures.law [
-      | inl e ↦ let memory = c.answer_words.ensures.memory e in
-          (_, _, help_without_memory (ap g.W.ByteSink.failed memory.0) (ap g.W.ByteSink.written memory.0), memory.1)
-      | inr h ↦ c.answer_words.ensures.help (among IsRequest (kind_of c.in-Err.error) _ requests.1 h)
-    ]
+    requested _ c.in-Err.error _ requests c.in-Err.ensures.law c.answer_words.ensures.help (λ e.
+    let memory = c.answer_words.ensures.memory e in
+    (_, _, help_without_memory (ap g.W.ByteSink.failed memory.0) (ap g.W.ByteSink.written memory.0), memory.1))
 
 pub returns-in-Ok-clause-left : goal.returns-in-Ok-clause-left
 returns-in-Ok-clause-left g c = λ has_job files_told reader_told other.

@@ -1,9 +1,8 @@
-use Rattle.std.proofs.Common.{◌≡◌, inl, inr, ap, refl, subst}
-use Rattle.clap.specs.Words.{kind_of}
+use Rattle.std.proofs.Common.{ap, subst}
 use Rattle.ick_cli.specs.JobEnd.{input_of, source_of}
 use Rattle.ick_cli.specs.Serve.{counts}
-use Rattle.ick_cli.specs.Usage.{IsMistake, IsRequest, help_without_memory}
-use Rattle.ick_cli.proofs.ErrorKinds.{among, memory_is_mistake, memory_ran_out}
+use Rattle.ick_cli.specs.Usage.{help_without_memory}
+use Rattle.ick_cli.proofs.ErrorKinds.{memory_ran_out, mistaken, requested}
 use Rattle.ick_outcomes_cli.specs.OutcomesEnd.{Gives, listing_of}
 use Rattle.ick_outcomes_cli.specs.Job.{Wanted}
 use Rattle.ick_outcomes_cli.specs.Serve.{as_ick, without_memory}
@@ -54,15 +53,10 @@ returns-in-Err-clause-status g c =
 
 pub returns-in-Err-clause-usage : goal.returns-in-Err-clause-usage
 returns-in-Err-clause-usage g c = λ mistakes.
-    elim c.in-Err.ensures.law [
-      | inl e ↦ c.answer_words.ensures.usage (memory_is_mistake (kind_of c.in-Err.error) e)
-      | inr h ↦ c.answer_words.ensures.usage (among IsMistake (kind_of c.in-Err.error) _ mistakes.1 h)
-    ]
+    c.answer_words.ensures.usage (mistaken c.in-Err.error _ mistakes c.in-Err.ensures.law)
 
 pub returns-in-Err-clause-help : goal.returns-in-Err-clause-help
 returns-in-Err-clause-help g c = λ requests.
-    elim c.in-Err.ensures.law [
-      | inl e ↦ let memory = c.answer_words.ensures.memory e in
-          (_, _, help_without_memory (ap g.W.ByteSink.failed memory.0) (ap g.W.ByteSink.written memory.0), memory.1)
-      | inr h ↦ c.answer_words.ensures.help (among IsRequest (kind_of c.in-Err.error) _ requests.1 h)
-    ]
+    requested _ c.in-Err.error _ requests c.in-Err.ensures.law c.answer_words.ensures.help (λ e.
+    let memory = c.answer_words.ensures.memory e in
+    (_, _, help_without_memory (ap g.W.ByteSink.failed memory.0) (ap g.W.ByteSink.written memory.0), memory.1))

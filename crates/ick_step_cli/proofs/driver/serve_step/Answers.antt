@@ -1,7 +1,6 @@
-use Rattle.std.proofs.Common.{inl, inr, ap}
-use Rattle.clap.specs.Words.{kind_of}
-use Rattle.ick_cli.specs.Usage.{IsMistake, IsRequest, help_without_memory}
-use Rattle.ick_cli.proofs.ErrorKinds.{among, memory_is_mistake}
+use Rattle.std.proofs.Common.{ap}
+use Rattle.ick_cli.specs.Usage.{help_without_memory}
+use Rattle.ick_cli.proofs.ErrorKinds.{mistaken, requested}
 use Rattle.ick_cli.proofs.Served.{due, finished_status}
 use Rattle.ick_step_cli.proofs.driver.serve_step.Goals as goal
 
@@ -20,15 +19,10 @@ returns-in-Err-clause-status g c = finished_status _ _ _ _ _ _ _ _ (returns-in-E
 
 pub returns-in-Err-clause-usage : goal.returns-in-Err-clause-usage
 returns-in-Err-clause-usage g c = λ mistakes.
-    elim c.in-Err.ensures.law [
-      | inl e ↦ c.answer_words.ensures.usage (memory_is_mistake (kind_of c.in-Err.error) e)
-      | inr h ↦ c.answer_words.ensures.usage (among IsMistake (kind_of c.in-Err.error) _ mistakes.1 h)
-    ]
+    c.answer_words.ensures.usage (mistaken c.in-Err.error _ mistakes c.in-Err.ensures.law)
 
 pub returns-in-Err-clause-help : goal.returns-in-Err-clause-help
 returns-in-Err-clause-help g c = λ requests.
-    elim c.in-Err.ensures.law [
-      | inl e ↦ let memory = c.answer_words.ensures.memory e in
-          (_, _, help_without_memory (ap g.W.ByteSink.failed memory.0) (ap g.W.ByteSink.written memory.0), memory.1)
-      | inr h ↦ c.answer_words.ensures.help (among IsRequest (kind_of c.in-Err.error) _ requests.1 h)
-    ]
+    requested _ c.in-Err.error _ requests c.in-Err.ensures.law c.answer_words.ensures.help (λ e.
+    let memory = c.answer_words.ensures.memory e in
+    (_, _, help_without_memory (ap g.W.ByteSink.failed memory.0) (ap g.W.ByteSink.written memory.0), memory.1))
