@@ -1,6 +1,6 @@
 -- The answers of runs that were made.
 use Rattle.std.proofs.Common.{◌≡◌, ◌∙◌, ◌+◌, ◌≤◌, ◌++◌, ℕ, Bool, true, List, [], Option, ap, arith}
-use Rattle.std.proofs.Common.{◌⊎◌, inl, inr, length, refl, subst, sym, take, Result, Ok, Err, IfErr}
+use Rattle.std.proofs.Common.{◌⊎◌, inr, length, refl, subst, sym, take, Result, Ok, Err, IfErr}
 use Rattle.std.proofs.Math.Seq.{take-length}
 use Rattle.std.proofs.lemmas.List.{append-nil}
 use Rattle.std.specs.Prelude.{unwrap_or}
@@ -28,6 +28,7 @@ use Rattle.ick_cli.specs.declared.job_end.JobEnd.TheVariants.{Answered, NoMemory
 use Rattle.ick_cli.specs.declared.job_end.JobEnd.TheVariants.{WriteFailed}
 use Rattle.ick_cli.specs.declared.plan.Runs.TheVariants.{Given, Drawn, Listed}
 use Rattle.ick_cli.proofs.Answered.{leaves_by}
+use Rattle.ick_cli.proofs.Errors.{one_of_three}
 use Rattle.ick_cli.proofs.Left.{where_answered, where_refused}
 
 -- the status and the error text of a run, by how it stopped
@@ -63,26 +64,13 @@ answers_streamed told x c before after left s ReadFailed is_told has h = absurd 
 answers_streamed told x c before after left s WriteFailed is_told has h = absurd h
 
 -- a run that was refused has its answer cut
-refused_so : (answer : Answer) (e : RunsError) (before after : List ℕ)
-    → (e ≡ NoMemory_error) ⊎ ((e ≡ Read) ⊎ (e ≡ Write)) → (n : ℕ) × (after ≡ before ++ take n answer.output)
-    → Answers answer (refused_job_end e) before after
-refused_so answer NoMemory_error before after one cut = (tt, cut)
-refused_so answer WorkFull before after one cut = (tt, cut)
-refused_so answer Failed before after one cut = (tt, cut)
-refused_so answer Read before after one cut = (tt, cut)
-refused_so answer Write before after one cut = (tt, cut)
-refused_so answer NoSuchRun before after (inl e) cut = cc
-refused_so answer NoSuchRun before after (inr (inl e)) cut = cc
-refused_so answer NoSuchRun before after (inr (inr e)) cut = cc
-refused_so answer BadCursor before after (inl e) cut = cc
-refused_so answer BadCursor before after (inr (inl e)) cut = cc
-refused_so answer BadCursor before after (inr (inr e)) cut = cc
-
 pub answers_refused : (answer : Answer) (e : RunsError) (job_end : JobEnd) (before after : List ℕ)
     → job_end ≡ refused_job_end e → (e ≡ NoMemory_error) ⊎ ((e ≡ Read) ⊎ (e ≡ Write))
     → (n : ℕ) × (after ≡ before ++ take n answer.output) → Answers answer job_end before after
 answers_refused answer e job_end before after so one cut =
-    subst (λ (x : JobEnd). Answers answer x before after) (sym so) (refused_so answer e before after one cut)
+    subst (λ (x : JobEnd). Answers answer x before after) (sym so)
+    (one_of_three (λ (x : RunsError). Answers answer (refused_job_end x) before after) NoMemory_error Read Write e
+    (tt, cut) (tt, cut) (tt, cut) one)
 
 -- a run that was answered or refused
 abbrev pub IsRunError : RunsError → Type 0
@@ -136,22 +124,9 @@ leaves_ran (Err e) job_end reads reads' writes writes' r w one ended =
     (refused_leaves e reads reads' writes writes' r w one)
 
 -- an error of such a run may come
-run_error_comes : (e : RunsError) → IsRunError e → Comes e
-run_error_comes NoMemory_error one = tt
-run_error_comes NoSuchRun one = tt
-run_error_comes BadCursor one = tt
-run_error_comes Read one = tt
-run_error_comes Write one = tt
-run_error_comes WorkFull (inl e) = cc
-run_error_comes WorkFull (inr (inl e)) = cc
-run_error_comes WorkFull (inr (inr e)) = cc
-run_error_comes Failed (inl e) = cc
-run_error_comes Failed (inr (inl e)) = cc
-run_error_comes Failed (inr (inr e)) = cc
-
 pub run_comes : (r : Result Streamed RunsError) → IfErr r IsRunError → IfErr r Comes
 run_comes (Ok s) one = tt
-run_comes (Err e) one = run_error_comes e one
+run_comes (Err e) one = one_of_three Comes NoMemory_error Read Write e tt tt tt one
 
 -- the answer of runs, by what they are
 pub answers_given : (p : Program) (input : List ℕ) (choices : Option (List Bool)) (limit : ℕ) (answer : Answer)

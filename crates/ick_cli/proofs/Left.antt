@@ -14,8 +14,7 @@ use Rattle.ick_backtrack.specs.Machine.{Program}
 use Rattle.ick_runs.specs.Draws.{IsDrawn, word_of}
 use Rattle.ick_explorer.specs.Runs.{run}
 use Rattle.ick_explorer.specs.declared.errors.RunsError.{RunsError}
-use Rattle.ick_explorer.specs.declared.errors.RunsError.TheVariants.{NoMemory, NoSuchRun, WorkFull, Failed, BadCursor}
-use Rattle.ick_explorer.specs.declared.errors.RunsError.TheVariants.{Read, Write}
+use Rattle.ick_explorer.specs.declared.errors.RunsError.TheVariants.{NoMemory, Read, Write}
 use Rattle.ick_cli.specs.JobEnd.{WhereAnswered, job_end_status, job_end_text, refused_job_end}
 use Rattle.ick_cli.specs.Input.{EndsCut, EndsUnopened, EndsUnread}
 use Rattle.ick_cli.specs.Left.{IsLeftByProgram, IsLeftByRuns, IsLeftBySource, left_alone, left_by_drawn, left_by_given}
@@ -34,6 +33,7 @@ use Rattle.ick_cli.specs.declared.plan.Plan.{Plan}
 use Rattle.ick_cli.specs.declared.plan.Plan.TheVariants.{Execute}
 use Rattle.ick_cli.specs.declared.plan.Runs.{Runs}
 use Rattle.ick_cli.specs.declared.plan.Runs.TheVariants.{Given, Drawn, Listed}
+use Rattle.ick_cli.proofs.Errors.{one_of_three}
 
 -- a fact holds where work ended with an answer, if it holds anyway, or another does
 pub where_answered : (job_end : JobEnd) (Fact : Type 0) → Fact → WhereAnswered job_end Fact
@@ -54,24 +54,11 @@ where_other ReadFailed Fact Other so h = tt
 where_other WriteFailed Fact Other so h = tt
 
 -- a run that was refused, and an input that wasn't read, end without an answer
-refused_by : (e : RunsError) (Fact : Type 0) → (e ≡ NoMemory) ⊎ ((e ≡ Read) ⊎ (e ≡ Write))
-    → WhereAnswered (refused_job_end e) Fact
-refused_by NoMemory Fact one = tt
-refused_by WorkFull Fact one = tt
-refused_by Failed Fact one = tt
-refused_by Read Fact one = tt
-refused_by Write Fact one = tt
-refused_by NoSuchRun Fact (inl e) = cc
-refused_by NoSuchRun Fact (inr (inl e)) = cc
-refused_by NoSuchRun Fact (inr (inr e)) = cc
-refused_by BadCursor Fact (inl e) = cc
-refused_by BadCursor Fact (inr (inl e)) = cc
-refused_by BadCursor Fact (inr (inr e)) = cc
-
 pub where_refused : (e : RunsError) (job_end : JobEnd) (Fact : Type 0) → job_end ≡ refused_job_end e
     → (e ≡ NoMemory) ⊎ ((e ≡ Read) ⊎ (e ≡ Write)) → WhereAnswered job_end Fact
 where_refused e job_end Fact so one =
-    subst (λ (x : JobEnd). WhereAnswered x Fact) (sym so) (refused_by e Fact one)
+    subst (λ (x : JobEnd). WhereAnswered x Fact) (sym so)
+    (one_of_three (λ (x : RunsError). WhereAnswered (refused_job_end x) Fact) NoMemory Read Write e tt tt tt one)
 
 pub where_cut : (job_end : JobEnd) (Fact : Type 0) → EndsCut job_end → WhereAnswered job_end Fact
 where_cut (Answered status message) Fact h = absurd h

@@ -2,6 +2,7 @@ pub mod Answered
 pub mod Beginnings
 pub mod Builders
 pub mod ErrorKinds
+pub mod Errors
 pub mod Executed
 pub mod FirstFault
 pub mod Left

@@ -113,10 +113,7 @@ leaves_listing WorkFull writes writes' one h = record { proper = tt; opened = re
 leaves_listing Failed writes writes' one h = record { proper = tt; opened = refl; read = refl; wrote = h }
 leaves_listing BadCursor writes writes' one h = record { proper = inr refl; opened = refl; read = refl; wrote = h }
 leaves_listing Write writes writes' one h = record { proper = tt; opened = refl; read = refl; wrote = h }
-leaves_listing Read writes writes' (inl e) h = cc
-leaves_listing Read writes writes' (inr (inl e)) h = cc
-leaves_listing Read writes writes' (inr (inr (inl e))) h = cc
-leaves_listing Read writes writes' (inr (inr (inr e))) h = cc
+leaves_listing Read writes writes' one h = absurd (grind arith)
 
 -- the answer from a machine's state is the one at the position of its explorer
 pub answer_placed : (m : Machine) (limit count : ℕ) (from : Option (List Bool)) (e : Explored) (answer : Answer)
@@ -176,21 +173,11 @@ pub is_unplaced : (m : Machine) (limit : ℕ) (from : Option (List Bool)) (c : L
     → m.work ≡ 0 → limit < 2 ^ 32 → (e ≡ WorkFull → IsMachineFull m limit)
     → (e ≡ NoSuchRun → ¬ IsWhole m.program m.state limit c)
     → (e ≡ NoMemory) ⊎ ((e ≡ NoSuchRun) ⊎ (e ≡ WorkFull)) → IsUnplaced m limit from e
-is_unplaced m limit from c NoMemory is unworn small full none one = tt
-is_unplaced m limit from c NoSuchRun is unworn small full none one = (c, is, none refl)
-is_unplaced m limit from c WorkFull is unworn small full none one = not_full m limit unworn small (full refl)
-is_unplaced m limit from c Failed is unworn small full none (inl e) = cc
-is_unplaced m limit from c Failed is unworn small full none (inr (inl e)) = cc
-is_unplaced m limit from c Failed is unworn small full none (inr (inr e)) = cc
-is_unplaced m limit from c BadCursor is unworn small full none (inl e) = cc
-is_unplaced m limit from c BadCursor is unworn small full none (inr (inl e)) = cc
-is_unplaced m limit from c BadCursor is unworn small full none (inr (inr e)) = cc
-is_unplaced m limit from c Read is unworn small full none (inl e) = cc
-is_unplaced m limit from c Read is unworn small full none (inr (inl e)) = cc
-is_unplaced m limit from c Read is unworn small full none (inr (inr e)) = cc
-is_unplaced m limit from c Write is unworn small full none (inl e) = cc
-is_unplaced m limit from c Write is unworn small full none (inr (inl e)) = cc
-is_unplaced m limit from c Write is unworn small full none (inr (inr e)) = cc
+is_unplaced m limit from c e is unworn small full none (inl e_is) = subst (IsUnplaced m limit from) (sym e_is) tt
+is_unplaced m limit from c e is unworn small full none (inr (inl e_is)) =
+    subst (IsUnplaced m limit from) (sym e_is) (c, is, none e_is)
+is_unplaced m limit from c e is unworn small full none (inr (inr e_is)) =
+    absurd (not_full m limit unworn small (full e_is))
 
 -- the errors that come of an explorer that was not made, and of one that was made here
 pub unplaced_comes : (m : Machine) (limit : ℕ) (from : Option (List Bool)) (e : RunsError) → IsUnplaced m limit from e

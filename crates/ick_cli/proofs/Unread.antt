@@ -1,5 +1,5 @@
 -- Why a text's choices weren't read.
-use Rattle.std.proofs.Common.{◌≡◌, ◌∙◌, ◌<◌, ◌≤◌, ◌⊎◌, inl, inr, ℕ, List, Bool, Option, Some, ap, length, refl, subst}
+use Rattle.std.proofs.Common.{◌≡◌, ◌∙◌, ◌<◌, ◌≤◌, ◌⊎◌, ℕ, List, Bool, Option, Some, ap, arith, length, refl, subst}
 use Rattle.std.proofs.Common.{sym}
 use Rattle.std.specs.Prelude.{option_map}
 use Rattle.ick_explorer.specs.ChoiceTexts.{IsTextOf}
@@ -11,6 +11,7 @@ use Rattle.ick_cli.specs.Plan.{AreChoices, EndsByLine, HasChoices, IsUnread, bad
 use Rattle.ick_cli.specs.declared.job_end.JobEnd.{JobEnd}
 use Rattle.ick_cli.specs.declared.job_end.JobEnd.TheVariants.{NoMemory as WithoutMemory}
 use Rattle.ick_cli.specs.declared.notice.Notice.TheVariants as notice
+use Rattle.ick_cli.proofs.Errors.{one_of_three}
 use Rattle.ick_cli.proofs.Planned.{given_some}
 
 -- the text that was read is the one that is given
@@ -24,17 +25,7 @@ abbrev pub IsTextError : RunsError → Type 0
 IsTextError e = (e ≡ NoMemory) ⊎ ((e ≡ NoSuchRun) ⊎ (e ≡ BadCursor))
 
 pub text_error_comes : (e : RunsError) → IsTextError e → Comes e
-text_error_comes NoMemory one = tt
-text_error_comes NoSuchRun one = tt
-text_error_comes BadCursor one = tt
-text_error_comes Read one = tt
-text_error_comes Write one = tt
-text_error_comes WorkFull (inl e) = cc
-text_error_comes WorkFull (inr (inl e)) = cc
-text_error_comes WorkFull (inr (inr e)) = cc
-text_error_comes Failed (inl e) = cc
-text_error_comes Failed (inr (inl e)) = cc
-text_error_comes Failed (inr (inr e)) = cc
+text_error_comes e one = one_of_three Comes NoMemory NoSuchRun BadCursor e tt tt tt one
 
 ends_by : (most : ℕ) (text : Option (List ℕ)) (read : List ℕ) (e : RunsError) → text ≡ Some read
     → (e ≡ BadCursor → (c : List Bool) → ¬ IsTextOf read c)
@@ -51,12 +42,8 @@ ends_by most text read WorkFull is none more one = tt
 ends_by most text read Failed is none more one = tt
 ends_by most text read BadCursor is none more one =
     (refl, subst (λ (t : Option (List ℕ)). IsUnread most t notice.BadCursor) (sym is) (bad read (none refl)))
-ends_by most text read Read is none more (inl e) = cc
-ends_by most text read Read is none more (inr (inl e)) = cc
-ends_by most text read Read is none more (inr (inr e)) = cc
-ends_by most text read Write is none more (inl e) = cc
-ends_by most text read Write is none more (inr (inl e)) = cc
-ends_by most text read Write is none more (inr (inr e)) = cc
+ends_by most text read Read is none more one = absurd (grind arith)
+ends_by most text read Write is none more one = absurd (grind arith)
 
 pub ends_unread : (most : ℕ) (text : Option (List ℕ)) (read : List ℕ) (e : RunsError) (job_end : JobEnd)
     → job_end ≡ refused_job_end e → text ≡ Some read
@@ -75,12 +62,8 @@ unread_memory most text read NoMemory job_end so is has one memory =
     let found = has refl in
     (Some found.0, subst (λ (t : Option (List ℕ)). AreChoices t most (Some found.0)) (sym is) (found.1, found.2))
 unread_memory most text read NoSuchRun job_end so is has one memory = cc
-unread_memory most text read WorkFull job_end so is has (inl e) memory = cc
-unread_memory most text read WorkFull job_end so is has (inr (inl e)) memory = cc
-unread_memory most text read WorkFull job_end so is has (inr (inr e)) memory = cc
-unread_memory most text read Failed job_end so is has (inl e) memory = cc
-unread_memory most text read Failed job_end so is has (inr (inl e)) memory = cc
-unread_memory most text read Failed job_end so is has (inr (inr e)) memory = cc
+unread_memory most text read WorkFull job_end so is has one memory = absurd (grind arith)
+unread_memory most text read Failed job_end so is has one memory = absurd (grind arith)
 unread_memory most text read BadCursor job_end so is has one memory = cc
 unread_memory most text read Read job_end so is has one memory = cc
 unread_memory most text read Write job_end so is has one memory = cc
