@@ -1,9 +1,11 @@
-use Rattle.std.proofs.Common.{◌∙◌, false, true, refl, rules, subst, sym}
+use Rattle.std.proofs.Common.{◌≡◌, ◌∙◌, false, true, refl, rules, sym}
 use Rattle.std.proofs.lemmas.List.{append-nil}
 use Rattle.ick_session.specs.Stepper.{fixed, seen}
-use Rattle.ick_step_cli.specs.Talk.{Writes, lines_of}
-use Rattle.ick_step_cli.proofs.TalkLaws.{all_said, answered_more, begins, cut_after, cut_short, ended, failed, line_answered, quit}
+use Rattle.ick_step_cli.specs.Talk.{lines_of}
+use Rattle.ick_step_cli.proofs.TalkLaws.{Said, all_said, answered_more, begins, cut_after, cut_short, ended, failed, line_answered, quit}
+use Rattle.ick_step_cli.proofs.session.talk.Given.{Over}
 use Rattle.ick_step_cli.proofs.session.talk.Goals as goal
+use Rattle.ick_step_cli.proofs.session.talk.Goals.{In_default}
 
 pub loop-at-init : goal.loop-at-init
 loop-at-init g c = record {
@@ -22,56 +24,42 @@ returns-in-Err-clause-writes g c = λ r w.
     failed _ _ _ _ c.in-Err.job_end _ _ told.0
     (cut_short _ _ _ _ _ _ _ _ after told.1 _ (c.loop-at.invariant.talking r w) told.2 told.3)
 
+-- what was said before the line is read
+said : (g : Over) (c : In_default g) → g.R.ByteSource.told ≡ true → g.W.ByteSink.told ≡ true →
+    Said (fixed c.args.stepper.now) c.args.positions.now (seen c.args.stepper.now) (seen c.loop-at.stepper)
+    (lines_of (g.R.ByteSource.left c.args.reader.now)) (lines_of (g.R.ByteSource.left c.loop-at.reader))
+    (g.W.ByteSink.written c.args.writer.now) (g.W.ByteSink.written c.say.new.writer)
+said g c r w =
+    let told = c.in_default.ensures.all w in
+    all_said _ _ _ _ _ _ _ _ (g.W.ByteSink.written c.say.new.writer) _ (c.loop-at.invariant.talking r w) told.0 told.1
+
 pub returns-in-Ok-false-clause-writes : goal.returns-in-Ok-false-clause-writes
 returns-in-Ok-false-clause-writes g c = λ r w.
-    let inv = c.loop-at.invariant in
-    let told = c.in_default.ensures.all w in
-    let after = g.W.ByteSink.written c.say.new.writer in
-    let said = all_said _ _ _ _ _ _ _ _ after _ (inv.talking r w) told.0 told.1 in
-    subst (λ e. Writes (fixed c.args.stepper.now) c.args.positions.now (seen c.args.stepper.now)
-    (lines_of (g.R.ByteSource.left c.args.reader.now)) e (g.W.ByteSink.written c.args.writer.now) after)
-    (sym c.over.ensures)
-    (ended _ _ _ _ _ _ _ _ said (c.in-Ok-false.ensures.end r c.in-Ok-false.field-0-test))
+    rw c.over.ensures (ended _ _ _ _ _ _ _ _ (said g (goal.at.returns-in-Ok-false-clause-writes g c).In_default r w)
+    (c.in-Ok-false.ensures.end r c.in-Ok-false.field-0-test))
 
 pub returns-in-Err-NoMemory-clause-writes : goal.returns-in-Err-NoMemory-clause-writes
 returns-in-Err-NoMemory-clause-writes g c = λ r w.
-    let inv = c.loop-at.invariant in
-    let told = c.in_default.ensures.all w in
-    let after = g.W.ByteSink.written c.say.new.writer in
-    let said = all_said _ _ _ _ _ _ _ _ after _ (inv.talking r w) told.0 told.1 in
-    cut_after _ _ _ _ _ _ _ _ said
+    cut_after _ _ _ _ _ _ _ _ (said g (goal.at.returns-in-Err-NoMemory-clause-writes g c).In_default r w)
 
 pub returns-in-Err-Failed-clause-writes : goal.returns-in-Err-Failed-clause-writes
 returns-in-Err-Failed-clause-writes g c = λ r w.
-    let inv = c.loop-at.invariant in
-    let told = c.in_default.ensures.all w in
-    let after = g.W.ByteSink.written c.say.new.writer in
-    let said = all_said _ _ _ _ _ _ _ _ after _ (inv.talking r w) told.0 told.1 in
-    cut_after _ _ _ _ _ _ _ _ said
+    cut_after _ _ _ _ _ _ _ _ (said g (goal.at.returns-in-Err-Failed-clause-writes g c).In_default r w)
 
 pub returns-in-Ok-false-answer_line-clause-writes : goal.returns-in-Ok-false-answer_line-clause-writes
 returns-in-Ok-false-answer_line-clause-writes g c = λ r w.
-    let inv = c.loop-at.invariant in
-    let told = c.in_default.ensures.all w in
-    let after = g.W.ByteSink.written c.say.new.writer in
-    let said = all_said _ _ _ _ _ _ _ _ after _ (inv.talking r w) told.0 told.1 in
     let found = c.in-Ok-false-answer_line.ensures.answers in
     let answers = line_answered (fixed c.args.stepper.now) (fixed c.loop-at.stepper) c.args.positions.now
     (seen c.loop-at.stepper) (seen c.answer_line.new.stepper) c.deref.result.now c.read_line.new.line.items found.0
-    c.in-Ok-false-answer_line.field-0 false inv.same c.deref.ensures.value c.in-Ok-false-answer_line.field-0-test
+    c.in-Ok-false-answer_line.field-0 false c.loop-at.invariant.same c.deref.ensures.value c.in-Ok-false-answer_line.field-0-test
     found.1 in
-    subst (λ e. Writes (fixed c.args.stepper.now) c.args.positions.now (seen c.args.stepper.now)
-    (lines_of (g.R.ByteSource.left c.args.reader.now)) e (g.W.ByteSink.written c.args.writer.now) after)
-    (sym c.over-in-Ok-false-answer_line.ensures)
-    (quit _ _ _ _ _ _ _ _ _ _ _ _ said (c.in-Ok-true.ensures.line r c.in-Ok-true.field-0-test) answers)
+    rw c.over-in-Ok-false-answer_line.ensures (quit _ _ _ _ _ _ _ _ _ _ _ _
+    (said g (goal.at.returns-in-Ok-false-answer_line-clause-writes g c).In_default r w)
+    (c.in-Ok-true.ensures.line r c.in-Ok-true.field-0-test) answers)
 
 pub returns-in-Err-answer_line-clause-writes : goal.returns-in-Err-answer_line-clause-writes
 returns-in-Err-answer_line-clause-writes g c = λ r w.
-    let inv = c.loop-at.invariant in
-    let told = c.in_default.ensures.all w in
-    let after = g.W.ByteSink.written c.say.new.writer in
-    let said = all_said _ _ _ _ _ _ _ _ after _ (inv.talking r w) told.0 told.1 in
-    cut_after _ _ _ _ _ _ _ _ said
+    cut_after _ _ _ _ _ _ _ _ (said g (goal.at.returns-in-Err-answer_line-clause-writes g c).In_default r w)
 
 pub loop-at-preserved : goal.loop-at-preserved
 loop-at-preserved g c =
@@ -81,15 +69,12 @@ loop-at-preserved g c =
       reads = c.read_line.ensures.count ∙ search rules;
       writes = c.in_default.ensures.ok ∙ inv.writes;
       talking = λ r w.
-          let told = c.in_default.ensures.all w in
-          let after = g.W.ByteSink.written c.say.new.writer in
-          let said = all_said _ _ _ _ _ _ _ _ after _ (inv.talking r w) told.0 told.1 in
           let found = c.in-Ok-true-answer_line.ensures.answers in
           let answers = line_answered (fixed c.args.stepper.now) (fixed c.loop-at.stepper) c.args.positions.now
           (seen c.loop-at.stepper) (seen c.answer_line.new.stepper) c.deref.result.now c.read_line.new.line.items
           found.0 c.in-Ok-true-answer_line.field-0 true inv.same c.deref.ensures.value
           c.in-Ok-true-answer_line.field-0-test found.1 in
-          answered_more _ _ _ _ _ _ _ _ _ _ _ _ _ said (c.in-Ok-true.ensures.line r c.in-Ok-true.field-0-test) answers
+          answered_more _ _ _ _ _ _ _ _ _ _ _ _ _ (said g (goal.at.loop-at-preserved g c).In_default r w) (c.in-Ok-true.ensures.line r c.in-Ok-true.field-0-test) answers
           found.2;
     }
 
