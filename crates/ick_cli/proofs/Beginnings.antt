@@ -3,7 +3,7 @@ use Rattle.std.proofs.Common.{◌≡◌, ◌∙◌, ◌+◌, ◌≤◌, ◌++◌
 use Rattle.std.proofs.Common.{◌∷◌, ap, append_assoc, arith, drop, length, refl, sym, take}
 use Rattle.std.proofs.Math.Seq.{take-append-add, take-append_seam}
 use Rattle.std.proofs.lemmas.Grind.{flat_map-append}
-use Rattle.std.proofs.lemmas.List.{take-append-drop}
+use Rattle.std.proofs.lemmas.List.{take-append-drop, take-take}
 use Rattle.ick_code.specs.meaning.State.{State}
 use Rattle.ick_backtrack.specs.Machine.{Program}
 use Rattle.ick_explorer.specs.Lines.{last_line, line_after, line_next, listed_of, run_line, run_lines, shown}
@@ -22,13 +22,6 @@ front_of_front : (n : ℕ) (a b : List ℕ) → IsBeginning (take n a) (a ++ b)
 front_of_front zero a b = (0, refl)
 front_of_front (suc n) [] b = (0, refl)
 front_of_front (suc n) (x ∷ a) b = let r = front_of_front n a b in (suc r.0, ap (λ t. x ∷ t) r.1)
-
--- the first of these, where there are at least so many
-take-take : (k n : ℕ) (cs : List (List Bool)) → k ≤ n → take k (take n cs) ≡ take k cs
-take-take zero n cs h = refl
-take-take (suc k) zero cs h = absurd (omega arith)
-take-take (suc k) (suc n) [] h = refl
-take-take (suc k) (suc n) (c ∷ cs) h = ap (λ r. c ∷ r) (take-take k n cs (omega arith))
 
 -- the text of a listing, after the lines of its first k runs
 rest_text : Program → State → ℕ → List (List Bool) → ℕ → ℕ → List ℕ

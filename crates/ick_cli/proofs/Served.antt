@@ -15,9 +15,10 @@ use Rattle.ick_cli.specs.declared.notice.Notice.{Notice}
 use Rattle.ick_cli.specs.declared.job_end.JobEnd.{JobEnd}
 use Rattle.ick_cli.specs.declared.job_end.JobEnd.TheVariants.{Answered, NoMemory, InputTooLong, FileNotRead, ReadFailed}
 use Rattle.ick_cli.specs.declared.job_end.JobEnd.TheVariants.{WriteFailed}
+use Rattle.ick_cli.proofs.Left.{four_by}
 
 -- counts that are the same one by one
-same_counts : (f f' r r' w w' : ℕ) → f' ≡ f → r' ≡ r → w' ≡ w → counts f' r' w' ≡ counts f r w
+pub same_counts : (f f' r r' w w' : ℕ) → f' ≡ f → r' ≡ r → w' ≡ w → counts f' r' w' ≡ counts f r w
 same_counts f f' r r' w w' a b c = cc
 
 -- what is due to a job's end
@@ -87,22 +88,14 @@ four_due old new text status (write_failed e) some = refl
 four_due old new text status (input_long e) some = refl
 four_due old new text status (memory_failed e) some = refl
 
-four_finished : (told : Bool) (status : ℕ) (text : List ℕ) (e e' : ℕ) (errs errs' : List ℕ) (code : ℕ)
-    → Finishes told status text e e' errs errs' code → status ≡ 4 → code ≡ 4
-four_finished told status text e e' errs errs' code done four = elim (cases_order e' e) [
-  | inl same ↦ let given = (done.whole same).0 in omega arith
-  | inr (inl less) ↦ let grows = done.grows in absurd (omega arith)
-  | inr (inr more) ↦ done.fault more
-]
-
 -- where a device failed, or the error text wasn't written, the status is 4
 pub failed_due : (old new : Failures) (told : Bool) (e e' : ℕ) (errs errs' : List ℕ) (code : ℕ)
     → FinishesDue (IsDue old new) told e e' errs errs' code
     → (old.files < new.files) ⊎ (old.reads < new.reads) ⊎ (old.writes < new.writes) ⊎ (e < e') → code ≡ 4
 failed_due old new told e e' errs errs' code due bad = elim bad [
-  | inl file ↦ four_finished _ _ _ _ _ _ _ _ due.3 (four_due old new _ _ due.2 (inl file))
-  | inr (inl read) ↦ four_finished _ _ _ _ _ _ _ _ due.3 (four_due old new _ _ due.2 (inr (inl read)))
-  | inr (inr (inl write)) ↦ four_finished _ _ _ _ _ _ _ _ due.3 (four_due old new _ _ due.2 (inr (inr write)))
+  | inl file ↦ four_by _ _ _ _ _ _ _ _ due.3 (four_due old new _ _ due.2 (inl file))
+  | inr (inl read) ↦ four_by _ _ _ _ _ _ _ _ due.3 (four_due old new _ _ due.2 (inr (inl read)))
+  | inr (inr (inl write)) ↦ four_by _ _ _ _ _ _ _ _ due.3 (four_due old new _ _ due.2 (inr (inr write)))
   | inr (inr (inr more)) ↦ due.3.fault more
 ]
 

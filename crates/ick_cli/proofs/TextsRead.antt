@@ -10,8 +10,8 @@ use Rattle.std.proofs.lemmas.List.{length-append}
 use Rattle.ick_explorer.specs.ChoiceTexts.{AreGroups, Differs, Group, IsLength, IsPlain, IsTextOf, digit_of, group_text}
 use Rattle.ick_explorer.specs.ChoiceTexts.{groups_text, is_digit, later_text, spread}
 use Rattle.ick_explorer.specs.Readings.{HasNoDigit}
-use Rattle.ick_explorer.proofs.GroupLaws.{digits_one, front_one, later_no_digit}
-use Rattle.ick_explorer.proofs.TextLaws.{empty_reads, reads_digits, reads_nothing}
+use Rattle.ick_explorer.proofs.GroupLaws.{digits_one, front_one, later_is, later_no_digit}
+use Rattle.ick_explorer.proofs.TextLaws.{digit_one, empty_reads, reads_digits, reads_nothing}
 
 -- plain texts
 abbrev PlainDecided : List ℕ → Type 0
@@ -103,22 +103,12 @@ choice_of_byte b = elim (cases_eq b 48) [
     no_choice b false other neither e = other e
     no_choice b true other neither e = neither e
 
-choice_one : (a b : Bool) → digit_of a ≡ digit_of b → a ≡ b
-choice_one true true e = refl
-choice_one false false e = refl
-choice_one true false e = let x : 49 ≡ 48 = e in absurd (omega (arith, x))
-choice_one false true e = let x : 48 ≡ 49 = e in absurd (omega (arith, x))
-
 differs_decided : (last : Option Bool) (c : Bool) → Differs last c ⊎ (Differs last c → ⊥)
 differs_decided None c = inl tt
 differs_decided (Some true) true = inr (λ d. d refl)
 differs_decided (Some false) false = inr (λ d. d refl)
 differs_decided (Some true) false = inl (λ e. cc)
 differs_decided (Some false) true = inl (λ e. cc)
-
-later_is : (gs : List Group) → 0 < length gs → later_text gs ≡ 44 ∷ groups_text gs
-later_is [] h = absurd (omega arith)
-later_is (g ∷ gs) h = refl
 
 not_comma : (last : Option Bool) (g : Group) (b : ℕ) (more : List ℕ) → IsLength g.digits
     → HasNoDigit (b ∷ more)
@@ -187,7 +177,7 @@ groups_decided (suc n) last (b ∷ m ∷ rest) fits = elim (cases_eq m 42) [
     | inl choice ↦ elim (differs_decided last choice.0) [
       | inr same ↦ inr (no_group last (b ∷ m ∷ rest) (λ h tail d l stops is.
           same (subst (λ (c : Bool). Differs last c)
-          (choice_one h.choice choice.0 (sym (ap (λ t. get_or t 0 0) is) ∙ choice.1)) d)))
+          (digit_one h.choice choice.0 (sym (ap (λ t. get_or t 0 0) is) ∙ choice.1)) d)))
       | inl differs ↦
           let s = split rest in
           elim (length_decided s.digits s.all) [

@@ -14,6 +14,7 @@ use Rattle.ick_explorer.specs.Paths.{Leads, AllOnes, AllZeros, TurnsAt}
 use Rattle.ick_explorer.proofs.RunLaws.{run-ended, run-plain, run-choice, limit-unused, limit-end, wants-stops, use-wants}
 use Rattle.ick_explorer.proofs.RunLaws.{Leads-choice}
 use Rattle.ick_explorer.proofs.Existence.{whole-back}
+use Rattle.ick_explorer.proofs.Marks.{zeros-ones}
 use Rattle.ick_explorer.proofs.Orders.{turned_below}
 
 abbrev HasFirst : Program → State → ℕ → Type 0
@@ -49,14 +50,9 @@ last_zero (false ∷ c) =
           inr (false ∷ t.0, (t.1.0, t.1.1, ap (λ x. false ∷ x) t.1.2))
     ]
 
-ones_no_zeros : (c : List Bool) → AllOnes c → zeros_in c ≡ 0
-ones_no_zeros [] a = refl
-ones_no_zeros (true ∷ c) a = ones_no_zeros c a
-ones_no_zeros (false ∷ c) a = absurd a
-
 pub zero_turns : (c : List Bool) → 0 < zeros_in c → (pre : List Bool) × TurnsAt c pre
 zero_turns c h =
-    elim (last_zero c) [ inl a ↦ absurd (let e : zeros_in c ≡ 0 = ones_no_zeros c a in omega arith) | inr t ↦ t ]
+    elim (last_zero c) [ inl a ↦ absurd (let e : zeros_in c ≡ 0 = zeros-ones c a in omega arith) | inr t ↦ t ]
 
 whole_leads : (p : Program) (s : State) (l : ℕ) (c : List Bool) (t : State) (n : ℕ) →
     Leads p s l c t n → (z : List Bool) → IsWhole p t (l - n) z → IsWhole p s l (c ++ z)

@@ -4,7 +4,7 @@ use Rattle.std.proofs.Common.{Bool, true, false, if◌then◌else◌, List, [], 
 use Rattle.std.proofs.Common.{drop, get_or, refl, ap, sym, ◌∙◌, subst, arith}
 use Rattle.std.specs.Prelude.{Option, Some, None, nat_lt}
 use Rattle.std.proofs.lemmas.Bool.Decides.{nat_tests}
-use Rattle.ick_explorer.proofs.TextLaws.{plain_one}
+use Rattle.ick_explorer.proofs.TextLaws.{digit_one, plain_one}
 use Rattle.ick_explorer.specs.Printing.{StartsOther}
 use Rattle.std.specs.Char.{digit_value}
 use Rattle.std.specs.Prelude.{replicate}
@@ -41,12 +41,6 @@ digits_one (x ∷ ds) (y ∷ es) s t a b h k e =
     let r = digits_one ds es s t a.1 b.1 h k rest in
     (ap (λ z. z ∷ ds) same ∙ ap (λ zs. y ∷ zs) r.0, r.1)
 
-digit_of_one : (a b : Bool) → digit_of a ≡ digit_of b → a ≡ b
-digit_of_one true true e = refl
-digit_of_one false false e = refl
-digit_of_one true false e = let x : 49 ≡ 48 = e in absurd (omega (arith, x))
-digit_of_one false true e = let x : 48 ≡ 49 = e in absurd (omega (arith, x))
-
 -- a text has one group at its front
 pub front_one : (g h : Group) (s t : List ℕ) → IsLength g.digits → IsLength h.digits → HasNoDigit s →
     HasNoDigit t → group_text g ++ s ≡ group_text h ++ t →
@@ -55,7 +49,7 @@ front_one g h s t lg lh a b e =
     let first : digit_of g.choice ≡ digit_of h.choice = ap (λ l. get_or l 0 0) e in
     let rest : g.digits ++ s ≡ h.digits ++ t = ap (drop 2) e in
     let r = digits_one g.digits h.digits s t lg.0.1 lh.0.1 a b rest in
-    (digit_of_one g.choice h.choice first, r.0, r.1)
+    (digit_one g.choice h.choice first, r.0, r.1)
 
 pub same_stretch : (g h : Group) → g.choice ≡ h.choice → g.digits ≡ h.digits → stretch_of g ≡ stretch_of h
 same_stretch g h e f =
@@ -286,3 +280,8 @@ reads_one text c d (inl h) (inl k) = plain_one c d (sym h ∙ k)
 reads_one text c d (inl h) (inr k) = absurd (not_both text c d h k)
 reads_one text c d (inr h) (inl k) = absurd (not_both text d c k h)
 reads_one text c d (inr h) (inr k) = grouped_one text c d h k
+
+-- groups with a comma before each, where there is one
+pub later_is : (gs : List Group) → 0 < length gs → later_text gs ≡ 44 ∷ groups_text gs
+later_is [] h = absurd (omega arith)
+later_is (g ∷ gs) h = refl

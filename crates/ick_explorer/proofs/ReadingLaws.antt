@@ -14,7 +14,7 @@ use Rattle.ick_explorer.specs.ChoiceTexts.{AreGroups, stretch_of, spread, IsGrou
 use Rattle.ick_explorer.specs.Readings.{HasNoDigit, IsCapped, IsFront, IsRead, front_group}
 use Rattle.ick_explorer.specs.declared.groups.Front.{Front}
 use Rattle.ick_explorer.proofs.DropLaws.{drop_twice}
-use Rattle.ick_explorer.proofs.GroupLaws.{front_one, later_no_digit, same_stretch}
+use Rattle.ick_explorer.proofs.GroupLaws.{front_one, later_is, later_no_digit, same_stretch}
 
 -- numbers up to the cap
 pub capped_more : (value number byte digit after next : ℕ) → IsCapped value number → digit + 48 ≡ byte →
@@ -41,11 +41,6 @@ capped_sum v w a b after (inr (c, d)) k (inr (g, h)) = inr (omega (arith, c, d, 
 
 pub read_start : (text : List ℕ) → IsRead text None 0 []
 read_start text = record { on = λ rest h. h; back = λ c h. (c, h, refl) }
-
--- groups with a comma before each, where there is one
-later_is : (gs : List Group) → 0 < length gs → later_text gs ≡ 44 ∷ groups_text gs
-later_is [] h = absurd (omega arith)
-later_is (g ∷ gs) h = refl
 
 add_group : (last : Option Bool) (text more : List ℕ) (g : Group) (rest : List Bool) →
     text ≡ group_text g ++ 44 ∷ more → Differs last g.choice → IsLength g.digits →

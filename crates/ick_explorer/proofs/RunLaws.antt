@@ -120,7 +120,7 @@ pub ends_finished : (l : ℕ) (m : Machine) (n : ℕ) (e : Ending) → ask m.pro
     EndsHere l m n (finished e)
 ends_finished l m n e a = record { stays_here = λ c. run-ended m.program m.state (l - n) c e a }
 
-limit-going : (p : Program) (t : State) (c : List Bool) (a : Asking) → ask p t ≡ a → IsGoing a →
+pub limit-going : (p : Program) (t : State) (c : List Bool) (a : Asking) → ask p t ≡ a → IsGoing a →
     run p t 0 c ≡ stays t (ends at_limit) c
 unfolding run
 limit-going p t c plain e g = ap (λ a. run_at_limit a t c) e

@@ -11,7 +11,7 @@ and_parts true true e = (refl, refl)
 and_parts true false e = cc
 and_parts false b e = cc
 
-digit_one : (a b : Bool) → digit_of a ≡ digit_of b → a ≡ b
+pub digit_one : (a b : Bool) → digit_of a ≡ digit_of b → a ≡ b
 digit_one true true e = refl
 digit_one false false e = refl
 digit_one true false e = let x : 49 ≡ 48 = e in absurd (omega (arith, x))

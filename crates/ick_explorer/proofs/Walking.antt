@@ -234,7 +234,7 @@ goes_by way l m₀ c₀ points₀ n₀ m₁ c₁ points₁ n₁ m₂ c₂ points
     }
 
 -- two lists with one more element
-same_front : {A : Type 0} (xs ys : List A) (a b : A) → xs ++ a ∷ [] ≡ ys ++ b ∷ [] → (xs ≡ ys) × (a ≡ b)
+pub same_front : {A : Type 0} (xs ys : List A) (a b : A) → xs ++ a ∷ [] ≡ ys ++ b ∷ [] → (xs ≡ ys) × (a ≡ b)
 same_front {A} [] [] a b e = (refl, cc)
 same_front {A} [] (y ∷ ys) a b e = let f : length {A = A} [] + 1 ≡ length ys + 1 + 1 =
     omega (arith, ap length e, length-append ys (b ∷ [])) in absurd (omega arith)

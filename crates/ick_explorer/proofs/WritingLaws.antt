@@ -8,7 +8,7 @@ use Rattle.std.proofs.lemmas.Bool.Decides.{nat_tests}
 use Rattle.std.proofs.lemmas.Grind.{flat_map-append}
 use Rattle.std.proofs.Math.Nat.{mul-le-mul_right}
 use Rattle.std.proofs.Math.Seq.{take-add}
-use Rattle.std.proofs.lemmas.List.{append-nil}
+use Rattle.std.proofs.lemmas.List.{append-nil, take-take}
 use Rattle.ick_backtrack.specs.Machine.{Program, Machine}
 use Rattle.ick_code.specs.meaning.State.{State}
 use Rattle.ick_backtrack.specs.Asked.{Finish}
@@ -303,12 +303,6 @@ pub end_done : (told : Bool) (s : State) (cs : List (List Bool)) (i count : ℕ)
 end_done told s cs i count old now w w' e h m =
     let size = drop_none i cs h.within (listing_none now.program s now.limit now.from (drop i cs) m h.rest) in
     along_end told s cs i count old now w w' Done h (ap (λ n. take n cs) e) (listed_done_of cs count (omega arith))
-
-take-take : (i n : ℕ) (cs : List (List Bool)) → i ≤ n → take i (take n cs) ≡ take i cs
-take-take zero n cs h = refl
-take-take (suc i) zero cs h = absurd (omega arith)
-take-take (suc i) (suc n) [] h = refl
-take-take (suc i) (suc n) (x ∷ cs) h = ap (λ r. x ∷ r) (take-take i n cs (omega arith))
 
 take_size : (n : ℕ) (cs : List (List Bool)) → take (length (take n cs)) cs ≡ take n cs
 take_size zero cs = refl

@@ -7,7 +7,7 @@ mod RunLemmas
 mod Marks
 mod TrailMarks
 mod Stack
-mod WholeLemmas
+pub mod WholeLemmas
 mod PassedOver
 mod CopyLemmas
 mod FeedLemmas

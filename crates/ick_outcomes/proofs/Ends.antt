@@ -210,14 +210,6 @@ complete-is p s l rs f c w =
       },
     )
 
-lesser-of : (c d : List Bool) → IsBelow c d → lesser c d ≡ c
-lesser-of [] d h = absurd h
-lesser-of (x ∷ c) [] h = absurd h
-lesser-of (false ∷ c) (false ∷ d) h = ap (λ x. false ∷ x) (lesser-of c d h)
-lesser-of (false ∷ c) (true ∷ d) h = refl
-lesser-of (true ∷ c) (false ∷ d) h = absurd h
-lesser-of (true ∷ c) (true ∷ d) h = ap (λ x. true ∷ x) (lesser-of c d h)
-
 pub lesser-flip : (c d : List Bool) → IsBelow d c → lesser c d ≡ d
 lesser-flip [] [] h = absurd h
 lesser-flip [] (y ∷ d) h = absurd h

@@ -7,9 +7,9 @@ use Rattle.ick_code.specs.meaning.Move.{Asking, plain, choice, ended, ask, advan
 use Rattle.ick_backtrack.specs.Machine.{Program}
 use Rattle.ick_backtrack.specs.Asked.{Finish, finished, at_limit}
 use Rattle.ick_explorer.specs.Runs.{ends, stays, run, IsEnd, IsWhole}
-use Rattle.ick_explorer.proofs.RunLaws.{run-ended, run-plain, run-choice, run-wants, whole-along}
+use Rattle.ick_explorer.proofs.RunLaws.{limit-going, run-ended, run-plain, run-choice, run-wants, whole-along}
 use Rattle.ick_outcomes.specs.Weights.{part, share, product, product_on}
-use Rattle.ick_outcomes.proofs.TallyRuns.{share-ended, share-plain, share-choice, limit-ended}
+use Rattle.ick_outcomes.proofs.TallyRuns.{share-ended, share-plain, share-choice}
 
 product-ended : (p : Program) (s : State) (l : ℕ) (c : List Bool) (e : _) → ask p s ≡ ended e → product p s l c ≡ 1
 unfolding product
@@ -50,9 +50,9 @@ share-is p s zero c w = by_asking (ask p s) refl
     by_asking : (a : Asking) → ask p s ≡ a → share p s 0 c * 100 ^ length c ≡ product p s 0 c * 100 ^ 0
     by_asking (ended e) h = ended-is p s 0 c e h w
     by_asking plain h =
-        at-limit p s c (unused-here p s 0 c at_limit (limit-ended p s c plain h tt) w)
+        at-limit p s c (unused-here p s 0 c at_limit (limit-going p s c plain h tt) w)
     by_asking (choice k) h =
-        at-limit p s c (unused-here p s 0 c at_limit (limit-ended p s c (choice k) h tt) w)
+        at-limit p s c (unused-here p s 0 c at_limit (limit-going p s c (choice k) h tt) w)
 share-is p s (suc l) c w = by_asking (ask p s) refl (λ d b v. share-is p (advance p s b) l d v)
   where
     by_asking : (a : Asking) → ask p s ≡ a →

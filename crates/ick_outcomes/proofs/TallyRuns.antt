@@ -8,9 +8,9 @@ use Rattle.ick_code.specs.meaning.State.{State}
 use Rattle.ick_code.specs.meaning.Move.{Asking, plain, choice, ended, ask, advance}
 use Rattle.ick_backtrack.specs.Machine.{Program}
 use Rattle.ick_backtrack.specs.Asked.{Finish, finished, at_limit, IsGoing}
-use Rattle.ick_explorer.specs.Runs.{ends, stays, stepped, run, run_at_limit, IsEnd}
+use Rattle.ick_explorer.specs.Runs.{ends, stays, stepped, run, IsEnd}
 use Rattle.ick_explorer.specs.Order.{IsBelow, IsIncreasing}
-use Rattle.ick_explorer.proofs.RunLaws.{run-ended, run-plain, run-choice, run-wants, whole-along}
+use Rattle.ick_explorer.proofs.RunLaws.{limit-going, run-ended, run-plain, run-choice, run-wants, whole-along}
 use Rattle.ick_explorer.proofs.ListingLaws.{contains-nil, contains-head, contains-cases}
 use Rattle.ick_explorer.proofs.Existence.{contains-map, increasing-append, increasing-map, map-contains, whole-back}
 use Rattle.ick_outcomes.specs.Weights.{part, share_on, share, shares}
@@ -183,23 +183,16 @@ tally-choice p s l k q a b h (xs, u) (ys, v) = (
   },
 )
 
-pub limit-ended : (p : Program) (s : State) (c : List Bool) (a : Asking) → ask p s ≡ a → IsGoing a →
-    run p s 0 c ≡ stays s (ends at_limit) c
-unfolding run
-limit-ended p s c plain e g = ap (λ a. run_at_limit a s c) e
-limit-ended p s c (choice k) e g = ap (λ a. run_at_limit a s c) e
-limit-ended p s c (ended x) e g = absurd g
-
 tallied-at_limit : (p : Program) (s : State) (q : Test) (a : Asking) → ask p s ≡ a →
     HasTally p s 0 q (tally_at_limit q a s)
 tallied-at_limit p s q (ended e) h =
     tally-here p s 0 q (finished e) (q s.output (stop_text (ends (finished e)))) (λ c. run-ended p s 0 c e h)
     (share-limit p s []) refl
 tallied-at_limit p s q plain h =
-    tally-here p s 0 q at_limit (q s.output (stop_text (ends at_limit))) (λ c. limit-ended p s c plain h tt)
+    tally-here p s 0 q at_limit (q s.output (stop_text (ends at_limit))) (λ c. limit-going p s c plain h tt)
     (share-limit p s []) refl
 tallied-at_limit p s q (choice k) h =
-    tally-here p s 0 q at_limit (q s.output (stop_text (ends at_limit))) (λ c. limit-ended p s c (choice k) h tt)
+    tally-here p s 0 q at_limit (q s.output (stop_text (ends at_limit))) (λ c. limit-going p s c (choice k) h tt)
     (share-limit p s []) refl
 
 tallied-on : (p : Program) (s : State) (l : ℕ) (q : Test) (a : Asking) → ask p s ≡ a → (rest : Bool → Tally) →

@@ -1,6 +1,6 @@
 -- The lines of the names that are the words of a text.
-use Rattle.std.proofs.Common.{◌≡◌, ℕ, ◌+◌, ◌-◌, ◌<◌, ◌==◌, true, false, List, [], ◌∷◌, ◌++◌, length, cond, refl, ap, ◌∙◌, arith}
-use Rattle.std.proofs.Common.{Option, Some, None, sym, append_assoc, suc}
+use Rattle.std.proofs.Common.{◌≡◌, ℕ, ◌+◌, ◌-◌, ◌<◌, ◌==◌, true, false, List, [], ◌∷◌, ◌++◌, length, refl, ap, ◌∙◌, arith}
+use Rattle.std.proofs.Common.{Option, Some, None, sym, append_assoc}
 use Rattle.std.proofs.lemmas.List.{append-nil}
 use Rattle.std.proofs.Common.{◌≤◌}
 use Rattle.std.specs.Prelude.{codes, filter_map}
@@ -12,14 +12,11 @@ use Rattle.ick_inspect.specs.declared.text.Text.{Text}
 use Rattle.ick_inspect.specs.Text.{Adds}
 use Rattle.ick_session.specs.Commands.{behind_word, first_word, name_in, words_from, words_of}
 use Rattle.ick_inspect.proofs.AddLaws.{nothing, same, then}
+use Rattle.ick_session.proofs.WordLaws.{words_step}
 
 -- the lines of the names among words
 abbrev pub lines : State → List (List ℕ) → List ℕ
 lines s words = variables_text (filter_map name_in words) s
-
-words_step : (n at : ℕ) (rest : List ℕ) → at < n → words_from (n - at) rest
-    ≡ cond (length (first_word rest) == 0) [] (first_word rest ∷ words_from (n - (at + 1)) (behind_word rest))
-words_step n at rest lt = let e : n - at ≡ suc (n - (at + 1)) = omega arith in rw e refl
 
 no_line : (s : State) → variables_text [] s ≡ []
 unfolding variables_text

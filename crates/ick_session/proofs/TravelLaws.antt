@@ -1,6 +1,6 @@
 -- Steps that go on, one by one.
 use Rattle.std.proofs.Common.{◌≡◌, ℕ, zero, suc, ◌+◌, ◌-◌, ◌<◌, ◌≤◌, ◌⊎◌, inl, inr, Bool, true, false, List, [], ◌∷◌, ◌++◌}
-use Rattle.std.specs.Prelude.{codes, Result, Ok, Err, OnOk}
+use Rattle.std.specs.Prelude.{codes}
 use Rattle.ick_inspect.specs.declared.positions.Position.{Position}
 use Rattle.ick_session.specs.Shown.{here_text}
 use Rattle.std.proofs.Common.{length, take, get_or, Option, Some, None, refl, ap, ap₂, sym, ◌∙◌, subst, arith}
@@ -285,10 +285,6 @@ pub where_over : (limit : ℕ) (positions : List Position) (s : Seen) (p : Progr
 where_over limit positions s p n t left e f g h z =
     let none : limit - length s.answers ≡ 0 = sym h ∙ z in
     rw (e, f, g, none) refl
-
-pub on_ok : {A E P : Type 0} (r : Result A E) → P → OnOk r P
-on_ok (Ok x) h = h
-on_ok (Err e) h = tt
 
 -- a kept name is that of the state that it was kept of
 pub stops_at : (chosen : Chosen) (held : Held) (name : Name) (most : ℕ) (s t : Seen) → Keeps held (present s) name →

@@ -29,7 +29,7 @@ pub is_number : (word : List ℕ) → 0 < length word → list_all is_ascii_digi
 is_number word some digits fits = grind (arith, nat_tests)
 
 -- the words from a word on
-words_step : (n at : ℕ) (rest : List ℕ) → at < n → words_from (n - at) rest
+pub words_step : (n at : ℕ) (rest : List ℕ) → at < n → words_from (n - at) rest
     ≡ cond (length (first_word rest) == 0) [] (first_word rest ∷ words_from (n - (at + 1)) (behind_word rest))
 words_step n at rest lt = let e : n - at ≡ suc (n - (at + 1)) = omega arith in rw e refl
 

@@ -8,7 +8,7 @@ use Rattle.ick_code.specs.declared.code.Code.{Code}
 use Rattle.ick_code.specs.Compiled.{code_program}
 use Rattle.ick_code.specs.meaning.Move.{Asking, ask}
 use Rattle.ick_code.specs.meaning.State.{State}
-use Rattle.ick_backtrack.specs.Asked.{Finish, finished, asked_at_end, IsGoing}
+use Rattle.ick_backtrack.specs.Asked.{Finish, finished, asked_at_end}
 use Rattle.ick_backtrack.specs.Machine.{Program}
 use Rattle.ick_backtrack.specs.Steps.{IsPlain, RunsOn}
 use Rattle.ick_instructions.specs.declared.lowered.LoweredParts.{LoweredParts}
@@ -23,28 +23,13 @@ use Rattle.ick_machine.specs.Run.{ending_of, run_state}
 use Rattle.ick_outcomes.specs.Accounts.{Configuration}
 use Rattle.ick_states.specs.Seen.{seen_of}
 use Rattle.ick_machine.proofs.AnswerLemmas.{asks_status, place_low}
-
--- a run that goes on hasn't ended
-pub going_on : (code : Code) (lowered : LoweredParts) (input : Input) (v : View) (end : Option RawEnd) →
-    IsGoing (ask (code_program code) (run_state code lowered input v end)) → end ≡ None
-unfolding ask
-going_on code lowered input v None going = refl
-going_on code lowered input v (Some e) going = absurd going
+use Rattle.ick_machine.proofs.WholeLemmas.{by_text}
 
 -- views of the same state, and the same end
 pub run_same : (code : Code) (lowered : LoweredParts) (input : Input) (v m : View) (end : Option RawEnd) →
     state_of code lowered input v ≡ state_of code lowered input m →
     run_state code lowered input v end ≡ run_state code lowered input m end
 run_same code lowered input v m end same = ap {A = State} (λ s. record s { end = ending_of code input end }) same
-
--- what a reader of a text leads to
-pub by_text : (old new : TextReader) (text : List ℕ) (P : Input → Input → Type 0) → old.text.now ≡ text →
-    new.text.now ≡ old.text.now → Leads (λ (reader : TextReader) input. input ≡ input_of reader.text.now) old new P →
-    P (input_of text) (input_of text)
-by_text old new text P is same leads =
-    let found = leads (input_of new.text.now) refl in
-    subst (λ t. P (input_of text) (input_of t)) (same ∙ is)
-    (subst (λ input. P input (input_of new.text.now)) (found.1 ∙ ap input_of is) found.2)
 
 -- the end of a run is asked as it is
 pub asks_end : (code : Code) (lowered : LoweredParts) (input : Input) (v : View) (end : Option RawEnd) (e : RawEnd)

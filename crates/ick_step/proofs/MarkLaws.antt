@@ -13,6 +13,7 @@ use Rattle.ick_code.specs.meaning.State.{State, Ending}
 use Rattle.ick_code.specs.meaning.Move.{ask, advance}
 use Rattle.ick_backtrack.specs.Machine.{Program, Machine}
 use Rattle.ick_backtrack.specs.Steps.{HasRun}
+use Rattle.ick_explorer.proofs.Walking.{same_front}
 use Rattle.ick_step.specs.History.{done_by, after, Answers, IsHistory}
 use Rattle.ick_step.specs.Session.{Seen, later, with_answer, start_from, start_of, seen_at, marked, IsKept}
 use Rattle.ick_step.proofs.HistoryLaws.{after-append, history-append, history-take, after-plain, history-plain}
@@ -59,19 +60,6 @@ pub seen-same : (m : Machine) (xs : History) (s : Seen) → m.program ≡ s.prog
     xs ≡ s.answers → m.work ≡ s.work → seen_at m xs ≡ s
 seen-same m xs s program start answers work =
     ap₂ (λ p t. seen_by p t xs m.work) program start ∙ ap₂ (λ l w. seen_by s.program s.start l w) answers work
-
--- two lists with one more element
-same_front : {A : Type 0} (xs ys : List A) (a b : A) → xs ++ a ∷ [] ≡ ys ++ b ∷ [] → (xs ≡ ys) × (a ≡ b)
-same_front {A} [] [] a b e = (refl, cc)
-same_front {A} [] (y ∷ ys) a b e = let f : length {A = A} [] + 1 ≡ length ys + 1 + 1 =
-    omega (arith, ap length e, length-append ys (b ∷ [])) in absurd (omega arith)
-same_front {A} (x ∷ xs) [] a b e =
-    let f : length xs + 1 + 1 ≡ 1 = omega (arith, ap length e, length-append xs (a ∷ [])) in absurd (omega arith)
-same_front {A} (x ∷ xs) (y ∷ ys) a b e =
-    let f : xs ++ a ∷ [] ≡ ys ++ b ∷ [] = cc in
-    let g : x ≡ y = cc in
-    let r = same_front xs ys a b f in
-    (ap (λ z. z ∷ xs) g ∙ ap (λ zs. y ∷ zs) r.0, r.1)
 
 kept_at : (m : Machine) (p : Program) (s : State) (xs : History) → m.program ≡ p → start_of m ≡ s →
     m.state ≡ after p s xs → IsHistory p s xs → m.marks ≡ marked p s xs (length m.marks) →

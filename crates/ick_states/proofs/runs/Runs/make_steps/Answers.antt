@@ -5,7 +5,8 @@ use Rattle.ick_engine.specs.Memory.{view_in}
 use Rattle.ick_engine.specs.Saved.{saved_view}
 use Rattle.ick_engine.specs.View.{input_of}
 use Rattle.ick_machine.specs.Run.{run_state}
-use Rattle.ick_states.proofs.Keeping.{going_on, run_same, same_steps}
+use Rattle.ick_states.proofs.Keeping.{run_same, same_steps}
+use Rattle.ick_machine.proofs.WholeLemmas.{goes_on}
 use Rattle.ick_states.proofs.runs.Runs.make_steps.Goals as goal
 
 pub returns-clause-kept : goal.returns-clause-kept
@@ -20,7 +21,7 @@ returns-clause-runs c =
     let input = input_of c.args.self.now.input.now in
     let old = c.args.state.now in
     let view = saved_view old.saved in
-    let none = going_on code parts input view old.end c.requires.going in
+    let none = goes_on code parts input view old.end c.requires.going in
     let before = run_same code parts input (view_in c.exchange.new.memory) view None
     (c.exchange.ensures.loaded.states input) ∙ ap (run_state code parts input view) (sym none) in
     let after = run_same code parts input (saved_view c.renew.new.self) (view_in c.step_in.new.memory)

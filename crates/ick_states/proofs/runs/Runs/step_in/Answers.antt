@@ -3,7 +3,8 @@ use Rattle.ick_code.specs.Compiled.{code_program}
 use Rattle.ick_code.specs.meaning.Move.{advance}
 use Rattle.ick_engine.specs.Memory.{view_in}
 use Rattle.ick_machine.specs.Run.{run_state}
-use Rattle.ick_states.proofs.Keeping.{by_text, if_ok, same_steps}
+use Rattle.ick_states.proofs.Keeping.{if_ok, same_steps}
+use Rattle.ick_machine.proofs.WholeLemmas.{by_text}
 use Rattle.ick_states.proofs.runs.Runs.step_in.Goals as goal
 
 pub returns-clause-runs : goal.returns-clause-runs
