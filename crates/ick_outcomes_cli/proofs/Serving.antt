@@ -7,22 +7,19 @@ use Rattle.ick_cli.specs.declared.job_end.JobEnd.TheVariants.{Answered, NoMemory
 use Rattle.ick_cli.specs.declared.job_end.JobEnd.TheVariants.{WriteFailed}
 use Rattle.ick_cli.specs.declared.notice.Notice.TheVariants as notice
 use Rattle.ick_cli.proofs.Left.{four_by}
-use Rattle.ick_cli.proofs.Served.{due, finished_status}
+use Rattle.ick_cli.proofs.Served.{due, finished_status, same_counts}
 use Rattle.ick_outcomes_cli.specs.OutcomesEnd.{Gives, LeavesAll, outcomes_end_status, outcomes_end_text}
 use Rattle.ick_outcomes_cli.specs.Serve.{IsOutcomesDue, IsOutcomesServed, answered, as_ick, cut_by_write, long_listing}
 use Rattle.ick_outcomes_cli.specs.Serve.{many_states, too_many, unread, without_memory}
 use Rattle.ick_outcomes_cli.specs.declared.outcomes_end.OutcomesEnd.{OutcomesEnd}
 use Rattle.ick_outcomes_cli.specs.declared.outcomes_end.OutcomesEnd.TheVariants.{By, Refused}
 
-same : (f f' r r' w w' : ℕ) → f' ≡ f → r' ≡ r → w' ≡ w → counts f' r' w' ≡ counts f r w
-same f f' r r' w w' a b c = cc
-
 -- what is due to a job's end over any devices
 pub outcomes_due : (outcomes_end : OutcomesEnd) (f f' r r' w w' : ℕ) → LeavesAll outcomes_end f f' r r' w w'
     → IsOutcomesDue (counts f r w) (counts f' r' w') (outcomes_end_text outcomes_end) (outcomes_end_status outcomes_end)
 outcomes_due (By job_end) f f' r r' w w' x = as_ick _ _ (due job_end f f' r r' w w' x)
-outcomes_due (Refused notice.TooManyStates) f f' r r' w w' x = many_states (same _ _ _ _ _ _ x.1 x.2 x.3)
-outcomes_due (Refused notice.ListingTooLong) f f' r r' w w' x = long_listing (same _ _ _ _ _ _ x.1 x.2 x.3)
+outcomes_due (Refused notice.TooManyStates) f f' r r' w w' x = many_states (same_counts _ _ _ _ _ _ x.1 x.2 x.3)
+outcomes_due (Refused notice.ListingTooLong) f f' r r' w w' x = long_listing (same_counts _ _ _ _ _ _ x.1 x.2 x.3)
 outcomes_due (Refused notice.ChoicesAndSeed) f f' r r' w w' x = absurd x.0
 outcomes_due (Refused notice.BadCursor) f f' r r' w w' x = absurd x.0
 outcomes_due (Refused notice.NoSuchRun) f f' r r' w w' x = absurd x.0
@@ -70,13 +67,13 @@ outcomes_served (By FileNotRead) f f' r r' w w' out out' x h =
 outcomes_served (By WriteFailed) f f' r r' w w' out out' x h =
     let has = h.2 in
     cut_by_write h.0 h.1 has.1.0
-    (same _ _ _ _ _ _ (omega (arith, x.opened)) (omega (arith, x.read)) (omega (arith, x.wrote))) has.1.1
+    (same_counts _ _ _ _ _ _ (omega (arith, x.opened)) (omega (arith, x.read)) (omega (arith, x.wrote))) has.1.1
 outcomes_served (By ReadFailed) f f' r r' w w' out out' x h =
-    unread (same _ _ _ _ _ _ (omega (arith, x.opened)) (omega (arith, x.read)) (omega (arith, x.wrote))) h
+    unread (same_counts _ _ _ _ _ _ (omega (arith, x.opened)) (omega (arith, x.read)) (omega (arith, x.wrote))) h
 outcomes_served (By NoMemory) f f' r r' w w' out out' x h =
-    without_memory (same _ _ _ _ _ _ (omega (arith, x.opened)) (omega (arith, x.read)) (omega (arith, x.wrote))) h
+    without_memory (same_counts _ _ _ _ _ _ (omega (arith, x.opened)) (omega (arith, x.read)) (omega (arith, x.wrote))) h
 outcomes_served (Refused notice.TooManyStates) f f' r r' w w' out out' x h =
-    too_many h.0 (same _ _ _ _ _ _ x.1 x.2 x.3) h.1
+    too_many h.0 (same_counts _ _ _ _ _ _ x.1 x.2 x.3) h.1
 outcomes_served (Refused notice.ListingTooLong) f f' r r' w w' out out' x h =
     let is = h.2.0 in
     by_answer _ _ out out' h.0 _ _ h.1 (sym (ap (λ (a : Answer). a.status) is)) (sym (ap (λ (a : Answer). a.errors) is))
