@@ -1,12 +1,14 @@
-use Rattle.std.proofs.Common.{◌≡◌, ℕ, ◌+◌, ◌<◌, List, length, drop, get_or, refl, ap, ◌∙◌, sym, arith}
+use Rattle.std.proofs.Common.{◌≡◌, ℕ, ◌+◌, ◌<◌, List, length, drop, get_or, Some, refl, ap, ◌∙◌, sym, arith}
 use Rattle.std.specs.Prelude.{option_and_then}
 use Rattle.std.proofs.lemmas.List.{length-map, get_or-map}
 use Rattle.ick_bits.specs.Values.{Wide}
+use Rattle.ick_code.specs.meaning.Value.{element_offset}
 use Rattle.ick_instructions.specs.Meaning.{reg, values_of}
 use Rattle.ick_engine.specs.View.{array_of}
 use Rattle.ick_engine.specs.Walk.{walk}
 use Rattle.ick_engine.proofs.OffsetLemmas.{inside, place_is, beyond, none_at, walk_next, walk_done, is_inside}
 use Rattle.ick_engine.proofs.OffsetLemmas.{is_outside}
+use Rattle.ick_engine.proofs.element.index_of_many.Goals.{After-loop-at}
 use Rattle.ick_engine.proofs.element.index_of_many.Goals as goal
 
 count_is : (subscripts regs : List ℕ) → length (values_of subscripts regs) ≡ length subscripts
@@ -72,32 +74,30 @@ loop-at-preserved c =
           ∙ c.loop-at.invariant.walked;
     }
 
-pub returns-then-offset-count-clause-index : goal.returns-then-offset-count-clause-index
-returns-then-offset-count-clause-index c =
+-- what the whole walk gives
+walked : (c : After-loop-at) →
+    inside (length (array_of c.args.array.now).elements) (Some c.loop-at.offset)
+    ≡ element_offset (array_of c.args.array.now) (values_of c.args.subscripts.now c.args.registers.now)
+walked c =
     let a = array_of c.args.array.now in
     let subs = values_of c.args.subscripts.now c.args.registers.now in
     let count = count_is c.args.subscripts.now c.args.registers.now in
     let high = c.loop-at-test.false in
-    is_inside c.loop-at.offset (length a.elements)
-    (omega (arith, c.if-offset-count.true, c.len-count.ensures, c.args.array.now.elements.ok.0))
-    ∙ ap (inside (length a.elements))
+    ap (inside (length a.elements))
     (walk_done a.dimensions subs c.loop-at.offset c.loop-at.at
     (omega (arith, high, c.if-len-subscripts.false, c.len.ensures, c.args.array.now.dimensions.ok.0))
     (omega (arith, high, count))
     ∙ c.loop-at.invariant.walked)
     ∙ place_is a subs
 
+pub returns-then-offset-count-clause-index : goal.returns-then-offset-count-clause-index
+returns-then-offset-count-clause-index c =
+    is_inside c.loop-at.offset (length (array_of c.args.array.now).elements)
+    (omega (arith, c.if-offset-count.true, c.len-count.ensures, c.args.array.now.elements.ok.0))
+    ∙ walked (goal.at.returns-then-offset-count-clause-index c).After-loop-at
+
 pub returns-else-offset-count-clause-index : goal.returns-else-offset-count-clause-index
 returns-else-offset-count-clause-index c =
-    let a = array_of c.args.array.now in
-    let subs = values_of c.args.subscripts.now c.args.registers.now in
-    let count = count_is c.args.subscripts.now c.args.registers.now in
-    let high = c.loop-at-test.false in
-    is_outside c.loop-at.offset (length a.elements)
+    is_outside c.loop-at.offset (length (array_of c.args.array.now).elements)
     (omega (arith, c.if-offset-count.false, c.len-count.ensures, c.args.array.now.elements.ok.0))
-    ∙ ap (inside (length a.elements))
-    (walk_done a.dimensions subs c.loop-at.offset c.loop-at.at
-    (omega (arith, high, c.if-len-subscripts.false, c.len.ensures, c.args.array.now.dimensions.ok.0))
-    (omega (arith, high, count))
-    ∙ c.loop-at.invariant.walked)
-    ∙ place_is a subs
+    ∙ walked (goal.at.returns-else-offset-count-clause-index c).After-loop-at
