@@ -134,7 +134,8 @@ along-preserved-in-Choice g c =
       here = λ t. record {
         along =
             choice_turned _ _ _ _ (i.here t) c.asks-asked.ensures c.in-Choice.is lt
-            c.push.new.self.items c.in-Some.done _ _ c.in_ok-turn.field-0 c.in_ok-push.ensures.items (c.in_ok-turn.ensures.moved t);
+            c.push.new.self.items c.in-Some.done _ _ c.in_ok-turn.field-0 c.in_ok-push.ensures.items
+            (c.in_ok-turn.ensures.moved t);
         program = c.in_ok-turn.ensures.program ∙ i.program;
         sound = c.in_ok-turn.ensures.sound;
         empty = c.in_ok-turn.ensures.empty;

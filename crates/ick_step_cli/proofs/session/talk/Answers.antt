@@ -2,7 +2,8 @@ use Rattle.std.proofs.Common.{◌≡◌, ◌∙◌, false, true, refl, rules, sy
 use Rattle.std.proofs.lemmas.List.{append-nil}
 use Rattle.ick_session.specs.Stepper.{fixed, seen}
 use Rattle.ick_step_cli.specs.Talk.{lines_of}
-use Rattle.ick_step_cli.proofs.TalkLaws.{Said, all_said, answered_more, begins, cut_after, cut_short, ended, failed, line_answered, quit}
+use Rattle.ick_step_cli.proofs.TalkLaws.{Said, all_said, answered_more, begins, cut_after, cut_short, ended, failed}
+use Rattle.ick_step_cli.proofs.TalkLaws.{line_answered, quit}
 use Rattle.ick_step_cli.proofs.session.talk.Given.{Over}
 use Rattle.ick_step_cli.proofs.session.talk.Goals as goal
 use Rattle.ick_step_cli.proofs.session.talk.Goals.{In_default}
@@ -74,7 +75,8 @@ loop-at-preserved g c =
           (seen c.loop-at.stepper) (seen c.answer_line.new.stepper) c.deref.result.now c.read_line.new.line.items
           found.0 c.in-Ok-true-answer_line.field-0 true inv.same c.deref.ensures.value
           c.in-Ok-true-answer_line.field-0-test found.1 in
-          answered_more _ _ _ _ _ _ _ _ _ _ _ _ _ (said g (goal.at.loop-at-preserved g c).In_default r w) (c.in-Ok-true.ensures.line r c.in-Ok-true.field-0-test) answers
+          answered_more _ _ _ _ _ _ _ _ _ _ _ _ _ (said g (goal.at.loop-at-preserved g c).In_default r w)
+          (c.in-Ok-true.ensures.line r c.in-Ok-true.field-0-test) answers
           found.2;
     }
 
