@@ -72,8 +72,9 @@ pub fn is_chance(status: u8) -> bool
     status > 0 && status < 100
 }
 
-/// Returns what is asked at a statement with a status.
-fn asked_at<'c>(status: u8) -> Ask<'c>
+/// Returns what is asked at a statement with a status of the engine's memory (Revised Manual, 4.3): a
+/// choice with its chance from 1 to 99, or nothing.
+pub fn asked_at<'c>(status: u8) -> Ask<'c>
     ensures { asked_of result ≡ Some (asked_by status) }
 {
     if status == 0 {

@@ -30,7 +30,7 @@ mod steps;
 mod trailed;
 mod whole;
 
-pub use asking::end_of;
+pub use asking::{asked_at, end_of};
 pub use copied::Copied;
 pub use feed::Feed;
 pub use ick_backtrack::{Ask, Asks, Backtrack, End, FeedFault};

@@ -6,25 +6,12 @@ ghost use Rattle.ick_code.specs.Compiled.{code_program};
 ghost use Rattle.ick_backtrack.specs.Asked.{asked_of};
 ghost use Rattle.ick_engine.specs.Saved.{IsKept, saved_view};
 ghost use Rattle.ick_engine.specs.View.{Input};
-ghost use Rattle.ick_machine.specs.Asked.{asked_by};
 ghost use Rattle.ick_machine.specs.Run.{run_state};
 
 use ick_backtrack::Ask;
 use ick_engine::Saved;
 use ick_instructions::Lowered;
-
-/// Returns what is asked at a statement with a status.
-fn asked_at<'c>(status: u8) -> Ask<'c>
-    ensures { asked_of result ≡ Some (asked_by status) }
-{
-    if status == 0 {
-        return Ask::Plain;
-    }
-    if status < 100 {
-        return Ask::Choice(100 - status);
-    }
-    Ask::Plain
-}
+use ick_machine::asked_at;
 
 /// Returns what is asked before the next step of a state whose run hasn't ended (Revised Manual,
 /// 4.3).
