@@ -7,7 +7,6 @@ ghost use Rattle.ick_machine.specs.Feeds.{MayBeLeft, feed_failures, reads_failed
 ghost use Rattle.ick_machine.specs.Feeds.{line_with, one_if, waits_by};
 
 use crate::feed::Feed;
-use crate::steps::Came;
 use ick_backtrack::FeedFault;
 use ick_bits::{DigitFault, NoMemory, digits_value};
 use ick_engine::{Line, Reader};
@@ -62,7 +61,7 @@ impl<'f, F: Feed> FeedReader<'f, F> {
 
     /// Returns what a step with this answer has come to. If the feed had an error, it is this
     /// error.
-    pub fn outcome(&self, stepped: Result<Came, NoMemory>) -> Result<(), FeedFault>
+    pub fn outcome(&self, stepped: Result<(), NoMemory>) -> Result<(), FeedFault>
         ensures ok { OnOk result (IsOk stepped) }
         ensures count { feed_failures result ≡ reads_failed self.now.fault }
         ensures reads { result ≡ Err FeedFault.Read → self.now.allowed ≡ true }
@@ -70,7 +69,7 @@ impl<'f, F: Feed> FeedReader<'f, F> {
         match self.fault {
             Some(fault) => Err(fault),
             None => {
-                let _ = stepped?;
+                stepped?;
                 Ok(())
             }
         }
