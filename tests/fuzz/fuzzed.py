@@ -153,7 +153,7 @@ class Fuzzed(Checking):
             self.hold("the source as standard input", call(file=None, entered=self.source), call(entered=b""))
 
     def chances_decided(self):
-        """Checks that to do or to pass over each statement that asks is to have no chance or the chance 0 there."""
+        """Checks that choosing 1 at a statement equals no chance there, and choosing 0 equals the chance 0."""
         for digit, chance in (("1", None), ("0", 0)):
             other = decided(self.made, chance)
             found = self.run(f"{digit}*{MILLION}")
