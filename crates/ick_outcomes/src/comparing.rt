@@ -58,7 +58,7 @@ pub(crate) fn compare(one: &[bool], other: &[bool]) -> Order
     ensures beginning { result ≡ Order.Short → lesser one.now other.now ≡ one.now }
     ensures longer { result ≡ Order.Longer → lesser one.now other.now ≡ other.now }
 {
-    'places: for at in same_front(one, other)..one.len() {
+    'choices: for at in same_front(one, other)..one.len() {
         if at == other.len() {
             return Order::Longer;
         }

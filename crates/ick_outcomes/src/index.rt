@@ -11,22 +11,22 @@ use std::hash::{FoldHasher, Hasher};
 /// Keeps for each key the index of the last row that has it.
 #[derive(Drop)]
 pub(crate) struct Index {
-    pub(crate) places: HashMap<u64, usize>,
+    pub(crate) rows: HashMap<u64, usize>,
 }
 
 impl Index {
     /// Returns an index of no row.
     pub(crate) fn new(alloc: Global) -> Index {
         Index {
-            places: HashMap::new(alloc),
+            rows: HashMap::new(alloc),
         }
     }
 
     /// Returns the index that was noted last for a key, or `None` if none was noted.
     pub(crate) fn find(&self, key: u64) -> Option<usize>
-        ensures { IfNone result (Lacks self.now.places key) }
+        ensures { IfNone result (Lacks self.now.rows key) }
     {
-        match self.places.get(&key) {
+        match self.rows.get(&key) {
             Some(at) => Some(*at),
             None => None,
         }
@@ -34,10 +34,10 @@ impl Index {
 
     /// Notes an index for a key.
     pub(crate) fn note(&mut self, key: u64, at: usize) -> Result<(), NoMemory>
-        ensures stays { (k : ℕ) → Lacks self.new.places k → Lacks self.old.places k }
-        ensures noted { OnOk result (Lacks self.new.places key → ⊥) }
+        ensures stays { (k : ℕ) → Lacks self.new.rows k → Lacks self.old.rows k }
+        ensures noted { OnOk result (Lacks self.new.rows key → ⊥) }
     {
-        self.places.insert(key, at)?;
+        self.rows.insert(key, at)?;
         Ok(())
     }
 }

@@ -10,5 +10,5 @@ use crate::outcome::Outcome;
 pub(crate) struct Table {
     pub(crate) rows: Vec<Outcome>,
     pub(crate) index: Index,
-    pub(crate) ghost indexed: { IsIndexed index.places rows.items },
+    pub(crate) ghost indexed: { IsIndexed index.rows rows.items },
 }
