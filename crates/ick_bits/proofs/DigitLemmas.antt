@@ -2,20 +2,21 @@
 use Rattle.std.proofs.Common.{◌≡◌, ℕ, zero, suc, ◌+◌, ◌-◌, ◌*◌, ◌<◌, ◌≤◌, List, []}
 use Rattle.std.proofs.Common.{◌∷◌, ◌++◌, length, map, refl, ap, arith, ◌∙◌, Bool, true, false, min}
 use Rattle.std.proofs.Common.{Option, None, Some, Ok, Err, drop, inl, inr, length-take, length-drop}
-use Rattle.std.proofs.Common.{append-nil, cond, get_or, Bor, drop-cons}
-use Rattle.std.specs.Prelude.{is_none, unwrap_or, nat_lt, not, slice_range}
+use Rattle.std.proofs.Common.{append-nil, cond, get_or, drop-cons}
+use Rattle.std.specs.Prelude.{is_none, unwrap_or, nat_eq, nat_lt, not, slice_range}
 use Rattle.std.specs.List.{filter, find, range_with_len, position_or_len}
 use Rattle.std.specs.Int.Digits.{number_from_digits}
 use Rattle.std.proofs.lemmas.Int.Digits.{number_push}
 use Rattle.std.proofs.lemmas.List.{map-append}
 use Rattle.std.proofs.lemmas.List.Elements.{filter-append}
 use Rattle.std.proofs.lemmas.List.Folds.{find-append}
-use Rattle.std.proofs.lemmas.Bool.{cases_Bool, and_parts, not-true}
+use Rattle.std.proofs.lemmas.List.{get_or-drop}
+use Rattle.std.proofs.lemmas.List.Sums.{fails_before_first, passes_at_first}
+use Rattle.std.proofs.lemmas.Bool.{cases_Bool, and_parts, and_right, or_right, not-true, ne_eqb}
 use Rattle.std.proofs.lemmas.Bool.Decides.{nat_tests}
 use Rattle.ick_bits.specs.declared.digits.DigitFault.TheVariants.{Word, TooLarge}
-use Rattle.std.specs.Str.{str_eq_ignore_ascii_case}
 use Rattle.ick_bits.specs.White.{is_white_byte}
-use Rattle.ick_bits.specs.Digits.{begins_word, word_at, digit_in, digit_at, beginnings, first_unknown, number_of_words}
+use Rattle.ick_bits.specs.Digits.{begins_word, word_at, digit_at, beginnings, first_unknown, number_of_words}
 use Rattle.ick_bits.specs.Digits.{line_answer}
 
 -- a word has a byte at least
@@ -26,6 +27,29 @@ ink_first line i l h =
     let ink : is_white_byte (get_or line i 0) ≡ false =
     not-true (is_white_byte (get_or line i 0)) (and_parts (not (is_white_byte (get_or line i 0))) _ h).0 in
     rw (drop-cons line i 0 l, ink) (omega arith)
+
+-- no word begins at a white byte
+pub white-begins-none : (line : List ℕ) (i : ℕ) → is_white_byte (get_or line i 0) ≡ true → begins_word line i ≡ false
+unfolding begins_word
+white-begins-none line i w = rw w refl
+
+-- ink begins a word at the front, and behind a white byte
+pub front-begins : (line : List ℕ) → is_white_byte (get_or line 0 0) ≡ false → begins_word line 0 ≡ true
+unfolding begins_word
+front-begins line w = rw w refl
+
+pub white-before : (line : List ℕ) (i : ℕ) → is_white_byte (get_or line i 0) ≡ true →
+    is_white_byte (get_or line (i + 1) 0) ≡ false → begins_word line (i + 1) ≡ true
+unfolding begins_word
+white-before line i w n = let back : i + 1 - 1 ≡ i = omega arith in rw (n, back, w) (or_right (nat_eq (i + 1) 0) true refl)
+
+-- but not behind ink
+ink-before : (line : List ℕ) (i : ℕ) → is_white_byte (get_or line i 0) ≡ false → begins_word line (i + 1) ≡ false
+unfolding begins_word
+ink-before line i w =
+    let back : i + 1 - 1 ≡ i = omega arith in
+    let first : nat_eq (i + 1) 0 ≡ false = ne_eqb (i + 1) 0 (λ e. absurd (omega arith)) in
+    rw (back, w, first) (and_right (not (is_white_byte (get_or line (i + 1) 0))) false refl)
 
 -- what a loop has seen of the positions below n
 unfoldable pub beginnings_below : List ℕ → ℕ → List ℕ
@@ -68,6 +92,39 @@ begins-no line n b =
     rw (range-more 0 n n (omega arith), filter-append (begins_word line) (range_with_len 0 n) (n ∷ []), b)
     (append-nil (filter (begins_word line) (range_with_len 0 n)))
 
+-- the end of the word that begins at i
+abbrev pub end_of : List ℕ → ℕ → ℕ
+end_of line i = i + position_or_len is_white_byte (drop i line)
+
+inked : (line : List ℕ) (i k : ℕ) → k < position_or_len is_white_byte (drop i line) →
+    is_white_byte (get_or line (i + k) 0) ≡ false
+inked line i k l = rw (← get_or-drop i line k 0) (fails_before_first is_white_byte (drop i line) k 0 l)
+
+-- one word begins from there up to its end
+within-word : (line : List ℕ) (i k : ℕ) → begins_word line i ≡ true →
+    k < position_or_len is_white_byte (drop i line) →
+    beginnings_below line (i + k + 1) ≡ beginnings_below line i ++ i ∷ []
+within-word line i zero b l = let same : i + 0 ≡ i = omega arith in rw same (begins-yes line i b)
+within-word line i (suc k) b l =
+    let more : i + suc k ≡ i + k + 1 = omega arith in
+    let none = ink-before line (i + k) (inked line i k (omega arith)) in
+    rw more (begins-no line (i + k + 1) none ∙ within-word line i k b (omega arith))
+
+pub word-begins : (line : List ℕ) (i : ℕ) → i < length line → begins_word line i ≡ true →
+    beginnings_below line (end_of line i) ≡ beginnings_below line i ++ i ∷ []
+word-begins line i l b =
+    let n = position_or_len is_white_byte (drop i line) in
+    let some : 0 < n = ink_first line i l b in
+    let last : i + n ≡ i + (n - 1) + 1 = omega arith in
+    rw last (within-word line i (n - 1) b (omega arith))
+
+-- a word ends at the end of the line or at a white byte
+pub white-end : (line : List ℕ) (i : ℕ) → end_of line i < length line →
+    is_white_byte (get_or line (end_of line i) 0) ≡ true
+white-end line i l =
+    rw (← get_or-drop i line (position_or_len is_white_byte (drop i line)) 0)
+    (passes_at_first is_white_byte (drop i line) 0 (omega (arith, length-drop i line)))
+
 find-none : (p : ℕ → Bool) (xs : List ℕ) (x : ℕ) → find p xs ≡ None →
     find p (xs ++ x ∷ []) ≡ cond (p x) (Some x) None
 find-none p xs x h = find-append p xs (x ∷ []) ∙ rw h refl
@@ -86,19 +143,19 @@ pub number-no : (line : List ℕ) (n : ℕ) → begins_word line n ≡ false →
 unfolding number_below
 number-no line n b = rw (begins-no line n b) refl
 
--- a digit's name begins at n
-pub known-yes : (line : List ℕ) (n d : ℕ) → begins_word line n ≡ true → digit_at line n ≡ Some d →
-    unknown_below line n ≡ None → unknown_below line (n + 1) ≡ None
+-- a digit's name begins at n, and goes on up to m
+pub known-yes : (line : List ℕ) (n m d : ℕ) → beginnings_below line m ≡ beginnings_below line n ++ n ∷ [] →
+    digit_at line n ≡ Some d → unknown_below line n ≡ None → unknown_below line m ≡ None
 unfolding unknown_below
-known-yes line n d b e k =
-    rw (begins-yes line n b) (find-none (λ i. is_none (digit_at line i)) (beginnings_below line n) n k ∙ rw e refl)
+known-yes line n m d b e k =
+    rw b (find-none (λ i. is_none (digit_at line i)) (beginnings_below line n) n k ∙ rw e refl)
 
-pub number-yes : (line : List ℕ) (n d : ℕ) → begins_word line n ≡ true → digit_at line n ≡ Some d →
-    number_below line (n + 1) ≡ number_below line n * 10 + d
+pub number-yes : (line : List ℕ) (n m d : ℕ) → beginnings_below line m ≡ beginnings_below line n ++ n ∷ [] →
+    digit_at line n ≡ Some d → number_below line m ≡ number_below line n * 10 + d
 unfolding number_below
-number-yes line n d b e =
+number-yes line n m d b e =
     let f = λ (i : ℕ). unwrap_or (digit_at line i) 0 in
-    rw (begins-yes line n b, map-append f (beginnings_below line n) (n ∷ []))
+    rw (b, map-append f (beginnings_below line n) (n ∷ []))
     (number_push 10 (map f (beginnings_below line n)) (f n) ∙ rw e refl)
 
 -- an unknown word begins at n
@@ -164,35 +221,3 @@ nothing-first line = refl
 pub nothing-number : (line : List ℕ) → number_below line 0 ≡ 0
 unfolding number_below beginnings_below
 nothing-number line = refl
-
--- the rows of a table behind references
-unfoldable pub rows_of : List (Bor (List ℕ) × ℕ) → List (List ℕ × ℕ)
-rows_of table = map (λ row. (row.0.now, row.1)) table
-
--- a row of the table that has another word
-pub named-past : (word : List ℕ) (rows : List (Bor (List ℕ) × ℕ)) (i : ℕ) → i < length rows →
-    str_eq_ignore_ascii_case word (get_or rows i (record { ref_ptr = (0, 0); now = [] }, 0)).0.now ≡ false →
-    digit_in word (drop i (rows_of rows)) ≡ digit_in word (drop (i + 1) (rows_of rows))
-unfolding rows_of
-named-past word [] i h e = absurd (omega arith)
-named-past word (row ∷ rows) zero h e = rw e refl
-named-past word (row ∷ rows) (suc i) h e = let more : suc i + 1 ≡ suc (i + 1) = omega arith in
-    rw more (named-past word rows i (omega arith) e)
-
--- the row that has it
-pub named-here : (word : List ℕ) (rows : List (Bor (List ℕ) × ℕ)) (i : ℕ) → i < length rows →
-    str_eq_ignore_ascii_case word (get_or rows i (record { ref_ptr = (0, 0); now = [] }, 0)).0.now ≡ true →
-    digit_in word (drop i (rows_of rows)) ≡ Some (get_or rows i (record { ref_ptr = (0, 0); now = [] }, 0)).1
-unfolding rows_of
-named-here word [] i h e = absurd (omega arith)
-named-here word (row ∷ rows) zero h e = rw e refl
-named-here word (row ∷ rows) (suc i) h e = named-here word rows i (omega arith) e
-
--- past the last row
-pub named-nowhere : (word : List ℕ) (rows : List (Bor (List ℕ) × ℕ)) (i : ℕ) → length rows ≤ i →
-    digit_in word (drop i (rows_of rows)) ≡ None
-unfolding rows_of
-named-nowhere word [] zero h = refl
-named-nowhere word [] (suc i) h = refl
-named-nowhere word (row ∷ rows) zero h = absurd (omega arith)
-named-nowhere word (row ∷ rows) (suc i) h = named-nowhere word rows i (omega arith)

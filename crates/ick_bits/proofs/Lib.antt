@@ -4,6 +4,7 @@ pub mod NumeralLemmas
 pub mod NumeralSteps
 pub mod OperatorLemmas
 pub mod OperatorSteps
+pub mod PackedLemmas
 pub mod PrintingLemmas
 pub mod QuotedLemmas
 pub mod RowLemmas

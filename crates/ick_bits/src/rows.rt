@@ -1,7 +1,8 @@
 //! The two lines of a numeral, digit by digit, from tables.
 
 ghost use Rattle.std.specs.Prelude.{◌≡◌, ◌<◌, length, map, take};
-ghost use Rattle.ick_bits.specs.Numeral.{place_symbols, digit_symbols, letter_byte, bar_byte, bar_line};
+ghost use Rattle.ick_bits.specs.Numeral.{place_symbols, digit_symbols};
+ghost use Rattle.ick_bits.specs.Numeral.{letter_byte, bar_byte, bar_line};
 ghost use Rattle.ick_bits.specs.declared.numerals.Letters.{Letters};
 
 /// Returns the letters of a digit, in the first of four bytes.

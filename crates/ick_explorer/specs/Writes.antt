@@ -4,7 +4,8 @@ use Rattle.std.specs.Prelude.{◌++◌, length, take, Option, Some, Result, Ok, 
 use Rattle.ick_backtrack.specs.Machine.{Program}
 use Rattle.ick_code.specs.meaning.State.{State}
 use Rattle.ick_explorer.specs.declared.errors.RunsError.{RunsError}
-use Rattle.ick_explorer.specs.declared.errors.RunsError.TheVariants.{NoMemory, NoSuchRun, WorkFull, Failed, BadCursor, Read}
+use Rattle.ick_explorer.specs.declared.errors.RunsError.TheVariants.{NoMemory, NoSuchRun, WorkFull, Failed}
+use Rattle.ick_explorer.specs.declared.errors.RunsError.TheVariants.{BadCursor, Read}
 use Rattle.ick_explorer.specs.declared.errors.RunsError.TheVariants.{Write}
 use Rattle.ick_explorer.specs.Runs.{run}
 use Rattle.ick_explorer.specs.Standing.{Explored, Stands, HasFailed, IsFull, shared_from}

@@ -3,7 +3,8 @@ use Rattle.std.specs.Prelude.{◌≡◌, ℕ, ◌+◌, ◌^◌, ◌<◌, ◌≤�
 use Rattle.std.specs.Prelude.{◌++◌, length, take, drop, Result, Ok, Err}
 use Rattle.ick_code.specs.meaning.State.{State}
 use Rattle.ick_explorer.specs.declared.errors.RunsError.{RunsError}
-use Rattle.ick_explorer.specs.declared.errors.RunsError.TheVariants.{NoMemory, NoSuchRun, WorkFull, Failed, BadCursor, Read}
+use Rattle.ick_explorer.specs.declared.errors.RunsError.TheVariants.{NoMemory, NoSuchRun, WorkFull, Failed}
+use Rattle.ick_explorer.specs.declared.errors.RunsError.TheVariants.{BadCursor, Read}
 use Rattle.ick_explorer.specs.declared.errors.RunsError.TheVariants.{Write}
 use Rattle.ick_explorer.specs.Listings.{IsListing}
 use Rattle.ick_explorer.specs.Standing.{Explored, HasFailed, IsFull}

@@ -37,7 +37,8 @@ mod writing;
 pub use choice_texts::append_choices;
 pub use cursor::Cursor;
 pub use devices::{
-    ByteSink, ByteSource, DeviceFault, ReadFault, SliceSource, VecSink, read_first, write_whole,
+    ByteSink, ByteSource, DeviceFault, ReadFault, SliceSource, VecSink, line_length, read_first,
+    write_whole,
 };
 pub use errors::RunsError;
 pub use explorer::Explorer;

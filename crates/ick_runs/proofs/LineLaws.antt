@@ -1,8 +1,12 @@
--- A line that is read byte by byte is the first line of what was there, and no byte more was taken.
+-- A line that is read part by part is the first line of what was there, and no byte more was taken.
 use Rattle.std.proofs.Common.{◌≡◌, ◌≢◌, ℕ, ◌==◌, Bool, true, false, not, List, [], ◌∷◌}
-use Rattle.std.proofs.Common.{◌++◌, length, take, drop, ap, sym, ◌∙◌, arith, ◌+◌, refl}
+use Rattle.std.proofs.Common.{◌++◌, length, take, drop, ap, sym, ◌∙◌, arith, ◌+◌, ◌-◌, ◌<◌, ◌≤◌, refl, suc}
+use Rattle.std.proofs.Common.{get_or, append_assoc, inl, inr}
+use Rattle.std.proofs.lemmas.Bool.{cases_lt, ne_eqb}
+use Rattle.std.proofs.lemmas.List.{get_or-take, length-take}
 use Rattle.std.specs.List.{position_or_len}
-use Rattle.std.proofs.Math.Seq.{take-append_seam, drop-append-add, take-length, get_or-append_seam}
+use Rattle.std.proofs.Math.Seq.{take-append_seam, drop-append-add, take-length, take-suc, get_or-append_seam}
+use Rattle.std.proofs.Math.Seq.{get_or-append_right}
 use Rattle.std.proofs.lemmas.List.{append-nil, length-append, drop_all, get_or_append_left}
 use Rattle.std.proofs.lemmas.List.Sums.{position_or_len_is}
 use Rattle.std.specs.Prelude.{Result, Ok}
@@ -48,6 +52,48 @@ line_with_end old bytes now new b e f ten h =
       rest = sym (ap later_lines whole
           ∙ (ap (λ k. drop (k + 1) (bytes ++ 10 ∷ new)) at ∙ drop-append-add bytes (10 ∷ new) 1));
     }
+
+-- more bytes of a block, without a line end
+pub no_end_more : (bytes block : List ℕ) (n : ℕ) → HasNoEnd bytes →
+    ((k : ℕ) → k < n → get_or block k 0 ≢ 10) → HasNoEnd (bytes ++ take n block)
+no_end_more bytes block n h none = λ k lt. elim (cases_lt k (length bytes)) [
+  | inl less ↦ ap (λ x. x == 10) (get_or_append_left bytes (take n block) 0 k less) ∙ h k less
+  | inr more ↦
+      let place : k - length bytes < n =
+      omega (arith, lt, length-append bytes (take n block), length-take n block) in
+      ap (λ x. x == 10)
+      (get_or-append_right bytes (take n block) k 0 more ∙ get_or-take n block (k - length bytes) 0 place)
+      ∙ ne_eqb (get_or block (k - length bytes) 0) 10 (none (k - length bytes) place)
+]
+
+-- and a block whose last byte ends it
+pub line_in_block : (old bytes now new block : List ℕ) (n : ℕ) → old ≡ bytes ++ now →
+    now ≡ take n block ++ new → 0 < n → n ≤ length block → get_or block (n - 1) 0 ≡ 10 → HasNoEnd bytes →
+    ((k : ℕ) → k + 1 < n → get_or block k 0 ≢ 10) → IsLine old (bytes ++ take (n - 1) block) new
+line_in_block old bytes now new block n e f some within ten h none =
+    let last : n ≡ suc (n - 1) = omega arith in
+    let split : take n block ≡ take (n - 1) block ++ 10 ∷ [] =
+    ap (λ k. take k block) last ∙ take-suc block (n - 1) 0 (omega arith)
+    ∙ ap (λ b. take (n - 1) block ++ b ∷ []) ten in
+    let whole : old ≡ bytes ++ take (n - 1) block ++ 10 ∷ new =
+    e ∙ ap (λ x. bytes ++ x) (f ∙ ap (λ x. x ++ new) split ∙ append_assoc (take (n - 1) block) (10 ∷ []) new)
+    ∙ sym (append_assoc bytes (take (n - 1) block) (10 ∷ new)) in
+    line_with_end old (bytes ++ take (n - 1) block) (10 ∷ new) new 10 whole refl refl
+    (no_end_more bytes block (n - 1) h (λ k lt. none k (omega arith)))
+
+-- the bytes so far, with those of one more block
+pub more_so_far : (old bytes now new block : List ℕ) (n : ℕ) → old ≡ bytes ++ now →
+    now ≡ take n block ++ new → old ≡ bytes ++ take n block ++ new
+more_so_far old bytes now new block n e f =
+    e ∙ ap (λ x. bytes ++ x) f ∙ sym (append_assoc bytes (take n block) new)
+
+-- no byte of a block ends the line, if its last doesn't
+pub none_ends : (block : List ℕ) (n : ℕ) → ((k : ℕ) → k + 1 < n → get_or block k 0 ≢ 10) →
+    get_or block (n - 1) 0 ≢ 10 → (k : ℕ) → k < n → get_or block k 0 ≢ 10
+none_ends block n none last k lt = elim (cases_lt (k + 1) n) [
+  | inl less ↦ none k less
+  | inr more ↦ let same : n - 1 ≡ k = omega arith in λ e. last (ap (λ i. get_or block i 0) same ∙ e)
+]
 
 pub line_at_end : (old bytes now new : List ℕ) → old ≡ bytes ++ now → now ≡ [] → new ≡ [] →
     HasNoEnd bytes → bytes ≢ [] → IsLine old bytes new

@@ -11,7 +11,8 @@ use Rattle.ick_machine.specs.declared.live_ask.EndKind.{EndKind}
 use Rattle.ick_machine.specs.declared.live_ask.EndKind.TheVariants.{Limit, Wants}
 use Rattle.ick_explorer.specs.Runs.{Stop, ends, wants, Execution, run}
 use Rattle.ick_explorer.specs.declared.errors.RunsError.{RunsError}
-use Rattle.ick_explorer.specs.declared.errors.RunsError.TheVariants.{NoMemory, NoSuchRun, WorkFull, Failed, BadCursor, Read}
+use Rattle.ick_explorer.specs.declared.errors.RunsError.TheVariants.{NoMemory, NoSuchRun, WorkFull, Failed}
+use Rattle.ick_explorer.specs.declared.errors.RunsError.TheVariants.{BadCursor, Read}
 use Rattle.ick_explorer.specs.declared.errors.RunsError.TheVariants.{Write}
 use Rattle.ick_runs.specs.declared.streamed.Streamed.{Streamed}
 

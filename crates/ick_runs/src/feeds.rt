@@ -5,7 +5,10 @@ ghost use Rattle.std.specs.Prelude.{◌≡◌};
 use ick_explorer::ByteSource;
 use ick_machine::{Feed, FeedFault};
 
-/// Reads lines and bytes from a source byte by byte, and no further byte.
+/// How many bytes of a line are read at once.
+const BLOCK: usize = 64;
+
+/// Reads lines and bytes from a source, and no further byte.
 #[derive(Drop)]
 pub(crate) struct SourceFeed<'r, R: ByteSource> {
     source: &'r mut R,
@@ -36,14 +39,19 @@ impl<R: ByteSource> Feed for SourceFeed<'_, R> {
 
     fn line(&mut self, target: &mut Vec<u8>) -> Result<bool, FeedFault> {
         target.clear();
-        'bytes: loop {
-            let Some(byte) = self.byte()? else {
-                return Ok(!target.is_empty());
+        let mut block = [0; BLOCK];
+        'reads: loop {
+            let Ok(count) = self.source.read_in_line(&mut block) else {
+                return Err(FeedFault::Read);
             };
-            if byte == b'\n' {
+            if count == 0 {
+                return Ok(!target.is_empty());
+            }
+            if block[count - 1] == b'\n' {
+                target.extend_from_slice(&block[..count - 1])?;
                 return Ok(true);
             }
-            target.push(byte)?;
+            target.extend_from_slice(&block[..count])?;
         }
     }
 

@@ -25,8 +25,8 @@ pub use chooser::Chooser;
 pub use draws::drawn;
 pub use ick_explorer::{
     ByteSink, ByteSource, Cursor, DeviceFault, Explorer, Listed2, ReadFault, Run, RunsError,
-    SliceSource, VecSink, one_listing, one_order, one_reading, read_first, runs_are_limited,
-    write_runs, write_whole,
+    SliceSource, VecSink, line_length, one_listing, one_order, one_reading, read_first,
+    runs_are_limited, write_runs, write_whole,
 };
 pub use laws::one_drawing;
 pub use ordinary::{Ran, run_from, run_with};

@@ -1,10 +1,11 @@
 //! Reads and writes of the system that count their failures. Any error is a failure, an
 //! interruption too; nothing is tried again.
-ghost use Rattle.std.specs.Prelude.{◌≡◌, ◌+◌, ◌<◌, ◌≤◌, ◌^◌};
-ghost use Rattle.std.specs.Prelude.{if◌then◌else◌, IfOk, OnErr, OnSome, is_ok, length, take};
+ghost use Rattle.std.specs.Prelude.{◌≡◌, ◌≢◌, ◌+◌, ◌<◌, ◌≤◌, ◌^◌, ℕ};
+ghost use Rattle.std.specs.Prelude.{if◌then◌else◌, IfOk, OnErr, OnSome, is_ok, length};
+ghost use Rattle.std.specs.Prelude.{slice_index, take};
 ghost use Rattle.std.specs.Io.KnownBytes.{Consumes, IsAtEnd, Keeps, ReadConsumes, WriteAppends};
 
-use ick_runs::DeviceFault;
+use ick_runs::{DeviceFault, line_length};
 use std::io::{BufRead, Read, Write};
 
 /// Reads some bytes. If the target isn't empty and no byte comes, the stream has ended.
@@ -28,8 +29,9 @@ pub fn read_from<R: Read>(
     }
 }
 
-/// Reads some of the bytes that a stream has read ahead, and lets it read ahead if none is left.
-/// If the target isn't empty and no byte comes, the stream has ended.
+/// Reads some of the bytes that a stream has read ahead, and no byte behind the first byte 10. The
+/// stream reads ahead only if no such byte is left. If the target isn't empty and no byte comes,
+/// the stream has ended.
 pub fn read_ahead_from<R: BufRead>(
     stream: &mut R,
     failures: &mut u64,
@@ -38,6 +40,7 @@ pub fn read_ahead_from<R: BufRead>(
     requires { failures.old + 1 < 2 ^ 64 }
     ensures count { failures.new ≡ failures.old + (if is_ok result then 0 else 1) }
     ensures fits { IfOk result (λ n. n ≤ length target.old) }
+    ensures line { IfOk result (λ n. (k : ℕ) → k + 1 < n → slice_index target.new k ≢ 10) }
     ensures bytes { IfOk result (λ n.
         Consumes (R.remaining stream.old) (R.remaining stream.new) (take n target.new)) }
     ensures end { IfOk result (λ n. n ≡ 0 → 0 < length target.old →
@@ -48,7 +51,8 @@ pub fn read_ahead_from<R: BufRead>(
         *failures += 1;
         return Err(DeviceFault);
     };
-    let count = ahead.len().min(target.len());
+    let most = ahead.len().min(target.len());
+    let count = line_length(&ahead[..most]);
     target[..count].copy_from_slice(&ahead[..count]);
     stream.consume(count);
     Ok(count)

@@ -1,7 +1,7 @@
 //! Defines devices over memory, whose bytes contracts know.
-ghost use Rattle.std.specs.Prelude.{◌≡◌, ◌+◌, ◌≤◌, ◌<◌, [], true};
+ghost use Rattle.std.specs.Prelude.{◌≡◌, ◌+◌, ◌++◌, ◌≤◌, ◌<◌, [], length, take, true};
 
-use crate::devices::{ByteSink, ByteSource, DeviceFault};
+use crate::devices::{ByteSink, ByteSource, DeviceFault, line_length};
 use std::alloc::Global;
 use std::marker::Model;
 
@@ -34,6 +34,17 @@ impl<'a> SliceSource<'a> {
     {
         self.rest
     }
+
+    /// Moves the next bytes into the front of `target`.
+    fn move_front(&mut self, target: &mut [u8], count: usize)
+        requires left { count ≤ length self.old }
+        requires room { count ≤ length target.old }
+        ensures moved { self.old ≡ take count target.new ++ self.new }
+    {
+        let (front, rest) = self.rest.split_at(count);
+        target[..count].copy_from_slice(front);
+        self.rest = rest;
+    }
 }
 
 impl ByteSource for SliceSource<'_> {
@@ -49,9 +60,14 @@ impl ByteSource for SliceSource<'_> {
 
     fn read(&mut self, target: &mut [u8]) -> Result<usize, DeviceFault> {
         let count = self.rest.len().min(target.len());
-        let (front, rest) = self.rest.split_at(count);
-        target[..count].copy_from_slice(front);
-        self.rest = rest;
+        self.move_front(target, count);
+        Ok(count)
+    }
+
+    fn read_in_line(&mut self, target: &mut [u8]) -> Result<usize, DeviceFault> {
+        let most = self.rest.len().min(target.len());
+        let count = line_length(&self.rest[..most]);
+        self.move_front(target, count);
         Ok(count)
     }
 }

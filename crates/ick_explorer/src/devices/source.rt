@@ -1,7 +1,7 @@
 //! Defines sources of bytes.
-ghost use Rattle.std.specs.Prelude.{◌≡◌, ◌+◌, ◌≤◌, ◌<◌, ◌^◌, ◌++◌};
+ghost use Rattle.std.specs.Prelude.{◌≡◌, ◌+◌, ◌-◌, ◌≤◌, ◌<◌, ◌^◌, ◌++◌};
 ghost use Rattle.std.specs.Prelude.{if◌then◌else◌, ℕ, List, Bool, [], true, IfOk, OnErr};
-ghost use Rattle.std.specs.Prelude.{is_ok, length, take};
+ghost use Rattle.std.specs.Prelude.{◌≢◌, is_ok, length, slice_index, take};
 
 /// Tells that a call of a device failed.
 #[derive(Clone, Copy, Debug)]
@@ -37,4 +37,41 @@ pub trait ByteSource {
         ensures end { told ≡ true → IfOk result (λ n.
             n ≡ 0 → 0 < length target.old → left self.old ≡ []) }
         ensures kept { told ≡ true → OnErr result (left self.new ≡ left self.old) };
+
+    /// Reads some bytes of the next line into the front of `target`, and returns their number. It
+    /// answers as `read` does, and takes no byte behind the byte 10 that ends the line. A source
+    /// that reads one byte at a time needs no other body.
+    ///
+    /// The count of failures must be below its greatest value.
+    fn read_in_line(&mut self, target: &mut [u8]) -> Result<usize, DeviceFault>
+        requires { failed self.old + 1 < 2 ^ 64 }
+        ensures count { failed self.new ≡ failed self.old + (if is_ok result then 0 else 1) }
+        ensures fits { IfOk result (λ n. n ≤ length target.old) }
+        ensures line { IfOk result (λ n. (k : ℕ) → k + 1 < n → slice_index target.new k ≢ 10) }
+        ensures taken { told ≡ true → IfOk result (λ n.
+            left self.old ≡ take n target.new ++ left self.new) }
+        ensures end { told ≡ true → IfOk result (λ n.
+            n ≡ 0 → 0 < length target.old → left self.old ≡ []) }
+        ensures kept { told ≡ true → OnErr result (left self.new ≡ left self.old) }
+    {
+        if target.is_empty() {
+            return Ok(0);
+        }
+        self.read(&mut target[..1])
+    }
+}
+
+/// Returns how many bytes the first line of a text has, with the byte 10 that ends it.
+pub fn line_length(text: &[u8]) -> usize
+    ensures within { result ≤ length text.now }
+    ensures some { 0 < length text.now → 0 < result }
+    ensures line { (k : ℕ) → k + 1 < result → slice_index text.now k ≢ 10 }
+    ensures whole { result < length text.now → slice_index text.now (result - 1) ≡ 10 }
+{
+    for (index, byte) in text.iter().enumerate() {
+        if *byte == b'\n' {
+            return index + 1;
+        }
+    }
+    text.len()
 }

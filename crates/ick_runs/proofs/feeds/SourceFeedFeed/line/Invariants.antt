@@ -2,8 +2,8 @@ use Rattle.std.proofs.Common.{◌≡◌, ◌^◌, ◌-◌, ◌++◌, length, tru
 use Rattle.ick_runs.specs.Streaming.{HasNoEnd}
 use Rattle.ick_runs.proofs.feeds.SourceFeedFeed.line.Given as goal
 
-abbrev pub invariant-bytes : goal.invariant-bytes
-invariant-bytes g l = record {
+abbrev pub invariant-reads : goal.invariant-reads
+invariant-reads g l = record {
   count : g.R.ByteSource.failed l.self.source.now ≡ g.R.ByteSource.failed l.initial.self.source.now;
   held : l.self.source.ghost_name ≡ l.initial.self.source.ghost_name;
   so_far : g.R.ByteSource.told ≡ true →
@@ -11,5 +11,5 @@ invariant-bytes g l = record {
   no_end : HasNoEnd l.target.items;
 }
 
-abbrev pub decreases-bytes : goal.decreases-bytes
-decreases-bytes g l = 2 ^ 64 - length l.target.items
+abbrev pub decreases-reads : goal.decreases-reads
+decreases-reads g l = 2 ^ 64 - length l.target.items
