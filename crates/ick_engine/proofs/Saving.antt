@@ -172,16 +172,6 @@ module _ (code : Code) (lowered : LoweredParts) (is : IsProgram code lowered) wh
         subst (Stands code lowered (file_of lowered v.registers)) (sym (state_with v q same input)) (ready.stands input);
   }
 
-  -- kept states of which everything is the same
-  pub same_saved : (one other : Saved) → one.place ≡ other.place → one.numbers.items ≡ other.numbers.items →
-      one.home.items ≡ other.home.items → one.statuses.items ≡ other.statuses.items →
-      one.returns.items ≡ other.returns.items → AreSame (parts_of one.rest) (parts_of other.rest) → (input : Input) →
-      state_of code lowered input (saved_view one) ≡ state_of code lowered input (saved_view other)
-  same_saved one other place numbers home statuses returns parts input =
-      sym (all_same (state_by code lowered input) (sym place) (sym (ap (λ l. take (length l) l) returns))
-      (sym (ap (λ l. map_of (scalar_names code) l 0) numbers)) (sym home) (sym statuses) parts.others parts.scalars
-      parts.arrays)
-
   -- a state that was put into a memory
   module _ (old m : View) (was : IsSteady code lowered old) (marked : IsReady code lowered m) where
     abbrev pub first : List ℕ

@@ -3,7 +3,7 @@ use Rattle.std.proofs.Common.{◌≡◌, ℕ, zero, suc, ◌+◌, ◌-◌, ◌<�
 use Rattle.std.proofs.Common.{Bool, length, take, map, get_or, arith, true, false}
 use Rattle.std.specs.Prelude.{slice_set, nat_lt, if◌then◌else◌}
 use Rattle.std.proofs.lemmas.Bool.Decides.{nat_tests}
-use Rattle.std.proofs.lemmas.List.{take-take, take_more_set, length-set, set_past, map-set, get_or-map}
+use Rattle.std.proofs.lemmas.List.{take-take, take_more_set, length-set, map-set, get_or-map}
 use Rattle.ick_code.specs.meaning.State.{Array, no_array}
 use Rattle.ick_engine.specs.declared.change.ArrayChange.{ArrayChange}
 use Rattle.ick_engine.specs.declared.change.ArrayChange.TheVariants as now
@@ -118,10 +118,6 @@ pub put_there : {A : Type 0} (x : A) (s : Stash A) → s.depth < length s.items 
 put_there {A} x s low =
     let mk : ℕ → Stash A = λ d. record { items = slice_set s.items s.depth x; depth = d } in
     ap mk (put_deeper x s low)
-
-pub at_slot_past : {A : Type 0} (f : Stash A → Stash A) (slot : ℕ) (ss : List (Stash A)) → length ss ≤ slot →
-    at_slot f slot ss ≡ ss
-at_slot_past f slot ss past = set_past ss slot (f (get_or ss slot no_stash)) past
 
 pub set_at : {A B : Type 0} (g : B → Stash A) (f : Stash A → Stash A) (xs : List B) (slot : ℕ) (old new : B) →
     slot < length xs → old ≡ get_or xs slot old → g new ≡ f (g old) → map g (slice_set xs slot new) ≡ at_slot f slot (map g xs)

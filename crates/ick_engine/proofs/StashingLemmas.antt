@@ -1,11 +1,11 @@
 -- Values that are put on stashes and taken off.
-use Rattle.std.proofs.Common.{take_all, ◌≡◌, ℕ, zero, suc, ◌+◌, ◌-◌, ◌<◌, ◌≤◌, List, [], ◌∷◌, ◌++◌, refl, ap, ap₂, sym, ◌∙◌, subst}
+use Rattle.std.proofs.Common.{◌≡◌, ℕ, zero, suc, ◌+◌, ◌-◌, ◌<◌, ◌≤◌, List, [], ◌∷◌, ◌++◌, refl, ap, ap₂, sym, ◌∙◌, subst}
 use Rattle.std.proofs.Common.{length, take, map, get_or, arith}
 use Rattle.std.specs.Prelude.{nat_lt, Result, Ok, Err, OnErr, ◌==◌, slice_set, if◌then◌else◌}
 use Rattle.std.proofs.Common.{true, false}
 use Rattle.std.proofs.lemmas.Bool.Decides.{nat_tests}
-use Rattle.std.proofs.lemmas.List.{take_more_set, take-append-le, length-set, length-map, length-append, map-set, get_or-map, set-set, set-get_or, get_or-set_same, take-set-le}
-use Rattle.std.proofs.Math.Seq.{take-append-add, take-suc}
+use Rattle.std.proofs.lemmas.List.{take_more_set, length-set, length-map, map-set, get_or-map, set-set, set-get_or, get_or-set_same, take-set-le}
+use Rattle.std.proofs.Math.Seq.{take-suc}
 use Rattle.ick_code.specs.meaning.State.{Array, no_array}
 use Rattle.ick_engine.specs.declared.change.ArrayChange.TheVariants as now
 use Rattle.ick_engine.specs.declared.memory.Array.{Array as Kept}
@@ -29,25 +29,6 @@ put_spare x s low =
         depth_same = one;
         places = omega (arith, length-set s.items s.depth x);
         values = ap (λ d. take d (slice_set s.items s.depth x)) one ∙ take-set-le s.depth s.items s.depth x few;
-      };
-    }
-
--- and to a new one behind them
-pub put_behind : {A : Type 0} (x : A) (s : Stash A) (items : List A) → items ≡ s.items ++ x ∷ [] →
-    s.depth ≡ length s.items → IsPutOn x s (record { items = items; depth = s.depth + 1 })
-put_behind x s items is full =
-    let one : s.depth + 1 - 1 ≡ s.depth = omega arith in
-    record {
-      values =
-          ap (take (s.depth + 1)) is ∙ ap (λ n. take (n + 1) (s.items ++ x ∷ [])) full
-          ∙ take-append-add s.items (x ∷ []) 1
-          ∙ ap (λ l. l ++ x ∷ []) (sym (take_all s.depth s.items (omega (arith, full))));
-      back = record {
-        depth_same = one;
-        places = omega (arith, ap length is, length-append s.items (x ∷ []));
-        values =
-            ap (λ d. take d items) one ∙ ap (take s.depth) is
-            ∙ take-append-le s.depth s.items (x ∷ []) (omega (arith, full));
       };
     }
 
@@ -163,15 +144,7 @@ like_arrays base low v stashes like =
     like_parts base low v (record v.parts { array_stashes = stashes })
     (record { others = refl; scalars = stashes_refl v.parts.scalar_stashes; arrays = like })
 
--- a stash that has a further place, or another value in a spare one
-pub grown_like : {A : Type 0} (x : A) (s : Stash A) (items : List A) → items ≡ s.items ++ x ∷ [] →
-    s.depth ≤ length s.items → StashLike s (record { items = items; depth = s.depth })
-grown_like x s items is few = record {
-  depth_same = refl;
-  places = omega (arith, ap length is, length-append s.items (x ∷ []));
-  values = ap (take s.depth) is ∙ take-append-le s.depth s.items (x ∷ []) few;
-}
-
+-- a stash that has another value in a spare place
 pub spare_like : {A : Type 0} (x : A) (s : Stash A) → StashLike s (record { items = slice_set s.items s.depth x; depth = s.depth })
 spare_like x s =
     let few : s.depth ≤ s.depth = omega arith in

@@ -190,23 +190,9 @@ undone_like base low no_change v w can l = l
 undone_high : (base : ℕ) (change : Change) (v w : View) → IsUndoable base change v → HighSame base w (undone change w)
 undone_high base (register_was at old) v w can = λ r high.
     get_or-set_other w.registers at r old 0 (λ e. absurd (omega (arith, e, high, can)))
-undone_high base (home_was at old) v w can = λ r high. refl
-undone_high base (status_was at old) v w can = λ r high. refl
-undone_high base (return_was at old) v w can = λ r high. refl
-undone_high base (element_was slot at old) v w can = λ r high. refl
-undone_high base (hidden_was slot old) v w can = λ r high. refl
-undone_high base (scalar_saved slot) v w can = λ r high. refl
-undone_high base (scalar_taken slot number) v w can = λ r high. refl
 undone_high base (scalar_restored slot number old) v w can = λ r high.
     get_or-set_other w.registers slot r old 0 (λ e. absurd (omega (arith, e, high, can.0)))
-undone_high base (array_saved slot) v w can = λ r high. refl
-undone_high base (array_was change slot old) v w can = λ r high. refl
-undone_high base (statuses_were old) v w can = λ r high. refl
-undone_high base (taken_was old) v w can = λ r high. refl
-undone_high base (output_was count) v w can = λ r high. refl
-undone_high base (last_was old) v w can = λ r high. refl
-undone_high base (lastin_was old) v w can = λ r high. refl
-undone_high base no_change v w can = λ r high. refl
+undone_high base other v w can = λ r high. refl
 
 -- a change whose undoing gives a view back
 pub notes_back : (base : ℕ) (changes : List Change) (low k : ℕ) (change : Change) (u v m : View) →
@@ -228,14 +214,13 @@ pub register_back : (at number : ℕ) (registers : List ℕ) (v : View) → v.re
 register_back at number registers v same =
     ap {A = List ℕ} (λ l. record v { registers = l }) (put_back registers at number ∙ sym same)
 
-pub home_back : (at number : ℕ) (home : List ℕ) (v : View) → v.home ≡ home →
-    undone (home_was at (get_or home at 0)) (record v { home = slice_set home at number }) ≡ v
-home_back at number home v same = ap {A = List ℕ} (λ l. record v { home = l }) (put_back home at number ∙ sym same)
+pub home_back : (at number : ℕ) (v : View) →
+    undone (home_was at (get_or v.home at 0)) (record v { home = slice_set v.home at number }) ≡ v
+home_back at number v = ap {A = List ℕ} (λ l. record v { home = l }) (put_back v.home at number)
 
-pub status_back : (at number : ℕ) (statuses : List ℕ) (v : View) → v.statuses ≡ statuses →
-    undone (status_was at (get_or statuses at 0)) (record v { statuses = slice_set statuses at number }) ≡ v
-status_back at number statuses v same =
-    ap {A = List ℕ} (λ l. record v { statuses = l }) (put_back statuses at number ∙ sym same)
+pub status_back : (at number : ℕ) (v : View) →
+    undone (status_was at (get_or v.statuses at 0)) (record v { statuses = slice_set v.statuses at number }) ≡ v
+status_back at number v = ap {A = List ℕ} (λ l. record v { statuses = l }) (put_back v.statuses at number)
 
 -- a number of a stash became the number of its scalar
 pub restored_back : (base low slot number n : ℕ) (registers : List ℕ) (v : View) (p : Parts) → v.registers ≡ registers →
@@ -290,15 +275,6 @@ keeps_register base changes older low k at old number registers v m from below i
         ∙ ap {A = List ℕ} (λ l. rewound (reverse (drop k older)) (record w { registers = l }))
         (set-set w.registers at (get_or registers at 0) old)
         ∙ sym (ap (λ es. rewound es w) first)
-
--- a register that is never restored
-pub skips_register : (base : ℕ) (changes : List Change) (low k at number : ℕ) (registers : List ℕ) (v m : View) →
-    v.registers ≡ registers → base ≤ at → Rewinds base changes low k v m →
-    Rewinds base changes low k (record v { registers = slice_set registers at number }) m
-skips_register base changes low k at number registers v m same above h =
-    alike_rewinds
-    (alike (first_above base at number v.registers registers same above) refl refl (parts_refl v.parts)
-    (first_refl low v.returns)) h
 
 -- an element
 element_same : (arrays : List Array) (slot at number : ℕ) → slot < length arrays →

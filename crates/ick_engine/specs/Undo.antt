@@ -227,18 +227,6 @@ NotesRegister Undoes old new at registers =
     (k number : ℕ) (v m : View) → v.registers ≡ registers → Undoes old k v m →
     Undoes new k (record v { registers = slice_set registers at number }) m
 
-abbrev pub NotesHome : {N : Type 0} → (N → ℕ → View → View → Type 0) → N → N →
-    ℕ → List ℕ → Type 0
-NotesHome Undoes old new at home =
-    (k number : ℕ) (v m : View) → v.home ≡ home → Undoes old k v m →
-    Undoes new k (record v { home = slice_set home at number }) m
-
-abbrev pub NotesStatus : {N : Type 0} → (N → ℕ → View → View → Type 0) → N → N →
-    ℕ → List ℕ → Type 0
-NotesStatus Undoes old new at statuses =
-    (k number : ℕ) (v m : View) → v.statuses ≡ statuses → Undoes old k v m →
-    Undoes new k (record v { statuses = slice_set statuses at number }) m
-
 abbrev pub NotesElement : {N : Type 0} → (N → ℕ → View → View → Type 0) → N → N →
     (slot at : ℕ) → List Array → Type 0
 NotesElement Undoes old new slot at arrays =

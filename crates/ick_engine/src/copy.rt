@@ -8,12 +8,12 @@ use crate::memory::{Array, ArrayStash, NumberStash, Rest};
 use ick_bits::NoMemory;
 use std::alloc::Global;
 
-/// Copies numbers.
-pub fn copy_numbers(alloc: Global, numbers: &[u32]) -> Result<Vec<u32>, NoMemory>
-    ensures { IfOk result (λ copy. copy.items ≡ numbers.now) }
+/// Copies a list.
+pub fn copy_list<T: Copy>(alloc: Global, items: &[T]) -> Result<Vec<T>, NoMemory>
+    ensures { IfOk result (λ copy. copy.items ≡ items.now) }
 {
     let mut copy = Vec::new(alloc);
-    copy.extend_from_slice(numbers)?;
+    copy.extend_from_slice(items)?;
     Ok(copy)
 }
 
@@ -22,16 +22,7 @@ pub fn copy_first(alloc: Global, numbers: &[u32], count: usize) -> Result<Vec<u3
     requires { count ≤ length numbers.now }
     ensures { IfOk result (λ copy. copy.items ≡ take count numbers.now) }
 {
-    copy_numbers(alloc, &numbers[..count])
-}
-
-/// Copies bytes.
-pub fn copy_bytes(alloc: Global, bytes: &[u8]) -> Result<Vec<u8>, NoMemory>
-    ensures { IfOk result (λ copy. copy.items ≡ bytes.now) }
-{
-    let mut copy = Vec::new(alloc);
-    copy.extend_from_slice(bytes)?;
-    Ok(copy)
+    copy_list(alloc, &numbers[..count])
 }
 
 /// Copies an array.
@@ -40,8 +31,8 @@ pub fn copy_array(alloc: Global, array: &Array) -> Result<Array, NoMemory>
     ensures hidden { IfOk result (λ copy. is_hidden copy ≡ is_hidden array.now) }
 {
     Ok(Array {
-        dimensions: copy_numbers(alloc, &array.dimensions)?,
-        elements: copy_numbers(alloc, &array.elements)?,
+        dimensions: copy_list(alloc, &array.dimensions)?,
+        elements: copy_list(alloc, &array.elements)?,
         hidden: array.hidden,
     })
 }
@@ -110,7 +101,7 @@ pub fn copy_rest(alloc: Global, rest: &Rest) -> Result<Rest, NoMemory>
         scalar_stashes: copy_number_stashes(alloc, &rest.scalar_stashes)?,
         array_stashes: copy_array_stashes(alloc, &rest.array_stashes)?,
         taken: rest.taken,
-        output: copy_bytes(alloc, &rest.output)?,
+        output: copy_list(alloc, &rest.output)?,
         last: rest.last,
         lastin: rest.lastin,
     })
@@ -124,20 +115,11 @@ pub fn put_first(numbers: &mut [u32], first: &[u32])
     numbers[..first.len()].copy_from_slice(first);
 }
 
-/// Replaces all numbers of a list. The list keeps its buffer if they fit.
-pub fn put_numbers(list: &mut Vec<u32>, numbers: &[u32]) -> Result<(), NoMemory>
-    ensures { OnOk result (list.new.items ≡ numbers.now) }
+/// Replaces all items of a list. The list keeps its buffer if they fit.
+pub fn put_list<T: Copy>(list: &mut Vec<T>, items: &[T]) -> Result<(), NoMemory>
+    ensures { OnOk result (list.new.items ≡ items.now) }
 {
     list.clear();
-    list.extend_from_slice(numbers)?;
-    Ok(())
-}
-
-/// Replaces all bytes of a list. The list keeps its buffer if they fit.
-pub fn put_bytes(list: &mut Vec<u8>, bytes: &[u8]) -> Result<(), NoMemory>
-    ensures { OnOk result (list.new.items ≡ bytes.now) }
-{
-    list.clear();
-    list.extend_from_slice(bytes)?;
+    list.extend_from_slice(items)?;
     Ok(())
 }

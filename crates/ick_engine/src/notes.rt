@@ -8,9 +8,8 @@ ghost use Rattle.ick_code.specs.meaning.State.{no_array};
 ghost use Rattle.ick_instructions.specs.Extends.{Extends};
 ghost use Rattle.ick_engine.specs.Undo.{array_was, change_of, stands_apart, statuses_were};
 ghost use Rattle.ick_engine.specs.Undo.{AlikeUndo, Change, Fixed, KeepsUndoing, Means};
-ghost use Rattle.ick_engine.specs.Undo.{NotesChange};
-ghost use Rattle.ick_engine.specs.Undo.{NotesElement, NotesHome, NotesRegister, NotesRestored};
-ghost use Rattle.ick_engine.specs.Undo.{NotesReturns, NotesStatus};
+ghost use Rattle.ick_engine.specs.Undo.{NotesChange, NotesElement, NotesRegister, NotesRestored};
+ghost use Rattle.ick_engine.specs.Undo.{NotesReturns};
 ghost use Rattle.ick_engine.specs.View.{View, array_of};
 
 use crate::change::{ArrayChange, Entry};
@@ -65,26 +64,6 @@ pub trait Notes: Drop {
         ensures base { fixed self.new ≡ fixed self.old }
         ensures changes { Extends (changes self.old) (changes self.new) }
         ensures notes { NotesRegister Undoes self.old self.new at registers.now };
-
-    /// Notes that a register will lead to another one.
-    fn note_home(&mut self, home: &[u32], at: u32)
-        requires room { 0 < room self.old }
-        requires there { at < length home.now }
-        ensures room { room self.old ≤ room self.new + 1 }
-        ensures low { low self.new ≡ low self.old }
-        ensures base { fixed self.new ≡ fixed self.old }
-        ensures changes { Extends (changes self.old) (changes self.new) }
-        ensures notes { NotesHome Undoes self.old self.new at home.now };
-
-    /// Notes that a statement will have another status.
-    fn note_status(&mut self, statuses: &[u8], at: u32)
-        requires room { 0 < room self.old }
-        requires there { at < length statuses.now }
-        ensures room { room self.old ≤ room self.new + 1 }
-        ensures low { low self.new ≡ low self.old }
-        ensures base { fixed self.new ≡ fixed self.old }
-        ensures changes { Extends (changes self.old) (changes self.new) }
-        ensures notes { NotesStatus Undoes self.old self.new at statuses.now };
 
     /// Notes that an element will have another number.
     fn note_element(&mut self, arrays: &[Array], slot: u32, at: u32)
@@ -204,12 +183,6 @@ impl Notes for Nobody {
 
     #[inline(always)]
     fn note_register(&mut self, registers: &[u32], at: u32) {}
-
-    #[inline(always)]
-    fn note_home(&mut self, home: &[u32], at: u32) {}
-
-    #[inline(always)]
-    fn note_status(&mut self, statuses: &[u8], at: u32) {}
 
     #[inline(always)]
     fn note_element(&mut self, arrays: &[Array], slot: u32, at: u32) {}

@@ -2,9 +2,7 @@
 
 ghost use Rattle.std.specs.Prelude.{◌≡◌, ◌+◌, ◌≤◌, true, length};
 
-use crate::copy::{
-    copy_bytes, copy_first, copy_numbers, copy_rest, put_bytes, put_first, put_numbers,
-};
+use crate::copy::{copy_first, copy_list, copy_rest, put_first, put_list};
 use crate::memory::{Array, ArrayStash, Memory, NumberStash, Rest};
 use crate::same::same_rest;
 use ick_bits::NoMemory;
@@ -140,8 +138,8 @@ impl Saved {
         Ok(Saved {
             place: memory.cursor.place,
             numbers: copy_first(alloc, &memory.registers, program.layout().base as usize)?,
-            home: copy_numbers(alloc, &memory.home)?,
-            statuses: copy_bytes(alloc, &memory.statuses)?,
+            home: copy_list(alloc, &memory.home)?,
+            statuses: copy_list(alloc, &memory.statuses)?,
             returns: copy_first(alloc, &memory.returns, memory.cursor.depth)?,
             rest: copy_rest(alloc, &memory.rest)?,
         })
@@ -175,13 +173,13 @@ impl Saved {
         ensures saved { OnOk result (IsSaved program.now.parts self.new (view_in memory.old)) }
         ensures steady { IsSteady program.now.code.now program.now.parts (view_in memory.new) }
     {
-        // `put_numbers` needs that a memory has a register for each scalar.
+        // `put_list` needs that a memory has a register for each scalar.
         program.law();
         let base = program.layout().base as usize;
-        put_numbers(&mut self.numbers, &memory.registers[..base])?;
-        put_numbers(&mut self.home, &memory.home)?;
-        put_bytes(&mut self.statuses, &memory.statuses)?;
-        put_numbers(&mut self.returns, &memory.returns[..memory.cursor.depth])?;
+        put_list(&mut self.numbers, &memory.registers[..base])?;
+        put_list(&mut self.home, &memory.home)?;
+        put_list(&mut self.statuses, &memory.statuses)?;
+        put_list(&mut self.returns, &memory.returns[..memory.cursor.depth])?;
         self.place = memory.cursor.place;
         swap(&mut self.rest, &mut memory.rest);
         Ok(())
@@ -247,10 +245,10 @@ impl Saved {
     {
         Ok(Saved {
             place: self.place,
-            numbers: copy_numbers(alloc, &self.numbers)?,
-            home: copy_numbers(alloc, &self.home)?,
-            statuses: copy_bytes(alloc, &self.statuses)?,
-            returns: copy_numbers(alloc, &self.returns)?,
+            numbers: copy_list(alloc, &self.numbers)?,
+            home: copy_list(alloc, &self.home)?,
+            statuses: copy_list(alloc, &self.statuses)?,
+            returns: copy_list(alloc, &self.returns)?,
             rest: copy_rest(alloc, &self.rest)?,
         })
     }

@@ -6,7 +6,7 @@ ghost use Rattle.ick_code.specs.meaning.State.{no_array};
 ghost use Rattle.ick_engine.specs.View.{array_of};
 
 use crate::change::{ArrayChange, Entry};
-use crate::copy::{copy_array, copy_bytes};
+use crate::copy::{copy_array, copy_list};
 use crate::memory::Array;
 use crate::notes::Notes;
 use ick_bits::NoMemory;
@@ -172,16 +172,6 @@ impl Notes for Trail {
     }
 
     #[inline(always)]
-    fn note_home(&mut self, home: &[u32], at: u32) {
-        self.note(Entry::Home(at, home[at as usize]));
-    }
-
-    #[inline(always)]
-    fn note_status(&mut self, statuses: &[u8], at: u32) {
-        self.note(Entry::Status(at, statuses[at as usize]));
-    }
-
-    #[inline(always)]
     fn note_element(&mut self, arrays: &[Array], slot: u32, at: u32) {
         let old = arrays[slot as usize].elements[at as usize];
         self.note(Entry::Element(slot, at, old));
@@ -229,7 +219,7 @@ impl Notes for Trail {
 
     fn note_statuses(&mut self, statuses: &[u8]) -> Result<(), NoMemory> {
         let alloc = *self.entries.allocator();
-        self.statuses.push(copy_bytes(alloc, statuses)?)?;
+        self.statuses.push(copy_list(alloc, statuses)?)?;
         self.entries.push_reserved(Entry::Statuses);
         Ok(())
     }

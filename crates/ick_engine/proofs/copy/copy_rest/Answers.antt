@@ -11,7 +11,7 @@ returns c =
       scalar_stashes = c.in_ok-copy_number_stashes.field-0;
       array_stashes = c.in_ok-copy_array_stashes.field-0;
       taken = c.args.rest.now.taken;
-      output = c.in_ok-copy_bytes.field-0;
+      output = c.in_ok-copy_list.field-0;
       last = c.args.rest.now.last;
       lastin = c.args.rest.now.lastin;
     })
@@ -19,4 +19,4 @@ returns c =
     (c.in_ok-copy_arrays.ensures.hidden ∙ ap (map is_hidden) c.deref.ensures.value)
     (c.in_ok-copy_number_stashes.ensures ∙ ap (map numbers_on) c.deref-2.ensures.value)
     (c.in_ok-copy_array_stashes.ensures ∙ ap (map arrays_on) c.deref-3.ensures.value) refl
-    (c.in_ok-copy_bytes.ensures ∙ c.deref-4.ensures.value) refl refl
+    (c.in_ok-copy_list.ensures ∙ c.deref-4.ensures.value) refl refl

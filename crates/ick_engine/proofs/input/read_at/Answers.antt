@@ -9,7 +9,7 @@ use Rattle.ick_engine.specs.Steady.{IsProgram}
 use Rattle.ick_engine.specs.View.{Parts, array_of, is_hidden, parts_of}
 use Rattle.ick_engine.proofs.Fetching.{stored_by_lists}
 use Rattle.ick_engine.proofs.NotingLemmas.{noted_parts, arrays_noted}
-use Rattle.ick_engine.proofs.Reading.{reads_nowhere, read_at_stops, reads_at}
+use Rattle.ick_engine.proofs.Reading.{reads_nowhere, read_at_stops, reads_at, took_by}
 use Rattle.ick_engine.proofs.Steadiness.{steady_by, parts_kept}
 use Rattle.ick_engine.proofs.input.read_at.Goals as goal
 
@@ -41,33 +41,8 @@ returns-in_default-clause-does g c = λ home statuses returns place depth text s
     c.in_default.ensures.index in
     (steady, reads_nowhere is steady i text g.R.Reader.Has c.args.reader.now c.requires.operation c.requires.slot none)
 
-pub returns-in-None-clause-does : goal.returns-in-None-clause-does
-returns-in-None-clause-does g c = λ home statuses returns place depth text steady.
-    let i = c.args.i.now in
-    let all = c.args.rest.now.arrays.items in
-    let subs = c.args.program.now.parts.subscripts.items in
-    let regs = c.args.registers.now in
-    let is : IsProgram c.args.program.now.code.now c.args.program.now.parts = record { compiled = c.law.ensures; lowered_is = c.law-2.ensures } in
-    let within : i.to < length all = omega (arith, c.requires.slot, c.requires.arrays) in
-    let some = placed all i.to c.index.result.now c.subscripts.result.now subs regs i.right (i.right + i.number)
-    (Some c.in-Some._at) within c.index.ensures c.subscripts.ensures c.in-Some.ensures.index in
-    let mid = parts_of c.read_line.new.rest in
-    let was = c.read_line.new.rest.arrays.items in
-    let now = c.store_at.new.arrays.items in
-    let kept = c.in-Ok-read_line.ensures.parts in (
-      steady_by steady regs (record mid { arrays = map array_of now; hidden = map is_hidden now }) refl steady.constants
-          (long now was c.in-None.ensures.hidden ∙ ap (λ p. length p.arrays) kept)
-          (ap length c.in-None.ensures.hidden ∙ ap (λ p. length p.hidden) kept)
-          (ap (λ p. length p.scalar_stashes) kept) (ap (λ p. length p.array_stashes) kept),
-      reads_at is steady i text g.R.Reader.Has c.args.reader.now c.read_line.new.reader c.requires.operation
-          c.requires.slot c.in-Some._at some c.in-Ok-read_line.number mid kept c.in-Ok-read_line.ensures.read None (map array_of now)
-          (map is_hidden now) c.in-None.ensures.hidden
-          (λ name at. stored_by_lists name was now c.subscripts.result.now subs regs i.to i.right (i.right + i.number)
-          c.in-Ok-read_line.number None None c.subscripts.ensures refl (c.in-None.ensures.stored name at)),
-    )
-
-pub returns-in-Some-store_at-clause-does : goal.returns-in-Some-store_at-clause-does
-returns-in-Some-store_at-clause-does g c = λ home statuses returns place depth text steady.
+pub returns-in-Ok-read_line-clause-does : goal.returns-in-Ok-read_line-clause-does
+returns-in-Ok-read_line-clause-does g c = λ home statuses returns place depth text steady.
     let i = c.args.i.now in
     let all = c.args.rest.now.arrays.items in
     let subs = c.args.program.now.parts.subscripts.items in
@@ -80,16 +55,18 @@ returns-in-Some-store_at-clause-does g c = λ home statuses returns place depth 
     let was = c.read_line.new.rest.arrays.items in
     let now = c.store_at.new.arrays.items in
     let kept = c.in-Ok-read_line.ensures.parts in
-    let fault = Some c.in-Some-store_at.fault in (
+    let fault = c.store_at.result in
+    rw c.stored.ensures (
       steady_by steady regs (record mid { arrays = map array_of now; hidden = map is_hidden now }) refl steady.constants
-          (long now was c.in-Some-store_at.ensures.hidden ∙ ap (λ p. length p.arrays) kept)
-          (ap length c.in-Some-store_at.ensures.hidden ∙ ap (λ p. length p.hidden) kept)
+          (long now was c.store_at.ensures.hidden ∙ ap (λ p. length p.arrays) kept)
+          (ap length c.store_at.ensures.hidden ∙ ap (λ p. length p.hidden) kept)
           (ap (λ p. length p.scalar_stashes) kept) (ap (λ p. length p.array_stashes) kept),
-      reads_at is steady i text g.R.Reader.Has c.args.reader.now c.read_line.new.reader c.requires.operation
+      took_by g.R.Reader.Has c.args.reader.now c.read_line.new.reader fault _
+          (reads_at is steady i text g.R.Reader.Has c.args.reader.now c.read_line.new.reader c.requires.operation
           c.requires.slot c.in-Some._at some c.in-Ok-read_line.number mid kept c.in-Ok-read_line.ensures.read fault (map array_of now)
-          (map is_hidden now) c.in-Some-store_at.ensures.hidden
+          (map is_hidden now) c.store_at.ensures.hidden
           (λ name at. stored_by_lists name was now c.subscripts.result.now subs regs i.to i.right (i.right + i.number)
-          c.in-Ok-read_line.number fault fault c.subscripts.ensures refl (c.in-Some-store_at.ensures.stored name at)),
+          c.in-Ok-read_line.number fault fault c.subscripts.ensures refl (c.store_at.ensures.stored name at))),
     )
 
 pub returns-in-Err-clause-does : goal.returns-in-Err-clause-does
@@ -109,22 +86,12 @@ returns-in-Err-clause-does g c = λ home statuses returns place depth text stead
           c.requires.slot c.in-Some._at some c.in-Err.halt new kept c.in-Err.ensures.read,
     )
 
-pub returns-in-None-clause-notes : goal.returns-in-None-clause-notes
-returns-in-None-clause-notes g c =
+pub returns-in-Ok-read_line-clause-notes : goal.returns-in-Ok-read_line-clause-notes
+returns-in-Ok-read_line-clause-notes g c =
     let old = parts_of c.args.rest.now in
     let mid = parts_of c.read_line.new.rest in
     let now = c.store_at.new.arrays.items in
     arrays_noted
     (noted_parts c.in-Ok.ensures.notes old mid (ap (λ (p : Parts). record p { taken = old.taken }) c.in-Ok-read_line.ensures.parts))
-    (map array_of now) (map is_hidden now) c.in-None.ensures.low c.in-None.ensures.base c.in-None.ensures.changes
-    c.in-None.ensures.hidden c.in-None.ensures.notes
-
-pub returns-in-Some-store_at-clause-notes : goal.returns-in-Some-store_at-clause-notes
-returns-in-Some-store_at-clause-notes g c =
-    let old = parts_of c.args.rest.now in
-    let mid = parts_of c.read_line.new.rest in
-    let now = c.store_at.new.arrays.items in
-    arrays_noted
-    (noted_parts c.in-Ok.ensures.notes old mid (ap (λ (p : Parts). record p { taken = old.taken }) c.in-Ok-read_line.ensures.parts))
-    (map array_of now) (map is_hidden now) c.in-Some-store_at.ensures.low c.in-Some-store_at.ensures.base c.in-Some-store_at.ensures.changes
-    c.in-Some-store_at.ensures.hidden c.in-Some-store_at.ensures.notes
+    (map array_of now) (map is_hidden now) c.store_at.ensures.low c.store_at.ensures.base c.store_at.ensures.changes
+    c.store_at.ensures.hidden c.store_at.ensures.notes

@@ -19,9 +19,6 @@ returns-clause-back c = λ m place depth marked h.
     (like_moved c.args.mark.place c.args.mark.depth (undone.leads m h)))
     (subst (λ b. HighSame b (view_in c.args.memory.now) v) c.requires.base (undone.stays m h)) (sym place) (sym depth)
 
-pub returns-clause-changes : goal.returns-clause-changes
-returns-clause-changes c = c.undo_newer.ensures.kept
-
 pub returns-clause-kept : goal.returns-clause-kept
 returns-clause-kept c =
     c.len-trail.ensures ∙ c.undo_newer.new.trail.entries.ok.0 ∙ sym (count_history c.undo_newer.new.trail)

@@ -1,14 +1,8 @@
-use Rattle.std.proofs.Common.{map, sym, arith}
-use Rattle.std.proofs.lemmas.List.{length-map}
+use Rattle.std.proofs.Common.{arith}
 use Rattle.ick_engine.specs.Undo.{taken_off}
 use Rattle.ick_engine.specs.View.{numbers_of}
-use Rattle.ick_engine.proofs.StashLemmas.{at_slot_past, set_at}
+use Rattle.ick_engine.proofs.StashLemmas.{set_at}
 use Rattle.ick_engine.proofs.stash.drop_number.Goals as goal
-
-pub returns-then-slot-len : goal.returns-then-slot-len
-returns-then-slot-len c =
-    sym (at_slot_past taken_off c.args.slot (map numbers_of c.args.stashes.now.items)
-    (omega (arith, c.len.ensures, length-map c.args.stashes.now.items numbers_of)))
 
 pub returns : goal.returns
 returns c =

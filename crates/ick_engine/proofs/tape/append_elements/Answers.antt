@@ -1,5 +1,4 @@
-use Rattle.std.proofs.Common.{◌<◌, ◌≤◌, ◌+◌, ◌++◌, length, ap, ◌∙◌, arith, take, take_all, sym, subst, vec_len}
-use Rattle.ick_code.specs.meaning.Tape.{tape_bytes, tape_after}
+use Rattle.std.proofs.Common.{◌<◌, ◌≤◌, ◌+◌, length, arith, sym, subst, vec_len}
 use Rattle.ick_engine.proofs.TapeOut.{next_bytes, next_position}
 use Rattle.ick_engine.proofs.tape.append_elements.Goals as goal
 
@@ -22,16 +21,3 @@ loop-at-preserved c =
           (sym c.push_reserved.ensures.capacity) c.loop-at.invariant.room;
       count = omega (arith, c.push_reserved.ensures.len, c.loop-at.invariant.count);
     }
-
-pub returns-clause-output : goal.returns-clause-output
-returns-clause-output c =
-    c.loop-at.invariant.output
-    ∙ ap (λ l. l ++ tape_bytes c.args.last (take c.loop-at.at c.args.elements.now.items)) c.reserve.ensures.items
-    ∙ ap (λ l. c.args.output.now.items ++ tape_bytes c.args.last l)
-    (take_all c.loop-at.at c.args.elements.now.items (omega (arith, c.loop-at-test.false, c.args.elements.now.ok.0)))
-
-pub returns-clause-last : goal.returns-clause-last
-returns-clause-last c =
-    c.loop-at.invariant.position
-    ∙ ap (tape_after c.args.last)
-    (take_all c.loop-at.at c.args.elements.now.items (omega (arith, c.loop-at-test.false, c.args.elements.now.ok.0)))

@@ -1,10 +1,10 @@
 use Rattle.std.proofs.Common.{ap, sym, ◌∙◌, length, refl, subst}
 use Rattle.ick_engine.specs.Memory.{view_in}
-use Rattle.ick_engine.specs.Saved.{AreSame, HasLists, IsLoaded, IsSaved}
+use Rattle.ick_engine.specs.Saved.{AreSame, IsLoaded, IsSaved}
 use Rattle.ick_engine.specs.Steady.{IsProgram, IsReady}
 use Rattle.ick_engine.specs.View.{View, parts_of}
 use Rattle.ick_engine.proofs.Readiness.{ready_of, state_of_both}
-use Rattle.ick_engine.proofs.Saving.{first, kept_state, lists_of, loaded, put_in, same_parts_refl, used}
+use Rattle.ick_engine.proofs.Saving.{first, kept_state, loaded, put_in, same_parts_refl, used}
 use Rattle.ick_engine.proofs.saved.Saved.exchange.Goals as goal
 
 pub returns-clause-loaded : goal.returns-clause-loaded
@@ -34,9 +34,3 @@ returns-clause-loaded c =
           state_of_both _ _ kept
           (λ h. (by h).states input ∙ sym (kept_state code parts saved h.0 is.lowered_is.base h.2 input));
     }
-
-pub returns-clause-spare : goal.returns-clause-spare
-returns-clause-spare c =
-    let code = c.args.program.now.code.now in
-    subst (λ r. HasLists code (parts_of r)) (sym (c.swap.ensures.y_after ∙ c.put_lists.ensures.rest))
-    (lists_of code c.args.program.now.parts (view_in c.args.memory.now) c.requires.steady)

@@ -1,4 +1,4 @@
-use Rattle.std.proofs.Common.{refl, ◌≡◌, ℕ, ◌+◌, ◌-◌, ◌<◌, ◌≤◌, ◌++◌, [], ◌∷◌, sym, ap, ◌∙◌, subst, arith, length, get_or, Fits, w32}
+use Rattle.std.proofs.Common.{refl, ◌≡◌, ◌+◌, ◌-◌, ◌<◌, ◌++◌, [], ◌∷◌, sym, ap, ◌∙◌, subst, arith, length, get_or}
 use Rattle.ick_engine.specs.declared.change.Entry.TheVariants.{Return}
 use Rattle.ick_engine.specs.Undo.{Rewinds, return_was}
 use Rattle.ick_instructions.proofs.Extends.{extends_trans}
@@ -33,14 +33,6 @@ returns-preserved c =
           (notes_return base (changes_in t) t.low (t.low - 1) k v m next
           (omega (arith, there, ap length same)) (old.notes k v m same h));
     }
-
-pub overflow_cast-at : goal.overflow_cast-at
-overflow_cast-at c =
-    let few : c.returns.self.low - 1 ≤ 79 = omega (arith, c.returns.invariant.lower, c.requires.there) in
-    few_fits (c.returns.self.low - 1) few
-  where
-    few_fits : (n : ℕ) → n ≤ 79 → Fits w32 n
-    few_fits n few = omega arith
 
 pub returns-clause-notes : goal.returns-clause-notes
 returns-clause-notes c = λ k v m same h.

@@ -1,13 +1,8 @@
 use Rattle.std.proofs.Common.{sym, subst, arith}
 use Rattle.std.specs.Prelude.{slice_set}
 use Rattle.ick_engine.specs.TrailChanges.{changes_in, UndoesBy}
-use Rattle.ick_engine.proofs.Undoing.{keeps_register, register_back, skips_register}
+use Rattle.ick_engine.proofs.Undoing.{keeps_register, register_back}
 use Rattle.ick_engine.proofs.trail.TrailNotes.note_register.Goals as goal
-
-pub returns-then-at-self-clause-notes : goal.returns-then-at-self-clause-notes
-returns-then-at-self-clause-notes c = λ k number v m same h.
-    let t = c.args.self.now in
-    (h.0, skips_register t.base (changes_in t) t.low k c.args.at number c.args.registers.now v m same c.if-at-self.true h.1)
 
 pub returns-then-has_noted-clause-notes : goal.returns-then-has_noted-clause-notes
 returns-then-has_noted-clause-notes c = λ k number v m same h.
