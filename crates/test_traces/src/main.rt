@@ -13,7 +13,7 @@ use ick_engine::{Exit, Memory, NoTraces, Nobody, Notes, TextReader, fresh_memory
 use ick_instructions::Lowered;
 use ick_lowering::lower;
 use ick_source::read_source;
-use ick_traces::{Traces, build_traces, fixed_statements, follow_traces};
+use ick_traces::{SideExit, Traces, build_traces, fixed_statements, follow_traces};
 use std::io;
 use std::io::ErrorKind;
 
@@ -68,13 +68,24 @@ fn show_code(rt: &HostRuntime, code: &Code<'_>, steps: u32) -> io::Result<()> {
     }
 }
 
-/// Prints each instruction of traces, and where it is in the program.
+/// Prints each instruction of traces, and its side exit, if it has one.
 fn print_traces(rt: &HostRuntime, traces: &Traces) -> io::Result<()> {
-    for at in 0..traces.code.len().min(traces.origins.len()) {
-        let (i, m) = (traces.code[at], traces.origins[at]);
-        let (operation, here, steps, pending) = (i.operation, m.here, m.steps, m.count);
+    for at in 0..traces.code.len() {
+        let i = traces.code[at];
+        let operation = i.operation;
+        let exit = i.right as usize;
+        if operation.is_calculation() || exit >= traces.exits.len() {
+            println!(rt; "{at}: {operation:?}")?;
+            continue;
+        }
+        let SideExit {
+            here,
+            steps,
+            count,
+            ..
+        } = traces.exits[exit];
         println!(rt;
-            "{at}: {operation:?} of statement {here} after {steps} steps, {pending} pending"
+            "{at}: {operation:?} of statement {here} after {steps} steps, {count} pending"
         )?;
     }
     Ok(())
