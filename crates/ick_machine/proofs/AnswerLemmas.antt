@@ -1,8 +1,8 @@
 -- What a machine asks, by the status of the statement that is met.
 use Rattle.std.proofs.Common.{◌≡◌, ℕ, suc, ◌+◌, ◌-◌, ◌<◌, ◌≤◌, Bool, true, false, List, [], length, get_or}
 use Rattle.std.proofs.Common.{Option, Some, None, refl, sym, ap, ◌∙◌, inl, inr, arith}
-use Rattle.std.specs.Prelude.{◌⊎◌, nat_lt, nat_le, ◌&&◌, option_map, if◌then◌else◌, is_some, not}
-use Rattle.std.proofs.lemmas.Bool.{cases_lt, not-true, not-false}
+use Rattle.std.specs.Prelude.{◌⊎◌, nat_lt, nat_le, ◌&&◌, option_map, if◌then◌else◌, is_some}
+use Rattle.std.proofs.lemmas.Bool.{cases_lt}
 use Rattle.std.proofs.lemmas.Bool.Decides.{nat_tests}
 use Rattle.std.proofs.lemmas.Option.{slice_get_past}
 use Rattle.ick_syntax.specs.StatementTree.{StatementTree}
@@ -151,24 +151,3 @@ module _ (code : Code) (lowered : LoweredParts) (v : View) (ready : IsReady code
     asks_status status end none is =
         ap asked_by is ∙ sym asks_by
         ∙ sym (ap (λ o. ask (code_program code) (run_state code lowered input v o)) none)
-
-    no_end : (o : Option RawEnd) → is_some o ≡ false → o ≡ None
-    no_end None is = refl
-    no_end (Some e) is = absurd (cc)
-
-    -- a run that goes on is plain unless its status asks a choice
-    module _ (status : ℕ) (end : Option RawEnd) (going : is_some end ≡ false)
-        (is : status ≡ get_or v.statuses v.place 0) (chance : Bool) (says : chance ≡ is_open status) where
-      asked : ask (code_program code) (run_state code lowered input v end)
-          ≡ (if chance then choice (100 - status) else plain)
-      asked =
-          sym (asks_status status end (no_end end going) is)
-          ∙ ap (λ b. if b then choice (100 - status) else plain) (sym says)
-
-      pub certain_free : not chance ≡ true → IsPlain (code_program code) (run_state code lowered input v end)
-      certain_free certain = asked ∙ ap (λ b. if b then choice (100 - status) else plain) (not-true chance certain)
-
-      pub open_bound : not chance ≡ false → ¬ IsPlain (code_program code) (run_state code lowered input v end)
-      open_bound open_ free =
-          let chosen = ap (λ b. if b then choice (100 - status) else plain) (not-false chance open_) in
-          absurd (cc (asked, chosen, free))

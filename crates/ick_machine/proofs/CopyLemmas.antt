@@ -2,15 +2,21 @@
 use Rattle.std.proofs.Common.{◌≡◌, ℕ, zero, suc, ◌<◌, List, [], ◌∷◌}
 use Rattle.std.proofs.Common.{◌++◌, length, Bool, true, false, Option, Some, None}
 use Rattle.std.proofs.Common.{refl, ap, sym, ◌∙◌, subst, arith, append-nil}
-use Rattle.std.specs.Prelude.{map, slice_index_or, if◌then◌else◌}
+use Rattle.std.specs.Prelude.{map, slice_index_or, if◌then◌else◌, vec_len}
 use Rattle.std.specs.List.{All}
 use Rattle.std.specs.Option.{option_to_list}
 use Rattle.std.proofs.lemmas.List.Elements.{All-append}
 use Rattle.ick_code.specs.declared.code.Code.{Code}
 use Rattle.ick_instructions.specs.declared.lowered.LoweredParts.{LoweredParts}
+use Rattle.ick_instructions.specs.declared.lowered.Lowered.{Lowered}
 use Rattle.ick_engine.specs.Saved.{IsKept}
+use Rattle.ick_engine.specs.View.{input_of}
+use Rattle.ick_backtrack.specs.Machine.{Machine}
+use Rattle.ick_machine.specs.declared.copied.Copied.{Copied}
 use Rattle.ick_machine.specs.declared.copied.Copy.{Copy}
-use Rattle.ick_machine.specs.Copies.{AreCopies}
+use Rattle.ick_machine.specs.declared.trailed.Trailed.{Trailed}
+use Rattle.ick_machine.specs.Copies.{AreCopies, copied_state}
+use Rattle.ick_machine.specs.Seen.{fixed_parts}
 
 pub states_pushed : {A B : Type 0} (f : A → B) (xs : List A) (x : A) → map f (xs ++ x ∷ []) ≡ map f xs ++ f x ∷ []
 states_pushed f [] x = refl
@@ -51,3 +57,15 @@ module _ (code : Code) (lowered : LoweredParts) where
       AreCopies code lowered all → AreCopies code lowered copies
   less copies all None is given = subst (AreCopies code lowered) (is ∙ append-nil copies) given
   less copies all (Some copy) is given = (one_less copies all copy is given).0
+
+-- the machine whose copies these are, over another machine's state
+abbrev pub copied_over : Machine → Lowered × List ℕ × ℕ → List Copy → Machine
+copied_over m fixed copies =
+    record m { marks = map (copied_state fixed.0.code.now fixed.0.parts (input_of fixed.1)) copies }
+
+-- a machine goes on to have no marks, and copies of its states
+pub still_copied : (m : Copied) (new : Trailed) → fixed_parts new ≡ fixed_parts m.machine →
+    (vec_len new.marks ≡ 0) × ∥ AreCopies new.lowered.code.now new.lowered.parts m.copies.items ∥₁
+still_copied m new fixed =
+    subst (λ (f : Lowered × List ℕ × ℕ). (f.2 ≡ 0) × ∥ AreCopies f.0.code.now f.0.parts m.copies.items ∥₁) (sym fixed)
+    (m.unmarked, m.copied)

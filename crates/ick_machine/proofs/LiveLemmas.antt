@@ -1,21 +1,29 @@
 -- What a machine shows that takes its input from a feed.
-use Rattle.std.proofs.Common.{◌≡◌, ℕ, Bool, true, false, List, [], Option, Some, None, Result, Ok, Err, refl, ap, ◌∙◌}
-use Rattle.std.specs.Prelude.{IfOk, option_map, slice_range, if◌then◌else◌}
+use Rattle.std.proofs.Common.{◌≡◌, ℕ, ◌+◌, true, false, List, [], Option, Some, None, refl, ap, sym}
+use Rattle.std.proofs.Common.{◌∙◌, Bool, subst}
+use Rattle.std.specs.Prelude.{option_map, slice_range, if◌then◌else◌}
 use Rattle.ick_syntax.specs.StatementTree.{StatementTree}
 use Rattle.ick_code.specs.declared.code.Code.{Code}
 use Rattle.ick_code.specs.Compiled.{code_program}
-use Rattle.ick_code.specs.meaning.State.{State, statement_at}
-use Rattle.ick_code.specs.meaning.Move.{Asking, choice, plain, ended, ask, ask_at, ask_of, is_uncertain}
+use Rattle.ick_code.specs.meaning.State.{State, Ending, statement_at}
+use Rattle.ick_code.specs.meaning.Move.{Asking, choice, plain, ended, ask, ask_at, ask_of, is_uncertain, advance}
 use Rattle.ick_code.proofs.AskLaws.{ask_same}
 use Rattle.ick_instructions.specs.declared.lowered.LoweredParts.{LoweredParts}
 use Rattle.ick_engine.specs.declared.exit.RawEnd.{RawEnd}
-use Rattle.ick_engine.specs.View.{View, Input, end_of, input_of}
+use Rattle.ick_engine.specs.View.{View, end_of, input_of}
 use Rattle.ick_backtrack.specs.Asked.{Finish, finished, asked_at_end}
-use Rattle.ick_backtrack.specs.declared.feed_fault.FeedFault.{FeedFault}
+use Rattle.ick_backtrack.specs.Machine.{Program}
+use Rattle.ick_backtrack.specs.Steps.{IsQuiet, RunsOn}
 use Rattle.ick_machine.specs.Feeds.{input_after}
-use Rattle.ick_machine.specs.Message.{asked_message}
+use Rattle.ick_machine.specs.Live.{LiveMachine, fed}
+use Rattle.ick_machine.specs.Message.{asked_message, end_message}
 use Rattle.ick_machine.specs.Run.{ending_of, run_state}
 use Rattle.ick_machine.proofs.FedLemmas.{same_end}
+use Rattle.ick_machine.proofs.StepsLemmas.{no_step, one_more, steps_on}
+
+-- the message of an end
+message_at : (end : Ending) (asked : Asking) → Some (ended end) ≡ Some asked → asked_message asked ≡ end_message end
+message_at end asked is = let same : asked ≡ ended end = cc in ap asked_message same
 
 -- it asks what it would over its last line
 module _ (code : Code) (lowered : LoweredParts) (line text : List ℕ) (v : View) (same : text ≡ line) where
@@ -44,6 +52,15 @@ module _ (code : Code) (lowered : LoweredParts) (line text : List ℕ) (v : View
       let is_live : over ≡ live = cc in
       ap asked_at_end is_over ∙ ap (λ x. Some (ended x)) is_live
 
+  -- and has the message of this end
+  pub said_at : (end : Option RawEnd) (e : RawEnd) (finish : Finish) (ending : Ending) → end ≡ Some e →
+      Some finish ≡ option_map finished (ending_of code (input_of text) (Some e)) → finish ≡ finished ending →
+      asked_message (ask (code_program code) (run_state code lowered (input_after line []) v end)) ≡ end_message ending
+  said_at end e finish ending end_is is finish_is =
+      message_at ending (ask (code_program code) (run_state code lowered (input_after line []) v end))
+      (ap asked_at_end (sym finish_is) ∙ asks_end e finish is
+      ∙ ap (λ o. Some (ask (code_program code) (run_state code lowered (input_after line []) v o))) (sym end_is))
+
 -- a run that hasn't ended has no message
 none_at : (found : Option StatementTree) (s : State) → asked_message (ask_at found s) ≡ []
 none_at None s = refl
@@ -58,8 +75,22 @@ unfolding ask
 no_message program s going =
     ap (λ e. asked_message (ask_of e program s)) going ∙ none_at (statement_at program s.place) s
 
--- what holds for every input holds for one
-pub for_input : (r : Result ℕ FeedFault) (P : ℕ → Input → Type 0) (input : Input) →
-    IfOk r (λ k. (any : Input) → P k any) → IfOk r (λ k. P k input)
-for_input (Ok k) P input h = h input
-for_input (Err e) P input h = tt
+-- a run goes on by itself whatever input is left
+pub quiet_fed : (program : Program) (s : State) (left : List ℕ) → IsQuiet program s → IsQuiet program (fed left s)
+quiet_fed program s left quiet = (ask_same program s (fed left s) refl refl refl ∙ quiet.0, quiet.1)
+
+-- a machine has made steps while it went on by itself
+abbrev pub HasFed : (old : LiveMachine) → List ℕ → ℕ → (new : LiveMachine) → List ℕ → Type 0
+HasFed old left k new rest = RunsOn IsQuiet old.program (fed left old.state) k (fed rest new.state)
+
+pub fed_further : (old mid new : LiveMachine) (left rest last : List ℕ) (j k : ℕ) → mid.program ≡ old.program →
+    HasFed old left j mid rest → HasFed mid rest k new last → HasFed old left (j + k) new last
+fed_further old mid new left rest last j k same first next =
+    steps_on IsQuiet old.program (fed left old.state) (fed rest mid.state) (fed last new.state) j k first
+    (subst (λ p. RunsOn IsQuiet p (fed rest mid.state) k (fed last new.state)) same next)
+
+pub fed_once : (old new : LiveMachine) (left rest : List ℕ) → IsQuiet old.program old.state →
+    fed rest new.state ≡ advance old.program (fed left old.state) false → HasFed old left 1 new rest
+fed_once old new left rest quiet is =
+    one_more IsQuiet old.program (fed left old.state) (fed left old.state) (fed rest new.state) 0
+    (no_step IsQuiet old.program (fed left old.state)) (quiet_fed old.program old.state left quiet) is

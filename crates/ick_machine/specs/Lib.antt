@@ -3,7 +3,6 @@ pub mod RunIn
 pub mod Asked
 pub mod Marks
 pub mod Copies
-pub mod Whole
 pub mod Seen
 pub mod Present
 pub mod Feeds

@@ -11,7 +11,7 @@ use Rattle.ick_engine.specs.Memory.{view_in}
 use Rattle.ick_engine.specs.Steady.{IsReady}
 use Rattle.ick_engine.specs.Undo.{Change, Rewinds, rewound}
 use Rattle.ick_engine.specs.View.{View, Input}
-use Rattle.ick_machine.specs.declared.whole.Marked.{Marked}
+use Rattle.ick_machine.specs.declared.trailed.Marked.{Marked}
 use Rattle.ick_machine.specs.Run.{run_state}
 
 -- the view to which undoing all changes behind a mark leads

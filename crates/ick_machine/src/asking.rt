@@ -1,23 +1,20 @@
 //! What a machine asks before a step, and how its run ended.
 
 ghost use Rattle.std.specs.Prelude.{◌≡◌, Some, slice_range, option_map};
-ghost use Rattle.std.specs.Prelude.{true, false};
 ghost use Rattle.ick_code.specs.meaning.State.{statement_at};
 ghost use Rattle.ick_code.specs.meaning.Move.{ask};
 ghost use Rattle.ick_code.specs.Compiled.{code_program};
 ghost use Rattle.ick_engine.specs.Memory.{view_in};
 ghost use Rattle.ick_engine.specs.Steady.{IsReady};
-ghost use Rattle.ick_engine.specs.View.{Input, input_of, text_of as text_in};
+ghost use Rattle.ick_engine.specs.View.{input_of, text_of as text_in};
 ghost use Rattle.ick_machine.specs.Asked.{asked_by, is_open};
 ghost use Rattle.ick_machine.specs.Run.{ending_of, run_state};
 ghost use Rattle.ick_backtrack.specs.Asked.{asked_of, finish_of, finished};
-ghost use Rattle.ick_backtrack.specs.Steps.{IsPlain};
 
 use ick_backtrack::{Ask, End};
 use ick_bits::{Fault, FaultKind};
 use ick_code::Code;
 use ick_engine::{Memory, RawEnd};
-use ick_instructions::Lowered;
 use ick_traces::Followed;
 
 /// Returns the bytes of a text between two positions. It stops at the end of the text.
@@ -72,8 +69,8 @@ pub fn is_chance(status: u8) -> bool
     status > 0 && status < 100
 }
 
-/// Returns what is asked at a statement with a status of the engine's memory (Revised Manual, 4.3): a
-/// choice with its chance from 1 to 99, or nothing.
+/// Returns what is asked at a statement with a status of the engine's memory (Revised Manual, 4.3):
+/// a choice with its chance from 1 to 99, or nothing.
 pub fn asked_at<'c>(status: u8) -> Ask<'c>
     ensures { asked_of result ≡ Some (asked_by status) }
 {
@@ -101,21 +98,4 @@ pub fn answer<'c, 'a>(
         return Ask::Ended(end_of(lowered.program().code, text, ended));
     }
     asked_at(memory.statuses[memory.cursor.place as usize])
-}
-
-/// Returns whether nothing is asked before the next step, because there is one way to go on
-/// (Revised Manual, 4.3).
-pub fn is_plain(lowered: &Lowered<'_, '_>, memory: &Memory, end: Option<RawEnd>) -> bool
-    requires { IsReady lowered.now.code.now lowered.now.parts (view_in memory.now) }
-    ensures plain { (input : Input) → result ≡ true →
-        IsPlain (code_program lowered.now.code.now)
-        (run_state lowered.now.code.now lowered.now.parts input (view_in memory.now) end) }
-    ensures asked { (input : Input) → result ≡ false →
-        ¬ IsPlain (code_program lowered.now.code.now)
-        (run_state lowered.now.code.now lowered.now.parts input (view_in memory.now) end) }
-{
-    if end.is_some() {
-        return false;
-    }
-    !is_chance(memory.statuses[memory.cursor.place as usize])
 }

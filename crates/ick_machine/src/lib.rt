@@ -5,30 +5,24 @@
 //! |---|---|
 //! | `steps` | steps of a run: as many as it makes by itself, or one |
 //! | `asking` | what a machine asks before a step, and how its run has ended, with the fault |
-//! | `whole` | steps that are made whole or not at all |
 //! | `trailed` | a machine with marks that notes each change |
 //! | `copied` | a machine with marks that copies its state |
 //! | `present` | the present state of a machine with marks, to be read |
 //! | `feed` | where the input of a run comes from that is read while it runs |
 //! | `feed_reader` | a feed as the input of a step |
-//! | `fed` | steps whose input comes from a feed |
 //! | `live_ask` | what a machine without marks asks |
-//! | `message` | the message that a run ends with |
 //! | `live` | a machine without marks, which takes its input from a feed |
 #![tactic(auto)]
 
 mod asking;
 mod copied;
-mod fed;
 mod feed;
 mod feed_reader;
 mod live;
 mod live_ask;
-mod message;
 mod present;
 mod steps;
 mod trailed;
-mod whole;
 
 pub use asking::{asked_at, end_of};
 pub use copied::Copied;

@@ -4,15 +4,16 @@ ghost use Rattle.std.specs.Prelude.{◌≡◌, false};
 ghost use Rattle.ick_machine.specs.RunIn.{CanGoOn};
 
 use crate::asking::{answer, end_of};
-use crate::fed::{fed_step, fed_steps};
 use crate::feed::Feed;
+use crate::feed_reader::FeedReader;
 use crate::live_ask::LiveAsk;
-use crate::message::append_end_message;
-use ick_backtrack::{Ask, FeedFault};
-use ick_bits::NoMemory;
+use crate::steps::{make_step, make_steps};
+use ick_backtrack::{End, FeedFault};
+use ick_bits::{NoMemory, append_message};
 use ick_code::Code;
-use ick_engine::{Memory, RawEnd, fresh_memory};
+use ick_engine::{Memory, Nobody, RawEnd, fresh_memory};
 use ick_lowering::lower;
+use ick_syntax::Kind;
 use ick_traces::{Followed, add_traces};
 use std::alloc::Global;
 
@@ -105,16 +106,19 @@ impl<'c, 'a> Live<'c, 'a> {
         ensures reads { result ≡ Err FeedFault.Read →
             MeetsInput (seen self.old).program (seen self.old).state }
     {
-        let stepped = fed_step(
-            self.lowered.program(),
-            &mut self.memory,
-            &mut self.end,
-            &mut self.line,
-            feed,
-            done,
-        );
-        self.failed = stepped.is_err();
-        stepped
+        let allowed = self.meets_input();
+        self.failed = true;
+        let printed = self.memory.rest.output.clone()?;
+        let mut reader = FeedReader::new(feed, &mut self.line, allowed, false);
+        let program = self.lowered.program();
+        let stepped = make_step(program, &mut self.memory, &mut self.end, &mut reader, done);
+        let outcome = reader.outcome(stepped);
+        if outcome.is_err() {
+            self.memory.rest.output = printed;
+            return outcome;
+        }
+        self.failed = false;
+        outcome
     }
 
     /// Makes steps, as many as the limit allows, while the run goes on by itself: nothing is asked,
@@ -146,17 +150,91 @@ impl<'c, 'a> Live<'c, 'a> {
         ensures reads { let old = seen self.old in F.told ≡ true → result ≡ Err FeedFault.Read
             → LeadsToInput old.program (fed (F.left feed.old) old.state) limit }
     {
-        let ran = fed_steps(
+        let mut made = 0;
+        'steps: while made < limit && self.is_quiet() {
+            made += self.run_to_stream(limit - made, feed)?;
+            if made == limit || !self.is_quiet() {
+                return Ok(made);
+            }
+            self.step(false, feed)?;
+            made += 1;
+        }
+        Ok(made)
+    }
+
+    /// Returns whether the statement that is met is a WRITE IN.
+    #[tactic(auto, unfolding(crate::specs::Live::seen))]
+    fn meets_input(&self) -> bool
+        ensures { result ≡ true → MeetsInput (seen self.now).program (seen self.now).state }
+    {
+        let code = self.lowered.program().code;
+        let here = self.memory.cursor.place;
+        if here == 0 || here > code.count() {
+            return false;
+        }
+        matches!(code.kind(here), Kind::WriteIn)
+    }
+
+    /// Returns whether the run goes on by itself: nothing is asked, and no output is held.
+    #[tactic(auto, unfolding(crate::specs::Live::seen))]
+    fn is_quiet(&self) -> bool
+        requires sound { (seen self.now).failed ≡ false }
+        ensures quiet { result ≡ true → IsQuiet (seen self.now).program (seen self.now).state }
+        ensures rests { result ≡ false → ¬ IsQuiet (seen self.now).program (seen self.now).state }
+    {
+        self.memory.rest.output.is_empty() && matches!(self.asks(), LiveAsk::Plain)
+    }
+
+    /// Makes steps while nothing is asked, at most as many as the limit. Returns their number. It
+    /// stops before statements of input and output, and asks the feed for nothing. After an error
+    /// the machine has failed, and holds no output.
+    ///
+    /// It looks at the output once, after the last step. What was printed stays, so no output was
+    /// held before any of the steps.
+    #[tactic(auto, unfolding(crate::specs::Live::seen))]
+    fn run_to_stream<F: Feed>(&mut self, limit: u32, feed: &mut F) -> Result<u32, NoMemory>
+        requires sound { (seen self.old).failed ≡ false }
+        requires quiet { IsQuiet (seen self.old).program (seen self.old).state }
+        requires room { F.failed feed.old + 1 < 2 ^ 64 }
+        ensures runs { let old = seen self.old in F.told ≡ true
+            → IfOk result (λ k. RunsOn IsQuiet old.program (fed (F.left feed.old) old.state) k
+            (fed (F.left feed.new) (seen self.new).state)) }
+        ensures within { IfOk result (λ k. k ≤ limit) }
+        ensures moves { let new = seen self.new in IfOk result (λ k.
+            ¬ IsQuiet new.program new.state → 0 < k) }
+        ensures program { (seen self.new).program ≡ (seen self.old).program }
+        ensures ok { OnOk result ((seen self.new).failed ≡ false) }
+        ensures err { OnErr result ((seen self.new).failed ≡ true) }
+        ensures output { OnErr result ((seen self.new).state.output ≡ []) }
+        ensures count { F.failed feed.new ≡ F.failed feed.old }
+        ensures held { F.held feed.new ≡ F.held feed.old }
+    {
+        // The status is that of a statement of input or output that is certain to be done.
+        if self.memory.statuses[self.memory.cursor.place as usize] == 101 {
+            return Ok(0);
+        }
+        self.failed = true;
+        let mut reader = FeedReader::new(feed, &mut self.line, false, true);
+        let came = make_steps(
             self.lowered.program(),
             &mut self.memory,
             &mut self.end,
-            &mut self.line,
-            feed,
+            &mut Nobody,
+            &mut reader,
             &self.lowered,
             limit,
+            None,
         );
-        self.failed = ran.is_err();
-        ran
+        match came {
+            Ok(came) if self.memory.rest.output.is_empty() => {
+                self.failed = false;
+                Ok(came.made)
+            }
+            _ => {
+                self.memory.rest.output.clear();
+                Err(NoMemory)
+            }
+        }
     }
 
     /// Returns what was written since the output was last cleared.
@@ -190,12 +268,12 @@ impl<'c, 'a> Live<'c, 'a> {
             vec_len out.old + length (fault_message (seen self.now))) }
         ensures capacity { vec_capacity out.old ≤ vec_capacity out.new }
     {
-        match self.end {
-            None => Ok(()),
-            Some(ended) => append_end_message(
-                out,
-                Ask::Ended(end_of(self.lowered.program().code, &self.line, ended)),
-            ),
+        let Some(ended) = self.end else {
+            return Ok(());
+        };
+        match end_of(self.lowered.program().code, &self.line, ended) {
+            End::Fault(fault) => append_message(out, &fault),
+            End::GiveUp | End::Limit => Ok(()),
         }
     }
 }

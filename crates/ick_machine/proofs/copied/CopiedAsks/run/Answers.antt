@@ -1,20 +1,29 @@
-use Rattle.std.specs.Prelude.{map}
-use Rattle.ick_engine.specs.View.{input_of}
-use Rattle.ick_machine.specs.Copies.{copied_state}
+use Rattle.std.proofs.Common.{ℕ, ap₂}
+use Rattle.ick_backtrack.specs.Steps.{HasRun}
+use Rattle.ick_machine.specs.Seen.{fixed_parts, trailed_machine}
+use Rattle.ick_machine.proofs.CopyLemmas.{copied_over, still_copied}
 use Rattle.ick_machine.proofs.WholeLemmas.{if_ok, on_err}
 use Rattle.ick_machine.proofs.copied.CopiedAsks.run.Goals as goal
 
+pub invariant_of-self : goal.invariant_of-self
+invariant_of-self c =
+    let kept = still_copied c.args.self.now c.run.new.self c.run.ensures.fixed in
+    record { unmarked = kept.0; copied = kept.1 }
+
+ran_over : (c : goal.After-self-1) (k : ℕ) →
+    let old = c.args.self.now in
+    let new = c.run.new.self in
+    HasRun (trailed_machine old.machine) k (trailed_machine new) →
+    HasRun (copied_over (trailed_machine old.machine) (fixed_parts old.machine) old.copies.items) k
+    (copied_over (trailed_machine new) (fixed_parts new) old.copies.items)
+ran_over c k ran = record {
+  runs = ran.runs;
+  machine_is = ap₂ (λ m fixed. copied_over m fixed c.args.self.now.copies.items) ran.machine_is c.run.ensures.fixed;
+}
+
 pub returns-clause-ok : goal.returns-clause-ok
-returns-clause-ok c =
-    let m = c.args.self.now in
-    if_ok c.whole_run.result _ _ c.whole_run.ensures.ok (λ k ran.
-    ran (map (copied_state m.lowered.code.now m.lowered.parts (input_of m.input.now)) m.copies.items))
+returns-clause-ok c = if_ok c.run.result _ _ c.run.ensures.ok (ran_over c)
 
 pub returns-clause-err : goal.returns-clause-err
 returns-clause-err c =
-    let m = c.args.self.now in
-    on_err c.whole_run.result _ _ c.whole_run.ensures.err (λ found. (
-      found.0,
-      found.1,
-      found.2 (map (copied_state m.lowered.code.now m.lowered.parts (input_of m.input.now)) m.copies.items),
-    ))
+    on_err c.run.result _ _ c.run.ensures.err (λ found. (found.0, found.1, ran_over c found.0 found.2))

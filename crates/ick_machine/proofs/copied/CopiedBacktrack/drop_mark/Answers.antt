@@ -6,9 +6,9 @@ pub invariant_of-self : goal.invariant_of-self
 invariant_of-self c =
     let m = c.args.self.now in
     record {
-      can = m.can;
+      unmarked = m.unmarked;
       copied =
           ∥∥₁_map m.copied
-          (less m.lowered.code.now m.lowered.parts c.pop.new.self.items m.copies.items c.pop.result
+          (less m.machine.lowered.code.now m.machine.lowered.parts c.pop.new.self.items m.copies.items c.pop.result
           c.pop.ensures.items);
     }

@@ -1,49 +1,74 @@
-use Rattle.std.proofs.Common.{[], Some, ◌++◌, append-nil, le_refl, ap, sym, ◌∙◌}
-use Rattle.std.specs.Prelude.{vec_capacity}
+use Rattle.std.proofs.Common.{◌≡◌, [], Some, ◌++◌, append-nil, le_refl, length, inl, inr, ap, sym, ◌∙◌, subst}
+use Rattle.std.specs.Prelude.{◌+◌, ◌<◌, vec_capacity, vec_len, OnOk, OnErr}
+use Rattle.ick_bits.specs.Faults.{message_of}
 use Rattle.ick_code.specs.Compiled.{code_program}
-use Rattle.ick_code.specs.meaning.Move.{ask}
-use Rattle.ick_backtrack.specs.Asked.{finish_of}
+use Rattle.ick_code.specs.meaning.State.{gave_up, faulted}
+use Rattle.ick_backtrack.specs.Asked.{finished, finish_of}
 use Rattle.ick_engine.specs.Memory.{view_in}
 use Rattle.ick_machine.specs.Feeds.{input_after}
-use Rattle.ick_machine.specs.Live.{seen}
+use Rattle.ick_machine.specs.Live.{fault_message, seen}
 use Rattle.ick_machine.specs.Run.{ending_of, run_state}
-use Rattle.ick_machine.proofs.LiveLemmas.{asks_end, no_message}
+use Rattle.ick_machine.proofs.LiveLemmas.{no_message, said_at}
 use Rattle.ick_machine.proofs.live.Live.append_fault.Goals as goal
+use Rattle.ick_machine.proofs.live.Live.append_fault.Goals.{After-append_message}
 
-pub returns-in-None : goal.returns-in-None
+pub returns-in_default-clause-ok : goal.returns-in_default-clause-ok
 unfolding seen
-returns-in-None c =
+returns-in_default-clause-ok c =
     let live = c.args.self.now in
     let code = live.lowered.code.now in
     let input = input_after live.line.items [] in
     let out = c.args.out.now.items in
     let none =
     no_message (code_program code) (run_state code live.lowered.parts input (view_in live.memory) live.end)
-    (ap (ending_of code input) c.in-None.is) in
+    (ap (ending_of code input) c.in_default.is) in
+    sym (ap (λ message. out ++ message) none ∙ append-nil out)
+
+-- the message is that of the fault
+said : (c : After-append_message) →
+    fault_message (seen c.args.self.now) ≡ message_of c.in-Fault.fault.kind c.in-Fault.fault.statement
+    c.in-Fault.fault.subject.now
+unfolding seen
+said c =
+    rw (sym c.program.ensures) (
+    let live = c.args.self.now in
+    let code = c.program.result.now.code.now in
+    let fault = c.in-Fault.fault in
+    said_at code c.program.result.now.parts live.line.items c.deref.result.now (view_in live.memory)
+    c.deref.ensures.value live.end c.in-Some.ended (finish_of c.end_of.result)
+    (faulted fault.kind fault.statement fault.subject.now) c.in-Some.is c.end_of.ensures (ap finish_of c.in-Fault.is))
+
+pub returns-in-Fault-clause-ok : goal.returns-in-Fault-clause-ok
+returns-in-Fault-clause-ok c =
+    subst (λ message. OnOk c.append_message.result (c.append_message.new.out.items ≡ c.args.out.now.items ++ message))
+    (sym (said (goal.at.returns-in-Fault-clause-ok c).After-append_message)) c.append_message.ensures.ok
+
+pub returns-in-Fault-clause-full : goal.returns-in-Fault-clause-full
+returns-in-Fault-clause-full c =
+    subst (λ message. OnErr c.append_message.result
+    (vec_capacity c.args.out.now < vec_len c.args.out.now + length message))
+    (sym (said (goal.at.returns-in-Fault-clause-full c).After-append_message)) c.append_message.ensures.full
+
+pub returns-in-GiveUp : goal.returns-in-GiveUp
+unfolding seen
+returns-in-GiveUp c =
+    rw (sym c.program.ensures) (
+    let live = c.args.self.now in
+    let code = c.program.result.now.code.now in
+    let out = c.args.out.now.items in
+    let gave : finish_of c.end_of.result ≡ finished gave_up =
+    elim c.in-GiveUp.is [
+      | inl is ↦ ap finish_of is
+      | inr is ↦
+          let limit = ap (λ e. Some (finish_of e)) (sym is) ∙ c.end_of.ensures in absurd (cc)
+    ] in
+    let none =
+    said_at code c.program.result.now.parts live.line.items c.deref.result.now (view_in live.memory)
+    c.deref.ensures.value live.end c.in-Some.ended (finish_of c.end_of.result) gave_up c.in-Some.is c.end_of.ensures
+    gave in
     record {
       ok = sym (ap (λ message. out ++ message) none ∙ append-nil out);
       err = tt;
       full = tt;
       capacity = le_refl (vec_capacity c.args.out.now);
-    }
-
-pub returns-in-Some : goal.returns-in-Some
-unfolding seen
-returns-in-Some c =
-    rw (sym c.program.ensures) (
-    let live = c.args.self.now in
-    let code = c.program.result.now.code.now in
-    let lowered = c.program.result.now.parts in
-    let input = input_after live.line.items [] in
-    let v = view_in live.memory in
-    let asked = ask (code_program code) (run_state code lowered input v live.end) in
-    let same =
-    asks_end code lowered live.line.items c.deref.result.now v c.deref.ensures.value c.in-Some.ended
-    (finish_of c.end_of.result) c.end_of.ensures
-    ∙ ap (λ end. Some (ask (code_program code) (run_state code lowered input v end))) (sym c.in-Some.is) in
-    record {
-      ok = c.append_end_message.ensures.ok asked same;
-      err = c.append_end_message.ensures.err;
-      full = c.append_end_message.ensures.full asked same;
-      capacity = c.append_end_message.ensures.capacity;
     })

@@ -1,51 +1,79 @@
-use Rattle.std.proofs.Common.{◌<◌, [], sym}
-use Rattle.ick_code.specs.Compiled.{code_program}
-use Rattle.ick_backtrack.specs.Steps.{IsQuiet, Rests}
-use Rattle.ick_engine.specs.Memory.{view_in}
-use Rattle.ick_machine.specs.Feeds.{input_after}
-use Rattle.ick_machine.specs.Live.{seen}
-use Rattle.ick_machine.specs.Run.{run_state}
-use Rattle.ick_machine.proofs.LiveLemmas.{for_input}
-use Rattle.ick_machine.proofs.Readiness.{ready_unless}
+use Rattle.std.proofs.Common.{◌≡◌, ◌+◌, ◌<◌, Err, rules, refl, ap, ◌∙◌, subst, arith}
+use Rattle.ick_backtrack.specs.Steps.{IsQuiet}
+use Rattle.ick_backtrack.specs.declared.feed_fault.FeedFault.TheVariants.{Read}
+use Rattle.ick_machine.specs.Feeds.{MeetsInput}
+use Rattle.ick_machine.specs.Live.{fed, seen}
+use Rattle.ick_machine.proofs.FedLemmas.{same_fault}
+use Rattle.ick_machine.proofs.LiveLemmas.{fed_further, fed_once, quiet_fed}
+use Rattle.ick_machine.proofs.StepsLemmas.{no_step}
 use Rattle.ick_machine.proofs.live.Live.run.Goals as goal
 
-pub fed_steps-ran-requires-clause-ready : goal.fed_steps-ran-requires-clause-ready
-unfolding seen
-fed_steps-ran-requires-clause-ready g c =
-    rw c.program.ensures (
-    let live = c.args.self.now in
-    ready_unless live.lowered.code.now live.lowered.parts (view_in live.memory) live.failed live.ready c.requires.sound)
+pub steps-init : goal.steps-init
+steps-init g c = record {
+  within = omega arith;
+  runs = λ tells.
+      no_step IsQuiet (seen c.args.self.now).program (fed (g.F.Feed.left c.args.feed.now) (seen c.args.self.now).state);
+  program = refl;
+  start = λ none. refl;
+  sound = c.requires.sound;
+  count = refl;
+  held = refl;
+}
 
-pub fed_steps-ran-requires-clause-suits : goal.fed_steps-ran-requires-clause-suits
-fed_steps-ran-requires-clause-suits g c = sym c.program.ensures
+pub returns-then-made-limit-clause-runs : goal.returns-then-made-limit-clause-runs
+returns-then-made-limit-clause-runs g c = λ tells.
+    let left = g.F.Feed.left in
+    fed_further (seen c.args.self.now) (seen c.steps.self) (seen c.run_to_stream.new.self) (left c.args.feed.now)
+    (left c.steps.feed) (left c.run_to_stream.new.feed) c.steps.made c.in_ok-made.field-0 c.steps.invariant.program
+    (c.steps.invariant.runs tells) (c.in_ok-made.ensures.runs tells)
 
-pub returns-clause-runs : goal.returns-clause-runs
-unfolding seen
-returns-clause-runs g c = rw (sym c.program.ensures) c.fed_steps-ran.ensures.runs
+pub returns-in_err-step-clause-reads : goal.returns-in_err-step-clause-reads
+returns-in_err-step-clause-reads g c = λ tells read.
+    let left = g.F.Feed.left in
+    let old = seen c.args.self.now in
+    let mid = seen c.run_to_stream.new.self in
+    let rest = left c.run_to_stream.new.feed in
+    let fault = c.in_err-step.field-0.0 in
+    let e : c.from_residual-in_err-step.result ≡ Err fault = search rules in
+    let same : mid.program ≡ old.program = c.run_to_stream.ensures.program ∙ c.steps.invariant.program in
+    let within : c.steps.made + c.in_ok-made.field-0 < c.args.limit =
+    omega (arith, c.if-made-limit.false, c.in_ok-made.ensures.within, c.steps.invariant.within) in
+    record {
+      steps = c.steps.made + c.in_ok-made.field-0;
+      within = within;
+      state = fed rest mid.state;
+      runs =
+          fed_further old (seen c.steps.self) mid (left c.args.feed.now) (left c.steps.feed) rest c.steps.made
+          c.in_ok-made.field-0 c.steps.invariant.program (c.steps.invariant.runs tells)
+          (c.in_ok-made.ensures.runs tells);
+      quiet = quiet_fed old.program mid.state rest
+          (subst (λ p. IsQuiet p mid.state) same (c.is_quiet-else-made-limit.ensures.quiet c.if-not-is_quiet.false));
+      meets = subst (λ p. MeetsInput p mid.state) same
+          (c.in_err-step.ensures.reads
+          (ap Err (same_fault c.from_residual-in_err-step.result fault Read e read)));
+    }
 
-pub returns-clause-moves : goal.returns-clause-moves
-unfolding seen
-returns-clause-moves g c =
-    rw (sym c.program.ensures) (
-    let live = c.args.self.now in
-    let lowered = c.program.result.now in
-    let v = view_in live.memory in
-    for_input c.fed_steps-ran.result
-    (λ k input. IsQuiet (code_program lowered.code.now) (run_state lowered.code.now lowered.parts input v live.end) →
-    0 < c.args.limit → 0 < k)
-    (input_after live.line.items []) c.fed_steps-ran.ensures.moves)
-
-pub returns-clause-rests : goal.returns-clause-rests
-unfolding seen
-returns-clause-rests g c =
-    rw (sym c.program.ensures) (
-    let lowered = c.program.result.now in
-    let new = c.fed_steps-ran.new in
-    for_input c.fed_steps-ran.result
-    (λ k input. Rests IsQuiet (code_program lowered.code.now) c.args.limit k (run_state lowered.code.now lowered.parts
-    input (view_in new.memory) new.end))
-    (input_after new.line.items []) c.fed_steps-ran.ensures.rests)
-
-pub returns-clause-reads : goal.returns-clause-reads
-unfolding seen
-returns-clause-reads g c = rw (sym c.program.ensures) c.fed_steps-ran.ensures.reads
+pub steps-preserved : goal.steps-preserved
+steps-preserved g c =
+    let left = g.F.Feed.left in
+    let old = seen c.args.self.now in
+    let mid = seen c.run_to_stream.new.self in
+    let new = seen c.step.new.self in
+    let i = c.steps.invariant in
+    let same : mid.program ≡ old.program = c.run_to_stream.ensures.program ∙ i.program in
+    record {
+      within = omega (arith, c.if-made-limit.false, c.in_ok-made.ensures.within, i.within);
+      runs = λ tells.
+          fed_further old mid new (left c.args.feed.now) (left c.run_to_stream.new.feed) (left c.step.new.feed)
+          (c.steps.made + c.in_ok-made.field-0) 1 same
+          (fed_further old (seen c.steps.self) mid (left c.args.feed.now) (left c.steps.feed)
+          (left c.run_to_stream.new.feed) c.steps.made c.in_ok-made.field-0 i.program (i.runs tells)
+          (c.in_ok-made.ensures.runs tells))
+          (fed_once mid new (left c.run_to_stream.new.feed) (left c.step.new.feed)
+          (c.is_quiet-else-made-limit.ensures.quiet c.if-not-is_quiet.false) (c.in_ok-step.ensures.advances tells));
+      program = c.step.ensures.program ∙ same;
+      start = λ none. absurd (omega (arith, none));
+      sound = c.in_ok-step.ensures.ok;
+      count = omega (arith, c.in_ok-step.ensures.count, c.run_to_stream.ensures.count, i.count);
+      held = c.step.ensures.held ∙ c.run_to_stream.ensures.held ∙ i.held;
+    }
