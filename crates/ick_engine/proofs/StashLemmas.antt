@@ -1,13 +1,16 @@
 -- Stashes that are alike, and changes of one of them.
-use Rattle.std.proofs.Common.{◌≡◌, ℕ, zero, suc, ◌+◌, ◌-◌, ◌<◌, ◌≤◌, List, [], ◌∷◌, ◌++◌, refl, ap, sym, ◌∙◌, subst}
+use Rattle.std.proofs.Common.{◌≡◌, ℕ, zero, suc, ◌+◌, ◌-◌, ◌<◌, ◌≤◌, List, [], ◌∷◌, ◌++◌, refl, ap, sym, ap₂, ◌∙◌, subst}
 use Rattle.std.proofs.Common.{Bool, length, take, map, get_or, arith, true, false}
-use Rattle.std.specs.Prelude.{slice_set, nat_lt, if◌then◌else◌}
+use Rattle.std.specs.Prelude.{replicate, slice_set, nat_lt, if◌then◌else◌}
 use Rattle.std.proofs.lemmas.Bool.Decides.{nat_tests}
-use Rattle.std.proofs.lemmas.List.{take-take, take_more_set, length-set, map-set, get_or-map}
+use Rattle.std.proofs.lemmas.List.{take-take, take_more_set, length-map, length-set, map-set, get_or-map}
+use Rattle.std.proofs.lemmas.Simd.{map-map}
 use Rattle.ick_code.specs.meaning.State.{Array, no_array}
 use Rattle.ick_engine.specs.declared.change.ArrayChange.{ArrayChange}
 use Rattle.ick_engine.specs.declared.change.ArrayChange.TheVariants as now
-use Rattle.ick_engine.specs.View.{View, Parts, Stash, no_stash, used}
+use Rattle.ick_engine.specs.declared.memory.Array.{Array as Kept}
+use Rattle.ick_engine.specs.declared.memory.Stash.{Stash as KeptStash}
+use Rattle.ick_engine.specs.View.{View, Parts, Stash, array_of, arrays_of, no_stash, stash_in, used}
 use Rattle.ick_engine.specs.Undo.{StashLike, StashesLike, PartsLike, HasPlace, IsUndoable, array_was, put_on, taken_off}
 use Rattle.ick_engine.specs.Undo.{at_slot, given_back, undone_array}
 
@@ -184,3 +187,45 @@ array_alike base now.Replaced slot old v q like can = record {
 array_alike base now.Taken slot old v q like can =
     arrays_alike (put_on old) slot v.parts q like (put_on_like old can (like.arrays.each slot))
 array_alike base now.Restored slot old v q like can = restored_alike slot old v.parts q like can
+
+-- the values of a stash as others
+abbrev pub seen : {A B : Type 0} → (A → B) → Stash A → Stash B
+seen f s = record { items = map f s.items; depth = s.depth }
+
+seen_at : {A B : Type 0} (f : A → B) (g : Stash A → Stash A) (h : Stash B → Stash B) (slot : ℕ) (xs : List (Stash A)) →
+    ((s : Stash A) → seen f (g s) ≡ h (seen f s)) → map (seen f) (at_slot g slot xs) ≡ at_slot h slot (map (seen f) xs)
+seen_at f g h slot [] each = refl
+seen_at f g h zero (x ∷ xs) each = ap (λ s. s ∷ map (seen f) xs) (each x)
+seen_at f g h (suc slot) (x ∷ xs) each = ap (λ l. seen f x ∷ l) (seen_at f g h slot xs each)
+
+seen_put : {A B : Type 0} (f : A → B) (x : A) (s : Stash A) → seen f (put_on x s) ≡ put_on (f x) (seen f s)
+seen_put {B = B} f x s =
+    let mk : List B → ℕ → Stash B = λ l n. record { items = l; depth = if nat_lt s.depth n then s.depth + 1 else s.depth } in
+    ap₂ mk (map-set f s.items s.depth x) (sym (length-map s.items f))
+
+-- the arrays on stashes, of which one is changed
+arrays_seen : (xs : List (KeptStash Kept)) → map arrays_of xs ≡ map (seen array_of) (map stash_in xs)
+arrays_seen xs = sym (map-map (seen array_of) stash_in xs)
+
+pub arrays_dropped : (old new : List (KeptStash Kept)) (slot : ℕ) →
+    map stash_in new ≡ at_slot taken_off slot (map stash_in old) → map arrays_of new ≡ at_slot taken_off slot (map arrays_of old)
+arrays_dropped old new slot is =
+    arrays_seen new ∙ ap (map (seen array_of)) is
+    ∙ seen_at array_of taken_off taken_off slot (map stash_in old) (λ s. refl)
+    ∙ ap (at_slot taken_off slot) (sym (arrays_seen old))
+
+pub arrays_put : (old new : List (KeptStash Kept)) (slot : ℕ) (x : Kept) →
+    map stash_in new ≡ at_slot (put_on x) slot (map stash_in old) →
+    map arrays_of new ≡ at_slot (put_on (array_of x)) slot (map arrays_of old)
+arrays_put old new slot x is =
+    arrays_seen new ∙ ap (map (seen array_of)) is
+    ∙ seen_at array_of (put_on x) (put_on (array_of x)) slot (map stash_in old) (seen_put array_of x)
+    ∙ ap (at_slot (put_on (array_of x)) slot) (sym (arrays_seen old))
+
+none_seen : {A B : Type 0} (f : A → B) (n : ℕ) → map (seen f) (replicate n no_stash) ≡ replicate n no_stash
+none_seen f zero = refl
+none_seen f (suc n) = ap (λ l. no_stash ∷ l) (none_seen f n)
+
+pub arrays_empty : (xs : List (KeptStash Kept)) (n : ℕ) → map stash_in xs ≡ replicate n no_stash →
+    map arrays_of xs ≡ replicate n no_stash
+arrays_empty xs n is = arrays_seen xs ∙ ap (map (seen array_of)) is ∙ none_seen array_of n

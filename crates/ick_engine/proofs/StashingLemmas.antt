@@ -9,13 +9,13 @@ use Rattle.std.proofs.Math.Seq.{take-suc}
 use Rattle.ick_code.specs.meaning.State.{Array, no_array}
 use Rattle.ick_engine.specs.declared.change.ArrayChange.TheVariants as now
 use Rattle.ick_engine.specs.declared.memory.Array.{Array as Kept}
-use Rattle.ick_engine.specs.declared.memory.ArrayStash.{ArrayStash}
+use Rattle.ick_engine.specs.declared.memory.Stash.{Stash as KeptStash}
 use Rattle.ick_engine.specs.Stashes.{IsPutOn, IsTakenOff, ChangesAt, IsRestoredTo}
 use Rattle.ick_engine.specs.Undo.{StashLike, StashesLike, Like, put_on, taken_off, at_slot, with_array_stashes}
 use Rattle.ick_engine.specs.Undo.{with_arrays, with_scalar_stashes, array_was, given_back, undone}
-use Rattle.ick_engine.specs.View.{View, Parts, Stash, array_of, arrays_of, no_stash}
+use Rattle.ick_engine.specs.View.{View, Parts, Stash, array_of, arrays_of, no_stash, stash_in}
 use Rattle.ick_engine.proofs.Undoing.{like_parts}
-use Rattle.ick_engine.proofs.StashLemmas.{put_deeper, set_each, stash_refl, stash_trans, stashes_refl}
+use Rattle.ick_engine.proofs.StashLemmas.{put_deeper, seen, set_each, stash_refl, stash_trans, stashes_refl}
 
 -- a value goes to spare room
 pub put_spare : {A : Type 0} (x : A) (s : Stash A) → s.depth < length s.items →
@@ -201,8 +201,8 @@ any_default (x ∷ xs) zero d e low = refl
 any_default (x ∷ xs) (suc k) d e low = any_default xs k d e (omega (arith, low))
 
 -- the newest array of the stash in a slot is taken off
-pub drops_at : (xs : List ArrayStash) (slot : ℕ) (stash met new : ArrayStash) (e : Kept) → slot < length xs →
-    stash ≡ get_or xs slot stash → met ≡ get_or xs slot met → arrays_of new ≡ taken_off (arrays_of met) →
+pub drops_at : (xs : List (KeptStash Kept)) (slot : ℕ) (stash met new : KeptStash Kept) (e : Kept) → slot < length xs →
+    stash ≡ get_or xs slot stash → met ≡ get_or xs slot met → stash_in new ≡ taken_off (stash_in met) →
     0 < stash.depth → e ≡ get_or stash.items.items (stash.depth - 1) e →
     ChangesAt slot (IsTakenOff (array_of e)) (map arrays_of xs) (map arrays_of (slice_set xs slot new))
 drops_at xs slot stash met new e low is met_is new_is some e_is =
@@ -213,7 +213,7 @@ drops_at xs slot stash met new e low is met_is new_is some e_is =
     let inside : at < length stash.items.items = omega (arith, stash.there, some) in
     let inside' : at < length (map array_of stash.items.items) = omega (arith, inside, length-map stash.items.items array_of) in
     changes_at arrays_of (IsTakenOff x) xs slot stash new low is
-    (subst (IsTakenOff x (arrays_of stash)) (sym (new_is ∙ ap (λ s. taken_off (arrays_of s)) same))
+    (subst (IsTakenOff x (arrays_of stash)) (sym (ap (seen array_of) new_is ∙ ap (λ s. taken_off (arrays_of s)) same))
     (take_newest x (arrays_of stash) at next inside'
     (ap array_of e_is ∙ sym (get_or-map array_of stash.items.items at e x inside))))
 

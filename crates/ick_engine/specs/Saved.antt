@@ -3,8 +3,8 @@ use Rattle.std.specs.Prelude.{ℕ, ◌≡◌, List, length, map, take}
 use Rattle.ick_code.specs.meaning.State.{Array}
 use Rattle.ick_code.specs.declared.code.Code.{Code}
 use Rattle.ick_instructions.specs.declared.lowered.LoweredParts.{LoweredParts}
-use Rattle.ick_engine.specs.declared.memory.ArrayStash.{ArrayStash}
-use Rattle.ick_engine.specs.declared.memory.NumberStash.{NumberStash}
+use Rattle.ick_engine.specs.declared.memory.Array.{Array as KeptArray}
+use Rattle.ick_engine.specs.declared.memory.Stash.{Stash}
 use Rattle.ick_engine.specs.declared.saved.Saved.{Saved}
 use Rattle.ick_engine.specs.Steady.{IsReady}
 use Rattle.ick_engine.specs.Undo.{but_stashes}
@@ -12,10 +12,10 @@ use Rattle.ick_engine.specs.View.{View, Parts, Input, array_names, arrays_of, nu
 use Rattle.ick_engine.specs.View.{state_of, used}
 
 -- the values on a stash
-abbrev pub numbers_on : NumberStash → List ℕ
+abbrev pub numbers_on : Stash ℕ → List ℕ
 numbers_on stash = used (numbers_of stash)
 
-abbrev pub arrays_on : ArrayStash → List Array
+abbrev pub arrays_on : Stash KeptArray → List Array
 arrays_on stash = used (arrays_of stash)
 
 -- parts that differ in the spare room of stashes alone

@@ -4,7 +4,7 @@ ghost use Rattle.std.specs.Prelude.{◌≡◌, ◌++◌, ◌≤◌, drop, length
 ghost use Rattle.ick_engine.specs.Saved.{arrays_on, numbers_on, AreSame};
 ghost use Rattle.ick_engine.specs.View.{array_of, is_hidden, parts_of};
 
-use crate::memory::{Array, ArrayStash, NumberStash, Rest};
+use crate::memory::{Array, Rest, Stash};
 use ick_bits::NoMemory;
 use std::alloc::Global;
 
@@ -64,12 +64,12 @@ pub fn copy_arrays(alloc: Global, arrays: &[Array]) -> Result<Vec<Array>, NoMemo
 }
 
 /// Copies the numbers on stashes. The copies have no spare room.
-fn copy_number_stashes(alloc: Global, stashes: &[NumberStash]) -> Result<Vec<NumberStash>, NoMemory>
+fn copy_number_stashes(alloc: Global, stashes: &[Stash<u32>]) -> Result<Vec<Stash<u32>>, NoMemory>
     ensures { IfOk result (λ copies. map numbers_on copies.items ≡ map numbers_on stashes.now) }
 {
     let mut copies = Vec::new(alloc);
     for stash in stashes {
-        copies.push(NumberStash {
+        copies.push(Stash {
             items: copy_first(alloc, &stash.items, stash.depth)?,
             depth: stash.depth,
         })?;
@@ -78,12 +78,15 @@ fn copy_number_stashes(alloc: Global, stashes: &[NumberStash]) -> Result<Vec<Num
 }
 
 /// Copies the arrays on stashes. The copies have no spare room.
-fn copy_array_stashes(alloc: Global, stashes: &[ArrayStash]) -> Result<Vec<ArrayStash>, NoMemory>
+fn copy_array_stashes(
+    alloc: Global,
+    stashes: &[Stash<Array>],
+) -> Result<Vec<Stash<Array>>, NoMemory>
     ensures { IfOk result (λ copies. map arrays_on copies.items ≡ map arrays_on stashes.now) }
 {
     let mut copies = Vec::new(alloc);
     for stash in stashes {
-        copies.push(ArrayStash {
+        copies.push(Stash {
             items: copy_arrays(alloc, &stash.items[..stash.depth])?,
             depth: stash.depth,
         })?;

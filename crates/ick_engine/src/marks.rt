@@ -15,7 +15,7 @@ use crate::change::{ArrayChange, Entry};
 use crate::element::set_element;
 use crate::hide::set_hidden;
 use crate::memory::{Array, Memory, Rest};
-use crate::stash::{drop_array, drop_number, put_array, put_number};
+use crate::stash::{drop_at, put_at};
 use crate::trail::Trail;
 use ick_instructions::Lowered;
 use std::mem::replace;
@@ -103,13 +103,13 @@ fn undo(memory: &mut Memory, entry: Entry)
         Entry::Return(at, old) => put_back(&mut memory.returns, at, old),
         Entry::Element(slot, at, old) => put_element(&mut rest.arrays, slot, at, old),
         Entry::Hidden(slot, old) => put_hidden(&mut rest.arrays, slot, old),
-        Entry::ScalarSaved(slot) => drop_number(&mut rest.scalar_stashes, slot),
-        Entry::ScalarTaken(slot, old) => put_number(&mut rest.scalar_stashes, slot, old),
+        Entry::ScalarSaved(slot) => drop_at(&mut rest.scalar_stashes, slot),
+        Entry::ScalarTaken(slot, old) => put_at(&mut rest.scalar_stashes, slot, old),
         Entry::ScalarRestored(slot, number, old) => {
             put_back(&mut memory.registers, slot, old);
-            put_number(&mut rest.scalar_stashes, slot, number);
+            put_at(&mut rest.scalar_stashes, slot, number);
         }
-        Entry::ArraySaved(slot) => drop_array(&mut rest.array_stashes, slot),
+        Entry::ArraySaved(slot) => drop_at(&mut rest.array_stashes, slot),
         Entry::Array(_, _) | Entry::Statuses => {}
         Entry::Taken(old) => rest.taken = old,
         Entry::Output(count) => rest.output.truncate(count),
@@ -136,7 +136,7 @@ fn undo_array(rest: &mut Rest, change: ArrayChange, slot: u32, old: Array)
     ensures { parts_of rest.new ≡ undone_array change slot (array_of old) (parts_of rest.old) }
 {
     match change {
-        ArrayChange::Taken => put_array(&mut rest.array_stashes, slot, old),
+        ArrayChange::Taken => put_at(&mut rest.array_stashes, slot, old),
         ArrayChange::Replaced => {
             if slot as usize >= rest.arrays.len() {
                 return;
@@ -148,7 +148,7 @@ fn undo_array(rest: &mut Rest, change: ArrayChange, slot: u32, old: Array)
                 return;
             }
             let present = replace_array(&mut rest.arrays, slot, old);
-            put_array(&mut rest.array_stashes, slot, present);
+            put_at(&mut rest.array_stashes, slot, present);
         }
     }
 }

@@ -4,7 +4,7 @@ ghost use Rattle.std.specs.Prelude.{◌≡◌, true, map};
 ghost use Rattle.ick_engine.specs.Saved.{arrays_on, numbers_on, AreSame};
 ghost use Rattle.ick_engine.specs.View.{array_of, is_hidden, parts_of};
 
-use crate::memory::{Array, ArrayStash, NumberStash, Rest};
+use crate::memory::{Array, Rest, Stash};
 
 /// Returns whether two arrays are the same.
 fn same_array(one: &Array, other: &Array) -> bool
@@ -33,7 +33,7 @@ fn same_arrays(one: &[Array], other: &[Array]) -> bool
 }
 
 /// Returns whether the same numbers are on the stashes of two lists.
-fn same_number_stashes(one: &[NumberStash], other: &[NumberStash]) -> bool
+fn same_number_stashes(one: &[Stash<u32>], other: &[Stash<u32>]) -> bool
     ensures { result ≡ true → map numbers_on one.now ≡ map numbers_on other.now }
 {
     if one.len() != other.len() {
@@ -49,7 +49,7 @@ fn same_number_stashes(one: &[NumberStash], other: &[NumberStash]) -> bool
 }
 
 /// Returns whether the same arrays are on the stashes of two lists.
-fn same_array_stashes(one: &[ArrayStash], other: &[ArrayStash]) -> bool
+fn same_array_stashes(one: &[Stash<Array>], other: &[Stash<Array>]) -> bool
     ensures { result ≡ true → map arrays_on one.now ≡ map arrays_on other.now }
 {
     if one.len() != other.len() {

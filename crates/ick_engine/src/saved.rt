@@ -3,7 +3,7 @@
 ghost use Rattle.std.specs.Prelude.{◌≡◌, ◌+◌, ◌≤◌, true, length};
 
 use crate::copy::{copy_first, copy_list, copy_rest, put_first, put_list};
-use crate::memory::{Array, ArrayStash, Memory, NumberStash, Rest};
+use crate::memory::{Array, Memory, Rest, Stash};
 use crate::same::same_rest;
 use ick_bits::NoMemory;
 use ick_instructions::Lowered;
@@ -87,7 +87,7 @@ fn mix_arrays(hash: u64, arrays: &[Array]) -> u64 {
 }
 
 /// Mixes the numbers on stashes into a hash.
-fn mix_number_stashes(hash: u64, stashes: &[NumberStash]) -> u64 {
+fn mix_number_stashes(hash: u64, stashes: &[Stash<u32>]) -> u64 {
     let mut hash = hash;
     for stash in stashes {
         hash = mix_numbers(hash, &stash.items[..stash.depth]);
@@ -96,7 +96,7 @@ fn mix_number_stashes(hash: u64, stashes: &[NumberStash]) -> u64 {
 }
 
 /// Mixes the arrays on stashes into a hash.
-fn mix_array_stashes(hash: u64, stashes: &[ArrayStash]) -> u64 {
+fn mix_array_stashes(hash: u64, stashes: &[Stash<Array>]) -> u64 {
     let mut hash = hash;
     for stash in stashes {
         hash = mix_arrays(hash, &stash.items[..stash.depth]);

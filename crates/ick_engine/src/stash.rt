@@ -5,24 +5,44 @@ ghost use Rattle.std.specs.Prelude.{IfNone, IfSome, OnErr, OnOk};
 ghost use Rattle.std.specs.Bool.{OnFalse, OnTrue};
 ghost use Rattle.std.proofs.Common.{get_or};
 ghost use Rattle.ick_instructions.specs.Extends.{Extends};
-ghost use Rattle.ick_engine.specs.Stashes.{ChangesAt, IsExchanged, IsPutOn, IsRestoredTo};
-ghost use Rattle.ick_engine.specs.Stashes.{IsRetrieved, IsTakenOff};
-ghost use Rattle.ick_code.specs.meaning.State.{no_array, Array as ArrayValue};
+ghost use Rattle.ick_engine.specs.Stashes.{ChangesAt, IsPutOn, IsRestoredTo, IsRetrieved};
+ghost use Rattle.ick_engine.specs.Stashes.{IsTakenOff};
+ghost use Rattle.ick_code.specs.meaning.State.{no_array};
 ghost use Rattle.ick_engine.specs.Undo.{at_slot, put_on, taken_off, with_array_stashes};
 ghost use Rattle.ick_engine.specs.Undo.{with_arrays, with_scalar_stashes};
 ghost use Rattle.ick_engine.specs.Undo.{StashLike, StashesLike};
 ghost use Rattle.ick_engine.specs.View.{View, array_of, arrays_of, is_hidden, no_stash};
-ghost use Rattle.ick_engine.specs.View.{numbers_of, used};
+ghost use Rattle.ick_engine.specs.View.{numbers_of, stash_in, used};
 
 use crate::change::{ArrayChange, Entry};
 use crate::copy::copy_into;
 use crate::halt::Halt;
-use crate::memory::{Array, ArrayStash, NumberStash};
+use crate::memory::{Array, Stash};
 use crate::notes::Notes;
 use ick_bits::{FaultKind, NoMemory};
 use std::mem::swap;
 
-impl NumberStash {
+impl<T: Drop> Stash<T> {
+    /// Takes the newest value off, if there is one. Its room stays.
+    fn drop_newest(&mut self)
+        ensures { stash_in self.new ≡ taken_off (stash_in self.old) }
+    {
+        self.depth = self.depth.saturating_sub(1);
+    }
+
+    /// Puts a value back, if there is spare room.
+    fn put_back(&mut self, value: T)
+        ensures { stash_in self.new ≡ put_on value (stash_in self.old) }
+    {
+        if self.depth >= self.items.len() {
+            return;
+        }
+        self.items[self.depth] = value;
+        self.depth += 1;
+    }
+}
+
+impl Stash<u32> {
     /// Puts a number on the stash. If memory runs out, nothing changes.
     fn save(&mut self, number: u32) -> Result<(), NoMemory>
         ensures ok { OnOk result (IsPutOn number (numbers_of self.old) (numbers_of self.new)) }
@@ -51,27 +71,9 @@ impl NumberStash {
         self.depth -= 1;
         Some(self.items[self.depth])
     }
-
-    /// Takes the newest number off, if there is one. Its room stays.
-    fn drop_newest(&mut self)
-        ensures { numbers_of self.new ≡ taken_off (numbers_of self.old) }
-    {
-        self.depth = self.depth.saturating_sub(1);
-    }
-
-    /// Puts a number back, if there is spare room.
-    fn put_back(&mut self, number: u32)
-        ensures { numbers_of self.new ≡ put_on number (numbers_of self.old) }
-    {
-        if self.depth >= self.items.len() {
-            return;
-        }
-        self.items[self.depth] = number;
-        self.depth += 1;
-    }
 }
 
-impl ArrayStash {
+impl Stash<Array> {
     /// Takes the newest array off, in exchange for another one. Whether that one is ignored stays.
     fn exchange(&mut self, array: &mut Array)
         requires { 0 < self.old.depth }
@@ -114,30 +116,12 @@ impl ArrayStash {
         self.depth += 1;
         Ok(())
     }
-
-    /// Takes the newest array off, if there is one. Its room and its buffers stay.
-    fn drop_newest(&mut self)
-        ensures { arrays_of self.new ≡ taken_off (arrays_of self.old) }
-    {
-        self.depth = self.depth.saturating_sub(1);
-    }
-
-    /// Puts an array back, if there is spare room.
-    fn put_back(&mut self, array: Array)
-        ensures { arrays_of self.new ≡ put_on (array_of array) (arrays_of self.old) }
-    {
-        if self.depth >= self.items.len() {
-            return;
-        }
-        self.items[self.depth] = array;
-        self.depth += 1;
-    }
 }
 
-/// Takes the newest number off the stash in a slot, if there is one.
-pub fn drop_number(stashes: &mut Vec<NumberStash>, slot: u32)
-    ensures { map numbers_of stashes.new.items
-        ≡ at_slot taken_off slot (map numbers_of stashes.old.items) }
+/// Takes the newest value off the stash in a slot, if there is one. Its room stays.
+pub fn drop_at<T: Drop>(stashes: &mut Vec<Stash<T>>, slot: u32)
+    ensures { map stash_in stashes.new.items
+        ≡ at_slot taken_off slot (map stash_in stashes.old.items) }
 {
     if slot as usize >= stashes.len() {
         return;
@@ -145,43 +129,21 @@ pub fn drop_number(stashes: &mut Vec<NumberStash>, slot: u32)
     stashes[slot as usize].drop_newest();
 }
 
-/// Puts a number back on the stash in a slot, if it has spare room.
-pub fn put_number(stashes: &mut Vec<NumberStash>, slot: u32, number: u32)
-    ensures { map numbers_of stashes.new.items
-        ≡ at_slot (put_on number) slot (map numbers_of stashes.old.items) }
+/// Puts a value back on the stash in a slot, if it has spare room.
+pub fn put_at<T: Drop>(stashes: &mut Vec<Stash<T>>, slot: u32, value: T)
+    ensures { map stash_in stashes.new.items
+        ≡ at_slot (put_on value) slot (map stash_in stashes.old.items) }
 {
     if slot as usize >= stashes.len() {
         return;
     }
-    stashes[slot as usize].put_back(number);
-}
-
-/// Takes the newest array off the stash in a slot, if there is one. Its buffers stay.
-pub fn drop_array(stashes: &mut Vec<ArrayStash>, slot: u32)
-    ensures { map arrays_of stashes.new.items
-        ≡ at_slot taken_off slot (map arrays_of stashes.old.items) }
-{
-    if slot as usize >= stashes.len() {
-        return;
-    }
-    stashes[slot as usize].drop_newest();
-}
-
-/// Puts an array back on the stash in a slot, if it has spare room.
-pub fn put_array(stashes: &mut Vec<ArrayStash>, slot: u32, array: Array)
-    ensures { map arrays_of stashes.new.items
-        ≡ at_slot (put_on (array_of array)) slot (map arrays_of stashes.old.items) }
-{
-    if slot as usize >= stashes.len() {
-        return;
-    }
-    stashes[slot as usize].put_back(array);
+    stashes[slot as usize].put_back(value);
 }
 
 /// Puts a number on the stash of the scalar in a slot, and notes that (Revised Manual, 4.4.5). If
 /// memory runs out, nothing changes.
 pub fn save_scalar<N: Notes>(
-    stashes: &mut Vec<NumberStash>,
+    stashes: &mut Vec<Stash<u32>>,
     notes: &mut N,
     slot: u32,
     number: u32,
@@ -211,7 +173,7 @@ pub fn save_scalar<N: Notes>(
 /// memory runs out, the arrays on the stash stay.
 pub fn save_array<N: Notes>(
     arrays: &Vec<Array>,
-    stashes: &mut Vec<ArrayStash>,
+    stashes: &mut Vec<Stash<Array>>,
     notes: &mut N,
     slot: u32,
 ) -> Result<(), NoMemory>
@@ -244,7 +206,7 @@ pub fn save_array<N: Notes>(
 pub fn restore_scalar<N: Notes>(
     registers: &mut [u32],
     home: &[u32],
-    stashes: &mut Vec<NumberStash>,
+    stashes: &mut Vec<Stash<u32>>,
     notes: &mut N,
     slot: u32,
 ) -> bool
@@ -287,7 +249,7 @@ pub fn restore_scalar<N: Notes>(
 /// is a fault. Then, and if memory runs out, nothing changes.
 pub fn restore_array<N: Notes>(
     arrays: &mut Vec<Array>,
-    stashes: &mut Vec<ArrayStash>,
+    stashes: &mut Vec<Stash<Array>>,
     notes: &mut N,
     slot: u32,
 ) -> Result<(), Halt>

@@ -1,10 +1,10 @@
 use Rattle.std.proofs.Common.{arith}
 use Rattle.ick_engine.specs.Undo.{taken_off}
-use Rattle.ick_engine.specs.View.{arrays_of}
+use Rattle.ick_engine.specs.View.{stash_in}
 use Rattle.ick_engine.proofs.StashLemmas.{set_at}
-use Rattle.ick_engine.proofs.stash.drop_array.Goals as goal
+use Rattle.ick_engine.proofs.stash.drop_at.Goals as goal
 
 pub returns : goal.returns
-returns c =
-    set_at arrays_of taken_off c.args.stashes.now.items c.args.slot c.index_mut.result.now c.drop_newest.new.self
+returns g c =
+    set_at stash_in taken_off c.args.stashes.now.items c.args.slot c.index_mut.result.now c.drop_newest.new.self
     (omega (arith, c.len.ensures)) c.index_mut.ensures.value c.drop_newest.ensures

@@ -6,7 +6,7 @@ use Rattle.ick_engine.specs.Undo.{StashLike}
 use Rattle.ick_engine.specs.View.{array_of, arrays_of}
 use Rattle.ick_engine.proofs.StashLemmas.{stash_trans}
 use Rattle.ick_engine.proofs.StashingLemmas.{on_err, put_grown, put_spare, spare_like}
-use Rattle.ick_engine.proofs.memory.ArrayStash.save.Goals as goal
+use Rattle.ick_engine.proofs.stash.Stash+Array.save.Goals as goal
 
 pub returns-in_err-copy_into-clause-err : goal.returns-in_err-copy_into-clause-err
 returns-in_err-copy_into-clause-err c =

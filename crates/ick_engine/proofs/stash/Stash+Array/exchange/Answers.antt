@@ -3,7 +3,7 @@ use Rattle.std.proofs.lemmas.List.{get_or-map, length-map, map-set}
 use Rattle.ick_engine.specs.Stashes.{IsTakenOff}
 use Rattle.ick_engine.specs.View.{array_of, arrays_of}
 use Rattle.ick_engine.proofs.StashingLemmas.{take_replaced}
-use Rattle.ick_engine.proofs.memory.ArrayStash.exchange.Goals as goal
+use Rattle.ick_engine.proofs.stash.Stash+Array.exchange.Goals as goal
 
 pub returns-clause-taken : goal.returns-clause-taken
 returns-clause-taken c =
