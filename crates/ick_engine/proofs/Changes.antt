@@ -67,6 +67,11 @@ count_history t =
     length-reverse (changes_of (reverse t.entries.items) arrays statuses)
     ∙ count_changes (reverse t.entries.items) arrays statuses ∙ length-reverse t.entries.items
 
+-- one change is added
+pub grown_one : (t : Trail) (changes : List Change) (change : Change) → changes ≡ changes_in t ++ change ∷ [] →
+    Extends (changes_in t) changes
+grown_one t changes change is = record { more = change ∷ []; is = is }
+
 -- changes that are added belong to no older mark
 pub fixed_grown : (t : Trail) (changes : List Change) → Extends (changes_in t) changes →
     fixed_of t.base (take t.kept changes) ≡ fixed_by t

@@ -6,6 +6,7 @@ ghost use Rattle.std.specs.Prelude.{length, map, OnErr, OnOk};
 ghost use Rattle.std.proofs.Common.{get_or};
 ghost use Rattle.ick_code.specs.meaning.State.{no_array};
 ghost use Rattle.ick_instructions.specs.Extends.{Extends};
+ghost use Rattle.ick_engine.specs.Noting.{NotesOne};
 ghost use Rattle.ick_engine.specs.Undo.{array_was, change_of, stands_apart, statuses_were};
 ghost use Rattle.ick_engine.specs.Undo.{AlikeUndo, Change, Fixed, KeepsUndoing, Means};
 ghost use Rattle.ick_engine.specs.Undo.{NotesChange, NotesElement, NotesRegister, NotesRestored};
@@ -59,10 +60,7 @@ pub trait Notes: Drop {
     fn note_register(&mut self, registers: &[u32], at: u32)
         requires room { 0 < room self.old }
         requires there { at < length registers.now }
-        ensures room { room self.old ≤ room self.new + 1 }
-        ensures low { low self.new ≡ low self.old }
-        ensures base { fixed self.new ≡ fixed self.old }
-        ensures changes { Extends (changes self.old) (changes self.new) }
+        ensures noted { NotesOne room low fixed changes self.old self.new }
         ensures notes { NotesRegister Undoes self.old self.new at registers.now };
 
     /// Notes that an element will have another number.
@@ -70,10 +68,7 @@ pub trait Notes: Drop {
         requires room { 0 < room self.old }
         requires slot { slot < length arrays.now }
         requires at { at < length (get_or (map array_of arrays.now) slot no_array).elements }
-        ensures room { room self.old ≤ room self.new + 1 }
-        ensures low { low self.new ≡ low self.old }
-        ensures base { fixed self.new ≡ fixed self.old }
-        ensures changes { Extends (changes self.old) (changes self.new) }
+        ensures noted { NotesOne room low fixed changes self.old self.new }
         ensures notes { NotesElement Undoes self.old self.new slot at (map array_of arrays.now) };
 
     /// Notes that the return addresses from a depth on will be dropped.
@@ -92,10 +87,7 @@ pub trait Notes: Drop {
     fn note(&mut self, entry: Entry)
         requires room { 0 < room self.old }
         requires alone { stands_apart entry ≡ false }
-        ensures room { room self.old ≤ room self.new + 1 }
-        ensures low { low self.new ≡ low self.old }
-        ensures base { fixed self.new ≡ fixed self.old }
-        ensures changes { Extends (changes self.old) (changes self.new) }
+        ensures noted { NotesOne room low fixed changes self.old self.new }
         ensures notes { NotesChange Undoes self.old self.new (fixed self.old).base
             (change_of entry) };
 
@@ -104,10 +96,7 @@ pub trait Notes: Drop {
     fn note_restored(&mut self, registers: &[u32], slot: u32, number: u32)
         requires room { 0 < room self.old }
         requires there { slot < length registers.now }
-        ensures room { room self.old ≤ room self.new + 1 }
-        ensures low { low self.new ≡ low self.old }
-        ensures base { fixed self.new ≡ fixed self.old }
-        ensures changes { Extends (changes self.old) (changes self.new) }
+        ensures noted { NotesOne room low fixed changes self.old self.new }
         ensures notes { NotesRestored Undoes self.old self.new slot number registers.now };
 
     /// Makes room for so many changes and all return addresses. If memory runs out, nothing else
@@ -123,10 +112,7 @@ pub trait Notes: Drop {
     /// noted.
     fn note_array(&mut self, change: ArrayChange, slot: u32, array: &Array) -> Result<(), NoMemory>
         requires room { 0 < room self.old }
-        ensures room { room self.old ≤ room self.new + 1 }
-        ensures low { low self.new ≡ low self.old }
-        ensures base { fixed self.new ≡ fixed self.old }
-        ensures changes { Extends (changes self.old) (changes self.new) }
+        ensures noted { NotesOne room low fixed changes self.old self.new }
         ensures notes { OnOk result (NotesChange Undoes self.old self.new (fixed self.old).base
             (array_was change slot (array_of array.now))) }
         ensures same { OnErr result (changes self.new ≡ changes self.old) }
@@ -136,10 +122,7 @@ pub trait Notes: Drop {
     /// noted.
     fn note_statuses(&mut self, statuses: &[u8]) -> Result<(), NoMemory>
         requires room { 0 < room self.old }
-        ensures room { room self.old ≤ room self.new + 1 }
-        ensures low { low self.new ≡ low self.old }
-        ensures base { fixed self.new ≡ fixed self.old }
-        ensures changes { Extends (changes self.old) (changes self.new) }
+        ensures noted { NotesOne room low fixed changes self.old self.new }
         ensures notes { OnOk result (NotesChange Undoes self.old self.new (fixed self.old).base
             (statuses_were statuses.now)) }
         ensures same { OnErr result (changes self.new ≡ changes self.old) }

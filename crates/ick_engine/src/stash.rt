@@ -4,7 +4,7 @@ ghost use Rattle.std.specs.Prelude.{◌≡◌, ◌+◌, ◌<◌, ◌≤◌, ℕ,
 ghost use Rattle.std.specs.Prelude.{IfNone, IfSome, OnErr, OnOk};
 ghost use Rattle.std.specs.Bool.{OnFalse, OnTrue};
 ghost use Rattle.std.proofs.Common.{get_or};
-ghost use Rattle.ick_instructions.specs.Extends.{Extends};
+ghost use Rattle.ick_engine.specs.Noting.{NotesOne};
 ghost use Rattle.ick_engine.specs.Stashes.{ChangesAt, IsPutOn, IsRestoredTo, IsRetrieved};
 ghost use Rattle.ick_engine.specs.Stashes.{IsTakenOff};
 ghost use Rattle.ick_code.specs.meaning.State.{no_array};
@@ -154,10 +154,7 @@ pub fn save_scalar<N: Notes>(
         (map numbers_of stashes.old.items) (map numbers_of stashes.new.items)) }
     ensures same { OnErr result (map numbers_of stashes.new.items
         ≡ map numbers_of stashes.old.items) }
-    ensures room { N.room notes.old ≤ N.room notes.new + 1 }
-    ensures low { N.low notes.new ≡ N.low notes.old }
-    ensures base { N.fixed notes.new ≡ N.fixed notes.old }
-    ensures changes { Extends (N.changes notes.old) (N.changes notes.new) }
+    ensures noted { NotesOne N.room N.low N.fixed N.changes notes.old notes.new }
     ensures notes { (k : ℕ) (v m : View) →
         v.parts.scalar_stashes ≡ map numbers_of stashes.old.items → N.Undoes notes.old k v m →
         N.Undoes notes.new k (with_scalar_stashes (map numbers_of stashes.new.items) v) m }
@@ -185,10 +182,7 @@ pub fn save_array<N: Notes>(
         (map arrays_of stashes.old.items) (map arrays_of stashes.new.items)) }
     ensures same { OnErr result (StashesLike (map arrays_of stashes.old.items)
         (map arrays_of stashes.new.items)) }
-    ensures room { N.room notes.old ≤ N.room notes.new + 1 }
-    ensures low { N.low notes.new ≡ N.low notes.old }
-    ensures base { N.fixed notes.new ≡ N.fixed notes.old }
-    ensures changes { Extends (N.changes notes.old) (N.changes notes.new) }
+    ensures noted { NotesOne N.room N.low N.fixed N.changes notes.old notes.new }
     ensures notes { (k : ℕ) (v m : View) →
         v.parts.array_stashes ≡ map arrays_of stashes.old.items → N.Undoes notes.old k v m →
         N.Undoes notes.new k (with_array_stashes (map arrays_of stashes.new.items) v) m }
@@ -221,10 +215,7 @@ pub fn restore_scalar<N: Notes>(
     ensures registers { OnFalse result (registers.new ≡ registers.old) }
     ensures stashes { OnFalse result (map numbers_of stashes.new.items
         ≡ map numbers_of stashes.old.items) }
-    ensures room { N.room notes.old ≤ N.room notes.new + 1 }
-    ensures low { N.low notes.new ≡ N.low notes.old }
-    ensures base { N.fixed notes.new ≡ N.fixed notes.old }
-    ensures changes { Extends (N.changes notes.old) (N.changes notes.new) }
+    ensures noted { NotesOne N.room N.low N.fixed N.changes notes.old notes.new }
     ensures notes { (k : ℕ) (v m : View) → v.registers ≡ registers.old →
         v.parts.scalar_stashes ≡ map numbers_of stashes.old.items → N.Undoes notes.old k v m →
         N.Undoes notes.new k (with_scalar_stashes (map numbers_of stashes.new.items)
@@ -260,10 +251,7 @@ pub fn restore_array<N: Notes>(
         (map array_of arrays.old.items) (map array_of arrays.new.items)
         (map arrays_of stashes.old.items) (map arrays_of stashes.new.items) }
     ensures hidden { map is_hidden arrays.new.items ≡ map is_hidden arrays.old.items }
-    ensures room { N.room notes.old ≤ N.room notes.new + 1 }
-    ensures low { N.low notes.new ≡ N.low notes.old }
-    ensures base { N.fixed notes.new ≡ N.fixed notes.old }
-    ensures changes { Extends (N.changes notes.old) (N.changes notes.new) }
+    ensures noted { NotesOne N.room N.low N.fixed N.changes notes.old notes.new }
     ensures notes { (k : ℕ) (v m : View) → v.parts.arrays ≡ map array_of arrays.old.items →
         v.parts.array_stashes ≡ map arrays_of stashes.old.items → N.Undoes notes.old k v m →
         N.Undoes notes.new k (with_array_stashes (map arrays_of stashes.new.items)

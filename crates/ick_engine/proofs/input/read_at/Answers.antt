@@ -93,5 +93,4 @@ returns-in-Ok-read_line-clause-notes g c =
     let now = c.store_at.new.arrays.items in
     arrays_noted
     (noted_parts c.in-Ok.ensures.notes old mid (ap (λ (p : Parts). record p { taken = old.taken }) c.in-Ok-read_line.ensures.parts))
-    (map array_of now) (map is_hidden now) c.store_at.ensures.low c.store_at.ensures.base c.store_at.ensures.changes
-    c.store_at.ensures.hidden c.store_at.ensures.notes
+    (map array_of now) (map is_hidden now) c.store_at.ensures.noted.kept c.store_at.ensures.hidden c.store_at.ensures.notes

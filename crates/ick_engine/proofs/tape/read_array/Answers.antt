@@ -61,7 +61,7 @@ returns-in_default-note_reading-clause-notes g c =
     let r = c.index-array.result.now in
     noted_parts
     (array_noted c.note_reading.ensures.notes c.args.slot ((g.N.Notes.fixed c.args.notes.now).base) (array_of r)
-    c.in-Ok.ensures.low c.in-Ok.ensures.base c.in-Ok.ensures.changes c.in-Ok.ensures.notes) old old
+    c.in-Ok.ensures.noted.kept c.in-Ok.ensures.notes) old old
     (ap (λ l. record old { arrays = l }) (put_same array_of m.arrays.items c.args.slot r c.index-array.ensures))
 
 pub returns-in-Ok-read_bytes-clause-notes : goal.returns-in-Ok-read_bytes-clause-notes
@@ -73,7 +73,7 @@ returns-in-Ok-read_bytes-clause-notes g c =
     let r = c.index-array.result.now in
     noted_parts
     (array_noted c.note_reading.ensures.notes slot ((g.N.Notes.fixed c.args.notes.now).base) (array_of r)
-    c.in-Ok.ensures.low c.in-Ok.ensures.base c.in-Ok.ensures.changes c.in-Ok.ensures.notes) old _
+    c.in-Ok.ensures.noted.kept c.in-Ok.ensures.notes) old _
     (ap₂ (λ arrays hidden. record old { arrays = arrays; hidden = hidden })
     (put_back array_of all slot _ r c.index-array.ensures)
     (map-set_same is_hidden all slot _ c.index_mut-array.result.now (ap is_hidden c.index_mut-array.ensures.value)))
@@ -95,7 +95,7 @@ returns-in-Err-clause-notes g c =
     let r = c.index-array.result.now in
     noted_parts
     (array_noted c.note_reading.ensures.notes slot ((g.N.Notes.fixed c.args.notes.now).base) (array_of r)
-    c.in-Ok.ensures.low c.in-Ok.ensures.base c.in-Ok.ensures.changes c.in-Ok.ensures.notes) old _
+    c.in-Ok.ensures.noted.kept c.in-Ok.ensures.notes) old _
     (ap₂ (λ arrays hidden. record old { arrays = arrays; hidden = hidden })
     (put_back array_of all slot _ r c.index-array.ensures)
     (map-set_same is_hidden all slot _ c.index_mut-array.result.now (ap is_hidden c.index_mut-array.ensures.value)))

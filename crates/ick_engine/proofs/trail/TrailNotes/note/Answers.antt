@@ -1,14 +1,19 @@
-use Rattle.std.proofs.Common.{refl, sym, subst}
+use Rattle.std.proofs.Common.{refl, rules, sym, subst}
 use Rattle.ick_engine.specs.TrailChanges.{changes_in}
 use Rattle.ick_engine.specs.Undo.{Rewinds, change_of, undone}
 use Rattle.ick_engine.proofs.Changes.{fixed_grown, newest_alone, grown}
 use Rattle.ick_engine.proofs.Undoing.{notes_back}
 use Rattle.ick_engine.proofs.trail.TrailNotes.note.Goals as goal
 
-pub returns-clause-changes : goal.returns-clause-changes
-returns-clause-changes c =
+pub returns-clause-noted : goal.returns-clause-noted
+returns-clause-noted c =
     let t = c.args.self.now in
-    grown t c.push_reserved.new.self.items t.entries.items c.args.entry c.requires.alone c.push_reserved.ensures.items
+    let more =
+    grown t c.push_reserved.new.self.items t.entries.items c.args.entry c.requires.alone c.push_reserved.ensures.items in
+    record {
+      room_left = search rules;
+      kept = record { low_same = refl; base_same = fixed_grown t _ more; more = more };
+    }
 
 pub returns-clause-notes : goal.returns-clause-notes
 returns-clause-notes c = λ k v m can h.
@@ -20,6 +25,3 @@ returns-clause-notes c = λ k v m can h.
           (notes_back t.base (changes_in t) t.low k (change_of c.args.entry) v (undone (change_of c.args.entry) v) m can refl
           h.1),
     )
-
-pub returns-clause-base : goal.returns-clause-base
-returns-clause-base c = fixed_grown c.args.self.now _ (returns-clause-changes c)

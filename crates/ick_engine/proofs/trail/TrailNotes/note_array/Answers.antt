@@ -1,20 +1,21 @@
-use Rattle.std.proofs.Common.{refl, [], ◌∷◌, sym, subst}
+use Rattle.std.proofs.Common.{refl, rules, sym, subst}
 use Rattle.ick_engine.specs.TrailChanges.{changes_in}
 use Rattle.ick_engine.specs.Undo.{Rewinds, array_was, undone}
 use Rattle.ick_engine.specs.View.{array_of}
-use Rattle.ick_engine.proofs.Changes.{fixed_grown, newest_array}
+use Rattle.ick_engine.proofs.Changes.{fixed_grown, grown_one, newest_array}
 use Rattle.ick_engine.proofs.Undoing.{notes_back}
 use Rattle.ick_engine.proofs.trail.TrailNotes.note_array.Goals as goal
 
-pub returns-clause-changes : goal.returns-clause-changes
-returns-clause-changes c =
+pub returns-clause-noted : goal.returns-clause-noted
+returns-clause-noted c =
     let t = c.args.self.now in
-    let change = array_was c.args.change c.args.slot (array_of c.args.array.now) in
+    let more =
+    grown_one t _ _
+    (newest_array t c.push_reserved.new.self.items c.push.new.self.items c.args.change c.args.slot c.in_ok-copy_array.field-0
+    (array_of c.args.array.now) c.push_reserved.ensures.items c.in_ok-push.ensures.items c.in_ok-copy_array.ensures.array) in
     record {
-      more = change ∷ [];
-      is =
-          newest_array t c.push_reserved.new.self.items c.push.new.self.items c.args.change c.args.slot c.in_ok-copy_array.field-0
-          (array_of c.args.array.now) c.push_reserved.ensures.items c.in_ok-push.ensures.items c.in_ok-copy_array.ensures.array;
+      room_left = search rules;
+      kept = record { low_same = refl; base_same = fixed_grown t _ more; more = more };
     }
 
 pub returns-clause-notes : goal.returns-clause-notes
@@ -27,6 +28,3 @@ returns-clause-notes c = λ k v m can h.
           (array_of c.args.array.now) c.push_reserved.ensures.items c.in_ok-push.ensures.items c.in_ok-copy_array.ensures.array))
           (notes_back t.base (changes_in t) t.low k change v (undone change v) m can refl h.1),
     )
-
-pub returns-clause-base : goal.returns-clause-base
-returns-clause-base c = fixed_grown c.args.self.now _ (returns-clause-changes c)
