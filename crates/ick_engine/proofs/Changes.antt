@@ -1,8 +1,8 @@
 -- The changes that a trail has.
-use Rattle.std.proofs.Common.{arith, ◌≤◌, ◌≡◌, ℕ, suc, false, List, [], ◌∷◌, ◌++◌, refl, ap, sym, ◌∙◌}
-use Rattle.std.proofs.Common.{get_or, length, map, reverse, take, take_all}
+use Rattle.std.proofs.Common.{arith, ◌≤◌, ◌≡◌, ℕ, suc, false, List, [], ◌∷◌, ◌++◌, refl, ap, sym, ◌∙◌, get_or, length, map, reverse, take, take_all, rules}
+use Rattle.std.proofs.lemmas.Grind.{common_steps}
 use Rattle.std.specs.Global.{Vec}
-use Rattle.std.proofs.lemmas.List.{reverse-append, length-reverse, length-take-le, map-append, take-append-le}
+use Rattle.std.proofs.lemmas.List.{reverse-append, length-reverse, length-take-le, take-append-le}
 use Rattle.std.proofs.Math.Seq.{take-suc}
 use Rattle.ick_code.specs.meaning.State.{Array as ArrayValue}
 use Rattle.ick_instructions.specs.Extends.{Extends}
@@ -12,8 +12,7 @@ use Rattle.ick_engine.specs.declared.change.Entry.TheVariants as entry
 use Rattle.ick_engine.specs.declared.memory.Array.{Array}
 use Rattle.ick_engine.specs.declared.trail.Trail.{Trail}
 use Rattle.ick_engine.specs.TrailChanges.{changes_by, fixed_by, changes_in, IsNoted, IsUndone}
-use Rattle.ick_engine.specs.Undo.{Change, array_was, statuses_were, no_change, change_of, changes_of, stands_apart}
-use Rattle.ick_engine.specs.Undo.{fixed_of}
+use Rattle.ick_engine.specs.Undo.{Change, array_was, statuses_were, no_change, change_of, changes_of, stands_apart, fixed_of}
 use Rattle.ick_engine.specs.View.{View, array_of, bytes_of}
 
 -- an entry with its old value is a change of its own
@@ -99,10 +98,7 @@ newest all rest e change arrays arrays' statuses statuses' is there =
 
 pub newest_alone : (t : Trail) (all rest : List Entry) (e : Entry) → stands_apart e ≡ false → all ≡ rest ++ e ∷ [] →
     reverse (changes_by t (reverse all)) ≡ reverse (changes_by t (reverse rest)) ++ change_of e ∷ []
-newest_alone t all rest e h is =
-    let arrays = reverse (map array_of t.arrays.items) in
-    let statuses = reverse (map bytes_of t.statuses.items) in
-    newest all rest e (change_of e) arrays arrays statuses statuses is (alone e (reverse rest) arrays statuses h)
+newest_alone t all rest e h is = grind (arith, common_steps)
 
 pub grown : (t : Trail) (all rest : List Entry) (e : Entry) → stands_apart e ≡ false → all ≡ rest ++ e ∷ [] →
     Extends (reverse (changes_by t (reverse rest))) (reverse (changes_by t (reverse all)))
@@ -137,37 +133,19 @@ pub newest_array : (t : Trail) (all : List Entry) (arrays : List Array) (change 
     array_of copy ≡ old →
     reverse (changes_of (reverse all) (reverse (map array_of arrays)) (reverse (map bytes_of t.statuses.items)))
     ≡ changes_in t ++ array_was change slot old ∷ []
-newest_array t all arrays change slot copy old is pushed same =
-    let kept = map array_of t.arrays.items in
-    let statuses = reverse (map bytes_of t.statuses.items) in
-    newest all t.entries.items (entry.Array change slot) (array_was change slot old) (reverse (map array_of arrays))
-    (reverse kept) statuses statuses is
-    (ap (λ l. changes_of (entry.Array change slot ∷ reverse t.entries.items) l statuses)
-    (ap (λ l. reverse (map array_of l)) pushed ∙ ap reverse (map-append array_of t.arrays.items (copy ∷ []))
-    ∙ ap (λ a. reverse (kept ++ a ∷ [])) same ∙ reverse-append kept (old ∷ [])))
+newest_array t all arrays change slot copy old is pushed same = grind (arith, common_steps)
 
 pub newest_statuses : (t : Trail) (all : List Entry) (statuses : List (Vec ℕ)) (copy : Vec ℕ) (old : List ℕ) →
     all ≡ t.entries.items ++ entry.Statuses ∷ [] → statuses ≡ t.statuses.items ++ copy ∷ [] → copy.items ≡ old →
     reverse (changes_of (reverse all) (reverse (map array_of t.arrays.items)) (reverse (map bytes_of statuses)))
     ≡ changes_in t ++ statuses_were old ∷ []
-newest_statuses t all statuses copy old is pushed same =
-    let kept = map bytes_of t.statuses.items in
-    let arrays = reverse (map array_of t.arrays.items) in
-    newest all t.entries.items entry.Statuses (statuses_were old) arrays arrays (reverse (map bytes_of statuses))
-    (reverse kept) is
-    (ap (λ l. changes_of (entry.Statuses ∷ reverse t.entries.items) arrays l)
-    (ap (λ l. reverse (map bytes_of l)) pushed ∙ ap reverse (map-append bytes_of t.statuses.items (copy ∷ []))
-    ∙ ap (λ a. reverse (kept ++ a ∷ [])) same ∙ reverse-append kept (old ∷ [])))
+newest_statuses t all statuses copy old is pushed same = grind (arith, common_steps)
 
 -- an entry that was taken off a trail and undone
 pub newest_undone : (all : List Entry) (mid new : Trail) (e : Entry) (v w : View) (u : IsUndone e mid new v w) →
     all ≡ mid.entries.items ++ e ∷ [] → new.entries ≡ mid.entries →
     reverse (changes_by mid (reverse all)) ≡ changes_in new ++ u.change ∷ []
-newest_undone all mid new e v w u is same =
-    newest all mid.entries.items e u.change (reverse (map array_of mid.arrays.items)) (reverse (map array_of new.arrays.items))
-    (reverse (map bytes_of mid.statuses.items)) (reverse (map bytes_of new.statuses.items)) is
-    (u.off (reverse mid.entries.items))
-    ∙ ap (λ l. reverse (changes_by new (reverse l.items)) ++ u.change ∷ []) (sym same)
+newest_undone all mid new e v w u is same = grind (arith, common_steps)
 
 -- an entry and what stands apart from it, taken off
 pub off_array : (t : Trail) (e : Entry) (arrays : List Array) (old : Array) (change : ArrayChange) (slot : ℕ)
@@ -175,45 +153,27 @@ pub off_array : (t : Trail) (e : Entry) (arrays : List Array) (old : Array) (cha
     changes_by t (e ∷ older)
     ≡ array_was change slot (array_of old)
     ∷ changes_of older (reverse (map array_of arrays)) (reverse (map bytes_of t.statuses.items))
-off_array t e arrays old change slot older is popped =
-    let statuses = reverse (map bytes_of t.statuses.items) in
-    ap (λ x. changes_by t (x ∷ older)) is
-    ∙ ap (λ l. changes_of (entry.Array change slot ∷ older) l statuses)
-    (ap (λ l. reverse (map array_of l)) popped ∙ ap reverse (map-append array_of arrays (old ∷ []))
-    ∙ reverse-append (map array_of arrays) (array_of old ∷ []))
+off_array t e arrays old change slot older is popped = grind (arith, common_steps)
 
 pub off_statuses : (t : Trail) (e : Entry) (statuses : List (Vec ℕ)) (old : Vec ℕ) (older : List Entry) →
     e ≡ entry.Statuses → t.statuses.items ≡ statuses ++ old ∷ [] →
     changes_by t (e ∷ older)
     ≡ statuses_were old.items
     ∷ changes_of older (reverse (map array_of t.arrays.items)) (reverse (map bytes_of statuses))
-off_statuses t e statuses old older is popped =
-    let arrays = reverse (map array_of t.arrays.items) in
-    ap (λ x. changes_by t (x ∷ older)) is
-    ∙ ap (λ l. changes_of (entry.Statuses ∷ older) arrays l)
-    (ap (λ l. reverse (map bytes_of l)) popped ∙ ap reverse (map-append bytes_of statuses (old ∷ []))
-    ∙ reverse-append (map bytes_of statuses) (old.items ∷ []))
+off_statuses t e statuses old older is popped = grind (arith, common_steps)
 
 -- an entry from which nothing stands apart
 pub off_no_array : (t : Trail) (e : Entry) (arrays : List Array) (change : ArrayChange) (slot : ℕ) (older : List Entry) →
     e ≡ entry.Array change slot → t.arrays.items ≡ [] → arrays ≡ [] →
     changes_by t (e ∷ older)
     ≡ no_change ∷ changes_of older (reverse (map array_of arrays)) (reverse (map bytes_of t.statuses.items))
-off_no_array t e arrays change slot older is none new =
-    let statuses = reverse (map bytes_of t.statuses.items) in
-    ap (λ x. changes_by t (x ∷ older)) is
-    ∙ ap (λ l. changes_of (entry.Array change slot ∷ older) (reverse (map array_of l)) statuses) none
-    ∙ ap (λ l. no_change ∷ changes_of older (reverse (map array_of l)) statuses) (sym new)
+off_no_array t e arrays change slot older is none new = search rules
 
 pub off_no_statuses : (t : Trail) (e : Entry) (statuses : List (Vec ℕ)) (older : List Entry) →
     e ≡ entry.Statuses → t.statuses.items ≡ [] → statuses ≡ [] →
     changes_by t (e ∷ older)
     ≡ no_change ∷ changes_of older (reverse (map array_of t.arrays.items)) (reverse (map bytes_of statuses))
-off_no_statuses t e statuses older is none new =
-    let arrays = reverse (map array_of t.arrays.items) in
-    ap (λ x. changes_by t (x ∷ older)) is
-    ∙ ap (λ l. changes_of (entry.Statuses ∷ older) arrays (reverse (map bytes_of l))) none
-    ∙ ap (λ l. no_change ∷ changes_of older arrays (reverse (map bytes_of l))) (sym new)
+off_no_statuses t e statuses older is none new = search rules
 
 pub none_left : {A : Type 0} (xs : List A) → length xs ≤ 0 → xs ≡ []
 none_left [] h = refl

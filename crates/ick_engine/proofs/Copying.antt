@@ -1,13 +1,12 @@
 -- States that are kept, and their copies.
-use Rattle.std.proofs.Common.{◌≡◌, ap, ◌∙◌, length, take}
+use Rattle.std.proofs.Common.{◌≡◌, ◌∙◌, rules}
 use Rattle.std.proofs.Props.{props}
 use mathlib.Core.Logic.{∥∥₁_elim}
 use Rattle.ick_code.specs.declared.code.Code.{Code}
 use Rattle.ick_instructions.specs.declared.lowered.LoweredParts.{LoweredParts}
 use Rattle.ick_engine.specs.declared.saved.Saved.{Saved}
 use Rattle.ick_engine.specs.Saved.{AreSame, IsKept, saved_view}
-use Rattle.ick_engine.specs.View.{Input, map_of, parts_of, scalar_names, state_of}
-use Rattle.ick_engine.proofs.Restoring.{all_same, state_by}
+use Rattle.ick_engine.specs.View.{Input, parts_of, state_of}
 use Rattle.ick_engine.proofs.Saving.{same_parts_trans}
 
 -- a kept state has the same lists as another one, but for spare room of stashes
@@ -39,7 +38,4 @@ copy_kept code lowered one copy is kept =
 
 pub copy_state : (code : Code) (lowered : LoweredParts) (one copy : Saved) → IsCopy one copy → (input : Input) →
     state_of code lowered input (saved_view copy) ≡ state_of code lowered input (saved_view one)
-copy_state code lowered one copy is input =
-    all_same (state_by code lowered input) is.place_same (ap (λ l. take (length l) l) is.returns_same)
-    (ap (λ l. map_of (scalar_names code) l 0) is.numbers_same) is.home_same is.statuses_same is.parts_same.others
-    is.parts_same.scalars is.parts_same.arrays
+copy_state code lowered one copy is input = search rules

@@ -1,9 +1,10 @@
 -- Lists that are copied and compared, and states that are kept.
-use Rattle.std.proofs.Common.{◌≡◌, ℕ, zero, suc, ◌+◌, ◌<◌, ◌≤◌, List, [], ◌∷◌, ◌++◌, refl, ap, sym, ◌∙◌, subst}
+use Rattle.std.proofs.Common.{◌≡◌, ℕ, zero, suc, ◌+◌, ◌<◌, ◌≤◌, List, [], ◌∷◌, ◌++◌, refl, ap, sym, ◌∙◌, subst, rules}
+use Rattle.std.proofs.lemmas.Grind.{common_steps}
 use Rattle.std.proofs.Common.{length, take, take_all, drop, get_or, map, arith, if◌then◌else◌}
 use mathlib.Core.Path.{fun_ext}
 use Rattle.ick_syntax.specs.declared.tree.Name.{Name}
-use Rattle.std.proofs.lemmas.List.{length-append, length-drop, map-append, get_or-take, length-take-le, get_or-map, length-map, get_or_append_left}
+use Rattle.std.proofs.lemmas.List.{length-append, length-drop, map-append, length-take-le, get_or-map, length-map}
 use Rattle.std.proofs.Math.Seq.{take-suc}
 use Rattle.ick_code.specs.meaning.State.{same_name}
 use Rattle.ick_code.specs.declared.code.Code.{Code}
@@ -64,13 +65,7 @@ put_count xs ys count = omega (arith, length-append xs (drop (length xs) ys), le
 
 first_put : (n : ℕ) (xs old new : List ℕ) → new ≡ take n xs ++ drop (length (take n xs)) old →
     length (take n xs ++ drop (length (take n xs)) old) ≡ length xs → length (take n xs) ≡ n → SameFirst n xs new
-first_put n xs old new is count long = record {
-  count = ap length is ∙ count;
-  same = λ k low.
-      ap (λ l. get_or l k 0) is
-      ∙ get_or_append_left (take n xs) (drop (length (take n xs)) old) 0 k (omega (arith, low, long))
-      ∙ get_or-take n xs k 0 low;
-}
+first_put n xs old new is count long = grind (arith, common_steps)
 
 pub put_same : (given xs ys : List ℕ) → given ≡ xs → given ++ drop (length xs) ys ≡ xs ++ drop (length xs) ys
 put_same given xs ys same = ap (λ l. l ++ drop (length xs) ys) same
@@ -88,11 +83,7 @@ pub same_parts_refl : (p : Parts) → AreSame p p
 same_parts_refl p = record { others = refl; scalars = refl; arrays = refl }
 
 pub same_parts_trans : {p q r : Parts} → AreSame p q → AreSame q r → AreSame p r
-same_parts_trans a b = record {
-  others = b.others ∙ a.others;
-  scalars = b.scalars ∙ a.scalars;
-  arrays = b.arrays ∙ a.arrays;
-}
+same_parts_trans a b = search rules
 
 map_used : {A B : Type 0} (f : A → Stash B) (xs : List A) →
     map used_values (map f xs) ≡ map (λ x. used_values (f x)) xs
@@ -139,12 +130,7 @@ kept_state code lowered saved v count is input =
 
 -- lists that a memory may take in place of its own
 pub lists_of : (code : Code) (lowered : LoweredParts) (v : View) → IsSteady code lowered v → HasLists code v.parts
-lists_of code lowered v steady = record {
-  arrays = steady.arrays;
-  hidden = steady.hidden;
-  scalar_stashes = steady.scalar_stashes;
-  array_stashes = steady.array_stashes;
-}
+lists_of code lowered v steady = search rules
 
 module _ (code : Code) (lowered : LoweredParts) (is : IsProgram code lowered) where
   abbrev pub base : ℕ
@@ -156,10 +142,7 @@ module _ (code : Code) (lowered : LoweredParts) (is : IsProgram code lowered) wh
   -- a view with other spare places
   state_with : (v : View) (q : Parts) → AreSame v.parts q → (input : Input) →
       state_of code lowered input (record v { parts = q }) ≡ state_of code lowered input v
-  state_with v q same input =
-      let scalars = map_of (scalar_names code) v.registers 0 in
-      all_same (state_by code lowered input) {a = v.place} {b = take v.depth v.returns} {c = scalars} {d = v.home}
-      {e = v.statuses} refl refl refl refl refl same.others same.scalars same.arrays
+  state_with v q same input = search rules
 
   ready_with : (v : View) (q : Parts) → AreSame v.parts q → IsReady code lowered v →
       IsReady code lowered (record v { parts = q })

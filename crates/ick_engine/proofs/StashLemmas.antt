@@ -1,51 +1,25 @@
 -- Stashes that are alike, and changes of one of them.
-use Rattle.std.proofs.Common.{◌≡◌, ℕ, zero, suc, ◌+◌, ◌-◌, ◌<◌, ◌≤◌, List, [], ◌∷◌, ◌++◌, refl, ap, sym, ap₂, ◌∙◌, subst}
-use Rattle.std.proofs.Common.{Bool, length, take, map, get_or, arith, true, false}
+use Rattle.std.proofs.Common.{◌≡◌, ℕ, zero, suc, ◌+◌, ◌-◌, ◌<◌, ◌≤◌, List, [], ◌∷◌, refl, ap, sym, ap₂, ◌∙◌, subst, length, take, map, get_or, arith, rules}
+use Rattle.std.proofs.lemmas.Grind.{common_steps}
 use Rattle.std.specs.Prelude.{replicate, slice_set, nat_lt, if◌then◌else◌}
-use Rattle.std.proofs.lemmas.Bool.Decides.{nat_tests}
-use Rattle.std.proofs.lemmas.List.{take-take, take_more_set, length-map, length-set, map-set, get_or-map}
+use Rattle.std.proofs.lemmas.List.{take-take, length-map, map-set, get_or-map}
 use Rattle.std.proofs.lemmas.Simd.{map-map}
-use Rattle.ick_code.specs.meaning.State.{Array, no_array}
+use Rattle.ick_code.specs.meaning.State.{Array}
 use Rattle.ick_engine.specs.declared.change.ArrayChange.{ArrayChange}
 use Rattle.ick_engine.specs.declared.change.ArrayChange.TheVariants as now
 use Rattle.ick_engine.specs.declared.memory.Array.{Array as Kept}
 use Rattle.ick_engine.specs.declared.memory.Stash.{Stash as KeptStash}
 use Rattle.ick_engine.specs.View.{View, Parts, Stash, array_of, arrays_of, no_stash, stash_in, used}
-use Rattle.ick_engine.specs.Undo.{StashLike, StashesLike, PartsLike, HasPlace, IsUndoable, array_was, put_on, taken_off}
-use Rattle.ick_engine.specs.Undo.{at_slot, given_back, undone_array}
+use Rattle.ick_engine.specs.Undo.{StashLike, PartsLike, HasPlace, IsUndoable, array_was, put_on, taken_off, at_slot, undone_array}
 
 pub stash_refl : {A : Type 0} (s : Stash A) → StashLike s s
 stash_refl s = record { depth_same = refl; places = omega arith; values = refl }
 
 pub stash_trans : {A : Type 0} {a b c : Stash A} → StashLike a b → StashLike b c → StashLike a c
-stash_trans p q = record {
-  depth_same = q.depth_same ∙ p.depth_same;
-  places = omega (arith, p.places, q.places);
-  values = q.values ∙ p.values;
-}
-
-pub stashes_refl : {A : Type 0} (ss : List (Stash A)) → StashesLike ss ss
-stashes_refl ss = record { count = refl; each = λ slot. stash_refl (get_or ss slot no_stash) }
-
-pub stashes_trans : {A : Type 0} {xs ys zs : List (Stash A)} → StashesLike xs ys → StashesLike ys zs → StashesLike xs zs
-stashes_trans p q = record {
-  count = q.count ∙ p.count;
-  each = λ slot. stash_trans (p.each slot) (q.each slot);
-}
+stash_trans p q = search rules
 
 pub parts_refl : (p : Parts) → PartsLike p p
-parts_refl p = record {
-  others = refl;
-  scalars = stashes_refl p.scalar_stashes;
-  arrays = stashes_refl p.array_stashes;
-}
-
-pub parts_trans : {p q r : Parts} → PartsLike p q → PartsLike q r → PartsLike p r
-parts_trans a b = record {
-  others = b.others ∙ a.others;
-  scalars = stashes_trans a.scalars b.scalars;
-  arrays = stashes_trans a.arrays b.arrays;
-}
+parts_refl p = search rules
 
 pub parts_same : {p q : Parts} → q ≡ p → PartsLike p q
 parts_same {p} e = subst (PartsLike p) (sym e) (parts_refl p)
@@ -65,24 +39,9 @@ taken_off_like {a} {b} p = record {
       ∙ fewer_used a.depth a.items b.items (ap (λ d. take d b.items) (sym p.depth_same) ∙ p.values);
 }
 
-pub put_deeper : {A : Type 0} (x : A) (s : Stash A) → s.depth < length s.items → (put_on x s).depth ≡ s.depth + 1
-put_deeper x s low =
-    let yes : nat_lt s.depth (length s.items) ≡ true = grind (arith, nat_tests, low) in
-    ap (λ b. if b then s.depth + 1 else s.depth) yes
-
-pub put_used : {A : Type 0} (x : A) (s : Stash A) → s.depth < length s.items → used (put_on x s) ≡ used s ++ x ∷ []
-put_used x s low =
-    ap (λ d. take d (slice_set s.items s.depth x)) (put_deeper x s low) ∙ take_more_set s.items s.depth x low
-
 pub put_on_like : {A : Type 0} {a b : Stash A} (x : A) → a.depth < length a.items → StashLike a b →
     StashLike (put_on x a) (put_on x b)
-put_on_like {a = a} {b = b} x low p =
-    let low' : b.depth < length b.items = omega (arith, low, p.places, p.depth_same) in
-    record {
-      depth_same = put_deeper x b low' ∙ ap (λ d. d + 1) p.depth_same ∙ sym (put_deeper x a low);
-      places = omega (arith, p.places, length-set a.items a.depth x, length-set b.items b.depth x);
-      values = put_used x b low' ∙ ap (λ l. l ++ x ∷ []) p.values ∙ sym (put_used x a low);
-    }
+put_on_like x low p = grind (arith, common_steps)
 
 -- one of many
 pub set_each : {A : Type 0} (xs ys : List (Stash A)) (slot : ℕ) (x y : Stash A) → length ys ≡ length xs → StashLike x y →
@@ -97,15 +56,6 @@ set_each (a ∷ xs) (b ∷ ys) (suc slot) x y count like zero same = same
 set_each (a ∷ xs) (b ∷ ys) (suc slot) x y count like (suc k) same =
     set_each xs ys slot x y (omega (arith, count)) like k same
 
-pub at_slot_like : {A : Type 0} (f : Stash A → Stash A) (slot : ℕ) (xs ys : List (Stash A)) → StashesLike xs ys →
-    StashLike (f (get_or xs slot no_stash)) (f (get_or ys slot no_stash)) →
-    StashesLike (at_slot f slot xs) (at_slot f slot ys)
-at_slot_like f slot xs ys p like = record {
-  count =
-      length-set ys slot (f (get_or ys slot no_stash)) ∙ p.count ∙ sym (length-set xs slot (f (get_or xs slot no_stash)));
-  each = λ k. set_each xs ys slot (f (get_or xs slot no_stash)) (f (get_or ys slot no_stash)) p.count like k (p.each k);
-}
-
 -- the values of all stashes
 pub used_same : {A : Type 0} (xs ys : List (Stash A)) → length ys ≡ length xs →
     ((k : ℕ) → StashLike (get_or xs k no_stash) (get_or ys k no_stash)) → map used ys ≡ map used xs
@@ -115,12 +65,6 @@ used_same (a ∷ xs) [] count each = absurd (omega (arith, count))
 used_same (a ∷ xs) (b ∷ ys) count each =
     ap (λ l. l ∷ map used ys) (each 0).values
     ∙ ap (λ l. used a ∷ l) (used_same xs ys (omega (arith, count)) (λ k. each (suc k)))
-
-pub put_there : {A : Type 0} (x : A) (s : Stash A) → s.depth < length s.items →
-    put_on x s ≡ record { items = slice_set s.items s.depth x; depth = s.depth + 1 }
-put_there {A} x s low =
-    let mk : ℕ → Stash A = λ d. record { items = slice_set s.items s.depth x; depth = d } in
-    ap mk (put_deeper x s low)
 
 pub set_at : {A B : Type 0} (g : B → Stash A) (f : Stash A → Stash A) (xs : List B) (slot : ℕ) (old new : B) →
     slot < length xs → old ≡ get_or xs slot old → g new ≡ f (g old) → map g (slice_set xs slot new) ≡ at_slot f slot (map g xs)
@@ -133,48 +77,17 @@ pub scalars_alike : (f : Stash ℕ → Stash ℕ) (slot : ℕ) (p q : Parts) →
     StashLike (f (get_or p.scalar_stashes slot no_stash)) (f (get_or q.scalar_stashes slot no_stash)) →
     PartsLike (record p { scalar_stashes = at_slot f slot p.scalar_stashes })
     (record q { scalar_stashes = at_slot f slot q.scalar_stashes })
-scalars_alike f slot p q like one = record {
-  others = like.others;
-  scalars = at_slot_like f slot p.scalar_stashes q.scalar_stashes like.scalars one;
-  arrays = like.arrays;
-}
+scalars_alike f slot p q like one = grind (arith, common_steps)
 
 pub arrays_alike : (f : Stash Array → Stash Array) (slot : ℕ) (p q : Parts) → PartsLike p q →
     StashLike (f (get_or p.array_stashes slot no_stash)) (f (get_or q.array_stashes slot no_stash)) →
     PartsLike (record p { array_stashes = at_slot f slot p.array_stashes })
     (record q { array_stashes = at_slot f slot q.array_stashes })
-arrays_alike f slot p q like one = record {
-  others = like.others;
-  scalars = like.scalars;
-  arrays = at_slot_like f slot p.array_stashes q.array_stashes like.arrays one;
-}
-
-given_alike : (slot : ℕ) (old : Array) (p q : Parts) → PartsLike p q → HasPlace p.array_stashes slot →
-    PartsLike (given_back slot old p) (given_back slot old q)
-given_alike slot old p q like place =
-    let present : get_or q.arrays slot no_array ≡ get_or p.arrays slot no_array =
-    ap (λ r. get_or r.arrays slot no_array) like.others in
-    record {
-      others = ap {A = Parts} (λ r. record r { arrays = slice_set r.arrays slot old }) like.others;
-      scalars = like.scalars;
-      arrays =
-          subst (λ a. StashesLike (at_slot (put_on (get_or p.arrays slot no_array)) slot p.array_stashes)
-          (at_slot (put_on a) slot q.array_stashes)) (sym present)
-          (at_slot_like (put_on (get_or p.arrays slot no_array)) slot p.array_stashes q.array_stashes like.arrays
-          (put_on_like (get_or p.arrays slot no_array) place (like.arrays.each slot)));
-    }
+arrays_alike f slot p q like one = grind (arith, common_steps)
 
 restored_alike : (slot : ℕ) (old : Array) (p q : Parts) → PartsLike p q → HasPlace p.array_stashes slot →
     PartsLike (undone_array now.Restored slot old p) (undone_array now.Restored slot old q)
-restored_alike slot old p q like place =
-    let count : nat_lt slot (length q.arrays) ≡ nat_lt slot (length p.arrays) =
-    ap (λ r. nat_lt slot (length r.arrays)) like.others in
-    subst (λ b. PartsLike (undone_array now.Restored slot old p) (if b then given_back slot old q else q)) (sym count)
-    (cases (nat_lt slot (length p.arrays)))
-  where
-    cases : (b : Bool) → PartsLike (if b then given_back slot old p else p) (if b then given_back slot old q else q)
-    cases true = given_alike slot old p q like place
-    cases false = like
+restored_alike slot old p q like place = grind (arith, common_steps)
 
 pub array_alike : (base : ℕ) (change : ArrayChange) (slot : ℕ) (old : Array) (v : View) (q : Parts) →
     PartsLike v.parts q → IsUndoable base (array_was change slot old) v →

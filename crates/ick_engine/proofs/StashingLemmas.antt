@@ -1,11 +1,10 @@
 -- Values that are put on stashes and taken off.
-use Rattle.std.proofs.Common.{◌≡◌, ℕ, zero, suc, ◌+◌, ◌-◌, ◌<◌, ◌≤◌, List, [], ◌∷◌, ◌++◌, refl, ap, ap₂, sym, ◌∙◌, subst}
-use Rattle.std.proofs.Common.{length, take, map, get_or, arith}
-use Rattle.std.specs.Prelude.{nat_lt, Result, Ok, Err, OnErr, ◌==◌, slice_set, if◌then◌else◌}
-use Rattle.std.proofs.Common.{true, false}
+use Rattle.std.proofs.Common.{◌≡◌, ℕ, zero, suc, ◌+◌, ◌-◌, ◌<◌, List, [], ◌∷◌, refl, ap, sym, ◌∙◌, subst, rules}
+use Rattle.std.proofs.lemmas.Grind.{common_steps}
+use Rattle.std.proofs.Common.{length, take, map, get_or, arith, true}
+use Rattle.std.specs.Prelude.{nat_lt, Result, Ok, Err, OnErr, slice_set, if◌then◌else◌}
 use Rattle.std.proofs.lemmas.Bool.Decides.{nat_tests}
-use Rattle.std.proofs.lemmas.List.{take_more_set, length-set, length-map, map-set, get_or-map, set-set, set-get_or, get_or-set_same, take-set-le}
-use Rattle.std.proofs.Math.Seq.{take-suc}
+use Rattle.std.proofs.lemmas.List.{length-set, length-map, map-set, get_or-map, set-set, set-get_or, get_or-set_same}
 use Rattle.ick_code.specs.meaning.State.{Array, no_array}
 use Rattle.ick_engine.specs.declared.change.ArrayChange.TheVariants as now
 use Rattle.ick_engine.specs.declared.memory.Array.{Array as Kept}
@@ -14,69 +13,22 @@ use Rattle.ick_engine.specs.Stashes.{IsPutOn, IsTakenOff, ChangesAt, IsRestoredT
 use Rattle.ick_engine.specs.Undo.{StashLike, StashesLike, Like, put_on, taken_off, at_slot, with_array_stashes}
 use Rattle.ick_engine.specs.Undo.{with_arrays, with_scalar_stashes, array_was, given_back, undone}
 use Rattle.ick_engine.specs.View.{View, Parts, Stash, array_of, arrays_of, no_stash, stash_in}
-use Rattle.ick_engine.proofs.Undoing.{like_parts}
-use Rattle.ick_engine.proofs.StashLemmas.{put_deeper, seen, set_each, stash_refl, stash_trans, stashes_refl}
+use Rattle.ick_engine.proofs.StashLemmas.{seen}
 
 -- a value goes to spare room
 pub put_spare : {A : Type 0} (x : A) (s : Stash A) → s.depth < length s.items →
     IsPutOn x s (record { items = slice_set s.items s.depth x; depth = s.depth + 1 })
-put_spare x s low =
-    let one : s.depth + 1 - 1 ≡ s.depth = omega arith in
-    let few : s.depth ≤ s.depth = omega arith in
-    record {
-      values = take_more_set s.items s.depth x low;
-      back = record {
-        depth_same = one;
-        places = omega (arith, length-set s.items s.depth x);
-        values = ap (λ d. take d (slice_set s.items s.depth x)) one ∙ take-set-le s.depth s.items s.depth x few;
-      };
-    }
+put_spare x s low = grind (arith, common_steps)
 
 -- the newest value is taken off
 pub take_newest : {A : Type 0} (x : A) (s : Stash A) (depth : ℕ) → depth + 1 ≡ s.depth → depth < length s.items →
     x ≡ get_or s.items depth x → IsTakenOff x s (record { items = s.items; depth = depth })
-take_newest {A} x s depth next low is =
-    let new : Stash A = record { items = s.items; depth = depth } in
-    let own : slice_set s.items depth x ≡ s.items =
-    ap (slice_set s.items depth) is ∙ set-get_or s.items depth x in
-    let one : suc depth ≡ s.depth = omega (arith, next) in
-    let deeper : (put_on x new).depth ≡ s.depth = put_deeper x new low ∙ next in
-    record {
-      values =
-          ap (λ d. take d s.items) (sym one) ∙ take-suc s.items depth x low
-          ∙ ap (λ y. take depth s.items ++ y ∷ []) (sym is);
-      place = low;
-      back = record {
-        depth_same = deeper;
-        places = omega (arith, length-set s.items depth x);
-        values = ap₂ (λ d l. take d l) deeper own;
-      };
-    }
+take_newest {A} x s depth next low is = grind (arith, common_steps)
 
 -- in exchange for another one, which is spare from then on
 pub take_replaced : {A : Type 0} (x y : A) (s : Stash A) (depth : ℕ) → depth + 1 ≡ s.depth → depth < length s.items →
     x ≡ get_or s.items depth x → IsTakenOff x s (record { items = slice_set s.items depth y; depth = depth })
-take_replaced {A} x y s depth next low is =
-    let new : Stash A = record { items = slice_set s.items depth y; depth = depth } in
-    let own : slice_set (slice_set s.items depth y) depth x ≡ s.items =
-    set-set s.items depth y x ∙ ap (slice_set s.items depth) is ∙ set-get_or s.items depth x in
-    let one : suc depth ≡ s.depth = omega (arith, next) in
-    let few : depth ≤ depth = omega arith in
-    let there : depth < length (slice_set s.items depth y) = omega (arith, low, length-set s.items depth y) in
-    let deeper : (put_on x new).depth ≡ s.depth = put_deeper x new there ∙ next in
-    record {
-      values =
-          ap (λ d. take d s.items) (sym one) ∙ take-suc s.items depth x low
-          ∙ ap (λ z. take depth s.items ++ z ∷ []) (sym is)
-          ∙ ap (λ l. l ++ x ∷ []) (sym (take-set-le depth s.items depth y few));
-      place = there;
-      back = record {
-        depth_same = deeper;
-        places =
-            omega (arith, length-set s.items depth y, length-set (slice_set s.items depth y) depth x);
-        values = ap₂ (λ d l. take d l) deeper own;
-      };
-    }
+take_replaced {A} x y s depth next low is = grind (arith, common_steps)
 
 -- one of many stashes is changed
 pub changes_at : {A B : Type 0} (g : B → Stash A) (P : Stash A → Stash A → Type 0) (xs : List B) (slot : ℕ) (old new : B) →
@@ -104,61 +56,31 @@ kept_at g xs slot old new none low is same =
 -- one of many stashes is like it was
 pub set_like : {A : Type 0} (xs : List (Stash A)) (slot : ℕ) (y : Stash A) → StashLike (get_or xs slot no_stash) y →
     StashesLike xs (slice_set xs slot y)
-set_like xs slot y like = record {
-  count = length-set xs slot y;
-  each = λ k.
-      subst (λ l. StashLike (get_or l k no_stash) (get_or (slice_set xs slot y) k no_stash)) (set-get_or xs slot no_stash)
-      (set_each xs xs slot (get_or xs slot no_stash) y refl like k (stash_refl (get_or xs k no_stash)));
-}
-
-set_twice : {A : Type 0} (slot : ℕ) (P : Stash A → Stash A → Type 0) (f : Stash A → Stash A) (old new : List (Stash A)) →
-    ChangesAt slot P old new → at_slot f slot new ≡ slice_set old slot (f (get_or new slot no_stash))
-set_twice slot P f old new h =
-    let n = get_or new slot no_stash in
-    ap (λ l. slice_set l slot (f n)) h.others ∙ set-set old slot n (f n)
+set_like xs slot y like = grind (arith, common_steps)
 
 pub saved_like : {A : Type 0} (x : A) (slot : ℕ) (held old new : List (Stash A)) → held ≡ old →
     ChangesAt slot (IsPutOn x) old new → StashesLike held (at_slot taken_off slot new)
-saved_like x slot held old new same h =
-    subst (λ l. StashesLike l (at_slot taken_off slot new)) (sym same)
-    (subst (StashesLike old) (sym (set_twice slot (IsPutOn x) taken_off old new h))
-    (set_like old slot (taken_off (get_or new slot no_stash)) h.here.back))
+saved_like x slot held old new same h = grind (arith, common_steps)
 
 pub taken_like : {A : Type 0} (x : A) (slot : ℕ) (held old new : List (Stash A)) → held ≡ old →
     ChangesAt slot (IsTakenOff x) old new → StashesLike held (at_slot (put_on x) slot new)
-taken_like x slot held old new same h =
-    subst (λ l. StashesLike l (at_slot (put_on x) slot new)) (sym same)
-    (subst (StashesLike old) (sym (set_twice slot (IsTakenOff x) (put_on x) old new h))
-    (set_like old slot (put_on x (get_or new slot no_stash)) h.here.back))
+taken_like x slot held old new same h = grind (arith, common_steps)
 
 -- a view with stashes like those that it had
 pub like_scalars : (base low : ℕ) (v : View) (stashes : List (Stash ℕ)) → StashesLike v.parts.scalar_stashes stashes →
     Like base low v (with_scalar_stashes stashes v)
-like_scalars base low v stashes like =
-    like_parts base low v (record v.parts { scalar_stashes = stashes })
-    (record { others = refl; scalars = like; arrays = stashes_refl v.parts.array_stashes })
+like_scalars base low v stashes like = search rules
 
 pub like_arrays : (base low : ℕ) (v : View) (stashes : List (Stash Array)) → StashesLike v.parts.array_stashes stashes →
     Like base low v (with_array_stashes stashes v)
-like_arrays base low v stashes like =
-    like_parts base low v (record v.parts { array_stashes = stashes })
-    (record { others = refl; scalars = stashes_refl v.parts.scalar_stashes; arrays = like })
+like_arrays base low v stashes like = search rules
 
 -- a stash that has another value in a spare place
 pub spare_like : {A : Type 0} (x : A) (s : Stash A) → StashLike s (record { items = slice_set s.items s.depth x; depth = s.depth })
-spare_like x s =
-    let few : s.depth ≤ s.depth = omega arith in
-    record {
-      depth_same = refl;
-      places = omega (arith, length-set s.items s.depth x);
-      values = take-set-le s.depth s.items s.depth x few;
-    }
+spare_like x s = grind (arith, common_steps)
 
 pub put_grown : {A : Type 0} (x : A) (old s new : Stash A) → StashLike old s → IsPutOn x s new → IsPutOn x old new
-put_grown x old s new like put = record {
-  values = put.values ∙ ap (λ l. l ++ x ∷ []) like.values;
-  back = stash_trans like put.back;
-}
+put_grown x old s new like put = search rules
 
 -- one stash that is like it was
 pub like_at : {A B : Type 0} (g : B → Stash A) (xs : List B) (slot : ℕ) (old new : B) → slot < length xs →
@@ -173,23 +95,11 @@ like_at g xs slot old new low is like =
 pub restored_here : (slot home number : ℕ) (registers : List ℕ) (old new : List (Stash ℕ)) → home ≡ slot →
     ChangesAt slot (IsTakenOff number) old new →
     IsRestoredTo slot home registers (slice_set registers slot number) old new
-restored_here slot home number registers old new same taken =
-    let yes : (home == slot) ≡ true = grind (arith, nat_tests, same) in
-    record {
-      number = number;
-      taken = taken;
-      registers_are = sym (ap (λ b. if b then slice_set registers slot number else registers) yes);
-    }
+restored_here slot home number registers old new same taken = search rules
 
 pub restored_elsewhere : (slot home number : ℕ) (registers : List ℕ) (old new : List (Stash ℕ)) → (home ≡ slot → ⊥) →
     ChangesAt slot (IsTakenOff number) old new → IsRestoredTo slot home registers registers old new
-restored_elsewhere slot home number registers old new other taken =
-    let no : (home == slot) ≡ false = grind (arith, nat_tests, other) in
-    record {
-      number = number;
-      taken = taken;
-      registers_are = sym (ap (λ b. if b then slice_set registers slot number else registers) no);
-    }
+restored_elsewhere slot home number registers old new other taken = search rules
 
 pub on_err : {A E : Type 0} (r : Result A E) (P : Type 0) → P → OnErr r P
 on_err (Ok x) P h = tt

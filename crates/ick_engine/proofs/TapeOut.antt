@@ -1,8 +1,7 @@
 -- Elements printed one after another.
-use Rattle.std.proofs.Common.{◌≡◌, ℕ, suc, ◌+◌, ◌-◌, ◌%◌, ◌<◌, List, [], ◌∷◌, ◌++◌}
-use Rattle.std.proofs.Common.{length, take, get_or, refl, sym, ap, ap₂, ◌∙◌, arith}
+use Rattle.std.proofs.Common.{◌≡◌, ℕ, ◌+◌, ◌-◌, ◌%◌, ◌<◌, List, [], ◌∷◌, ◌++◌, length, take, get_or, refl, sym, ap, ap₂, ◌∙◌, arith}
+use Rattle.std.proofs.lemmas.Grind.{common_steps}
 use Rattle.std.proofs.lemmas.List.{append_assoc}
-use Rattle.std.proofs.Math.Seq.{take-suc}
 use Rattle.ick_bits.specs.Tape.{tape_position, reversed_byte}
 use Rattle.ick_code.specs.meaning.Tape.{tape_bytes, tape_after}
 
@@ -24,9 +23,7 @@ low_position last v = let low : v % 65536 % 256 ≡ v % 256 = omega arith in ap 
 
 next_taken : (vs : List ℕ) (at v : ℕ) → at < length vs → v ≡ get_or vs at v →
     take (at + 1) vs ≡ take at vs ++ v ∷ []
-next_taken vs at v within read =
-    let one : at + 1 ≡ suc at = omega arith in
-    ap (λ n. take n vs) one ∙ take-suc vs at v within ∙ ap (λ x. take at vs ++ x ∷ []) (sym read)
+next_taken vs at v within read = grind (arith, common_steps)
 
 -- one more element
 pub next_position : (vs : List ℕ) (at v last position next : ℕ) → at < length vs → v ≡ get_or vs at v →

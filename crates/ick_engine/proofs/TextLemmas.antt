@@ -1,6 +1,6 @@
 -- A line of a text.
-use Rattle.std.proofs.Common.{◌≡◌, ℕ, ◌+◌, ◌-◌, ◌==◌, ◌<◌, ◌≤◌, List, [], ◌∷◌}
-use Rattle.std.proofs.Common.{length, take, drop, refl, sym, ap, ◌∙◌, arith, length-drop}
+use Rattle.std.proofs.Common.{◌≡◌, ℕ, ◌+◌, ◌-◌, ◌==◌, ◌<◌, ◌≤◌, List, length, take, drop, sym, ap, ◌∙◌, arith, length-drop}
+use Rattle.std.proofs.lemmas.Grind.{common_steps}
 use Rattle.std.specs.Prelude.{Err, slice_range}
 use Rattle.std.specs.List.{position_or_len}
 use Rattle.std.proofs.lemmas.List.{drop-take, take-take, drop-drop, length-take}
@@ -10,7 +10,7 @@ use Rattle.ick_bits.specs.declared.digits.DigitFault.TheVariants as digit
 use Rattle.ick_bits.specs.declared.faults.FaultKind.TheVariants.{NoDigit}
 use Rattle.ick_code.specs.meaning.State.{State}
 use Rattle.ick_code.specs.meaning.Completion.{Completion, faults}
-use Rattle.ick_code.specs.meaning.InputOutput.{with_input, with_number, first_line, later_lines}
+use Rattle.ick_code.specs.meaning.InputOutput.{with_input, with_number}
 use Rattle.ick_engine.specs.View.{input_of}
 use Rattle.ick_engine.specs.declared.reader.Line.TheVariants.{BadWord}
 use Rattle.ick_engine.specs.Reads.{IsNext}
@@ -18,27 +18,13 @@ use Rattle.ick_engine.specs.Reads.{IsNext}
 pub rest_of : (text : List ℕ) (from : ℕ) → take (length text - from) (drop from text) ≡ drop from text
 rest_of text from = ap (λ n. take n (drop from text)) (sym (length-drop from text)) ∙ take-length (drop from text)
 
-some_line : (input : List ℕ) (s : State) (go : ℕ → State → Completion) → 0 < length input →
-    with_input input s go
-    ≡ with_number (first_line input) (line_answer (first_line input)) (record s { input = later_lines input }) go
-some_line [] s go some = absurd (omega arith)
-some_line (b ∷ bs) s go some = refl
-
 -- from a position on stands a line of n bytes
 module _ (text rest : List ℕ) (from n : ℕ) (is : rest ≡ drop from text) (some : from < length text)
     (count : n ≡ position_or_len (λ b. b == 10) rest) where
   line_taken : (s : State) (go : ℕ → State → Completion) → s.input ≡ drop from text →
       with_input s.input s go
       ≡ with_number (take n rest) (line_answer (take n rest)) (record s { input = drop (from + n + 1) text }) go
-  line_taken s go at =
-      let after : List ℕ → ℕ → Completion =
-      λ left k. with_number (take k rest) (line_answer (take k rest)) (record s { input = left }) go in
-      let there : 0 < length rest = let whole = ap length is in omega (arith, some, whole, length-drop from text) in
-      let next : from + (n + 1) ≡ from + n + 1 = omega arith in
-      ap (λ i. with_input i s go) (at ∙ sym is) ∙ some_line rest s go there
-      ∙ ap (λ k. after (drop (k + 1) rest) k) (sym count)
-      ∙ ap (λ left. after left n)
-      (ap (drop (n + 1)) is ∙ drop-drop (n + 1) from text ∙ ap (λ k. drop k text) next)
+  line_taken s go at = grind (arith, common_steps)
 
   word_of : (begin end : ℕ) → begin < end → end ≤ length (take n rest) →
       slice_range (take n rest) begin end ≡ slice_range text (from + begin) (from + end)

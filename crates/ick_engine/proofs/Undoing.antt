@@ -1,55 +1,35 @@
 -- Changes noted, and undone.
-use Rattle.std.proofs.Common.{◌≡◌, ℕ, zero, suc, ◌+◌, ◌<◌, ◌≤◌, List, [], ◌∷◌, ◌++◌, refl, ap, sym, ◌∙◌}
-use Rattle.std.proofs.Common.{subst, inl, inr}
-use Rattle.std.proofs.Common.{length, take, drop, get_or, arith, length-append}
+use Rattle.std.proofs.Common.{◌≡◌, ℕ, zero, suc, ◌+◌, ◌<◌, ◌≤◌, List, [], ◌∷◌, ◌++◌, refl, ap, sym, ◌∙◌, subst, rules}
+use Rattle.std.proofs.lemmas.Grind.{common_steps}
+use Rattle.std.proofs.Common.{length, take, drop, get_or, arith}
 use Rattle.std.specs.Prelude.{reverse, slice_set}
-use Rattle.std.proofs.lemmas.Bool.{cases_eq}
-use Rattle.std.proofs.lemmas.List.{drop-append-le, reverse-append, length-set, set-set, set-get_or}
+use Rattle.std.proofs.lemmas.List.{drop-append-le, reverse-append, set-set, set-get_or}
 use Rattle.std.proofs.lemmas.List.{get_or-set_same, get_or-set_other, length-take-le, take-append-drop}
-use Rattle.std.proofs.Math.Seq.{drop-length}
 use Rattle.std.proofs.Math.ListN.{drop_of_length-le}
 use Rattle.ick_code.specs.meaning.State.{Array, no_array}
 use Rattle.ick_engine.specs.Elements.{with_element}
 use Rattle.ick_engine.specs.View.{View, Parts}
 use Rattle.ick_engine.specs.Undo.{Change, register_was, home_was, status_was, return_was, element_was, hidden_was}
-use Rattle.ick_engine.specs.Undo.{scalar_saved, scalar_taken, scalar_restored, array_saved, array_was}
-use Rattle.ick_engine.specs.Undo.{statuses_were, taken_was}
-use Rattle.ick_engine.specs.Undo.{output_was, last_was, lastin_was, no_change, undone, rewound}
-use Rattle.ick_engine.specs.Undo.{with_arrays, with_number, put_on, taken_off, at_slot}
+use Rattle.ick_engine.specs.Undo.{scalar_saved, scalar_taken, scalar_restored, array_saved, array_was, statuses_were, taken_was}
+use Rattle.ick_engine.specs.Undo.{output_was, last_was, lastin_was, no_change, undone, rewound, with_arrays, with_number, put_on, taken_off, at_slot}
 use Rattle.ick_engine.specs.Undo.{StashesLike, PartsLike, but_stashes, IsUndoable, SameFirst, Like, HighSame, Rewinds}
-use Rattle.ick_engine.proofs.StashLemmas.{parts_refl, parts_trans, taken_off_like, put_on_like}
-use Rattle.ick_engine.proofs.StashLemmas.{scalars_alike, arrays_alike, array_alike}
+use Rattle.ick_engine.proofs.StashLemmas.{parts_refl, taken_off_like, put_on_like, scalars_alike, arrays_alike, array_alike}
 
 -- lists of which the first numbers are the same
 first_refl : (n : ℕ) (xs : List ℕ) → SameFirst n xs xs
 first_refl n xs = record { count = refl; same = λ k low. refl }
-
-first_trans : {n : ℕ} {xs ys zs : List ℕ} → SameFirst n xs ys → SameFirst n ys zs → SameFirst n xs zs
-first_trans a b = record { count = b.count ∙ a.count; same = λ k low. b.same k low ∙ a.same k low }
 
 first_by : (n : ℕ) (xs ys : List ℕ) → ys ≡ xs → SameFirst n xs ys
 first_by n xs ys is = subst (SameFirst n xs) (sym is) (first_refl n xs)
 
 -- a number behind them is set
 first_above : (n at number : ℕ) (xs ys : List ℕ) → xs ≡ ys → n ≤ at → SameFirst n xs (slice_set ys at number)
-first_above n at number xs ys same above =
-    subst (λ l. SameFirst n l (slice_set ys at number)) (sym same) (record {
-      count = length-set ys at number;
-      same = λ k low. get_or-set_other ys at k number 0 (λ e. absurd (omega (arith, e, low, above)));
-    })
+first_above n at number xs ys same above = search rules
 
 -- the next number goes back
 first_more : (at n : ℕ) (xs ys : List ℕ) → n ≡ at + 1 → at < length xs → SameFirst at xs ys →
     SameFirst n xs (slice_set ys at (get_or xs at 0))
-first_more at n xs ys next there s = record {
-  count = length-set ys at (get_or xs at 0) ∙ s.count;
-  same = λ k low. elim (cases_eq k at) [
-    | inl e ↦
-        subst (λ i. get_or (slice_set ys at (get_or xs at 0)) i 0 ≡ get_or xs i 0) (sym e)
-        (get_or-set_same ys at (get_or xs at 0) 0 (omega (arith, there, s.count)))
-    | inr other ↦ get_or-set_other ys at k (get_or xs at 0) 0 other ∙ s.same k (omega (arith, low, next, other))
-  ];
-}
+first_more at n xs ys next there s = search rules
 
 -- a number is set in both
 set_same : (xs ys : List ℕ) (at n r : ℕ) → length ys ≡ length xs → get_or ys r 0 ≡ get_or xs r 0 →
@@ -64,39 +44,20 @@ set_same (x ∷ xs) (y ∷ ys) (suc at) n (suc r) count same = set_same xs ys at
 
 first_set : {n : ℕ} {xs ys : List ℕ} (at number : ℕ) → SameFirst n xs ys →
     SameFirst n (slice_set xs at number) (slice_set ys at number)
-first_set {n} {xs} {ys} at number s = record {
-  count = length-set ys at number ∙ s.count ∙ sym (length-set xs at number);
-  same = λ k low. set_same xs ys at number k s.count (s.same k low);
-}
+first_set {n} {xs} {ys} at number s = grind (arith, common_steps)
 
 -- views that are alike
 pub alike : {base deep : ℕ} {v w : View} → SameFirst base v.registers w.registers → w.home ≡ v.home →
     w.statuses ≡ v.statuses → PartsLike v.parts w.parts → SameFirst deep v.returns w.returns → Like base deep v w
-alike registers home statuses parts returns = record {
-  registers = registers;
-  home = home;
-  statuses = statuses;
-  parts = parts;
-  returns = returns;
-}
+alike registers home statuses parts returns = search rules
 
 pub like_refl : (base deep : ℕ) (v : View) → Like base deep v v
 like_refl base deep v =
     alike (first_refl base v.registers) refl refl (parts_refl v.parts) (first_refl deep v.returns)
 
-pub like_trans : {base deep : ℕ} {u v w : View} → Like base deep u v → Like base deep v w → Like base deep u w
-like_trans a b =
-    alike (first_trans a.registers b.registers) (b.home ∙ a.home) (b.statuses ∙ a.statuses)
-    (parts_trans a.parts b.parts) (first_trans a.returns b.returns)
-
 pub like_moved : {base deep : ℕ} {v w : View} (place depth : ℕ) → Like base deep v w →
     Like base deep v (record w { place = place; depth = depth })
 like_moved place depth a = alike a.registers a.home a.statuses a.parts a.returns
-
-pub like_parts : (base deep : ℕ) (v : View) (parts : Parts) → PartsLike v.parts parts →
-    Like base deep v (record v { parts = parts })
-like_parts base deep v parts like =
-    alike (first_refl base v.registers) refl refl like (first_refl deep v.returns)
 
 with_parts : {base deep : ℕ} {v w : View} {p q : Parts} → Like base deep v w → PartsLike p q →
     Like base deep (record v { parts = p }) (record w { parts = q })
@@ -110,11 +71,7 @@ with_others l others scalars arrays = with_parts l (record { others = others; sc
 -- what can be undone from a view can be undone from each one like it
 pub alike_rewinds : {base low k : ℕ} {changes : List Change} {v w m : View} → Like base low v w →
     Rewinds base changes low k v m → Rewinds base changes low k w m
-alike_rewinds a h = record {
-  within = h.within;
-  leads = λ u b. h.leads u (like_trans a b);
-  stays = λ u b. h.stays u (like_trans a b);
-}
+alike_rewinds a h = search rules
 
 -- the newest change is undone first
 pub newest_first : (changes : List Change) (change : Change) (k : ℕ) → k ≤ length changes →
@@ -125,25 +82,14 @@ newest_first changes change k within =
 -- a return address that is pushed changes nothing below its depth
 pub pushed_like : (base low depth place : ℕ) (v : View) → low ≤ depth →
     Like base low v (record v { returns = slice_set v.returns depth place })
-pushed_like base low depth place v above =
-    alike (first_refl base v.registers) refl refl (parts_refl v.parts)
-    (first_above low depth place v.returns v.returns refl above)
+pushed_like base low depth place v above = search rules
 
 -- a change that is undone first
 noted : (base : ℕ) (changes : List Change) (low low' k : ℕ) (change : Change) (u v m : View) →
     Rewinds base changes low k v m →
     ((w : View) → Like base low' u w → Like base low v (undone change w) × HighSame base w (undone change w)) →
     Rewinds base (changes ++ change ∷ []) low' k u m
-noted base changes low low' k change u v m h back = record {
-  within = omega (arith, h.within, length-append changes (change ∷ []));
-  leads = λ w like.
-      subst (λ es. Like base m.depth m (rewound es w)) (sym (newest_first changes change k h.within))
-      (h.leads (undone change w) (back w like).0);
-  stays = λ w like r high.
-      subst (λ es. get_or (rewound es w).registers r 0 ≡ get_or w.registers r 0)
-      (sym (newest_first changes change k h.within))
-      (h.stays (undone change w) (back w like).0 r high ∙ (back w like).1 r high);
-}
+noted base changes low low' k change u v m h back = grind (arith, common_steps)
 
 -- views that are alike are so after a change of both is undone
 pub undone_like : (base low : ℕ) (change : Change) (v w : View) → IsUndoable base change v → Like base low v w →
@@ -308,21 +254,13 @@ notes_return base changes low at k v m next there h =
 
 -- a mark
 pub marks_here : (base : ℕ) (changes : List Change) (v : View) → Rewinds base changes v.depth (length changes) v v
-marks_here base changes v = record {
-  within = omega arith;
-  leads = λ w like.
-      subst (λ es. Like base v.depth v (rewound (reverse es) w)) (sym (drop-length changes)) like;
-  stays = λ w like r high.
-      subst (λ es. get_or (rewound (reverse es) w).registers r 0 ≡ get_or w.registers r 0) (sym (drop-length changes)) refl;
-}
+marks_here base changes v = grind (arith, common_steps)
 
 -- the newest change undone, and all of them
 pub undone_one : (P : View → Type 0) (changes rest : List Change) (change : Change) (k : ℕ) (v w : View) →
     changes ≡ rest ++ change ∷ [] → k ≤ length rest → w ≡ undone change v →
     P (rewound (reverse (drop k changes)) v) → P (rewound (reverse (drop k rest)) w)
-undone_one P changes rest change k v w are within is h =
-    subst (λ u. P (rewound (reverse (drop k rest)) u)) (sym is)
-    (subst (λ es. P (rewound es v)) (ap (λ es. reverse (drop k es)) are ∙ newest_first rest change k within) h)
+undone_one P changes rest change k v w are within is h = grind (arith, common_steps)
 
 pub all_undone : (P : View → Type 0) (changes : List Change) (k : ℕ) (v : View) → length changes ≤ k →
     P (rewound (reverse (drop k changes)) v) → P v

@@ -8,8 +8,7 @@ use Rattle.ick_engine.specs.declared.memory.Stash.{Stash}
 use Rattle.ick_engine.specs.declared.saved.Saved.{Saved}
 use Rattle.ick_engine.specs.Steady.{IsReady}
 use Rattle.ick_engine.specs.Undo.{but_stashes}
-use Rattle.ick_engine.specs.View.{View, Parts, Input, array_names, arrays_of, numbers_of, parts_of, scalar_names}
-use Rattle.ick_engine.specs.View.{state_of, used}
+use Rattle.ick_engine.specs.View.{View, Parts, Input, array_names, arrays_of, numbers_of, parts_of, scalar_names, state_of, used}
 
 -- the values on a stash
 abbrev pub numbers_on : Stash ℕ → List ℕ

@@ -1,6 +1,5 @@
 -- Values that are put on stashes and taken off.
-use Rattle.std.specs.Prelude.{ℕ, ◌≡◌, ◌<◌, ◌==◌, Bool, true, false, List, [], ◌∷◌, ◌++◌, length, slice_set}
-use Rattle.std.specs.Prelude.{if◌then◌else◌, Result, Ok, Err}
+use Rattle.std.specs.Prelude.{ℕ, ◌≡◌, ◌<◌, ◌==◌, Bool, true, false, List, [], ◌∷◌, ◌++◌, length, slice_set, if◌then◌else◌, Result, Ok, Err}
 use Rattle.std.proofs.Common.{get_or}
 use Rattle.ick_bits.specs.declared.faults.FaultKind.TheVariants.{NothingStashed}
 use Rattle.ick_code.specs.meaning.State.{Array}

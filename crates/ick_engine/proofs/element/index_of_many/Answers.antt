@@ -6,8 +6,7 @@ use Rattle.ick_code.specs.meaning.Value.{element_offset}
 use Rattle.ick_instructions.specs.Meaning.{reg, values_of}
 use Rattle.ick_engine.specs.View.{array_of}
 use Rattle.ick_engine.specs.Walk.{walk}
-use Rattle.ick_engine.proofs.OffsetLemmas.{inside, place_is, beyond, none_at, walk_next, walk_done, is_inside}
-use Rattle.ick_engine.proofs.OffsetLemmas.{is_outside}
+use Rattle.ick_engine.proofs.OffsetLemmas.{inside, place_is, beyond, none_at, walk_next, walk_done, is_inside, is_outside}
 use Rattle.ick_engine.proofs.element.index_of_many.Goals.{After-loop-at}
 use Rattle.ick_engine.proofs.element.index_of_many.Goals as goal
 
