@@ -1,6 +1,6 @@
 //! Copies of lists.
 
-ghost use Rattle.std.specs.Prelude.{◌≡◌, ◌++◌, ◌≤◌, drop, length, map, take, IfOk, OnOk};
+ghost use Rattle.std.specs.Prelude.{◌≡◌, ◌++◌, ◌≤◌, drop, length, map, IfOk, OnOk};
 ghost use Rattle.ick_engine.specs.Saved.{arrays_on, numbers_on, AreSame};
 ghost use Rattle.ick_engine.specs.View.{array_of, is_hidden, parts_of};
 
@@ -15,14 +15,6 @@ pub fn copy_list<T: Copy>(alloc: Global, items: &[T]) -> Result<Vec<T>, NoMemory
     let mut copy = Vec::new(alloc);
     copy.extend_from_slice(items)?;
     Ok(copy)
-}
-
-/// Copies the first numbers of a list.
-pub fn copy_first(alloc: Global, numbers: &[u32], count: usize) -> Result<Vec<u32>, NoMemory>
-    requires { count ≤ length numbers.now }
-    ensures { IfOk result (λ copy. copy.items ≡ take count numbers.now) }
-{
-    copy_list(alloc, &numbers[..count])
 }
 
 /// Copies an array.
@@ -70,7 +62,7 @@ fn copy_number_stashes(alloc: Global, stashes: &[Stash<u32>]) -> Result<Vec<Stas
     let mut copies = Vec::new(alloc);
     for stash in stashes {
         copies.push(Stash {
-            items: copy_first(alloc, &stash.items, stash.depth)?,
+            items: copy_list(alloc, &stash.items[..stash.depth])?,
             depth: stash.depth,
         })?;
     }

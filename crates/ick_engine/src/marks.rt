@@ -1,7 +1,6 @@
 //! Marks: states that a run can go back to.
 
-ghost use Rattle.std.specs.Prelude.{◌≡◌, ◌<◌, ◌≤◌, ℕ, List, ◌∷◌, length, map, slice_set, take};
-ghost use Rattle.std.specs.Prelude.{true};
+ghost use Rattle.std.specs.Prelude.{◌≡◌, ◌<◌, ◌≤◌, ℕ, length, map, slice_set, take, true};
 ghost use Rattle.std.proofs.Common.{get_or};
 ghost use Rattle.ick_code.specs.meaning.State.{no_array};
 ghost use Rattle.ick_engine.specs.TrailChanges.{changes_in, AreUndone, IsUndone};
@@ -235,8 +234,7 @@ pub fn back(trail: &mut Trail, mark: Mark, memory: &mut Memory, program: &Lowere
 {
     // `back` needs that the instructions are those of the code.
     program.law();
-    let code = program.code;
-    code.law();
+    program.code.law();
     undo_newer(trail, mark.changes, memory);
     trail.kept = trail.entries.len();
     trail.low = mark.depth;

@@ -22,8 +22,7 @@ impl Memory {
     {
         // The index needs that each slot has a register, and the answer that no two have one name.
         program.law();
-        let code = program.code;
-        code.law();
+        program.code.law();
         self.registers[slot as usize]
     }
 
@@ -38,8 +37,7 @@ impl Memory {
     {
         // The index needs that each slot has a register, and the answer that no two have one name.
         program.law();
-        let code = program.code;
-        code.law();
+        program.code.law();
         self.home[slot as usize] as usize == self.registers.len() - 1
     }
 
@@ -83,8 +81,7 @@ impl Memory {
             name).dimensions ≡ result.now }
     {
         // The answer needs that no two slots have one name.
-        let code = program.code;
-        code.law();
+        program.code.law();
         &self.rest.arrays[slot as usize].dimensions
     }
 
@@ -98,8 +95,7 @@ impl Memory {
             name).elements ≡ result.now }
     {
         // The answer needs that no two slots have one name.
-        let code = program.code;
-        code.law();
+        program.code.law();
         &self.rest.arrays[slot as usize].elements
     }
 
@@ -113,8 +109,7 @@ impl Memory {
             ≡ result }
     {
         // The answer needs that no two slots have one name.
-        let code = program.code;
-        code.law();
+        program.code.law();
         self.rest.arrays[slot as usize].hidden
     }
 
@@ -128,8 +123,7 @@ impl Memory {
             self.now)).stashed_scalars name ≡ reverse result.now }
     {
         // The answer needs that no two slots have one name.
-        let code = program.code;
-        code.law();
+        program.code.law();
         let stash = &self.rest.scalar_stashes[slot as usize];
         &stash.items[..stash.depth]
     }
@@ -144,8 +138,7 @@ impl Memory {
             self.now)).stashed_arrays name ≡ reverse (map array_of result.now) }
     {
         // The answer needs that no two slots have one name.
-        let code = program.code;
-        code.law();
+        program.code.law();
         let stash = &self.rest.array_stashes[slot as usize];
         &stash.items[..stash.depth]
     }

@@ -2,8 +2,8 @@
 
 ghost use Rattle.std.specs.Prelude.{◌≡◌, ◌+◌, ◌≤◌, true, length};
 
-use crate::copy::{copy_first, copy_list, copy_rest, put_first, put_list};
-use crate::memory::{Array, Memory, Rest, Stash};
+use crate::copy::{copy_list, copy_rest, put_first, put_list};
+use crate::memory::{Array, Memory, Rest};
 use crate::same::same_rest;
 use ick_bits::NoMemory;
 use ick_instructions::Lowered;
@@ -86,29 +86,15 @@ fn mix_arrays(hash: u64, arrays: &[Array]) -> u64 {
     hash
 }
 
-/// Mixes the numbers on stashes into a hash.
-fn mix_number_stashes(hash: u64, stashes: &[Stash<u32>]) -> u64 {
-    let mut hash = hash;
-    for stash in stashes {
-        hash = mix_numbers(hash, &stash.items[..stash.depth]);
-    }
-    hash
-}
-
-/// Mixes the arrays on stashes into a hash.
-fn mix_array_stashes(hash: u64, stashes: &[Stash<Array>]) -> u64 {
-    let mut hash = hash;
-    for stash in stashes {
-        hash = mix_arrays(hash, &stash.items[..stash.depth]);
-    }
-    hash
-}
-
 /// Mixes the parts that few instructions change into a hash.
 fn mix_rest(hash: u64, rest: &Rest) -> u64 {
-    let hash = mix_arrays(hash, &rest.arrays);
-    let hash = mix_number_stashes(hash, &rest.scalar_stashes);
-    let hash = mix_array_stashes(hash, &rest.array_stashes);
+    let mut hash = mix_arrays(hash, &rest.arrays);
+    for stash in &rest.scalar_stashes {
+        hash = mix_numbers(hash, &stash.items[..stash.depth]);
+    }
+    for stash in &rest.array_stashes {
+        hash = mix_arrays(hash, &stash.items[..stash.depth]);
+    }
     let hash = mix_bytes(hash, &rest.output);
     let hash = mixed(hash, rest.last as u64, rest.lastin as u64);
     mixed(hash, rest.taken as u64, 0)
@@ -133,14 +119,14 @@ impl Saved {
         requires ready { IsReady program.now.code.now program.now.parts (view_in memory.now) }
         ensures { IfOk result (λ saved. IsSaved program.now.parts saved (view_in memory.now)) }
     {
-        // `copy_first` needs that a memory has a register for each scalar.
+        // The first slice needs that a memory has a register for each scalar.
         program.law();
         Ok(Saved {
             place: memory.cursor.place,
-            numbers: copy_first(alloc, &memory.registers, program.layout().base as usize)?,
+            numbers: copy_list(alloc, &memory.registers[..program.layout().base as usize])?,
             home: copy_list(alloc, &memory.home)?,
             statuses: copy_list(alloc, &memory.statuses)?,
-            returns: copy_first(alloc, &memory.returns, memory.cursor.depth)?,
+            returns: copy_list(alloc, &memory.returns[..memory.cursor.depth])?,
             rest: copy_rest(alloc, &memory.rest)?,
         })
     }
@@ -158,8 +144,7 @@ impl Saved {
     {
         // `loaded` needs that the instructions are those of the code.
         program.law();
-        let code = program.code;
-        code.law();
+        program.code.law();
         self.put_lists(memory);
         swap(&mut memory.rest, &mut self.rest);
     }
@@ -195,8 +180,7 @@ impl Saved {
     {
         // The clause needs that the instructions are those of the code.
         program.law();
-        let code = program.code;
-        code.law();
+        program.code.law();
         self.put_lists(memory);
         memory.rest = self.rest;
     }
@@ -290,8 +274,7 @@ impl Saved {
     {
         // The clause needs that the instructions are those of the code.
         program.law();
-        let code = program.code;
-        code.law();
+        program.code.law();
         same_numbers(self, other) && same_rest(&self.rest, &other.rest)
     }
 

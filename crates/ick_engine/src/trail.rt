@@ -1,9 +1,6 @@
 //! A trail of changes, which can be undone.
 
-ghost use Rattle.std.specs.Prelude.{◌≡◌, ◌<◌, ◌≤◌, length, map};
-ghost use Rattle.std.proofs.Common.{get_or};
-ghost use Rattle.ick_code.specs.meaning.State.{no_array};
-ghost use Rattle.ick_engine.specs.View.{array_of};
+ghost use Rattle.std.specs.Prelude.{◌≤◌, length};
 
 use crate::change::{ArrayChange, Entry};
 use crate::copy::{copy_array, copy_list};

@@ -9,6 +9,6 @@ loop-stash-preserved c =
     let stash = c.stash-item.result in
     copied_next numbers_on c.args.stashes.now c.loop-stash.copies.items c.push.new.self.items c.loop-stash.stash-index
     _ stash c.loop-stash-test.true c.stash-item.is c.in_ok-push.ensures.items
-    (ap (take stash.depth) (c.in_ok-copy_first.ensures ∙ ap (take stash.depth) c.deref.ensures.value)
+    (ap (take stash.depth) (c.in_ok-copy_list.ensures ∙ ap (take stash.depth) c.deref.ensures.value)
     ∙ take-take stash.depth stash.depth stash.items.items (omega arith))
     c.loop-stash.invariant
