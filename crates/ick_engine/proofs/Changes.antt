@@ -19,22 +19,7 @@ use Rattle.ick_engine.specs.View.{View, array_of, bytes_of}
 pub alone : (e : Entry) (entries : List Entry) (arrays : List ArrayValue) (statuses : List (List ℕ)) →
     stands_apart e ≡ false →
     changes_of (e ∷ entries) arrays statuses ≡ change_of e ∷ changes_of entries arrays statuses
-alone (entry.Register at old) entries arrays statuses h = refl
-alone (entry.Home at old) entries arrays statuses h = refl
-alone (entry.Status at old) entries arrays statuses h = refl
-alone (entry.Return at old) entries arrays statuses h = refl
-alone (entry.Element slot at old) entries arrays statuses h = refl
-alone (entry.Hidden slot old) entries arrays statuses h = refl
-alone (entry.ScalarSaved slot) entries arrays statuses h = refl
-alone (entry.ScalarTaken slot number) entries arrays statuses h = refl
-alone (entry.ScalarRestored slot number old) entries arrays statuses h = refl
-alone (entry.ArraySaved slot) entries arrays statuses h = refl
-alone (entry.Array change slot) entries arrays statuses h = absurd (cc)
-alone entry.Statuses entries arrays statuses h = absurd (cc)
-alone (entry.Taken old) entries arrays statuses h = refl
-alone (entry.Output count) entries arrays statuses h = refl
-alone (entry.Last old) entries arrays statuses h = refl
-alone (entry.LastIn old) entries arrays statuses h = refl
+alone = search rules
 
 -- there are as many changes as entries
 count_changes : (entries : List Entry) (arrays : List ArrayValue) (statuses : List (List ℕ)) →
@@ -60,11 +45,7 @@ count_changes (entry.Last old ∷ es) arrays statuses = ap suc (count_changes es
 count_changes (entry.LastIn old ∷ es) arrays statuses = ap suc (count_changes es arrays statuses)
 
 pub count_history : (t : Trail) → length (changes_in t) ≡ length t.entries.items
-count_history t =
-    let arrays = reverse (map array_of t.arrays.items) in
-    let statuses = reverse (map bytes_of t.statuses.items) in
-    length-reverse (changes_of (reverse t.entries.items) arrays statuses)
-    ∙ count_changes (reverse t.entries.items) arrays statuses ∙ length-reverse t.entries.items
+count_history t = search (rules, count_changes, length-reverse)
 
 -- one change is added
 pub grown_one : (t : Trail) (changes : List Change) (change : Change) → changes ≡ changes_in t ++ change ∷ [] →
@@ -90,11 +71,7 @@ newest : (all rest : List Entry) (e : Entry) (change : Change) (arrays arrays' :
     changes_of (e ∷ reverse rest) arrays statuses ≡ change ∷ changes_of (reverse rest) arrays' statuses' →
     reverse (changes_of (reverse all) arrays statuses)
     ≡ reverse (changes_of (reverse rest) arrays' statuses') ++ change ∷ []
-newest all rest e change arrays arrays' statuses statuses' is there =
-    ap (λ l. reverse (changes_of (reverse l) arrays statuses)) is
-    ∙ ap (λ l. reverse (changes_of l arrays statuses)) (reverse-append rest (e ∷ []))
-    ∙ ap reverse there
-    ∙ reverse-append (change ∷ []) (changes_of (reverse rest) arrays' statuses')
+newest all rest e change arrays arrays' statuses statuses' is there = grind (arith, common_steps, reverse-append)
 
 pub newest_alone : (t : Trail) (all rest : List Entry) (e : Entry) → stands_apart e ≡ false → all ≡ rest ++ e ∷ [] →
     reverse (changes_by t (reverse all)) ≡ reverse (changes_by t (reverse rest)) ++ change_of e ∷ []

@@ -1,8 +1,7 @@
 -- Lists that are copied and compared, and states that are kept.
 use Rattle.std.proofs.Common.{◌≡◌, ℕ, zero, suc, ◌+◌, ◌<◌, ◌≤◌, List, [], ◌∷◌, ◌++◌, refl, ap, sym, ◌∙◌, subst, rules}
 use Rattle.std.proofs.lemmas.Grind.{common_steps}
-use Rattle.std.proofs.Common.{length, take, take_all, drop, get_or, map, arith, if◌then◌else◌}
-use mathlib.Core.Path.{fun_ext}
+use Rattle.std.proofs.Common.{length, take, drop, get_or, map, arith, if◌then◌else◌}
 use Rattle.ick_syntax.specs.declared.tree.Name.{Name}
 use Rattle.std.proofs.lemmas.List.{length-append, length-drop, map-append, length-take-le, get_or-map, length-map}
 use Rattle.std.proofs.Math.Seq.{take-suc}
@@ -11,12 +10,11 @@ use Rattle.ick_code.specs.declared.code.Code.{Code}
 use Rattle.ick_instructions.specs.declared.lowered.LoweredParts.{LoweredParts}
 use Rattle.ick_engine.specs.declared.memory.Rest.{Rest}
 use Rattle.ick_engine.specs.declared.saved.Saved.{Saved}
-use Rattle.ick_engine.specs.Run.{Stands}
 use Rattle.ick_engine.specs.Saved.{AreSame, HasLists, IsLoaded, IsSaved, arrays_on, numbers_on, saved_view}
 use Rattle.ick_engine.specs.Steady.{IsSteady, IsReady, IsProgram}
 use Rattle.ick_engine.specs.Undo.{SameFirst, Like, HighSame, IsRestored}
-use Rattle.ick_engine.specs.View.{View, Parts, Input, state_of, dump_of, file_of, map_of, used as used_values}
-use Rattle.ick_engine.specs.View.{Stash, array_of, arrays_of, is_hidden, numbers_of, parts_of, scalar_names}
+use Rattle.ick_engine.specs.View.{View, Parts, Input, state_of, dump_of, map_of, used as used_values}
+use Rattle.ick_engine.specs.View.{Stash, array_of, is_hidden, parts_of, scalar_names}
 use Rattle.ick_engine.proofs.Restoring.{restored, all_same, state_by}
 use Rattle.ick_engine.proofs.Undoing.{alike}
 use Rattle.ick_engine.proofs.Steadiness.{steady_by}
@@ -55,10 +53,7 @@ compared_next f xs ys at x y within count read read' same done =
 -- numbers that were put in place of the first ones
 put_high : (xs ys : List ℕ) (r : ℕ) → length xs ≤ length ys → length xs ≤ r →
     get_or (xs ++ drop (length xs) ys) r 0 ≡ get_or ys r 0
-put_high [] ys r count high = refl
-put_high (x ∷ xs) [] r count high = absurd (omega (arith, count))
-put_high (x ∷ xs) (y ∷ ys) zero count high = absurd (omega (arith, high))
-put_high (x ∷ xs) (y ∷ ys) (suc r) count high = put_high xs ys r (omega (arith, count)) (omega (arith, high))
+put_high = grind (arith, common_steps)
 
 put_count : (xs ys : List ℕ) → length xs ≤ length ys → length (xs ++ drop (length xs) ys) ≡ length ys
 put_count xs ys count = omega (arith, length-append xs (drop (length xs) ys), length-drop (length xs) ys, count)
@@ -98,11 +93,7 @@ pub rest_same : (p q : Rest) → map array_of q.arrays.items ≡ map array_of p.
     map numbers_on q.scalar_stashes.items ≡ map numbers_on p.scalar_stashes.items →
     map arrays_on q.array_stashes.items ≡ map arrays_on p.array_stashes.items → q.taken ≡ p.taken →
     q.output.items ≡ p.output.items → q.last ≡ p.last → q.lastin ≡ p.lastin → AreSame (parts_of p) (parts_of q)
-rest_same p q arrays hidden numbers stashed taken output last lastin = record {
-  others = cc;
-  scalars = map_used numbers_of q.scalar_stashes.items ∙ numbers ∙ sym (map_used numbers_of p.scalar_stashes.items);
-  arrays = map_used arrays_of q.array_stashes.items ∙ stashed ∙ sym (map_used arrays_of p.array_stashes.items);
-}
+rest_same p q arrays hidden numbers stashed taken output last lastin = search (rules, map_used)
 
 -- the first values of a list are those that names lead to
 map_first : {A : Type 0} (names : List Name) (n : ℕ) (xs : List A) (none : A) (name : Name) → length names ≤ n →
@@ -117,16 +108,7 @@ map_first (y ∷ names) (suc n) (x ∷ xs) none name few =
 pub kept_state : (code : Code) (lowered : LoweredParts) (saved : Saved) (v : View) →
     lowered.layout.base ≡ length (scalar_names code) → IsSaved lowered saved v → (input : Input) →
     state_of code lowered input (saved_view saved) ≡ state_of code lowered input v
-kept_state code lowered saved v count is input =
-    let names = scalar_names code in
-    let kept = is.parts_kept in
-    let returns : take (length saved.returns.items) saved.returns.items ≡ take v.depth v.returns =
-    take_all (length saved.returns.items) saved.returns.items (omega arith) ∙ is.returns_kept in
-    let scalars : map_of names saved.numbers.items 0 ≡ map_of names v.registers 0 =
-    ap (λ l. map_of names l 0) is.numbers_kept
-    ∙ fun_ext (λ name. map_first names lowered.layout.base v.registers 0 name (omega (arith, count))) in
-    all_same (state_by code lowered input) is.place_kept returns scalars is.home_kept is.statuses_kept kept.others
-    kept.scalars kept.arrays
+kept_state code lowered saved v count is input = grind (arith, common_steps, all_same, map_first, state_by)
 
 -- lists that a memory may take in place of its own
 pub lists_of : (code : Code) (lowered : LoweredParts) (v : View) → IsSteady code lowered v → HasLists code v.parts
@@ -146,14 +128,7 @@ module _ (code : Code) (lowered : LoweredParts) (is : IsProgram code lowered) wh
 
   ready_with : (v : View) (q : Parts) → AreSame v.parts q → IsReady code lowered v →
       IsReady code lowered (record v { parts = q })
-  ready_with v q same ready = record {
-    steady =
-        steady_by ready.steady v.registers q refl ready.steady.constants (ap (λ p. length p.arrays) same.others)
-        (ap (λ p. length p.hidden) same.others) (as_many q.scalar_stashes v.parts.scalar_stashes same.scalars)
-        (as_many q.array_stashes v.parts.array_stashes same.arrays);
-    stands = λ input.
-        subst (Stands code lowered (file_of lowered v.registers)) (sym (state_with v q same input)) (ready.stands input);
-  }
+  ready_with v q same ready = search (rules, as_many, state_with, steady_by)
 
   -- a state that was put into a memory
   module _ (old m : View) (was : IsSteady code lowered old) (marked : IsReady code lowered m) where

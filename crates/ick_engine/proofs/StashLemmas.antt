@@ -10,10 +10,7 @@ use Rattle.ick_engine.specs.declared.change.ArrayChange.TheVariants as now
 use Rattle.ick_engine.specs.declared.memory.Array.{Array as Kept}
 use Rattle.ick_engine.specs.declared.memory.Stash.{Stash as KeptStash}
 use Rattle.ick_engine.specs.View.{View, Parts, Stash, array_of, arrays_of, no_stash, stash_in, used}
-use Rattle.ick_engine.specs.Undo.{StashLike, PartsLike, HasPlace, IsUndoable, array_was, put_on, taken_off, at_slot, undone_array}
-
-pub stash_refl : {A : Type 0} (s : Stash A) → StashLike s s
-stash_refl s = record { depth_same = refl; places = omega arith; values = refl }
+use Rattle.ick_engine.specs.Undo.{StashLike, PartsLike, IsUndoable, array_was, put_on, taken_off, at_slot, undone_array}
 
 pub stash_trans : {A : Type 0} {a b c : Stash A} → StashLike a b → StashLike b c → StashLike a c
 stash_trans p q = search rules
@@ -31,30 +28,11 @@ fewer_used n xs ys same =
     sym (take-take (n - 1) n ys less) ∙ ap (take (n - 1)) same ∙ take-take (n - 1) n xs less
 
 pub taken_off_like : {A : Type 0} {a b : Stash A} → StashLike a b → StashLike (taken_off a) (taken_off b)
-taken_off_like {a} {b} p = record {
-  depth_same = ap (λ d. d - 1) p.depth_same;
-  places = p.places;
-  values =
-      ap (λ d. take (d - 1) b.items) p.depth_same
-      ∙ fewer_used a.depth a.items b.items (ap (λ d. take d b.items) (sym p.depth_same) ∙ p.values);
-}
+taken_off_like {a} {b} p = search (rules, fewer_used)
 
 pub put_on_like : {A : Type 0} {a b : Stash A} (x : A) → a.depth < length a.items → StashLike a b →
     StashLike (put_on x a) (put_on x b)
 put_on_like x low p = grind (arith, common_steps)
-
--- one of many
-pub set_each : {A : Type 0} (xs ys : List (Stash A)) (slot : ℕ) (x y : Stash A) → length ys ≡ length xs → StashLike x y →
-    (k : ℕ) → StashLike (get_or xs k no_stash) (get_or ys k no_stash) →
-    StashLike (get_or (slice_set xs slot x) k no_stash) (get_or (slice_set ys slot y) k no_stash)
-set_each [] [] slot x y count like k same = same
-set_each [] (b ∷ ys) slot x y count like k same = absurd (omega (arith, count))
-set_each (a ∷ xs) [] slot x y count like k same = absurd (omega (arith, count))
-set_each (a ∷ xs) (b ∷ ys) zero x y count like zero same = like
-set_each (a ∷ xs) (b ∷ ys) zero x y count like (suc k) same = same
-set_each (a ∷ xs) (b ∷ ys) (suc slot) x y count like zero same = same
-set_each (a ∷ xs) (b ∷ ys) (suc slot) x y count like (suc k) same =
-    set_each xs ys slot x y (omega (arith, count)) like k same
 
 -- the values of all stashes
 pub used_same : {A : Type 0} (xs ys : List (Stash A)) → length ys ≡ length xs →
@@ -85,21 +63,10 @@ pub arrays_alike : (f : Stash Array → Stash Array) (slot : ℕ) (p q : Parts) 
     (record q { array_stashes = at_slot f slot q.array_stashes })
 arrays_alike f slot p q like one = grind (arith, common_steps)
 
-restored_alike : (slot : ℕ) (old : Array) (p q : Parts) → PartsLike p q → HasPlace p.array_stashes slot →
-    PartsLike (undone_array now.Restored slot old p) (undone_array now.Restored slot old q)
-restored_alike slot old p q like place = grind (arith, common_steps)
-
 pub array_alike : (base : ℕ) (change : ArrayChange) (slot : ℕ) (old : Array) (v : View) (q : Parts) →
     PartsLike v.parts q → IsUndoable base (array_was change slot old) v →
     PartsLike (undone_array change slot old v.parts) (undone_array change slot old q)
-array_alike base now.Replaced slot old v q like can = record {
-  others = ap {A = Parts} (λ r. record r { arrays = slice_set r.arrays slot old }) like.others;
-  scalars = like.scalars;
-  arrays = like.arrays;
-}
-array_alike base now.Taken slot old v q like can =
-    arrays_alike (put_on old) slot v.parts q like (put_on_like old can (like.arrays.each slot))
-array_alike base now.Restored slot old v q like can = restored_alike slot old v.parts q like can
+array_alike = grind (arith, common_steps)
 
 -- the values of a stash as others
 abbrev pub seen : {A B : Type 0} → (A → B) → Stash A → Stash B

@@ -34,17 +34,7 @@ take_replaced {A} x y s depth next low is = grind (arith, common_steps)
 pub changes_at : {A B : Type 0} (g : B → Stash A) (P : Stash A → Stash A → Type 0) (xs : List B) (slot : ℕ) (old new : B) →
     slot < length xs → old ≡ get_or xs slot old → P (g old) (g new) →
     ChangesAt slot P (map g xs) (map g (slice_set xs slot new))
-changes_at g P xs slot old new low is h =
-    let set : map g (slice_set xs slot new) ≡ slice_set (map g xs) slot (g new) = map-set g xs slot new in
-    let long : slot < length (map g xs) = omega (arith, length-map xs g) in
-    let there : get_or (map g (slice_set xs slot new)) slot no_stash ≡ g new =
-    ap (λ l. get_or l slot no_stash) set ∙ get_or-set_same (map g xs) slot (g new) no_stash long in
-    let before : get_or (map g xs) slot no_stash ≡ g old =
-    get_or-map g xs slot old no_stash low ∙ ap g (sym is) in
-    record {
-      others = set ∙ ap (slice_set (map g xs) slot) (sym there);
-      here = subst (P (get_or (map g xs) slot no_stash)) (sym there) (subst (λ s. P s (g new)) (sym before) h);
-    }
+changes_at g P xs slot old new low is h = search (rules, get_or-map, get_or-set_same, length-map, map-set)
 
 pub kept_at : {A B : Type 0} (g : B → A) (xs : List B) (slot : ℕ) (old new : B) (none : A) → slot < length xs →
     old ≡ get_or xs slot old → g new ≡ g old → map g (slice_set xs slot new) ≡ map g xs
@@ -85,11 +75,7 @@ put_grown x old s new like put = search rules
 -- one stash that is like it was
 pub like_at : {A B : Type 0} (g : B → Stash A) (xs : List B) (slot : ℕ) (old new : B) → slot < length xs →
     old ≡ get_or xs slot old → StashLike (g old) (g new) → StashesLike (map g xs) (map g (slice_set xs slot new))
-like_at g xs slot old new low is like =
-    let before : get_or (map g xs) slot no_stash ≡ g old =
-    get_or-map g xs slot old no_stash low ∙ ap g (sym is) in
-    subst (StashesLike (map g xs)) (sym (map-set g xs slot new))
-    (set_like (map g xs) slot (g new) (subst (λ s. StashLike s (g new)) (sym before) like))
+like_at g xs slot old new low is like = search (rules, get_or-map, map-set, set_like)
 
 -- a number that was taken off became the number of its scalar, or not
 pub restored_here : (slot home number : ℕ) (registers : List ℕ) (old new : List (Stash ℕ)) → home ≡ slot →

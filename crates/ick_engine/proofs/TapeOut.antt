@@ -1,5 +1,5 @@
 -- Elements printed one after another.
-use Rattle.std.proofs.Common.{◌≡◌, ℕ, ◌+◌, ◌-◌, ◌%◌, ◌<◌, List, [], ◌∷◌, ◌++◌, length, take, get_or, refl, sym, ap, ap₂, ◌∙◌, arith}
+use Rattle.std.proofs.Common.{◌≡◌, ℕ, ◌+◌, ◌-◌, ◌%◌, ◌<◌, List, [], ◌∷◌, ◌++◌, length, take, get_or, refl, sym, ap, ◌∙◌, arith}
 use Rattle.std.proofs.lemmas.Grind.{common_steps}
 use Rattle.std.proofs.lemmas.List.{append_assoc}
 use Rattle.ick_bits.specs.Tape.{tape_position, reversed_byte}
@@ -38,10 +38,4 @@ pub next_bytes : (vs : List ℕ) (at v last position next byte : ℕ) (output ou
     next ≡ tape_position position (v % 65536) → byte ≡ reversed_byte next →
     output' ≡ output ++ byte ∷ [] → output ≡ before ++ tape_bytes last (take at vs) →
     output' ≡ before ++ tape_bytes last (take (at + 1) vs)
-next_bytes vs at v last position next byte output output' before within read here moved is pushed done =
-    pushed ∙ ap₂ (λ l b. l ++ b ∷ []) done
-    (is ∙ ap reversed_byte (moved ∙ low_position position v ∙ ap (λ p. tape_position p v) here))
-    ∙ append_assoc before (tape_bytes last (take at vs))
-    (reversed_byte (tape_position (tape_after last (take at vs)) v) ∷ [])
-    ∙ ap (λ l. before ++ l)
-    (sym (tape_bytes-append last (take at vs) v) ∙ ap (tape_bytes last) (sym (next_taken vs at v within read)))
+next_bytes vs at v last position next byte output output' before within read here moved is pushed done = grind (arith, common_steps, append_assoc, low_position, next_taken, tape_bytes-append)

@@ -1,5 +1,5 @@
 -- A line of a text.
-use Rattle.std.proofs.Common.{◌≡◌, ℕ, ◌+◌, ◌-◌, ◌==◌, ◌<◌, ◌≤◌, List, length, take, drop, sym, ap, ◌∙◌, arith, length-drop}
+use Rattle.std.proofs.Common.{◌≡◌, ℕ, ◌+◌, ◌-◌, ◌==◌, ◌<◌, ◌≤◌, List, length, take, drop, sym, ap, ◌∙◌, arith, length-drop, rules}
 use Rattle.std.proofs.lemmas.Grind.{common_steps}
 use Rattle.std.specs.Prelude.{Err, slice_range}
 use Rattle.std.specs.List.{position_or_len}
@@ -7,9 +7,8 @@ use Rattle.std.proofs.lemmas.List.{drop-take, take-take, drop-drop, length-take}
 use Rattle.std.proofs.Math.Seq.{take-length}
 use Rattle.ick_bits.specs.Digits.{line_answer}
 use Rattle.ick_bits.specs.declared.digits.DigitFault.TheVariants as digit
-use Rattle.ick_bits.specs.declared.faults.FaultKind.TheVariants.{NoDigit}
 use Rattle.ick_code.specs.meaning.State.{State}
-use Rattle.ick_code.specs.meaning.Completion.{Completion, faults}
+use Rattle.ick_code.specs.meaning.Completion.{Completion}
 use Rattle.ick_code.specs.meaning.InputOutput.{with_input, with_number}
 use Rattle.ick_engine.specs.View.{input_of}
 use Rattle.ick_engine.specs.declared.reader.Line.TheVariants.{BadWord}
@@ -41,7 +40,4 @@ module _ (text rest : List ℕ) (from n : ℕ) (is : rest ≡ drop from text) (s
   pub word_line : (begin end : ℕ) → Err (digit.Word begin end) ≡ line_answer (take n rest) → begin < end →
       end ≤ length (take n rest) →
       IsNext (BadWord (from + begin) (from + end) (from + n + 1)) from (input_of text) (input_of text)
-  word_line begin end bad more within = λ s go at.
-      let left = record s { input = drop (from + n + 1) text } in
-      line_taken s go at ∙ ap (λ a. with_number (take n rest) a left go) (sym bad)
-      ∙ ap (λ w. faults NoDigit w left) (word_of begin end more within)
+  word_line begin end bad more within = search (rules, line_taken, word_of)

@@ -1,13 +1,10 @@
 -- Changes noted, and undone.
-use Rattle.std.proofs.Common.{◌≡◌, ℕ, zero, suc, ◌+◌, ◌<◌, ◌≤◌, List, [], ◌∷◌, ◌++◌, refl, ap, sym, ◌∙◌, subst, rules}
+use Rattle.std.proofs.Common.{◌≡◌, ℕ, ◌+◌, ◌<◌, ◌≤◌, List, [], ◌∷◌, ◌++◌, refl, ap, sym, ◌∙◌, subst, rules, length, take, drop, get_or, arith}
 use Rattle.std.proofs.lemmas.Grind.{common_steps}
-use Rattle.std.proofs.Common.{length, take, drop, get_or, arith}
 use Rattle.std.specs.Prelude.{reverse, slice_set}
-use Rattle.std.proofs.lemmas.List.{drop-append-le, reverse-append, set-set, set-get_or}
-use Rattle.std.proofs.lemmas.List.{get_or-set_same, get_or-set_other, length-take-le, take-append-drop}
+use Rattle.std.proofs.lemmas.List.{drop-append-le, reverse-append, set-set, set-get_or, get_or-set_same, length-take-le, take-append-drop}
 use Rattle.std.proofs.Math.ListN.{drop_of_length-le}
 use Rattle.ick_code.specs.meaning.State.{Array, no_array}
-use Rattle.ick_engine.specs.Elements.{with_element}
 use Rattle.ick_engine.specs.View.{View, Parts}
 use Rattle.ick_engine.specs.Undo.{Change, register_was, home_was, status_was, return_was, element_was, hidden_was}
 use Rattle.ick_engine.specs.Undo.{scalar_saved, scalar_taken, scalar_restored, array_saved, array_was, statuses_were, taken_was}
@@ -34,13 +31,7 @@ first_more at n xs ys next there s = search rules
 -- a number is set in both
 set_same : (xs ys : List ℕ) (at n r : ℕ) → length ys ≡ length xs → get_or ys r 0 ≡ get_or xs r 0 →
     get_or (slice_set ys at n) r 0 ≡ get_or (slice_set xs at n) r 0
-set_same [] [] at n r count same = same
-set_same [] (y ∷ ys) at n r count same = absurd (omega (arith, count))
-set_same (x ∷ xs) [] at n r count same = absurd (omega (arith, count))
-set_same (x ∷ xs) (y ∷ ys) zero n zero count same = refl
-set_same (x ∷ xs) (y ∷ ys) zero n (suc r) count same = same
-set_same (x ∷ xs) (y ∷ ys) (suc at) n zero count same = same
-set_same (x ∷ xs) (y ∷ ys) (suc at) n (suc r) count same = set_same xs ys at n r (omega (arith, count)) same
+set_same = grind (arith, common_steps)
 
 first_set : {n : ℕ} {xs ys : List ℕ} (at number : ℕ) → SameFirst n xs ys →
     SameFirst n (slice_set xs at number) (slice_set ys at number)
@@ -134,11 +125,7 @@ undone_like base low (lastin_was old) v w can l =
 undone_like base low no_change v w can l = l
 
 undone_high : (base : ℕ) (change : Change) (v w : View) → IsUndoable base change v → HighSame base w (undone change w)
-undone_high base (register_was at old) v w can = λ r high.
-    get_or-set_other w.registers at r old 0 (λ e. absurd (omega (arith, e, high, can)))
-undone_high base (scalar_restored slot number old) v w can = λ r high.
-    get_or-set_other w.registers slot r old 0 (λ e. absurd (omega (arith, e, high, can.0)))
-undone_high base other v w can = λ r high. refl
+undone_high = search rules
 
 -- a change whose undoing gives a view back
 pub notes_back : (base : ℕ) (changes : List Change) (low k : ℕ) (change : Change) (u v m : View) →
@@ -225,14 +212,7 @@ keeps_register base changes older low k at old number registers v m from below i
 -- an element
 element_same : (arrays : List Array) (slot at number : ℕ) → slot < length arrays →
     with_number (with_number arrays slot at number) slot at (get_or (get_or arrays slot no_array).elements at 0) ≡ arrays
-element_same arrays slot at number there =
-    let a = get_or arrays slot no_array in
-    let old = get_or a.elements at 0 in
-    let x = with_element a at number in
-    set-set arrays slot x (with_element (get_or (slice_set arrays slot x) slot no_array) at old)
-    ∙ ap (λ y. slice_set arrays slot (with_element y at old)) (get_or-set_same arrays slot x no_array there)
-    ∙ ap (λ l. slice_set arrays slot (record a { elements = l })) (put_back a.elements at number)
-    ∙ set-get_or arrays slot no_array
+element_same arrays slot at number there = search (rules, get_or-set_same, put_back, set-get_or, set-set)
 
 pub element_back : (slot at number : ℕ) (arrays : List Array) (v : View) → v.parts.arrays ≡ arrays →
     slot < length arrays →
@@ -245,12 +225,7 @@ element_back slot at number arrays v same there =
 pub notes_return : (base : ℕ) (changes : List Change) (low at k : ℕ) (v m : View) → low ≡ at + 1 →
     at < length v.returns → Rewinds base changes low k v m →
     Rewinds base (changes ++ return_was at (get_or v.returns at 0) ∷ []) at k v m
-notes_return base changes low at k v m next there h =
-    noted base changes low at k (return_was at (get_or v.returns at 0)) v v m h
-    (λ w l. (
-      alike l.registers l.home l.statuses l.parts (first_more at low v.returns w.returns next there l.returns),
-      λ r high. refl,
-    ))
+notes_return base changes low at k v m next there h = grind (arith, common_steps, alike, first_more, noted)
 
 -- a mark
 pub marks_here : (base : ℕ) (changes : List Change) (v : View) → Rewinds base changes v.depth (length changes) v v
