@@ -1,4 +1,4 @@
-use Rattle.std.proofs.Common.{◌≡◌, ℕ, ◌+◌, ◌<◌, List, length, drop, get_or, Some, refl, ap, ◌∙◌, sym, arith}
+use Rattle.std.proofs.Common.{◌≡◌, ℕ, ◌+◌, ◌<◌, List, length, drop, get_or, Some, refl, ap, ◌∙◌, sym, arith, rules}
 use Rattle.std.specs.Prelude.{option_and_then}
 use Rattle.std.proofs.lemmas.List.{length-map, get_or-map}
 use Rattle.ick_bits.specs.Values.{Wide}
@@ -20,13 +20,7 @@ value_at subscripts regs at low =
     sym (get_or-map (λ r. Wide (reg regs r)) subscripts at 0 (Wide (reg regs (get_or subscripts at 0))) low)
 
 pub returns-then-len-subscripts-clause-index : goal.returns-then-len-subscripts-clause-index
-returns-then-len-subscripts-clause-index c =
-    let a = array_of c.args.array.now in
-    let subs = values_of c.args.subscripts.now c.args.registers.now in
-    let count = count_is c.args.subscripts.now c.args.registers.now in
-    ap (inside (length a.elements))
-    (sym (none_at a.dimensions subs
-    (λ e. c.if-len-subscripts.true (c.len.ensures ∙ c.args.array.now.dimensions.ok.0 ∙ e ∙ count))))
+returns-then-len-subscripts-clause-index c = search (rules, count_is, inside, none_at)
 
 pub returns-in_default-clause-index : goal.returns-in_default-clause-index
 returns-in_default-clause-index c =

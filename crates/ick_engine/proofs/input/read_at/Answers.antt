@@ -1,4 +1,4 @@
-use Rattle.std.proofs.Common.{◌≡◌, ◌+◌, ◌<◌, ℕ, List, Option, Some, None, length, map, get_or, refl, ap, sym, ◌∙◌, arith}
+use Rattle.std.proofs.Common.{◌≡◌, ◌+◌, ◌<◌, ℕ, List, Option, Some, None, length, map, get_or, refl, ap, sym, ◌∙◌, arith, rules}
 use Rattle.std.specs.Prelude.{slice_range}
 use Rattle.std.proofs.lemmas.List.{get_or-map, length-map}
 use Rattle.ick_code.specs.meaning.State.{no_array}
@@ -18,11 +18,7 @@ placed : (all : List Array) (slot : ℕ) (r : Array) (subs subs' regs : List ℕ
     slot < length all → r ≡ get_or all slot r → subs ≡ subs' →
     o ≡ element_offset (array_of r) (values_of (slice_range subs from to) regs) →
     o ≡ element_offset (get_or (map array_of all) slot no_array) (values_of (slice_range subs' from to) regs)
-placed all slot r subs subs' regs from to o within here same is =
-    is
-    ∙ ap (λ a. element_offset a (values_of (slice_range subs from to) regs))
-    (ap array_of here ∙ sym (get_or-map array_of all slot r no_array within))
-    ∙ ap (λ l. element_offset (get_or (map array_of all) slot no_array) (values_of (slice_range l from to) regs)) same
+placed all slot r subs subs' regs from to o within here same is = search (rules, get_or-map)
 
 long : (new old : List Array) → map is_hidden new ≡ map is_hidden old →
     length (map array_of new) ≡ length (map array_of old)

@@ -1,7 +1,5 @@
-use Rattle.std.proofs.Common.{sym, ◌∙◌, subst}
-use Rattle.ick_engine.specs.TrailChanges.{changes_in}
-use Rattle.ick_engine.specs.Memory.{view_in}
-use Rattle.ick_engine.specs.Undo.{Rewinds}
+use Rattle.std.proofs.Common.{sym, ◌∙◌, arith}
+use Rattle.std.proofs.lemmas.Grind.{common_steps}
 use Rattle.ick_engine.proofs.Changes.{count_history}
 use Rattle.ick_engine.proofs.Undoing.{marks_here}
 use Rattle.ick_engine.proofs.marks.make_mark.Goals as goal
@@ -15,8 +13,4 @@ pub returns-clause-kept : goal.returns-clause-kept
 returns-clause-kept c = returns-clause-count c
 
 pub returns-clause-marked : goal.returns-clause-marked
-returns-clause-marked c =
-    let t = c.args.trail.now in
-    let v = view_in c.args.memory.now in
-    subst (λ k. Rewinds t.base (changes_in t) v.depth k v v) (sym (returns-clause-count c))
-    (marks_here t.base (changes_in t) v)
+returns-clause-marked c = grind (arith, common_steps, marks_here, returns-clause-count)

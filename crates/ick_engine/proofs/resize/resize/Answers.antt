@@ -1,19 +1,11 @@
-use Rattle.std.proofs.Common.{map, ap, sym, ◌∙◌}
+use Rattle.std.proofs.Common.{map, ap, ◌∙◌, rules}
 use Rattle.std.proofs.Math.Seq.{map-set_same}
-use Rattle.ick_bits.specs.Values.{number_of}
-use Rattle.ick_code.specs.meaning.Store.{zeros}
-use Rattle.ick_instructions.specs.Meaning.{values_of}
 use Rattle.ick_engine.specs.View.{array_of, is_hidden}
 use Rattle.ick_engine.proofs.DimensionLemmas.{no_fault, array_sized, sized_back}
 use Rattle.ick_engine.proofs.resize.resize.Goals as goal
 
 pub returns-in-Ok-set_dimensions-clause-resized : goal.returns-in-Ok-set_dimensions-clause-resized
-returns-in-Ok-set_dimensions-clause-resized g c =
-    let sizes = map number_of (values_of c.args.subscripts.now c.args.registers.now) in (
-      no_fault sizes c.in-Some.count (sym c.has_zero.ensures ∙ c.if-has_zero.false) c.in-Some.ensures,
-      array_sized c.args.arrays.now.items c.args.slot c.set_dimensions.new.array c.index_mut-array.result.now
-          c.index_mut-array.ensures.value (zeros sizes) c.requires.slot c.if-array.false c.in-Ok-set_dimensions.ensures.ok,
-    )
+returns-in-Ok-set_dimensions-clause-resized g c = search (rules, array_sized, no_fault)
 
 pub returns-in-Ok-set_dimensions-clause-hidden : goal.returns-in-Ok-set_dimensions-clause-hidden
 returns-in-Ok-set_dimensions-clause-hidden g c =

@@ -1,4 +1,4 @@
-use Rattle.std.proofs.Common.{sym, ◌∙◌, subst, map, get_or}
+use Rattle.std.proofs.Common.{subst, map, get_or, rules}
 use Rattle.std.specs.Prelude.{slice_set}
 use Rattle.ick_engine.specs.Stashes.{IsTakenOff, ChangesAt}
 use Rattle.ick_engine.specs.Undo.{with_scalar_stashes}
@@ -22,13 +22,7 @@ returns-in_default-clause-stashes g c =
     c.requires.slot c.index_mut.ensures.value c.in_default.ensures.same
 
 pub returns-in_default-clause-notes : goal.returns-in_default-clause-notes
-returns-in_default-clause-notes g c = λ k v m registers same h.
-    let new = map numbers_of (slice_set c.args.stashes.now.items c.args.slot c.take_newest.new.self) in
-    let kept =
-    kept_at numbers_of c.args.stashes.now.items c.args.slot c.index_mut.result.now c.take_newest.new.self no_stash
-    c.requires.slot c.index_mut.ensures.value c.in_default.ensures.same in
-    subst (λ r. g.N.Notes.Undoes c.args.notes.now k (with_scalar_stashes new (record v { registers = r })) m) registers
-    (subst (λ l. g.N.Notes.Undoes c.args.notes.now k (with_scalar_stashes l v) m) (same ∙ sym kept) h)
+returns-in_default-clause-notes g c = search (rules, kept_at)
 
 pub returns-then-home-slot-clause-restored : goal.returns-then-home-slot-clause-restored
 returns-then-home-slot-clause-restored g c =

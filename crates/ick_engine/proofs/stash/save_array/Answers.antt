@@ -1,28 +1,18 @@
-use Rattle.std.proofs.Common.{◌≡◌, ap, sym, ◌∙◌, subst, map, get_or}
+use Rattle.std.proofs.Common.{◌≡◌, ap, sym, ◌∙◌, subst, map, get_or, rules}
 use Rattle.std.specs.Prelude.{slice_set}
 use Rattle.std.proofs.lemmas.List.{get_or-map}
 use Rattle.ick_code.specs.meaning.State.{no_array}
 use Rattle.ick_engine.specs.Stashes.{IsPutOn, ChangesAt}
-use Rattle.ick_engine.specs.Undo.{StashesLike, with_array_stashes}
+use Rattle.ick_engine.specs.Undo.{with_array_stashes}
 use Rattle.ick_engine.specs.View.{array_of, arrays_of}
 use Rattle.ick_engine.proofs.StashingLemmas.{changes_at, like_arrays, like_at, on_err, saved_like}
 use Rattle.ick_engine.proofs.stash.save_array.Goals as goal
 
 pub returns-in_err-save-clause-same : goal.returns-in_err-save-clause-same
-returns-in_err-save-clause-same g c =
-    on_err c.from_residual.result _
-    (like_at arrays_of c.args.stashes.now.items c.args.slot c.index_mut.result.now c.save.new.self c.requires.slot
-    c.index_mut.ensures.value c.in_err-save.ensures.err)
+returns-in_err-save-clause-same g c = search (rules, like_at, on_err)
 
 pub returns-in_err-save-clause-notes : goal.returns-in_err-save-clause-notes
-returns-in_err-save-clause-notes g c = λ k v m same h.
-    let new = map arrays_of (slice_set c.args.stashes.now.items c.args.slot c.save.new.self) in
-    let like : StashesLike v.parts.array_stashes new =
-    subst (λ l. StashesLike l new) (sym same)
-    (like_at arrays_of c.args.stashes.now.items c.args.slot c.index_mut.result.now c.save.new.self c.requires.slot
-    c.index_mut.ensures.value c.in_err-save.ensures.err) in
-    c.law.ensures.alike k v (with_array_stashes new v) m
-    (like_arrays _ _ v new like) h
+returns-in_err-save-clause-notes g c = search (rules, like_arrays, like_at)
 
 pub returns-clause-saved : goal.returns-clause-saved
 returns-clause-saved g c =

@@ -1,8 +1,8 @@
-use Rattle.std.proofs.Common.{sym, ◌∙◌, subst, map}
+use Rattle.std.proofs.Common.{map, rules}
 use Rattle.std.specs.Prelude.{slice_set}
 use Rattle.ick_engine.specs.Stashes.{IsPutOn, ChangesAt}
 use Rattle.ick_engine.specs.Undo.{with_scalar_stashes}
-use Rattle.ick_engine.specs.View.{no_stash, numbers_of}
+use Rattle.ick_engine.specs.View.{numbers_of}
 use Rattle.ick_engine.proofs.StashingLemmas.{on_err, changes_at, kept_at, like_scalars, saved_like}
 use Rattle.ick_engine.proofs.stash.save_scalar.Goals as goal
 
@@ -12,17 +12,10 @@ returns-clause-saved g c =
     c.requires.slot c.index_mut.ensures.value c.in_ok-save.ensures.ok
 
 pub returns-in_err-save-clause-same : goal.returns-in_err-save-clause-same
-returns-in_err-save-clause-same g c =
-    on_err c.from_residual.result _
-    (kept_at numbers_of c.args.stashes.now.items c.args.slot c.index_mut.result.now c.save.new.self no_stash
-    c.requires.slot c.index_mut.ensures.value c.in_err-save.ensures.err)
+returns-in_err-save-clause-same g c = search (rules, kept_at, on_err)
 
 pub returns-in_err-save-clause-notes : goal.returns-in_err-save-clause-notes
-returns-in_err-save-clause-notes g c = λ k v m same h.
-    let kept =
-    kept_at numbers_of c.args.stashes.now.items c.args.slot c.index_mut.result.now c.save.new.self no_stash
-    c.requires.slot c.index_mut.ensures.value c.in_err-save.ensures.err in
-    subst (λ l. g.N.Notes.Undoes c.args.notes.now k (with_scalar_stashes l v) m) (same ∙ sym kept) h
+returns-in_err-save-clause-notes g c = search (rules, kept_at)
 
 pub returns-clause-notes : goal.returns-clause-notes
 returns-clause-notes g c = λ k v m same h.

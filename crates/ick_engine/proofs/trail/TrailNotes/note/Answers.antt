@@ -1,4 +1,5 @@
-use Rattle.std.proofs.Common.{refl, rules, sym, subst}
+use Rattle.std.proofs.Common.{refl, sym, subst, arith}
+use Rattle.std.proofs.lemmas.Grind.{common_steps}
 use Rattle.ick_engine.specs.TrailChanges.{changes_in}
 use Rattle.ick_engine.specs.Undo.{Rewinds, change_of, undone}
 use Rattle.ick_engine.proofs.Changes.{fixed_grown, newest_alone, grown}
@@ -6,14 +7,7 @@ use Rattle.ick_engine.proofs.Undoing.{notes_back}
 use Rattle.ick_engine.proofs.trail.TrailNotes.note.Goals as goal
 
 pub returns-clause-noted : goal.returns-clause-noted
-returns-clause-noted c =
-    let t = c.args.self.now in
-    let more =
-    grown t c.push_reserved.new.self.items t.entries.items c.args.entry c.requires.alone c.push_reserved.ensures.items in
-    record {
-      room_left = search rules;
-      kept = record { low_same = refl; base_same = fixed_grown t _ more; more = more };
-    }
+returns-clause-noted c = grind (arith, common_steps, fixed_grown, grown)
 
 pub returns-clause-notes : goal.returns-clause-notes
 returns-clause-notes c = λ k v m can h.

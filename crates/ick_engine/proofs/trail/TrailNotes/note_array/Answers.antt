@@ -1,4 +1,5 @@
-use Rattle.std.proofs.Common.{refl, rules, sym, subst}
+use Rattle.std.proofs.Common.{refl, sym, subst, arith}
+use Rattle.std.proofs.lemmas.Grind.{common_steps}
 use Rattle.ick_engine.specs.TrailChanges.{changes_in}
 use Rattle.ick_engine.specs.Undo.{Rewinds, array_was, undone}
 use Rattle.ick_engine.specs.View.{array_of}
@@ -7,16 +8,7 @@ use Rattle.ick_engine.proofs.Undoing.{notes_back}
 use Rattle.ick_engine.proofs.trail.TrailNotes.note_array.Goals as goal
 
 pub returns-clause-noted : goal.returns-clause-noted
-returns-clause-noted c =
-    let t = c.args.self.now in
-    let more =
-    grown_one t _ _
-    (newest_array t c.push_reserved.new.self.items c.push.new.self.items c.args.change c.args.slot c.in_ok-copy_array.field-0
-    (array_of c.args.array.now) c.push_reserved.ensures.items c.in_ok-push.ensures.items c.in_ok-copy_array.ensures.array) in
-    record {
-      room_left = search rules;
-      kept = record { low_same = refl; base_same = fixed_grown t _ more; more = more };
-    }
+returns-clause-noted c = grind (arith, common_steps, fixed_grown, grown_one, newest_array)
 
 pub returns-clause-notes : goal.returns-clause-notes
 returns-clause-notes c = λ k v m can h.
