@@ -31,5 +31,5 @@ pub use ick_backtrack::{Ask, Asks, Backtrack, End, FeedFault};
 pub use live::Live;
 pub use live_ask::{EndKind, LiveAsk};
 pub use present::{Inspect, Present};
-pub use steps::{Came, run_on, step_once};
+pub use steps::{Came, make_steps};
 pub use trailed::Trailed;

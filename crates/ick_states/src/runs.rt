@@ -8,10 +8,10 @@ use crate::asking::asked_in;
 use ick_backtrack::Ask;
 use ick_bits::NoMemory;
 use ick_code::Code;
-use ick_engine::{Memory, Nobody, RawEnd, Saved, TextReader, fresh_memory};
+use ick_engine::{Memory, NoTraces, Nobody, RawEnd, Saved, TextReader, fresh_memory};
 use ick_instructions::Lowered;
 use ick_lowering::lower;
-use ick_machine::{end_of, run_on, step_once};
+use ick_machine::{end_of, make_steps};
 use ick_outcomes::States;
 use std::alloc::Global;
 
@@ -99,7 +99,16 @@ impl<'c, 'a> Runs<'c, 'a> {
             Some(_) => Ok(0),
             None => {
                 let mut reader = TextReader::new(self.input);
-                let came = run_on(&self.lowered, memory, end, &mut Nobody, &mut reader, limit)?;
+                let came = make_steps(
+                    &self.lowered,
+                    memory,
+                    end,
+                    &mut Nobody,
+                    &mut reader,
+                    &NoTraces,
+                    limit,
+                    None,
+                )?;
                 Ok(came.made)
             }
         }
@@ -133,7 +142,16 @@ impl<'c, 'a> Runs<'c, 'a> {
         // It has a length, so `Nobody` has room for the changes of any statement.
         let _longest = self.lowered.longest();
         let mut reader = TextReader::new(self.input);
-        step_once(&self.lowered, memory, end, &mut Nobody, &mut reader, done)?;
+        let _ = make_steps(
+            &self.lowered,
+            memory,
+            end,
+            &mut Nobody,
+            &mut reader,
+            &NoTraces,
+            1,
+            Some(done),
+        )?;
         self.go_on(memory, end, limit)
     }
 

@@ -1,3 +1,4 @@
+use Rattle.std.proofs.Common.{refl}
 use Rattle.ick_engine.specs.Memory.{view_in}
 use Rattle.ick_states.proofs.Keeping.{ran_on}
 use Rattle.ick_states.proofs.runs.Runs.go_on.Goals as goal
@@ -6,5 +7,5 @@ pub returns-in_ok-came-in-None-clause-runs : goal.returns-in_ok-came-in-None-cla
 returns-in_ok-came-in-None-clause-runs c =
     let ran = c.in_ok-came-in-None in
     ran_on c.args.self.now.lowered.code.now c.args.self.now.lowered.parts c.args.self.now.input.now
-    (view_in c.args.memory.now) (view_in c.run_on.new.memory) c.args.end.now c.run_on.new.end ran.came.made
-    c.new-reader.result c.run_on.new.reader c.in-None.is c.new-reader.ensures ran.ensures.held ran.ensures.runs
+    (view_in c.args.memory.now) (view_in c.make_steps.new.memory) c.args.end.now c.make_steps.new.end ran.came.made
+    c.new-reader.result c.make_steps.new.reader c.in-None.is c.new-reader.ensures ran.ensures.held (ran.ensures.runs refl)

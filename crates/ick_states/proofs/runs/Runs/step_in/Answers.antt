@@ -1,4 +1,4 @@
-use Rattle.std.proofs.Common.{◌≡◌, None, refl}
+use Rattle.std.proofs.Common.{◌≡◌, None, refl, rules, arith}
 use Rattle.ick_code.specs.Compiled.{code_program}
 use Rattle.ick_code.specs.meaning.Move.{advance}
 use Rattle.ick_engine.specs.Memory.{view_in}
@@ -13,8 +13,9 @@ returns-clause-runs c =
     let parts = c.args.self.now.lowered.parts in
     let program = code_program code in
     let text = c.args.self.now.input.now in
-    let step = by_text c.new-reader.result c.step_once.new.reader text
-    (λ before after. run_state code parts after (view_in c.step_once.new.memory) c.step_once.new.end
+    let step = by_text c.new-reader.result c.make_steps.new.reader text
+    (λ before after. run_state code parts after (view_in c.make_steps.new.memory) c.make_steps.new.end
     ≡ advance program (run_state code parts before (view_in c.args.memory.now) None) c.args.done)
-    c.new-reader.ensures c.in_ok-step_once.ensures.held c.in_ok-step_once.ensures.steps in
+    c.new-reader.ensures c.in_ok-make_steps.ensures.held
+    (c.in_ok-make_steps.ensures.steps c.args.done refl refl (search rules) (omega arith)) in
     if_ok _ _ c.go_on.result (λ made runs. same_steps program _ _ _ _ made step refl runs) c.go_on.ensures.runs
