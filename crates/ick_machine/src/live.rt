@@ -89,6 +89,7 @@ impl<'c, 'a> Live<'c, 'a> {
     /// raises the feed's count of failures by one, and every other answer leaves it. A step answers
     /// `Read` only if it meets a WRITE IN.
     #[tactic(auto, unfolding(crate::specs::Live::seen))]
+    #[inline(always)]
     pub fn step<F: Feed>(&mut self, done: bool, feed: &mut F) -> Result<(), FeedFault>
         requires sound { (seen self.old).failed ≡ false }
         requires going { IsGoing (ask (seen self.old).program (seen self.old).state) }
