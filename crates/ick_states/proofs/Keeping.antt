@@ -21,7 +21,10 @@ use Rattle.ick_engine.specs.View.{View, Input, end_of, input_of, state_of}
 use Rattle.ick_machine.specs.Asked.{asked_by}
 use Rattle.ick_machine.specs.Run.{ending_of, run_state}
 use Rattle.ick_outcomes.specs.Accounts.{Configuration}
-use Rattle.ick_states.specs.Seen.{seen_of}
+use Rattle.ick_machine.specs.RunIn.{program_of}
+use Rattle.ick_states.specs.Seen.{kept_state, seen_of}
+use Rattle.ick_states.specs.declared.runs.KeptRun.{KeptRun}
+use Rattle.ick_states.specs.declared.runs.Runs.{Runs}
 use Rattle.ick_machine.proofs.AnswerLemmas.{asks_status, place_low}
 use Rattle.ick_machine.proofs.WholeLemmas.{by_text}
 
@@ -50,12 +53,17 @@ asks_on code lowered input v end answer none asked =
     asked ∙ sym (ap (λ o. Some (ask (code_program code) (run_state code lowered input v o))) none)
 
 -- kept states of the same state, and the same end
-pub place_same : (code : Code) (lowered : LoweredParts) (text : List ℕ) (one other : Saved) (end : Option RawEnd) →
-    state_of code lowered (input_of text) (saved_view one) ≡ state_of code lowered (input_of text) (saved_view other) →
-    seen_of code lowered text one end ≡ seen_of code lowered text other end
-place_same code lowered text one other end same =
-    ap {B = Configuration} (λ s. record { program = code_program code; state = s })
-    (run_same code lowered (input_of text) (saved_view one) (saved_view other) end same)
+pub place_same : (runs : Runs) (one other : KeptRun) →
+    state_of runs.lowered.code.now runs.lowered.parts (input_of runs.input.now) (saved_view one.saved)
+    ≡ state_of runs.lowered.code.now runs.lowered.parts (input_of runs.input.now) (saved_view other.saved) →
+    one.end ≡ other.end → seen_of runs one ≡ seen_of runs other
+place_same runs one other same ends =
+    let code = runs.lowered.code.now in
+    let parts = runs.lowered.parts in
+    let input = input_of runs.input.now in
+    ap {B = Configuration} (λ s. record { program = program_of runs.lowered; state = s })
+    (run_same code parts input (saved_view one.saved) (saved_view other.saved) one.end same
+    ∙ ap (kept_state runs.lowered input other.saved) ends)
 
 -- what a call answers
 pub if_ok : {T E : Type 0} (P Q : T → Type 0) (r : Result T E) → ((x : T) → P x → Q x) → IfOk r P → IfOk r Q

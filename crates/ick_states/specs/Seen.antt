@@ -1,18 +1,39 @@
 -- Defines what contracts see of a kept state.
-use Rattle.std.specs.Prelude.{ℕ, List, Option}
-use Rattle.ick_code.specs.declared.code.Code.{Code}
-use Rattle.ick_code.specs.Compiled.{code_program}
-use Rattle.ick_instructions.specs.declared.lowered.LoweredParts.{LoweredParts}
+use Rattle.std.specs.Prelude.{ℕ, Option}
+use Rattle.ick_code.specs.meaning.State.{State}
+use Rattle.ick_instructions.specs.declared.lowered.Lowered.{Lowered}
 use Rattle.ick_engine.specs.declared.exit.RawEnd.{RawEnd}
+use Rattle.ick_engine.specs.declared.memory.Memory.{Memory}
 use Rattle.ick_engine.specs.declared.saved.Saved.{Saved}
-use Rattle.ick_engine.specs.Saved.{saved_view}
-use Rattle.ick_engine.specs.View.{input_of}
+use Rattle.ick_engine.specs.Memory.{view_in}
+use Rattle.ick_engine.specs.Saved.{IsKept, saved_view}
+use Rattle.ick_engine.specs.Steady.{IsSteady}
+use Rattle.ick_engine.specs.View.{Input, input_of}
 use Rattle.ick_machine.specs.Run.{run_state}
+use Rattle.ick_machine.specs.RunIn.{program_of, state_in}
 use Rattle.ick_outcomes.specs.Accounts.{Configuration}
+use Rattle.ick_states.specs.declared.runs.KeptRun.{KeptRun}
+use Rattle.ick_states.specs.declared.runs.Runs.{Runs}
 
--- the program, and the state of a run over a text that was kept and ended so
-abbrev pub seen_of : Code → LoweredParts → (text : List ℕ) → Saved → Option RawEnd → Configuration
-seen_of code lowered text saved end = record {
-  program = code_program code;
-  state = run_state code lowered (input_of text) (saved_view saved) end;
+-- a run can go on from a kept state
+abbrev pub CanGoOnFrom : Lowered → Saved → Type 0
+CanGoOnFrom lowered saved = IsKept lowered.code.now lowered.parts saved
+
+-- any state of the program can be put into a memory
+abbrev pub CanServe : Lowered → Memory → Type 0
+CanServe lowered memory = IsSteady lowered.code.now lowered.parts (view_in memory)
+
+-- the state that was kept and ended so
+abbrev pub kept_state : Lowered → Input → Saved → Option RawEnd → State
+kept_state lowered input saved end = run_state lowered.code.now lowered.parts input (saved_view saved) end
+
+-- the state that a memory represents, over the text of a program
+abbrev pub present_state : Runs → Memory → Option RawEnd → State
+present_state runs memory end = state_in runs.lowered (input_of runs.input.now) memory end
+
+-- the program, and the state that was kept
+abbrev pub seen_of : Runs → KeptRun → Configuration
+seen_of runs run = record {
+  program = program_of runs.lowered;
+  state = kept_state runs.lowered (input_of runs.input.now) run.saved run.end;
 }

@@ -32,16 +32,14 @@ pub struct Runs<'c, 'a> {
 }
 
 impl<'c, 'a> Runs<'c, 'a> {
-    ghost use Rattle.std.specs.Prelude.{◌≡◌, ◌≤◌, IfOk, None, OnOk};
+    ghost use Rattle.std.specs.Prelude.{◌≡◌, ◌≤◌, Bool, Some, None, IfOk, OnOk};
     ghost use Rattle.ick_code.specs.meaning.Move.{ask, advance};
     ghost use Rattle.ick_backtrack.specs.Asked.{IsGoing};
     ghost use Rattle.ick_backtrack.specs.Steps.{IsPlain, RunsOn};
-    ghost use Rattle.ick_engine.specs.Memory.{view_in};
-    ghost use Rattle.ick_engine.specs.Saved.{IsKept, saved_view};
-    ghost use Rattle.ick_engine.specs.Steady.{IsReady, IsSteady};
-    ghost use Rattle.ick_engine.specs.View.{Input, input_of};
-    ghost use Rattle.ick_machine.specs.Run.{run_state};
-    ghost use Rattle.ick_states.specs.Seen.{seen_of};
+    ghost use Rattle.ick_engine.specs.View.{Input};
+    ghost use Rattle.ick_machine.specs.RunIn.{CanGoOn, program_of, state_in};
+    ghost use Rattle.ick_states.specs.Seen.{CanGoOnFrom, CanServe};
+    ghost use Rattle.ick_states.specs.Seen.{kept_state, present_state, seen_of};
 
     /// Returns a program over an input. `NoMemory` is the only refusal.
     pub fn new(alloc: Global, code: &'c Code<'a>, input: &'c [u8]) -> Result<Runs<'c, 'a>, NoMemory>
@@ -58,14 +56,11 @@ impl<'c, 'a> Runs<'c, 'a> {
 
     /// Keeps the state that a memory represents.
     fn keep(&self, memory: &Memory, end: Option<RawEnd>) -> Result<KeptRun, NoMemory>
-        requires { IsReady self.now.lowered.code.now self.now.lowered.parts (view_in memory.now) }
-        ensures kept { IfOk result (λ state. IsKept self.now.lowered.code.now
-            self.now.lowered.parts state.saved) }
+        requires { CanGoOn self.now.lowered memory.now }
+        ensures kept { IfOk result (λ state. CanGoOnFrom self.now.lowered state.saved) }
         ensures states { IfOk result (λ state. (input : Input) →
-            run_state self.now.lowered.code.now self.now.lowered.parts input
-            (saved_view state.saved) state.end
-            ≡ run_state self.now.lowered.code.now self.now.lowered.parts input
-            (view_in memory.now) end) }
+            kept_state self.now.lowered input state.saved state.end
+            ≡ state_in self.now.lowered input memory.now end) }
     {
         let saved = Saved::save(self.alloc, memory, &self.lowered)?;
         // `states` needs that the kept state is that of the memory.
@@ -82,36 +77,31 @@ impl<'c, 'a> Runs<'c, 'a> {
         end: &mut Option<RawEnd>,
         limit: u32,
     ) -> Result<u32, NoMemory>
-        requires { IsReady self.now.lowered.code.now self.now.lowered.parts (view_in memory.old) }
-        ensures steady { IsSteady self.now.lowered.code.now self.now.lowered.parts
-            (view_in memory.new) }
-        ensures ready { OnOk result (IsReady self.now.lowered.code.now self.now.lowered.parts
-            (view_in memory.new)) }
-        ensures runs { IfOk result (λ made. RunsOn IsPlain
-            (code_program self.now.lowered.code.now)
-            (run_state self.now.lowered.code.now self.now.lowered.parts
-            (input_of self.now.input.now) (view_in memory.old) end.old) made
-            (run_state self.now.lowered.code.now self.now.lowered.parts
-            (input_of self.now.input.now) (view_in memory.new) end.new)) }
+        requires { CanGoOn self.now.lowered memory.old }
+        ensures steady { CanServe self.now.lowered memory.new }
+        ensures ready { OnOk result (CanGoOn self.now.lowered memory.new) }
+        ensures runs { IfOk result (λ made. RunsOn IsPlain (program_of self.now.lowered)
+            (present_state self.now memory.old end.old) made
+            (present_state self.now memory.new end.new)) }
         ensures within { IfOk result (λ made. made ≤ limit) }
     {
-        match *end {
-            Some(_) => Ok(0),
-            None => {
-                let mut reader = TextReader::new(self.input);
-                let came = make_steps(
-                    &self.lowered,
-                    memory,
-                    end,
-                    &mut Nobody,
-                    &mut reader,
-                    &NoTraces,
-                    limit,
-                    None,
-                )?;
-                Ok(came.made)
-            }
-        }
+        let None = *end else {
+            return Ok(0);
+        };
+        let mut reader = TextReader::new(self.input);
+        let notes = &mut Nobody;
+        let program = &self.lowered;
+        let came = make_steps(
+            program,
+            memory,
+            end,
+            notes,
+            &mut reader,
+            &NoTraces,
+            limit,
+            None,
+        )?;
+        Ok(came.made)
     }
 
     /// Makes one step of a run that hasn't ended, and then further steps while nothing is asked, at
@@ -123,34 +113,31 @@ impl<'c, 'a> Runs<'c, 'a> {
         done: bool,
         limit: u32,
     ) -> Result<u32, NoMemory>
-        requires ready { IsReady self.now.lowered.code.now self.now.lowered.parts
-            (view_in memory.old) }
+        requires ready { CanGoOn self.now.lowered memory.old }
         requires going { end.old ≡ None }
-        ensures steady { IsSteady self.now.lowered.code.now self.now.lowered.parts
-            (view_in memory.new) }
-        ensures ready { OnOk result (IsReady self.now.lowered.code.now self.now.lowered.parts
-            (view_in memory.new)) }
-        ensures runs { IfOk result (λ made. RunsOn IsPlain
-            (code_program self.now.lowered.code.now)
-            (advance (code_program self.now.lowered.code.now)
-            (run_state self.now.lowered.code.now self.now.lowered.parts
-            (input_of self.now.input.now) (view_in memory.old) None) done) made
-            (run_state self.now.lowered.code.now self.now.lowered.parts
-            (input_of self.now.input.now) (view_in memory.new) end.new)) }
+        ensures steady { CanServe self.now.lowered memory.new }
+        ensures ready { OnOk result (CanGoOn self.now.lowered memory.new) }
+        ensures runs { let program = program_of self.now.lowered in
+            IfOk result (λ made. RunsOn IsPlain program
+            (advance program (present_state self.now memory.old None) done) made
+            (present_state self.now memory.new end.new)) }
         ensures within { IfOk result (λ made. made ≤ limit) }
     {
+        let program = &self.lowered;
         // It has a length, so `Nobody` has room for the changes of any statement.
-        let _longest = self.lowered.longest();
+        let _longest = program.longest();
         let mut reader = TextReader::new(self.input);
+        let notes = &mut Nobody;
+        let answer = Some(done);
         let _ = make_steps(
-            &self.lowered,
+            program,
             memory,
             end,
-            &mut Nobody,
+            notes,
             &mut reader,
             &NoTraces,
             1,
-            Some(done),
+            answer,
         )?;
         self.go_on(memory, end, limit)
     }
@@ -163,23 +150,15 @@ impl<'c, 'a> Runs<'c, 'a> {
         done: bool,
         limit: u32,
     ) -> Result<u32, NoMemory>
-        requires steady { IsSteady self.now.lowered.code.now self.now.lowered.parts
-            (view_in memory.old) }
-        requires kept { IsKept self.now.lowered.code.now self.now.lowered.parts state.old.saved }
-        requires going { IsGoing (ask (code_program self.now.lowered.code.now)
-            (seen_of self.now.lowered.code.now self.now.lowered.parts self.now.input.now
-            state.old.saved state.old.end).state) }
-        ensures steady { IsSteady self.now.lowered.code.now self.now.lowered.parts
-            (view_in memory.new) }
-        ensures kept { OnOk result (IsKept self.now.lowered.code.now
-            self.now.lowered.parts state.new.saved) }
-        ensures runs { IfOk result (λ made. RunsOn IsPlain
-            (code_program self.now.lowered.code.now)
-            (advance (code_program self.now.lowered.code.now)
-            (seen_of self.now.lowered.code.now self.now.lowered.parts self.now.input.now
-            state.old.saved state.old.end).state done) made
-            (seen_of self.now.lowered.code.now self.now.lowered.parts self.now.input.now
-            state.new.saved state.new.end).state) }
+        requires steady { CanServe self.now.lowered memory.old }
+        requires kept { CanGoOnFrom self.now.lowered state.old.saved }
+        requires going { let old = seen_of self.now state.old in IsGoing
+            (ask old.program old.state) }
+        ensures steady { CanServe self.now.lowered memory.new }
+        ensures kept { OnOk result (CanGoOnFrom self.now.lowered state.new.saved) }
+        ensures runs { let old = seen_of self.now state.old in IfOk result (λ made. RunsOn IsPlain
+            old.program (advance old.program old.state done) made
+            (seen_of self.now state.new).state) }
         ensures within { IfOk result (λ made. made ≤ limit) }
     {
         state.saved.exchange(memory, &self.lowered);
@@ -194,23 +173,17 @@ impl<'c, 'a> Runs<'c, 'a> {
 }
 
 impl<'c, 'a> States<'c> for Runs<'c, 'a> {
-    ghost use Rattle.ick_engine.specs.Memory.{view_in};
-    ghost use Rattle.ick_engine.specs.Saved.{IsKept};
-    ghost use Rattle.ick_engine.specs.Steady.{IsSteady};
-    ghost use Rattle.ick_states.specs.Seen.{seen_of};
+    ghost use Rattle.ick_states.specs.Seen.{CanGoOnFrom, CanServe, seen_of};
 
     type State = Box<KeptRun>;
 
     type Tools = Memory;
 
-    ghost seen = { λ runs state. seen_of runs.lowered.code.now runs.lowered.parts runs.input.now
-        state.value.saved state.value.end };
+    ghost seen = { λ runs state. seen_of runs state.value };
 
-    ghost suits = { λ runs state. IsKept runs.lowered.code.now runs.lowered.parts
-        state.value.saved };
+    ghost suits = { λ runs state. CanGoOnFrom runs.lowered state.value.saved };
 
-    ghost serves = { λ runs memory. IsSteady runs.lowered.code.now runs.lowered.parts
-        (view_in memory) };
+    ghost serves = { λ runs memory. CanServe runs.lowered memory };
 
     fn output<'s>(&self, state: &'s Box<KeptRun>) -> &'s [u8] {
         state.saved.output()
