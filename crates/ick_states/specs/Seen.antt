@@ -1,5 +1,5 @@
 -- Defines what contracts see of a kept state.
-use Rattle.std.specs.Prelude.{ℕ, Option}
+use Rattle.std.specs.Prelude.{Option}
 use Rattle.ick_code.specs.meaning.State.{State}
 use Rattle.ick_instructions.specs.declared.lowered.Lowered.{Lowered}
 use Rattle.ick_engine.specs.declared.exit.RawEnd.{RawEnd}

@@ -4,10 +4,8 @@
 //! | Module | Contents |
 //! |---|---|
 //! | `runs` | a program over its input, its states, and their steps |
-//! | `asking` | what is asked before the next step of a state |
 #![tactic(auto)]
 
-mod asking;
 mod runs;
 
 pub use runs::{KeptRun, Runs};

@@ -4,14 +4,13 @@ ghost use Rattle.std.specs.Prelude.{◌≡◌, IfOk};
 ghost use Rattle.ick_code.specs.meaning.Move.{first_state};
 ghost use Rattle.ick_code.specs.Compiled.{code_program};
 
-use crate::asking::asked_in;
 use ick_backtrack::Ask;
 use ick_bits::NoMemory;
 use ick_code::Code;
 use ick_engine::{Memory, NoTraces, Nobody, RawEnd, Saved, TextReader, fresh_memory};
 use ick_instructions::Lowered;
 use ick_lowering::lower;
-use ick_machine::{end_of, make_steps};
+use ick_machine::{asked_at, end_of, make_steps};
 use ick_outcomes::States;
 use std::alloc::Global;
 
@@ -195,10 +194,13 @@ impl<'c, 'a> States<'c> for Runs<'c, 'a> {
     }
 
     fn asks(&self, state: &Box<KeptRun>) -> Ask<'c> {
-        match state.end {
-            Some(ended) => Ask::Ended(end_of(self.lowered.code, self.input, ended)),
-            None => asked_in(&self.lowered, &state.saved),
+        if let Some(ended) = state.end {
+            return Ask::Ended(end_of(self.lowered.code, self.input, ended));
         }
+        let saved = &state.saved;
+        // What is asked needs which state is kept, since its status is that of the memory.
+        saved.law(&self.lowered);
+        asked_at(saved.statuses()[saved.place() as usize])
     }
 
     fn statement(&self, state: &Box<KeptRun>) -> u32 {

@@ -1,13 +1,14 @@
-use Rattle.std.proofs.Common.{◌≡◌, Some, None, ap, subst, sym, ◌∙◌}
+use Rattle.std.proofs.Common.{◌≡◌, Some, None, ap, subst, sym, ◌∙◌, get_or, length, arith}
 use Rattle.ick_backtrack.specs.Asked.{asked_of, finish_of}
-use Rattle.ick_code.specs.Compiled.{code_program}
-use Rattle.ick_code.specs.meaning.Move.{ask}
-use Rattle.ick_engine.specs.Saved.{IsKept, saved_view}
+use Rattle.ick_engine.specs.Saved.{saved_view}
 use Rattle.ick_engine.specs.View.{input_of}
-use Rattle.ick_machine.specs.Run.{run_state}
-use Rattle.ick_states.proofs.Keeping.{asks_end, asks_on}
+use Rattle.ick_code.specs.meaning.Move.{ask}
+use Rattle.ick_machine.specs.RunIn.{program_of}
+use Rattle.ick_states.specs.Seen.{CanGoOnFrom, kept_state}
+use Rattle.ick_states.proofs.Keeping.{asked_there, asks_end, asks_on, status_there}
 use Rattle.ick_states.specs.declared.runs.KeptRun.{KeptRun}
 use Rattle.ick_states.proofs.runs.RunsStates.asks.Goals as goal
+use Rattle.ick_states.proofs.runs.RunsStates.asks.Goals.{After-deref-2}
 
 pub returns-in-Some : goal.returns-in-Some
 returns-in-Some c =
@@ -17,19 +18,31 @@ returns-in-Some c =
     (ap (λ (run : KeptRun). run.end) (sym c.deref.ensures) ∙ c.in-Some.is)
     c.end_of.ensures
 
-pub returns-in-None : goal.returns-in-None
-returns-in-None c =
-    let code = c.args.self.now.lowered.code.now in
-    let parts = c.args.self.now.lowered.parts in
-    let input = input_of c.args.self.now.input.now in
-    let kept = c.args.state.now.value in
-    asks_on code parts input (saved_view kept.saved) kept.end (asked_of c.asked_in.result)
-    (ap (λ (run : KeptRun). run.end) (sym c.deref.ensures) ∙ c.in-None.is)
-    (subst (λ (run : KeptRun). asked_of c.asked_in.result ≡ Some (ask (code_program code)
-    (run_state code parts input (saved_view run.saved) None)))
-    c.deref-in-None.ensures (c.asked_in.ensures input))
+-- the state is kept
+kept : (c : After-deref-2) → CanGoOnFrom c.args.self.now.lowered c.deref-2.result.now.saved
+kept c = subst (λ (run : KeptRun). CanGoOnFrom c.args.self.now.lowered run.saved) (sym c.deref-2.ensures) c.requires
 
-pub asked_in-requires : goal.asked_in-requires
-asked_in-requires c =
-    subst (λ (run : KeptRun). IsKept c.args.self.now.lowered.code.now c.args.self.now.lowered.parts run.saved)
-    (sym c.deref-in-None.ensures) c.requires
+pub bounds-statuses-place : goal.bounds-statuses-place
+bounds-statuses-place c =
+    let lowered = c.args.self.now.lowered in
+    let low = status_there lowered.code.now lowered.parts c.deref-2.result.now.saved
+    (kept (goal.at.bounds-statuses-place c).After-deref-2) in
+    let place = c.place.ensures in
+    let statuses = ap length c.statuses.ensures in
+    omega (arith, low, place, statuses)
+
+pub returns : goal.returns
+returns c =
+    let lowered = c.args.self.now.lowered in
+    let input = input_of c.args.self.now.input.now in
+    let saved = c.deref-2.result.now.saved in
+    let run = c.args.state.now.value in
+    asks_on lowered.code.now lowered.parts input (saved_view run.saved) run.end (asked_of c.asked_at.result)
+    (ap (λ (run : KeptRun). run.end) (sym c.deref.ensures) ∙ c.in_default.is)
+    (subst (λ (run : KeptRun). asked_of c.asked_at.result
+    ≡ Some (ask (program_of lowered) (kept_state lowered input run.saved None))) c.deref-2.ensures
+    (c.asked_at.ensures
+    ∙ ap Some (asked_there lowered.code.now lowered.parts saved (kept (goal.at.returns c).After-deref-2) c.law.ensures
+    (get_or c.statuses.result.now c.place.result 0)
+    (ap (λ l. get_or l c.place.result 0) c.statuses.ensures
+    ∙ ap (λ n. get_or saved.statuses.items n 0) c.place.ensures) input)))
