@@ -15,50 +15,21 @@ use ick_engine::{Line, Reader};
 /// isn't asked again. It is never asked unless the step meets a WRITE IN.
 #[derive(Drop)]
 pub struct FeedReader<'f, F: Feed> {
-    feed: &'f mut F,
+    pub feed: &'f mut F,
     /// The last line that was read.
-    line: &'f mut Vec<u8>,
+    pub line: &'f mut Vec<u8>,
     /// Whether the step meets a WRITE IN.
-    allowed: bool,
+    pub allowed: bool,
     /// Whether a run waits before statements of input and output.
-    waits: bool,
-    ended: bool,
-    fault: Option<FeedFault>,
+    pub waits: bool,
+    pub ended: bool,
+    pub fault: Option<FeedFault>,
     ghost shut: { allowed ≡ false → fault ≡ None },
     ghost room: { fault ≡ None → F.failed feed.now + 1 < 2 ^ 64 },
     ghost over: { ended ≡ true → F.told ≡ true → F.left feed.now ≡ [] },
 }
 
 impl<'f, F: Feed> FeedReader<'f, F> {
-    /// Returns a reader of a feed, whose lines go to `line`. The feed isn't asked unless `allowed`
-    /// is true. Its count of failures must be below its greatest value. `waits` says whether a run
-    /// waits before statements of input and output.
-    pub fn new(
-        feed: &'f mut F,
-        line: &'f mut Vec<u8>,
-        allowed: bool,
-        waits: bool,
-    ) -> FeedReader<'f, F>
-        requires { F.failed feed.old + 1 < 2 ^ 64 }
-        ensures feed { result.feed.ghost_name ≡ feed.entry.ghost_name }
-        ensures feed_now { result.feed.now ≡ feed.old }
-        ensures line { result.line.ghost_name ≡ line.entry.ghost_name }
-        ensures line_now { result.line.now ≡ line.old }
-        ensures allowed { result.allowed ≡ allowed }
-        ensures waits { result.waits ≡ waits }
-        ensures ended { result.ended ≡ false }
-        ensures fault { result.fault ≡ None }
-    {
-        FeedReader {
-            feed,
-            line,
-            allowed,
-            waits,
-            ended: false,
-            fault: None,
-        }
-    }
-
     /// Returns what a step with this answer has come to. If the feed had an error, it is this
     /// error.
     pub fn outcome(&self, stepped: Result<(), NoMemory>) -> Result<(), FeedFault>

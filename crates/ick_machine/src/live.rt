@@ -110,7 +110,14 @@ impl<'c, 'a> Live<'c, 'a> {
         let allowed = self.meets_input();
         self.failed = true;
         let printed = self.memory.rest.output.clone()?;
-        let mut reader = FeedReader::new(feed, &mut self.line, allowed, false);
+        let mut reader = FeedReader {
+            feed,
+            line: &mut self.line,
+            allowed,
+            waits: false,
+            ended: false,
+            fault: None,
+        };
         let program = self.lowered.program();
         let stepped = make_step(program, &mut self.memory, &mut self.end, &mut reader, done);
         let outcome = reader.outcome(stepped);
@@ -215,7 +222,14 @@ impl<'c, 'a> Live<'c, 'a> {
             return Ok(0);
         }
         self.failed = true;
-        let mut reader = FeedReader::new(feed, &mut self.line, false, true);
+        let mut reader = FeedReader {
+            feed,
+            line: &mut self.line,
+            allowed: false,
+            waits: true,
+            ended: false,
+            fault: None,
+        };
         let came = make_steps(
             self.lowered.program(),
             &mut self.memory,

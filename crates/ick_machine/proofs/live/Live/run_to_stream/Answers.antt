@@ -1,4 +1,4 @@
-use Rattle.std.proofs.Common.{◌≡◌, [], length, None, rules, sym, refl, subst, arith}
+use Rattle.std.proofs.Common.{◌≡◌, false, [], length, None, rules, sym, refl, subst, arith}
 use Rattle.std.proofs.lemmas.Bool.Decides.{nat_tests}
 use Rattle.ick_code.specs.Compiled.{code_program}
 use Rattle.ick_backtrack.specs.Steps.{IsQuiet, RunsOn}
@@ -46,7 +46,6 @@ returns-in-Ok-clause-runs g c = λ tells.
     let code = c.program.result.now.code.now in
     let lowered = c.program.result.now.parts in
     let left = g.F.Feed.left in
-    let r = c.new-reader.result in
     let n = c.make_steps-came.new.reader in
     let v = view_in live.memory in
     let w = view_in c.make_steps-came.new.memory in
@@ -58,7 +57,7 @@ returns-in-Ok-clause-runs g c = λ tells.
     let going : live.end ≡ None =
     quiet_goes live.lowered.code.now live.lowered.parts (input_after live.line.items []) v live.end c.requires.quiet in
     let told =
-    told_before code lowered g.F.Feed.told r.ended n.ended r.line.now.items n.line.now.items (left r.feed.now)
+    told_before code lowered g.F.Feed.told false n.ended live.line.items n.line.now.items (left c.args.feed.now)
     (left n.feed.now) v w live.end end (λ s t. RunsOn IsQuiet (code_program code) s made t) going tells
     n.over
     (λ after may.
@@ -70,8 +69,7 @@ returns-in-Ok-clause-runs g c = λ tells.
     )) in
     subst (λ f. RunsOn IsQuiet (code_program code)
     (run_state code lowered (input_after live.line.items (left c.args.feed.now)) v live.end) made
-    (run_state code lowered (input_after n.line.now.items (left f)) w end)) (search rules)
-    (rw (c.new-reader.ensures.line_now, c.new-reader.ensures.feed_now) at told))
+    (run_state code lowered (input_after n.line.now.items (left f)) w end)) (search rules) told)
 
 pub returns-in-Ok-clause-moves : goal.returns-in-Ok-clause-moves
 unfolding seen
