@@ -1,6 +1,6 @@
 //! What a machine asks before a step, and how its run ended.
 
-ghost use Rattle.std.specs.Prelude.{◌≡◌, Some, slice_range, option_map};
+ghost use Rattle.std.specs.Prelude.{◌≡◌, true, false, Some, slice_range, option_map};
 ghost use Rattle.ick_code.specs.meaning.State.{statement_at};
 ghost use Rattle.ick_code.specs.meaning.Move.{ask};
 ghost use Rattle.ick_code.specs.Compiled.{code_program};
@@ -63,10 +63,18 @@ pub fn end_of<'c, 'a>(code: &'c Code<'a>, text: &'c [u8], ended: RawEnd) -> End<
 }
 
 /// Returns whether a choice is asked at a statement with a status.
-pub fn is_chance(status: u8) -> bool
+fn is_chance(status: u8) -> bool
     ensures { result ≡ is_open status }
 {
     status > 0 && status < 100
+}
+
+/// Returns whether a choice is asked at a statement with a status, and the answer is no.
+pub fn is_refused(status: u8, done: bool) -> bool
+    ensures no { result ≡ true → done ≡ false }
+    ensures asked { result ≡ true → is_open status ≡ true }
+{
+    !done && is_chance(status)
 }
 
 /// Returns what is asked at a statement with a status of the engine's memory (Revised Manual, 4.3):
@@ -74,10 +82,7 @@ pub fn is_chance(status: u8) -> bool
 pub fn asked_at<'c>(status: u8) -> Ask<'c>
     ensures { asked_of result ≡ Some (asked_by status) }
 {
-    if status == 0 {
-        return Ask::Plain;
-    }
-    if status < 100 {
+    if is_chance(status) {
         return Ask::Choice(100 - status);
     }
     Ask::Plain
