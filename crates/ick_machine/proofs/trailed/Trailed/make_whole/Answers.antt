@@ -29,7 +29,7 @@ marked : (c : After-start) →
     KeepsMarks m.lowered.code.now m.lowered.parts m.trail m.memory c.start.new.trail m.memory
 marked c =
     let m = c.forget_unmarked.new.self in
-    marked_marks m.lowered.code.now m.lowered.parts c.program_law.ensures m.trail c.start.new.trail m.memory
+    marked_marks m.lowered.code.now m.lowered.parts c.law.ensures.program m.trail c.start.new.trail m.memory
     c.law.ensures.can.base c.law.ensures.can.ready.steady.constants c.start.ensures.trail
 
 pub invariant_of-self : goal.invariant_of-self
@@ -79,7 +79,7 @@ noted : (c : After-make_steps) →
 noted c =
     let m = c.forget_unmarked.new.self in
     let made = c.make_steps in
-    noted_marks m.lowered.code.now m.lowered.parts c.program_law.ensures m.trail c.start.new.trail
+    noted_marks m.lowered.code.now m.lowered.parts c.law.ensures.program m.trail c.start.new.trail
     made.new.notes m.memory made.new.memory c.law.ensures.can.base c.law.ensures.can.ready.steady.constants
     c.start.ensures.trail made.ensures.base made.ensures.follows
     (rw (sym c.program-program.ensures) made.ensures.steady.constants)
@@ -170,7 +170,7 @@ undone : (c : After-back) →
     KeepsMarks m.lowered.code.now m.lowered.parts m.trail m.memory c.back.new.trail c.back.new.memory
 undone c =
     let m = c.forget_unmarked.new.self in
-    undone_marks m.lowered.code.now m.lowered.parts c.program_law.ensures m.trail c.start.new.trail
+    undone_marks m.lowered.code.now m.lowered.parts c.law.ensures.program m.trail c.start.new.trail
     c.make_steps.new.notes c.back.new.trail m.memory c.back.new.memory c.in_ok-mark.mark c.law.ensures.can.base
     c.law.ensures.can.ready.steady.constants c.start.ensures.trail c.in_ok-mark.ensures.mark c.make_steps.ensures.base
     (restored c) c.back.ensures.changes c.back.ensures.low c.back.ensures.base
