@@ -62,19 +62,12 @@ pub fn end_of<'c, 'a>(code: &'c Code<'a>, text: &'c [u8], ended: RawEnd) -> End<
     }
 }
 
-/// Returns whether a choice is asked at a statement with a status.
-fn is_chance(status: u8) -> bool
-    ensures { result ≡ is_open status }
-{
-    status > 0 && status < 100
-}
-
 /// Returns whether a choice is asked at a statement with a status, and the answer is no.
 pub fn is_refused(status: u8, done: bool) -> bool
     ensures no { result ≡ true → done ≡ false }
     ensures asked { result ≡ true → is_open status ≡ true }
 {
-    !done && is_chance(status)
+    !done && matches!(asked_at(status), Ask::Choice(_))
 }
 
 /// Returns what is asked at a statement with a status of the engine's memory (Revised Manual, 4.3):
@@ -82,7 +75,7 @@ pub fn is_refused(status: u8, done: bool) -> bool
 pub fn asked_at<'c>(status: u8) -> Ask<'c>
     ensures { asked_of result ≡ Some (asked_by status) }
 {
-    if is_chance(status) {
+    if status > 0 && status < 100 {
         return Ask::Choice(100 - status);
     }
     Ask::Plain
