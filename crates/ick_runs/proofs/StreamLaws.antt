@@ -2,7 +2,7 @@
 use Rattle.std.proofs.Common.{◌≡◌, ℕ, zero, suc, ◌+◌, ◌-◌, ◌<◌, ◌≤◌, le_refl, Bool, true}
 use Rattle.std.proofs.Common.{false, List, [], ◌∷◌, ◌++◌, length}
 use Rattle.std.proofs.Common.{take, drop, refl, ap, sym, ◌∙◌, subst, arith, append_assoc}
-use Rattle.std.specs.Prelude.{Result, Ok, Err, Some, if◌then◌else◌}
+use Rattle.std.specs.Prelude.{Result, Ok, Err, IsErr, OnOk, Some, if◌then◌else◌}
 use Rattle.std.proofs.lemmas.Bool.{false≢true}
 use Rattle.std.proofs.Math.Seq.{take-append-add}
 use Rattle.std.proofs.lemmas.List.{append-nil, take-append-drop, take-append-le}
@@ -114,6 +114,28 @@ pub goes_by_itself : (m : LiveMachine) (r : LiveAsk) → m.failed ≡ false → 
     IsQuiet m.program m.state
 goes_by_itself m r sound e i j empty = (same_plain (ask m.program m.state) r (asked_by m r e sound) i j, empty)
 
+-- a part of an output is written, if anything is told of what is written
+written_part : (told : Bool) (output written written' : List ℕ) →
+    (told ≡ true → (k : ℕ) × (k ≤ length output) × (written' ≡ written ++ take k output)) →
+    (k : ℕ) × (k ≤ length output) × (told ≡ true → written' ≡ written ++ take k output)
+written_part true output written written' wrote = let (k, le, same) = wrote refl in (k, le, λ _. same)
+written_part false output written written' wrote = (0, omega arith, λ tells. absurd (false≢true tells))
+
+-- a step whose output leaves
+pub output_left : (told : Bool) (u : State) (mid now : LiveMachine) (left written written' : List ℕ)
+    (answer : Result (Unit {0}) RunsError) → fed left mid.state ≡ u →
+    OnOk answer (now ≡ record mid { state = cleared mid.state }) →
+    (told ≡ true → OnOk answer (written' ≡ written ++ mid.state.output)) →
+    (told ≡ true → (k : ℕ) × (k ≤ length mid.state.output) × (written' ≡ written ++ take k mid.state.output)) →
+    Turns told u (fed left now.state) written written' answer
+output_left told u mid now left written written' (Ok unit) is clears all part = (
+  ap (λ (m : LiveMachine). fed left m.state) clears ∙ ap cleared is,
+  λ tells. all tells ∙ ap (λ (s : State). written ++ s.output) is,
+)
+output_left told u mid now left written written' (Err error) is clears all part =
+    subst (λ (s : State). (k : ℕ) × (k ≤ length s.output) × (told ≡ true → written' ≡ written ++ take k s.output)) is
+    (written_part told mid.state.output written written' part)
+
 -- as many steps were made, and of their output k bytes left
 pub stride_refused : (told : Bool) (p : Program) (s now : State) (l steps : ℕ) (u : State)
     (written written' : List ℕ) (error : RunsError) → steps ≤ l → RunsOn IsQuiet p s steps u →
@@ -125,18 +147,14 @@ stride_refused told p s now l steps u written written' error within runs wrote =
   within = within;
   state = u;
   runs = runs;
-  turns = cases told refl;
+  turns = written_part told u.output written written' wrote;
 }
-  where
-    cases : (tells : Bool) → told ≡ tells →
-        (k : ℕ) × (k ≤ length u.output) × (told ≡ true → written' ≡ written ++ take k u.output)
-    cases true is = let (k, le, same) = wrote is in (k, le, λ _. same)
-    cases false is = (0, omega arith, λ tells. absurd (false≢true (sym is ∙ tells)))
 
 -- and where none of its steps was made
-pub no_stride : (told : Bool) (p : Program) (s now : State) (l : ℕ) (written : List ℕ) (error : RunsError) →
-    Strides told p s l now written written (Err error)
-no_stride told p s now l written error =
+pub no_stride : (told : Bool) (p : Program) (s now : State) (l : ℕ) (written : List ℕ) (answer : Result ℕ RunsError) →
+    IsErr answer → Strides told p s l now written written answer
+no_stride told p s now l written (Ok n) is = absurd (false≢true is)
+no_stride told p s now l written (Err error) is =
     let none : RunsOn IsQuiet p s 0 s = record { leads = refl; on = λ i lt. absurd (omega (arith, lt)) } in
     stride_refused told p s now l 0 s written written error (omega arith) none
     (λ tells. (0, omega arith, sym (append-nil written)))

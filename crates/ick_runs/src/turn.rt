@@ -16,59 +16,6 @@ use crate::feeds::SourceFeed;
 use ick_explorer::{ByteSink, ByteSource, RunsError, write_whole};
 use ick_machine::Live;
 
-/// Makes a step, which takes its input from `reader`. The answer is `NoMemory` or `Read` if the
-/// step fails.
-fn step_from<R: ByteSource>(
-    machine: &mut Live<'_, '_>,
-    reader: &mut R,
-    done: bool,
-) -> Result<(), RunsError>
-    requires sound { (seen machine.old).failed ≡ false }
-    requires going { IsGoing (ask (seen machine.old).program (seen machine.old).state) }
-    requires reads { R.failed reader.old + 1 < 2 ^ 64 }
-    ensures moved { let old = seen machine.old in R.told ≡ true → OnOk result (
-        fed (R.left reader.new) (seen machine.new).state
-        ≡ advance old.program (fed (R.left reader.old) old.state) done) }
-    ensures program { (seen machine.new).program ≡ (seen machine.old).program }
-    ensures sound { OnOk result ((seen machine.new).failed ≡ false) }
-    ensures input { result ≡ Err RunsError.Read
-        → MeetsInput (seen machine.old).program (seen machine.old).state }
-    ensures reads { R.failed reader.new ≡ R.failed reader.old + source_failures result }
-    ensures errors { IfErr result (λ e. (e ≡ RunsError.NoMemory) ⊎ (e ≡ RunsError.Read)) }
-{
-    let mut feed = SourceFeed::new(reader);
-    machine.step(done, &mut feed)?;
-    Ok(())
-}
-
-/// Makes at most `limit` steps, and returns their number. Before each step the run asks no choice
-/// and the machine holds no output. The steps take their input from `reader`. The answer is
-/// `NoMemory` or `Read` if a step fails.
-fn steps_from<R: ByteSource>(
-    machine: &mut Live<'_, '_>,
-    reader: &mut R,
-    limit: u32,
-) -> Result<u32, RunsError>
-    requires sound { (seen machine.old).failed ≡ false }
-    requires reads { R.failed reader.old + 1 < 2 ^ 64 }
-    ensures runs { let old = seen machine.old in R.told ≡ true
-        → IfOk result (λ k. RunsOn IsQuiet old.program (fed (R.left reader.old) old.state) k
-        (fed (R.left reader.new) (seen machine.new).state)) }
-    ensures within { IfOk result (λ k. k ≤ limit) }
-    ensures moves { let old = seen machine.old in IfOk result (λ k. IsQuiet
-        old.program old.state → 0 < limit → 0 < k) }
-    ensures program { (seen machine.new).program ≡ (seen machine.old).program }
-    ensures sound { OnOk result ((seen machine.new).failed ≡ false) }
-    ensures input { let old = seen machine.old in R.told ≡ true → result ≡ Err RunsError.Read
-        → LeadsToInput old.program (fed (R.left reader.old) old.state) limit }
-    ensures reads { R.failed reader.new ≡ R.failed reader.old + source_failures result }
-    ensures errors { IfErr result (λ e. (e ≡ RunsError.NoMemory) ⊎ (e ≡ RunsError.Read)) }
-{
-    let mut feed = SourceFeed::new(reader);
-    let made = machine.run(limit, &mut feed)?;
-    Ok(made)
-}
-
 /// Writes and clears the output that the machine holds. If the writer fails, the answer is `Write`,
 /// and a prefix of the output is written.
 fn leave<W: ByteSink>(machine: &mut Live<'_, '_>, writer: &mut W) -> Result<(), RunsError>
@@ -121,7 +68,8 @@ pub(crate) fn turn<R: ByteSource, W: ByteSink>(
     ensures errors { IfErr result (λ e. (e ≡ RunsError.NoMemory)
         ⊎ ((e ≡ RunsError.Read) ⊎ (e ≡ RunsError.Write))) }
 {
-    step_from(machine, reader, done)?;
+    let mut feed = SourceFeed::new(reader);
+    machine.step(done, &mut feed)?;
     leave(machine, writer)
 }
 
@@ -157,7 +105,8 @@ pub(crate) fn stride<R: ByteSource, W: ByteSink>(
     ensures errors { IfErr result (λ e. (e ≡ RunsError.NoMemory)
         ⊎ ((e ≡ RunsError.Read) ⊎ (e ≡ RunsError.Write))) }
 {
-    let made = steps_from(machine, reader, limit)?;
+    let mut feed = SourceFeed::new(reader);
+    let made = machine.run(limit, &mut feed)?;
     leave(machine, writer)?;
     Ok(made)
 }
