@@ -55,15 +55,11 @@ grown_one t changes change is = record { more = change ∷ []; is = is }
 -- changes that are added belong to no older mark
 pub fixed_grown : (t : Trail) (changes : List Change) → Extends (changes_in t) changes →
     fixed_of t.base (take t.kept changes) ≡ fixed_by t
-fixed_grown t changes more =
-    ap (fixed_of t.base)
-    (ap (take t.kept) more.is ∙ take-append-le t.kept (changes_in t) more.more (omega (arith, t.few, count_history t)))
+fixed_grown t changes more = search (rules, count_history, take-append-le)
 
 pub fixed_moved : (t u : Trail) → u.base ≡ t.base → u.kept ≡ t.kept → Extends (changes_in t) (changes_in u) →
     fixed_by u ≡ fixed_by t
-fixed_moved t u base kept more =
-    ap (λ b. fixed_of b (take u.kept (changes_in u))) base ∙ ap (λ k. fixed_of t.base (take k (changes_in u))) kept
-    ∙ fixed_grown t (changes_in u) more
+fixed_moved t u base kept more = search (rules, fixed_grown)
 
 -- the newest entry is the newest change
 newest : (all rest : List Entry) (e : Entry) (change : Change) (arrays arrays' : List ArrayValue)

@@ -1,5 +1,5 @@
 -- Arrays that are ignored.
-use Rattle.std.proofs.Common.{◌≡◌, ℕ, Bool, false, List, ap, sym, ◌∙◌, get_or}
+use Rattle.std.proofs.Common.{◌≡◌, ℕ, Bool, false, List, get_or, rules}
 use Rattle.std.specs.Prelude.{slice_set}
 use Rattle.std.proofs.lemmas.List.{set-set, set-get_or}
 use Rattle.ick_engine.specs.Undo.{with_hidden}
@@ -8,6 +8,4 @@ use Rattle.ick_engine.specs.View.{View}
 -- what was hidden before
 pub hidden_back : (v : View) (hidden : List Bool) (slot : ℕ) (on : Bool) → v.parts.hidden ≡ hidden →
     with_hidden (slice_set (slice_set hidden slot on) slot (get_or hidden slot false)) v ≡ v
-hidden_back v hidden slot on same =
-    ap (λ l. with_hidden l v)
-    (set-set hidden slot on (get_or hidden slot false) ∙ set-get_or hidden slot false ∙ sym same)
+hidden_back v hidden slot on same = search (rules, set-get_or, set-set)

@@ -1,7 +1,7 @@
 -- Stashes that are alike, and changes of one of them.
-use Rattle.std.proofs.Common.{◌≡◌, ℕ, zero, suc, ◌+◌, ◌-◌, ◌<◌, ◌≤◌, List, [], ◌∷◌, refl, ap, sym, ap₂, ◌∙◌, subst, length, take, map, get_or, arith, rules}
+use Rattle.std.proofs.Common.{◌≡◌, ℕ, zero, suc, ◌-◌, ◌<◌, ◌≤◌, List, [], ◌∷◌, refl, ap, sym, ◌∙◌, subst, length, take, map, get_or, arith, rules}
 use Rattle.std.proofs.lemmas.Grind.{common_steps}
-use Rattle.std.specs.Prelude.{replicate, slice_set, nat_lt, if◌then◌else◌}
+use Rattle.std.specs.Prelude.{replicate, slice_set}
 use Rattle.std.proofs.lemmas.List.{take-take, length-map, map-set, get_or-map}
 use Rattle.std.proofs.lemmas.Simd.{map-map}
 use Rattle.ick_code.specs.meaning.State.{Array}
@@ -46,9 +46,7 @@ used_same (a ∷ xs) (b ∷ ys) count each =
 
 pub set_at : {A B : Type 0} (g : B → Stash A) (f : Stash A → Stash A) (xs : List B) (slot : ℕ) (old new : B) →
     slot < length xs → old ≡ get_or xs slot old → g new ≡ f (g old) → map g (slice_set xs slot new) ≡ at_slot f slot (map g xs)
-set_at g f xs slot old new low is same =
-    map-set g xs slot new
-    ∙ ap (slice_set (map g xs) slot) (same ∙ ap f (ap g is ∙ sym (get_or-map g xs slot old no_stash low)))
+set_at g f xs slot old new low is same = search (rules, get_or-map, map-set)
 
 -- parts of which one stash is changed in the same way
 pub scalars_alike : (f : Stash ℕ → Stash ℕ) (slot : ℕ) (p q : Parts) → PartsLike p q →
@@ -79,9 +77,7 @@ seen_at f g h zero (x ∷ xs) each = ap (λ s. s ∷ map (seen f) xs) (each x)
 seen_at f g h (suc slot) (x ∷ xs) each = ap (λ l. seen f x ∷ l) (seen_at f g h slot xs each)
 
 seen_put : {A B : Type 0} (f : A → B) (x : A) (s : Stash A) → seen f (put_on x s) ≡ put_on (f x) (seen f s)
-seen_put {B = B} f x s =
-    let mk : List B → ℕ → Stash B = λ l n. record { items = l; depth = if nat_lt s.depth n then s.depth + 1 else s.depth } in
-    ap₂ mk (map-set f s.items s.depth x) (sym (length-map s.items f))
+seen_put f x s = search (rules, length-map, map-set)
 
 -- the arrays on stashes, of which one is changed
 arrays_seen : (xs : List (KeptStash Kept)) → map arrays_of xs ≡ map (seen array_of) (map stash_in xs)

@@ -1,7 +1,6 @@
 -- Values that are put on stashes and taken off.
-use Rattle.std.proofs.Common.{◌≡◌, ℕ, zero, suc, ◌+◌, ◌-◌, ◌<◌, List, [], ◌∷◌, refl, ap, sym, ◌∙◌, subst, rules}
+use Rattle.std.proofs.Common.{◌≡◌, ℕ, ◌+◌, ◌-◌, ◌<◌, List, refl, ap, sym, ◌∙◌, subst, rules, length, take, map, get_or, arith, true}
 use Rattle.std.proofs.lemmas.Grind.{common_steps}
-use Rattle.std.proofs.Common.{length, take, map, get_or, arith, true}
 use Rattle.std.specs.Prelude.{nat_lt, Result, Ok, Err, OnErr, slice_set, if◌then◌else◌}
 use Rattle.std.proofs.lemmas.Bool.Decides.{nat_tests}
 use Rattle.std.proofs.lemmas.List.{length-set, length-map, map-set, get_or-map, set-set, set-get_or, get_or-set_same}
@@ -92,9 +91,7 @@ on_err (Ok x) P h = tt
 on_err (Err e) P h = h
 
 any_default : {A : Type 0} (xs : List A) (k : ℕ) (d e : A) → k < length xs → get_or xs k d ≡ get_or xs k e
-any_default [] k d e low = absurd (omega (arith, low))
-any_default (x ∷ xs) zero d e low = refl
-any_default (x ∷ xs) (suc k) d e low = any_default xs k d e (omega (arith, low))
+any_default = grind (arith, common_steps)
 
 -- the newest array of the stash in a slot is taken off
 pub drops_at : (xs : List (KeptStash Kept)) (slot : ℕ) (stash met new : KeptStash Kept) (e : Kept) → slot < length xs →

@@ -1,5 +1,5 @@
 -- Elements printed one after another.
-use Rattle.std.proofs.Common.{◌≡◌, ℕ, ◌+◌, ◌-◌, ◌%◌, ◌<◌, List, [], ◌∷◌, ◌++◌, length, take, get_or, refl, sym, ap, ◌∙◌, arith}
+use Rattle.std.proofs.Common.{◌≡◌, ℕ, ◌+◌, ◌-◌, ◌%◌, ◌<◌, List, [], ◌∷◌, ◌++◌, length, take, get_or, refl, ap, arith}
 use Rattle.std.proofs.lemmas.Grind.{common_steps}
 use Rattle.std.proofs.lemmas.List.{append_assoc}
 use Rattle.ick_bits.specs.Tape.{tape_position, reversed_byte}
@@ -29,9 +29,7 @@ next_taken vs at v within read = grind (arith, common_steps)
 pub next_position : (vs : List ℕ) (at v last position next : ℕ) → at < length vs → v ≡ get_or vs at v →
     position ≡ tape_after last (take at vs) → next ≡ tape_position position (v % 65536) →
     next ≡ tape_after last (take (at + 1) vs)
-next_position vs at v last position next within read here moved =
-    moved ∙ low_position position v ∙ ap (λ p. tape_position p v) here
-    ∙ sym (tape_after-append last (take at vs) v) ∙ ap (tape_after last) (sym (next_taken vs at v within read))
+next_position vs at v last position next within read here moved = grind (arith, common_steps, low_position, next_taken, tape_after-append)
 
 pub next_bytes : (vs : List ℕ) (at v last position next byte : ℕ) (output output' before : List ℕ) →
     at < length vs → v ≡ get_or vs at v → position ≡ tape_after last (take at vs) →
