@@ -1,10 +1,11 @@
 //! Statements that are set by gerund.
 
-ghost use Rattle.std.specs.Prelude.{◌≡◌, ◌+◌, ◌<◌, ◌≤◌, ◌==◌, length, OnErr, OnOk};
+ghost use Rattle.std.specs.Prelude.{◌≡◌, ◌+◌, ◌<◌, ◌==◌, ℕ, length, OnErr, OnOk};
 ghost use Rattle.ick_code.specs.Compiled.{code_program};
 ghost use Rattle.ick_code.specs.meaning.Abstain.{kind_number};
 ghost use Rattle.ick_engine.specs.Gerunds.{IsFlagged, flag_if};
-ghost use Rattle.ick_engine.specs.Noting.{NotesStatuses};
+ghost use Rattle.ick_engine.specs.Noting.{NotesOne};
+ghost use Rattle.ick_engine.specs.View.{View};
 
 use crate::notes::Notes;
 use crate::status::flagged;
@@ -56,9 +57,9 @@ pub fn set_kind_abstained<N: Notes>(
     ensures flagged { OnOk result
         (IsFlagged (code_program code.now) on number statuses.old statuses.new) }
     ensures err { OnErr result (statuses.new ≡ statuses.old) }
-    ensures room { N.room notes.old ≤ N.room notes.new + 1 }
-    ensures notes { NotesStatuses N.Undoes N.low N.fixed N.changes notes.old notes.new
-        statuses.old statuses.new }
+    ensures noted { NotesOne N.room N.low N.fixed N.changes notes.old notes.new }
+    ensures notes { (k : ℕ) (v m : View) → v.statuses ≡ statuses.old → N.Undoes notes.old k v m →
+        N.Undoes notes.new k (record v { statuses = statuses.new }) m }
 {
     if number > 13 {
         return Ok(());
