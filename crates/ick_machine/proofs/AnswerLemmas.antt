@@ -1,7 +1,7 @@
 -- What a machine asks, by the status of the statement that is met.
-use Rattle.std.proofs.Common.{◌≡◌, ℕ, suc, ◌+◌, ◌-◌, ◌<◌, ◌≤◌, Bool, true, false, List, [], length, get_or}
-use Rattle.std.proofs.Common.{Option, Some, None, refl, sym, ap, ◌∙◌, inl, inr, arith}
-use Rattle.std.specs.Prelude.{◌⊎◌, nat_lt, nat_le, ◌&&◌, option_map, if◌then◌else◌, is_some}
+use Rattle.std.proofs.Common.{◌≡◌, ℕ, ◌+◌, ◌-◌, ◌<◌, ◌≤◌, true, false, List, [], length, get_or}
+use Rattle.std.proofs.Common.{Option, Some, None, refl, sym, ap, ◌∙◌, inl, inr, arith, rules}
+use Rattle.std.specs.Prelude.{◌⊎◌, nat_lt, ◌&&◌, option_map, if◌then◌else◌, is_some}
 use Rattle.std.proofs.lemmas.Bool.{cases_lt}
 use Rattle.std.proofs.lemmas.Bool.Decides.{nat_tests}
 use Rattle.std.proofs.lemmas.Option.{slice_get_past}
@@ -40,58 +40,19 @@ open_within status open_ = (grind (arith, nat_tests, open_), grind (arith, nat_t
 -- whether a chance is between 0 and 100, by what it lacks
 certain_chance : (chance lack : ℕ) → lack ≡ 100 - percent_of chance → (lack ≡ 0) ⊎ (100 ≤ lack) →
     (nat_lt 0 chance && nat_lt chance 100) ≡ false
-certain_chance chance lack is certain = cases (nat_le chance 100) refl
-  where
-    cases : (b : Bool) → nat_le chance 100 ≡ b → (nat_lt 0 chance && nat_lt chance 100) ≡ false
-    cases true e =
-        let percent : percent_of chance ≡ chance = rw e refl in
-        elim certain [
-          | inl none ↦ grind (arith, nat_tests, e, is, percent, none)
-          | inr many ↦ grind (arith, nat_tests, e, is, percent, many)
-        ]
-    cases false e = grind (arith, nat_tests, e)
+certain_chance chance lack is certain = search rules
 
 open_chance : (chance lack : ℕ) → lack ≡ 100 - percent_of chance → 0 < lack → lack < 100 →
     ((nat_lt 0 chance && nat_lt chance 100) ≡ true) × (chance ≡ 100 - lack)
-open_chance chance lack is some few = cases (nat_le chance 100) refl
-  where
-    cases : (b : Bool) → nat_le chance 100 ≡ b →
-        ((nat_lt 0 chance && nat_lt chance 100) ≡ true) × (chance ≡ 100 - lack)
-    cases true e =
-        let percent : percent_of chance ≡ chance = rw e refl in
-        let low : chance ≤ 100 = grind (arith, nat_tests, e) in
-        let lacks : lack ≡ 100 - chance = is ∙ ap (λ n. 100 - n) percent in
-        (grind (arith, nat_tests, lacks, some, few), omega (arith, lacks, low))
-    cases false e =
-        let percent : percent_of chance ≡ 0 = rw e refl in
-        absurd (omega (arith, is, few, percent))
+open_chance chance lack is some few = search rules
 
 -- a statement asks what its status says
 asked_there : (statement : StatementTree) (status : ℕ) → lack_of status ≡ 100 - percent_of statement.chance →
     (if is_uncertain statement (is_abstained status) then choice statement.chance else plain) ≡ asked_by status
-asked_there statement status is = cases (is_open status) refl
-  where
-    certain : is_open status ≡ false → (a : Bool) → is_abstained status ≡ a → is_uncertain statement a ≡ false
-    certain open_ true a = refl
-    certain open_ false a = certain_chance statement.chance (lack_of status) is (certain_lacks status open_ a)
-
-    cases : (b : Bool) → is_open status ≡ b →
-        (if is_uncertain statement (is_abstained status) then choice statement.chance else plain) ≡ asked_by status
-    cases false open_ =
-        ap (λ b. if b then choice statement.chance else plain) (certain open_ (is_abstained status) refl)
-        ∙ sym (ap (λ b. if b then choice (100 - status) else plain) open_)
-    cases true open_ =
-        let within = open_within status open_ in
-        let lacks : lack_of status ≡ status = open_lacks status open_ in
-        let found = open_chance statement.chance status (sym lacks ∙ is) within.0 within.1 in
-        ap (λ a. if is_uncertain statement a then choice statement.chance else plain) (open_free status open_)
-        ∙ ap (λ b. if b then choice statement.chance else plain) found.0 ∙ ap choice found.1
-        ∙ sym (ap (λ b. if b then choice (100 - status) else plain) open_)
+asked_there statement status is = search (rules, certain_chance, certain_lacks, open_chance, open_free, open_lacks, open_within)
 
 past_none : (program : List StatementTree) → statement_at program (length program + 1) ≡ None
-past_none program =
-    let one : suc (length program) ≡ length program + 1 = omega arith in
-    ap (statement_at program) (sym one) ∙ slice_get_past program (length program) (omega arith)
+past_none program = search (rules, slice_get_past)
 
 -- an ended run isn't plain
 pub ended_bound : (program : Program) (s : State) (end : Ending) → s.end ≡ Some end → ¬ IsPlain program s
@@ -119,9 +80,7 @@ module _ (code : Code) (lowered : LoweredParts) (v : View) (ready : IsReady code
     pub asks_end : (e : RawEnd) (finish : Finish) → Some finish ≡ option_map finished (ending_of code input (Some e)) →
         asked_at_end finish ≡ Some (ask (code_program code) (run_state code lowered input v (Some e)))
     unfolding ask
-    asks_end e finish same =
-        let is : finish ≡ finished (end_of (code_program code) input e) = cc in
-        ap asked_at_end is
+    asks_end e finish same = search rules
 
     -- what is asked, by the statement that is met
     asks_at : (o : Option StatementTree) → statement_at (code_program code) v.place ≡ o →
@@ -132,22 +91,9 @@ module _ (code : Code) (lowered : LoweredParts) (v : View) (ready : IsReady code
 
     -- by its status
     pub asks_by : ask (code_program code) (run_state code lowered input v None) ≡ asked_by (get_or v.statuses v.place 0)
-    asks_by = elim (cases_lt (length (code_program code)) v.place) [
-      | inr within ↦
-          let found = some_and
-          (λ (statement : StatementTree). lack_of (get_or v.statuses v.place 0) ≡ 100 - percent_of statement.chance)
-          (statement_at (code_program code) v.place) (ready.steady.statuses.each v.place place_is.0 within) in
-          asks_at (Some found.0) found.1 ∙ asked_there found.0 (get_or v.statuses v.place 0) found.2
-      | inl above ↦
-          let behind : v.place ≡ length (code_program code) + 1 = omega (arith, above, place_is) in
-          let status : get_or v.statuses v.place 0 ≡ past_the_end =
-          ap (λ k. get_or v.statuses k 0) behind ∙ ready.steady.statuses.past in
-          asks_at None (ap (statement_at (code_program code)) behind ∙ past_none (code_program code))
-          ∙ sym (ap asked_by status)
-    ]
+    unfolding ask
+    asks_by = search (rules, asks_at, asked_there, cases_lt, past_none, some_and)
 
     pub asks_status : (status : ℕ) (end : Option RawEnd) → end ≡ None → status ≡ get_or v.statuses v.place 0 →
         asked_by status ≡ ask (code_program code) (run_state code lowered input v end)
-    asks_status status end none is =
-        ap asked_by is ∙ sym asks_by
-        ∙ sym (ap (λ o. ask (code_program code) (run_state code lowered input v o)) none)
+    asks_status status end none is = search (rules, asks_by)

@@ -1,6 +1,6 @@
 -- What a feed gives is what the input begins with.
 use Rattle.std.proofs.Common.{◌≡◌, ◌≢◌, ℕ, ◌+◌, ◌==◌, Bool, true, false, List, [], ◌∷◌}
-use Rattle.std.proofs.Common.{◌++◌, length, take}
+use Rattle.std.proofs.Common.{◌++◌, length, take, rules}
 use Rattle.std.proofs.Common.{drop, Some, None, Result, Ok, Err, refl, sym, ap, ◌∙◌, arith}
 use Rattle.std.specs.Prelude.{slice_range}
 use Rattle.std.specs.List.{position_or_len}
@@ -11,7 +11,7 @@ use Rattle.std.proofs.lemmas.List.Sums.{position_or_len_is, fails_before_first}
 use Rattle.ick_bits.specs.Digits.{line_answer}
 use Rattle.ick_bits.specs.declared.digits.DigitFault.{DigitFault}
 use Rattle.ick_bits.specs.declared.digits.DigitFault.TheVariants.{Word, TooLarge}
-use Rattle.ick_bits.specs.declared.faults.FaultKind.TheVariants.{NoDigit, NoInput}
+use Rattle.ick_bits.specs.declared.faults.FaultKind.TheVariants.{NoDigit}
 use Rattle.ick_code.specs.meaning.State.{State}
 use Rattle.ick_code.specs.meaning.Completion.{Completion, faults}
 use Rattle.ick_code.specs.meaning.InputOutput.{with_input, with_number, first_line, later_lines}
@@ -59,23 +59,17 @@ module _ (after : Input) (line : List ℕ) (from : ℕ)
       after.left from ≡ later_lines left →
       with_input left s go ≡ line_outcome (line_with (line_answer line) from) after from s go
   line_taken [] some is rest = absurd (some refl)
-  line_taken (b ∷ bs) some is rest =
-      ap (λ l. with_number l (line_answer l) (record s { input = later_lines (b ∷ bs) }) go) (sym is)
-      ∙ ap (λ r. with_number line (line_answer line) (record s { input = r }) go) (sym rest)
-      ∙ by_answer (line_answer line)
+  line_taken (b ∷ bs) some is rest = search (rules, by_answer)
 
 module _ (before after : Input) (from : ℕ) where
   next_line : (line : List ℕ) → ((begin end : ℕ) → after.word begin end ≡ slice_range line begin end) →
       before.left from ≢ [] → line ≡ first_line (before.left from) →
       after.left from ≡ later_lines (before.left from) →
       IsNext (line_with (line_answer line) from) from before after
-  next_line line word some is rest = λ s go input.
-      ap (λ i. with_input i s go) input ∙ line_taken after line from word s go (before.left from) some is rest
+  next_line line word some is rest = search (rules, line_taken)
 
   next_nothing : before.left from ≡ [] → after.left from ≡ [] → IsNext Nothing from before after
-  next_nothing none none_after = λ s go input.
-      ap (λ i. with_input i s go) (input ∙ none)
-      ∙ ap (λ i. faults NoInput [] (record s { input = i })) (input ∙ none ∙ sym none_after)
+  next_nothing none none_after = search rules
 
 -- an input that a feed may have had before, where this was read and some may be left after it
 abbrev pub Before : Bool → Bool → List ℕ → List ℕ → (Input → Type 0) → Type 0
@@ -85,11 +79,7 @@ Before told ended line left Read = (before : Input) × MayBeLeft told ended line
 module _ (told ended : Bool) (goes_on : ended ≡ false) (old_line line old new : List ℕ) (from : ℕ) where
   had : (left : List ℕ) → (told ≡ true → left ≡ old) →
       MayBeLeft told ended old_line old (input_after old_line left)
-  had left is = record {
-    word = λ begin end. refl;
-    told_left = λ tells place. is tells;
-    none_left = λ over place. absurd (false≢true (sym goes_on ∙ over));
-  }
+  had left is = search (rules, false≢true)
 
   -- a line
   pub read_line : first_line line ≡ line →

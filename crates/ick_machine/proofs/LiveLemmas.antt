@@ -1,16 +1,16 @@
 -- What a machine shows that takes its input from a feed.
-use Rattle.std.proofs.Common.{◌≡◌, ℕ, ◌+◌, true, false, List, [], Option, Some, None, refl, ap, sym}
-use Rattle.std.proofs.Common.{◌∙◌, Bool, subst}
-use Rattle.std.specs.Prelude.{option_map, slice_range, if◌then◌else◌}
+use Rattle.std.proofs.Common.{◌≡◌, ℕ, ◌+◌, false, List, [], Option, Some, None, refl, ap, sym}
+use Rattle.std.proofs.Common.{◌∙◌, subst, rules}
+use Rattle.std.specs.Prelude.{option_map}
 use Rattle.ick_syntax.specs.StatementTree.{StatementTree}
 use Rattle.ick_code.specs.declared.code.Code.{Code}
 use Rattle.ick_code.specs.Compiled.{code_program}
 use Rattle.ick_code.specs.meaning.State.{State, Ending, statement_at}
-use Rattle.ick_code.specs.meaning.Move.{Asking, choice, plain, ended, ask, ask_at, ask_of, is_uncertain, advance}
+use Rattle.ick_code.specs.meaning.Move.{Asking, ended, ask, ask_at, ask_of, advance}
 use Rattle.ick_code.proofs.AskLaws.{ask_same}
 use Rattle.ick_instructions.specs.declared.lowered.LoweredParts.{LoweredParts}
 use Rattle.ick_engine.specs.declared.exit.RawEnd.{RawEnd}
-use Rattle.ick_engine.specs.View.{View, end_of, input_of}
+use Rattle.ick_engine.specs.View.{View, input_of}
 use Rattle.ick_backtrack.specs.Asked.{Finish, finished, asked_at_end}
 use Rattle.ick_backtrack.specs.Machine.{Program}
 use Rattle.ick_backtrack.specs.Steps.{IsQuiet, RunsOn}
@@ -30,45 +30,26 @@ module _ (code : Code) (lowered : LoweredParts) (line text : List ℕ) (v : View
   pub asks_same : (end : Option RawEnd) (asked : Option Asking) →
       asked ≡ Some (ask (code_program code) (run_state code lowered (input_of text) v end)) →
       asked ≡ Some (ask (code_program code) (run_state code lowered (input_after line []) v end))
-  asks_same end asked is =
-      let over = run_state code lowered (input_of line) v end in
-      let live = run_state code lowered (input_after line []) v end in
-      let ends = same_end code (input_of line) (input_after line []) (λ from to. refl) end in
-      is
-      ∙ ap Some (ap (λ t. ask (code_program code) (run_state code lowered (input_of t) v end)) same
-      ∙ ask_same (code_program code) live over refl refl ends)
+  asks_same end asked is = search (rules, ask_same, same_end)
 
   -- and ends as it would
   pub asks_end : (e : RawEnd) (finish : Finish) →
       Some finish ≡ option_map finished (ending_of code (input_of text) (Some e)) →
       asked_at_end finish ≡ Some (ask (code_program code) (run_state code lowered (input_after line []) v (Some e)))
   unfolding ask
-  asks_end e finish is =
-      let over = end_of (code_program code) (input_of text) e in
-      let live = end_of (code_program code) (input_after line []) e in
-      let is_over : finish ≡ finished over = cc in
-      let ends : Some over ≡ Some live =
-      same_end code (input_of text) (input_after line []) (λ from to. ap (λ t. slice_range t from to) same) (Some e) in
-      let is_live : over ≡ live = cc in
-      ap asked_at_end is_over ∙ ap (λ x. Some (ended x)) is_live
+  asks_end e finish is = search (rules, same_end)
 
   -- and has the message of this end
   pub said_at : (end : Option RawEnd) (e : RawEnd) (finish : Finish) (ending : Ending) → end ≡ Some e →
       Some finish ≡ option_map finished (ending_of code (input_of text) (Some e)) → finish ≡ finished ending →
       asked_message (ask (code_program code) (run_state code lowered (input_after line []) v end)) ≡ end_message ending
-  said_at end e finish ending end_is is finish_is =
-      message_at ending (ask (code_program code) (run_state code lowered (input_after line []) v end))
-      (ap asked_at_end (sym finish_is) ∙ asks_end e finish is
-      ∙ ap (λ o. Some (ask (code_program code) (run_state code lowered (input_after line []) v o))) (sym end_is))
+  unfolding ask
+  said_at end e finish ending end_is is finish_is = search (rules, asks_end, message_at)
 
 -- a run that hasn't ended has no message
 none_at : (found : Option StatementTree) (s : State) → asked_message (ask_at found s) ≡ []
 none_at None s = refl
-none_at (Some statement) s = cases (is_uncertain statement (s.abstained s.place))
-  where
-    cases : (b : Bool) → asked_message (if b then choice statement.chance else plain) ≡ []
-    cases true = refl
-    cases false = refl
+none_at (Some statement) s = search rules
 
 pub no_message : (program : List StatementTree) (s : State) → s.end ≡ None → asked_message (ask program s) ≡ []
 unfolding ask
@@ -91,6 +72,4 @@ fed_further old mid new left rest last j k same first next =
 
 pub fed_once : (old new : LiveMachine) (left rest : List ℕ) → IsQuiet old.program old.state →
     fed rest new.state ≡ advance old.program (fed left old.state) false → HasFed old left 1 new rest
-fed_once old new left rest quiet is =
-    one_more IsQuiet old.program (fed left old.state) (fed left old.state) (fed rest new.state) 0
-    (no_step IsQuiet old.program (fed left old.state)) (quiet_fed old.program old.state left quiet) is
+fed_once old new left rest quiet is = search (rules, no_step, one_more, quiet_fed)
