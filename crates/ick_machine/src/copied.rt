@@ -32,6 +32,9 @@ pub struct Copied<'c, 'a> {
 }
 
 impl<'c, 'a> Copied<'c, 'a> {
+    ghost use Rattle.ick_machine.specs.Present.{present_program, present_state};
+    ghost use Rattle.ick_machine.specs.Seen.{copied_machine};
+
     /// Returns a machine at the start of a run over an input. It has no marks, and its count of
     /// work begins at `work`. `NoMemory` is returned if a growth was refused, or if `lower` finds
     /// the program too large.
@@ -56,11 +59,6 @@ impl<'c, 'a> Copied<'c, 'a> {
             copies: Vec::new(alloc),
         })
     }
-}
-
-impl<'c, 'a> Copied<'c, 'a> {
-    ghost use Rattle.ick_machine.specs.Present.{present_program, present_state};
-    ghost use Rattle.ick_machine.specs.Seen.{copied_machine};
 
     /// Returns the parts that represent the present state. Nothing changes.
     pub fn present(&self) -> Present<'_, 'c, 'a>

@@ -1,6 +1,8 @@
 //! A machine without marks, which takes its input from a feed.
+#![tactic(auto, unfolding(crate::specs::Live::seen))]
 
-ghost use Rattle.std.specs.Prelude.{◌≡◌, false};
+ghost use Rattle.std.specs.Prelude.{◌≡◌, ◌+◌, ◌<◌, ◌≤◌, ◌^◌, ◌++◌, [], true, false, length, Err};
+ghost use Rattle.std.specs.Prelude.{IfOk, OnOk, OnErr, vec_len, vec_capacity};
 ghost use Rattle.ick_machine.specs.RunIn.{CanGoOn};
 
 use crate::asking::{answer, end_of};
@@ -34,9 +36,6 @@ pub struct Live<'c, 'a> {
 }
 
 impl<'c, 'a> Live<'c, 'a> {
-    ghost use Rattle.std.specs.Prelude.{◌≡◌, ◌+◌, ◌<◌, ◌≤◌, ◌^◌, ◌++◌};
-    ghost use Rattle.std.specs.Prelude.{[], true, false, length, Err};
-    ghost use Rattle.std.specs.Prelude.{IfOk, OnOk, OnErr, vec_len, vec_capacity};
     ghost use Rattle.ick_code.specs.Compiled.{code_program};
     ghost use Rattle.ick_code.specs.meaning.Move.{ask, advance, first_state};
     ghost use Rattle.ick_backtrack.specs.Asked.{IsGoing};
@@ -46,7 +45,6 @@ impl<'c, 'a> Live<'c, 'a> {
 
     /// Returns a machine at the start of a program (Revised Manual, 3.1, 3.3). `NoMemory` is
     /// returned if a growth was refused, or if `lower` finds the program too large.
-    #[tactic(auto, unfolding(crate::specs::Live::seen))]
     pub fn new(alloc: Global, code: &'c Code<'a>) -> Result<Live<'c, 'a>, NoMemory>
         ensures { IfOk result (λ live. seen live ≡ record {
           program = code_program code.now;
@@ -69,7 +67,6 @@ impl<'c, 'a> Live<'c, 'a> {
     /// What is asked before the next step (Revised Manual, 4.3): whether a statement is done that
     /// isn't abstained from and has a chance strictly between 0 and 100; or nothing, since there is
     /// one way to go on, or since the run has ended or the machine has failed.
-    #[tactic(auto, unfolding(crate::specs::Live::seen))]
     pub fn asks(&self) -> LiveAsk
         ensures { result ≡ live_ask (seen self.now) }
     {
@@ -88,7 +85,6 @@ impl<'c, 'a> Live<'c, 'a> {
     /// greatest value. After an error it has failed, and its output is as before the step. `Read`
     /// raises the feed's count of failures by one, and every other answer leaves it. A step answers
     /// `Read` only if it meets a WRITE IN.
-    #[tactic(auto, unfolding(crate::specs::Live::seen))]
     #[inline(always)]
     pub fn step<F: Feed>(&mut self, done: bool, feed: &mut F) -> Result<(), FeedFault>
         requires sound { (seen self.old).failed ≡ false }
@@ -137,7 +133,6 @@ impl<'c, 'a> Live<'c, 'a> {
     /// greatest value. After an error it has failed, and holds no output. `Read` raises the feed's
     /// count of failures by one, and every other answer leaves it. A run answers `Read`
     /// only if it comes to a WRITE IN.
-    #[tactic(auto, unfolding(crate::specs::Live::seen))]
     pub fn run<F: Feed>(&mut self, limit: u32, feed: &mut F) -> Result<u32, FeedFault>
         requires sound { (seen self.old).failed ≡ false }
         requires room { F.failed feed.old + 1 < 2 ^ 64 }
@@ -171,7 +166,6 @@ impl<'c, 'a> Live<'c, 'a> {
     }
 
     /// Returns whether the statement that is met is a WRITE IN.
-    #[tactic(auto, unfolding(crate::specs::Live::seen))]
     fn meets_input(&self) -> bool
         ensures { result ≡ true → MeetsInput (seen self.now).program (seen self.now).state }
     {
@@ -184,7 +178,6 @@ impl<'c, 'a> Live<'c, 'a> {
     }
 
     /// Returns whether the run goes on by itself: nothing is asked, and no output is held.
-    #[tactic(auto, unfolding(crate::specs::Live::seen))]
     fn is_quiet(&self) -> bool
         requires sound { (seen self.now).failed ≡ false }
         ensures quiet { result ≡ true → IsQuiet (seen self.now).program (seen self.now).state }
@@ -199,7 +192,6 @@ impl<'c, 'a> Live<'c, 'a> {
     ///
     /// It looks at the output once, after the last step. What was printed stays, so no output was
     /// held before any of the steps.
-    #[tactic(auto, unfolding(crate::specs::Live::seen))]
     fn run_to_stream<F: Feed>(&mut self, limit: u32, feed: &mut F) -> Result<u32, NoMemory>
         requires sound { (seen self.old).failed ≡ false }
         requires quiet { IsQuiet (seen self.old).program (seen self.old).state }
@@ -253,7 +245,6 @@ impl<'c, 'a> Live<'c, 'a> {
     }
 
     /// Returns what was written since the output was last cleared.
-    #[tactic(auto, unfolding(crate::specs::Live::seen))]
     pub fn output(&self) -> &[u8]
         ensures { result.now ≡ (seen self.now).state.output }
     {
@@ -261,7 +252,6 @@ impl<'c, 'a> Live<'c, 'a> {
     }
 
     /// Clears the output, and changes nothing else. It takes no memory.
-    #[tactic(auto, unfolding(crate::specs::Live::seen))]
     pub fn clear_output(&mut self)
         ensures { seen self.new
             ≡ record (seen self.old) { state = cleared (seen self.old).state } }
@@ -274,7 +264,6 @@ impl<'c, 'a> Live<'c, 'a> {
     ///
     /// The answer is `NoMemory` only if `out` had no room for the whole message and couldn't grow.
     /// `out` is then unchanged.
-    #[tactic(auto, unfolding(crate::specs::Live::seen))]
     pub fn append_fault(&self, out: &mut Vec<u8>) -> Result<(), NoMemory>
         ensures ok { OnOk result
             (out.new.items ≡ out.old.items ++ fault_message (seen self.now)) }
