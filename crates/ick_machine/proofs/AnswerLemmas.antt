@@ -1,6 +1,6 @@
 -- What a machine asks, by the status of the statement that is met.
 use Rattle.std.proofs.Common.{◌≡◌, ℕ, ◌+◌, ◌-◌, ◌<◌, ◌≤◌, true, false, List, [], length, get_or}
-use Rattle.std.proofs.Common.{Option, Some, None, refl, sym, ap, ◌∙◌, inl, inr, arith, rules}
+use Rattle.std.proofs.Common.{Option, Some, None, refl, ap, arith, rules}
 use Rattle.std.specs.Prelude.{◌⊎◌, nat_lt, ◌&&◌, option_map, if◌then◌else◌, is_some}
 use Rattle.std.proofs.lemmas.Bool.{cases_lt}
 use Rattle.std.proofs.lemmas.Bool.Decides.{nat_tests}
@@ -13,7 +13,7 @@ use Rattle.ick_code.specs.Compiled.{code_program}
 use Rattle.ick_instructions.specs.declared.lowered.LoweredParts.{LoweredParts}
 use Rattle.ick_engine.specs.declared.exit.RawEnd.{RawEnd}
 use Rattle.ick_engine.specs.View.{View, Input, end_of}
-use Rattle.ick_engine.specs.Status.{percent_of, lack_of, is_abstained, past_the_end}
+use Rattle.ick_engine.specs.Status.{percent_of, lack_of, is_abstained}
 use Rattle.ick_engine.specs.Steady.{IsReady}
 use Rattle.ick_engine.proofs.Statuses.{some_and}
 use Rattle.ick_backtrack.specs.Asked.{Finish, finished, asked_at_end}

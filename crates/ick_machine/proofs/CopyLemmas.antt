@@ -1,11 +1,11 @@
 -- Copies that marks are kept by: one more, and one less.
-use Rattle.std.proofs.Common.{◌≡◌, ℕ, zero, suc, ◌<◌, List, [], ◌∷◌}
-use Rattle.std.proofs.Common.{◌++◌, length, Bool, true, false, Option, Some, None}
-use Rattle.std.proofs.Common.{refl, ap, sym, ◌∙◌, subst, arith, append-nil}
-use Rattle.std.specs.Prelude.{map, slice_index_or, if◌then◌else◌, vec_len}
+use Rattle.std.proofs.Common.{◌≡◌, ℕ, List, [], ◌∷◌}
+use Rattle.std.proofs.Common.{◌++◌, Bool, true, false, Option, Some, None}
+use Rattle.std.proofs.Common.{sym, ◌∙◌, subst, append-nil}
+use Rattle.std.specs.Prelude.{map, if◌then◌else◌, vec_len}
 use Rattle.std.specs.List.{All}
 use Rattle.std.specs.Option.{option_to_list}
-use Rattle.std.proofs.lemmas.List.Elements.{All-append}
+use Rattle.std.proofs.lemmas.List.Elements.{All-append, All-cons, All-head, All-nil, All-tail}
 use Rattle.ick_code.specs.declared.code.Code.{Code}
 use Rattle.ick_instructions.specs.declared.lowered.LoweredParts.{LoweredParts}
 use Rattle.ick_instructions.specs.declared.lowered.Lowered.{Lowered}
@@ -18,24 +18,11 @@ use Rattle.ick_machine.specs.declared.trailed.Trailed.{Trailed}
 use Rattle.ick_machine.specs.Copies.{AreCopies, copied_state}
 use Rattle.ick_machine.specs.Seen.{fixed_parts}
 
-pub states_pushed : {A B : Type 0} (f : A → B) (xs : List A) (x : A) → map f (xs ++ x ∷ []) ≡ map f xs ++ f x ∷ []
-states_pushed f [] x = refl
-states_pushed f (y ∷ xs) x = ap (λ l. f y ∷ l) (states_pushed f xs x)
-
-only_one : {A : Type 0} (P : A → Type 0) (x : A) → P x → All P (x ∷ [])
-only_one P x h zero d below = h
-only_one P x h (suc k) d below = absurd (omega (arith, below))
-
 all_but_one : {A : Type 0} (P : A → Type 0) (xs : List A) (x : A) → All P (xs ++ x ∷ []) → All P xs × P x
-all_but_one P [] x all = (λ k d below. absurd (omega (arith, below)), all 0 x (omega arith))
-all_but_one {A} P (y ∷ xs) x all =
-    let first = all 0 y (omega arith) in
-    let rest = all_but_one P xs x (λ k d below. all (suc k) d (omega (arith, below))) in
-    (λ k d below. cases first rest.0 k d below, rest.1)
-  where
-    cases : P y → All P xs → (k : ℕ) (d : A) → k < suc (length xs) → P (slice_index_or (y ∷ xs) k d)
-    cases first rest zero d below = first
-    cases first rest (suc k) d below = rest k d (omega (arith, below))
+all_but_one P [] x all = (All-nil P, All-head P x [] all)
+all_but_one P (y ∷ xs) x all =
+    let rest = all_but_one P xs x (All-tail P y (xs ++ x ∷ []) all) in
+    (All-cons P y xs (All-head P y (xs ++ x ∷ []) all) rest.0, rest.1)
 
 module _ (code : Code) (lowered : LoweredParts) where
   pub more : (copies all : List Copy) (copy : Copy) (grown : Bool) →
@@ -44,7 +31,8 @@ module _ (code : Code) (lowered : LoweredParts) where
   more copies all copy true is kept given =
       subst (AreCopies code lowered) (sym is)
       (All-append (λ (copy : Copy). IsKept code lowered copy.saved) copies (copy ∷ []) given
-      (only_one (λ (copy : Copy). IsKept code lowered copy.saved) copy kept))
+      (All-cons (λ (copy : Copy). IsKept code lowered copy.saved) copy [] kept
+      (All-nil (λ (copy : Copy). IsKept code lowered copy.saved))))
   more copies all copy false is kept given = subst (AreCopies code lowered) (sym is) given
 
   pub one_less : (copies all : List Copy) (copy : Copy) → all ≡ copies ++ copy ∷ [] → AreCopies code lowered all →

@@ -1,12 +1,13 @@
 use Rattle.std.proofs.Common.{◌∷◌, [], ◌++◌, ap, sym, ◌∙◌, subst, arith}
 use Rattle.std.specs.Prelude.{map, reverse}
+use Rattle.std.proofs.lemmas.List.{map-append}
 use mathlib.Core.Logic.{∥∥₁_map, ∥∥₁_elim}
 use Rattle.ick_engine.specs.Memory.{view_in}
 use Rattle.ick_engine.specs.View.{input_of}
 use Rattle.ick_machine.specs.Copies.{copied_state}
 use Rattle.ick_machine.specs.Marks.{AreMarksIn}
 use Rattle.ick_machine.specs.Run.{run_state}
-use Rattle.ick_machine.proofs.CopyLemmas.{one_less, states_pushed}
+use Rattle.ick_machine.proofs.CopyLemmas.{one_less}
 use Rattle.ick_machine.proofs.FedLemmas.{no_items}
 use Rattle.ick_machine.proofs.WholeLemmas.{seen_at}
 use Rattle.ick_machine.proofs.copied.CopiedBacktrack.back.Goals as goal
@@ -59,5 +60,5 @@ returns-in-Some c =
     let s = run_state code lowered input (view_in m.machine.memory) m.machine.end in
     let older = c.pop.new.self.items in
     ap (λ marks. seen_at code s marks m.machine.work)
-    (ap (map f) c.in-Some.ensures.items ∙ states_pushed f older copy
+    (ap (map f) c.in-Some.ensures.items ∙ map-append f older (copy ∷ [])
     ∙ ap (λ t. map f older ++ (record t { end = (f copy).end }) ∷ []) (sym (c.restore.ensures.states input))))
