@@ -1,5 +1,5 @@
 -- A truncated ghost field says that a run can go on, unless the machine has failed. The output doesn't matter for this.
-use Rattle.std.proofs.Common.{◌≡◌, ℕ, Bool, false, List}
+use Rattle.std.proofs.Common.{◌≡◌, ℕ, Bool, false, List, rules}
 use mathlib.Core.Logic.{∥∥₁_elim, ∥∥₁_map}
 use mathlib.Core.Path.{fun_ext}
 use Rattle.ick_code.specs.declared.code.Code.{Code}
@@ -17,19 +17,7 @@ ready_unless code lowered v failed h =
 pub ready_with : (code : Code) (lowered : LoweredParts) (v : View) (o : List ℕ) → IsReady code lowered v →
     IsReady code lowered (record v { parts = record v.parts { output = o } })
 ready_with code lowered v o h = record {
-  steady = record {
-    registers = h.steady.registers;
-    home = h.steady.home;
-    homes = h.steady.homes;
-    statuses = h.steady.statuses;
-    returns = h.steady.returns;
-    depth = h.steady.depth;
-    arrays = h.steady.arrays;
-    hidden = h.steady.hidden;
-    scalar_stashes = h.steady.scalar_stashes;
-    array_stashes = h.steady.array_stashes;
-    constants = h.steady.constants;
-  };
+  steady = search rules;
   stands = λ input.
       let s = state_of code lowered input v in
       stands_with code lowered (file_of lowered v.registers) s s.input o s.end (h.stands input);

@@ -1,4 +1,4 @@
-use Rattle.std.proofs.Common.{Some, sym, ◌∙◌, ap, arith}
+use Rattle.std.proofs.Common.{Some, sym, ◌∙◌, ap, rules}
 use Rattle.std.proofs.lemmas.Grind.{get_or_default_zero}
 use Rattle.ick_engine.specs.Memory.{view_in}
 use Rattle.ick_engine.specs.View.{input_of}
@@ -21,9 +21,7 @@ returns-in-Some c =
     (sym c.in-Some.is))
 
 pub index-requires : goal.index-requires
-index-requires c =
-    let low = place_low c.args.lowered.now.code.now c.args.lowered.now.parts (view_in c.args.memory.now) c.requires in
-    omega (arith, low)
+index-requires c = search (rules, place_low)
 
 pub returns : goal.returns
 returns c =

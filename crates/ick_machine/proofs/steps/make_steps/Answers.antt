@@ -1,4 +1,4 @@
-use Rattle.std.proofs.Common.{◌∙◌, ◌+◌, Some}
+use Rattle.std.proofs.Common.{◌∙◌, Some, rules}
 use Rattle.ick_engine.specs.Memory.{view_in}
 use Rattle.ick_machine.proofs.StepLemmas.{has_made, has_rested, has_stepped, if_room, if_waits, moves_by, never_short}
 use Rattle.ick_machine.proofs.StepLemmas.{at_rest, on_the_way, at_end}
@@ -45,21 +45,10 @@ returns-in-Room-clause-runs g c =
     call.ensures.comes
 
 pub returns-in-Room-clause-moves : goal.returns-in-Room-clause-moves
-returns-in-Room-clause-moves g c = λ _.
-    let call = c.run_steps-exit in
-    moves_by call.result (g.R.Reader.waits (g.R.Reader.held c.args.reader.now)) (c.args.lowered.now.parts.longest + 79)
-    (g.N.Notes.room c.args.notes.now) c.args.limit call.new.self.cursor.left c.in-Room.is
-    (λ is. (if_room call.result is call.ensures.room).begun) (λ is. if_waits call.result is call.ensures.waits)
-    call.ensures.left
+returns-in-Room-clause-moves g c = search (rules, if_room, if_waits, moves_by)
 
 pub returns-in-Room-clause-steps : goal.returns-in-Room-clause-steps
-returns-in-Room-clause-steps g c = λ done same one goes enough.
-    let call = c.run_steps-exit in
-    absurd (never_short call.result (g.R.Reader.waits (g.R.Reader.held c.args.reader.now))
-    (c.args.lowered.now.parts.longest + 79) (g.N.Notes.room c.args.notes.now) c.args.limit call.new.self.cursor.left
-    c.in-Room.is (λ is. (if_room call.result is call.ensures.room).some)
-    (λ is. (if_room call.result is call.ensures.room).begun) (λ is. if_waits call.result is call.ensures.waits) goes
-    enough call.ensures.left one)
+returns-in-Room-clause-steps g c = search (rules, if_room, if_waits, never_short)
 
 pub returns-in-Ended-clause-runs : goal.returns-in-Ended-clause-runs
 returns-in-Ended-clause-runs g c =

@@ -1,4 +1,4 @@
-use Rattle.std.proofs.Common.{ℕ, ap₂}
+use Rattle.std.proofs.Common.{ℕ, ap₂, rules}
 use Rattle.ick_backtrack.specs.Steps.{HasRun}
 use Rattle.ick_machine.specs.Seen.{fixed_parts, trailed_machine}
 use Rattle.ick_machine.proofs.CopyLemmas.{copied_over, still_copied}
@@ -6,9 +6,7 @@ use Rattle.ick_machine.proofs.WholeLemmas.{if_ok, on_err}
 use Rattle.ick_machine.proofs.copied.CopiedAsks.run.Goals as goal
 
 pub invariant_of-self : goal.invariant_of-self
-invariant_of-self c =
-    let kept = still_copied c.args.self.now c.run.new.self c.run.ensures.fixed in
-    record { unmarked = kept.0; copied = kept.1 }
+invariant_of-self c = search (rules, still_copied)
 
 ran_over : (c : goal.After-self-1) (k : ℕ) →
     let old = c.args.self.now in

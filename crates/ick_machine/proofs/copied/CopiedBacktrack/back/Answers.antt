@@ -20,9 +20,6 @@ restore-requires-clause-kept c =
     (one_less m.machine.lowered.code.now m.machine.lowered.parts c.pop.new.self.items m.copies.items c.in-Some.copy
     c.in-Some.ensures.items are).1))
 
-pub restore-requires-clause-steady : goal.restore-requires-clause-steady
-restore-requires-clause-steady c = rw c.program.ensures c.law.ensures.ready.steady
-
 pub invariant_of-machine : goal.invariant_of-machine
 invariant_of-machine c =
     let m = c.args.self.now.machine in

@@ -1,28 +1,17 @@
-use Rattle.std.proofs.Common.{◌≡◌, [], Some, ◌++◌, append-nil, le_refl, length, inl, inr, ap, sym, ◌∙◌, subst}
-use Rattle.std.specs.Prelude.{◌+◌, ◌<◌, vec_capacity, vec_len, OnOk, OnErr}
+use Rattle.std.proofs.Common.{◌≡◌, Some, ◌++◌, append-nil, le_refl, inl, inr, ap, sym, ◌∙◌, rules}
+use Rattle.std.specs.Prelude.{vec_capacity}
 use Rattle.ick_bits.specs.Faults.{message_of}
-use Rattle.ick_code.specs.Compiled.{code_program}
 use Rattle.ick_code.specs.meaning.State.{gave_up, faulted}
 use Rattle.ick_backtrack.specs.Asked.{finished, finish_of}
 use Rattle.ick_engine.specs.Memory.{view_in}
-use Rattle.ick_machine.specs.Feeds.{input_after}
 use Rattle.ick_machine.specs.Live.{fault_message, seen}
-use Rattle.ick_machine.specs.Run.{ending_of, run_state}
 use Rattle.ick_machine.proofs.LiveLemmas.{no_message, said_at}
 use Rattle.ick_machine.proofs.live.Live.append_fault.Goals as goal
 use Rattle.ick_machine.proofs.live.Live.append_fault.Goals.{After-append_message}
 
 pub returns-in_default-clause-ok : goal.returns-in_default-clause-ok
 unfolding seen
-returns-in_default-clause-ok c =
-    let live = c.args.self.now in
-    let code = live.lowered.code.now in
-    let input = input_after live.line.items [] in
-    let out = c.args.out.now.items in
-    let none =
-    no_message (code_program code) (run_state code live.lowered.parts input (view_in live.memory) live.end)
-    (ap (ending_of code input) c.in_default.is) in
-    sym (ap (λ message. out ++ message) none ∙ append-nil out)
+returns-in_default-clause-ok c = search (rules, append-nil, no_message)
 
 -- the message is that of the fault
 said : (c : After-append_message) →
@@ -39,15 +28,10 @@ said c =
     (faulted fault.kind fault.statement fault.subject.now) c.in-Some.is c.end_of.ensures (ap finish_of c.in-Fault.is))
 
 pub returns-in-Fault-clause-ok : goal.returns-in-Fault-clause-ok
-returns-in-Fault-clause-ok c =
-    subst (λ message. OnOk c.append_message.result (c.append_message.new.out.items ≡ c.args.out.now.items ++ message))
-    (sym (said (goal.at.returns-in-Fault-clause-ok c).After-append_message)) c.append_message.ensures.ok
+returns-in-Fault-clause-ok c = search (rules, said)
 
 pub returns-in-Fault-clause-full : goal.returns-in-Fault-clause-full
-returns-in-Fault-clause-full c =
-    subst (λ message. OnErr c.append_message.result
-    (vec_capacity c.args.out.now < vec_len c.args.out.now + length message))
-    (sym (said (goal.at.returns-in-Fault-clause-full c).After-append_message)) c.append_message.ensures.full
+returns-in-Fault-clause-full c = search (rules, said)
 
 pub returns-in-GiveUp : goal.returns-in-GiveUp
 unfolding seen

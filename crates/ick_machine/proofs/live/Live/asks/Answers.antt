@@ -1,4 +1,4 @@
-use Rattle.std.proofs.Common.{[], ap, sym, ◌∙◌}
+use Rattle.std.proofs.Common.{[], ap, sym, ◌∙◌, rules}
 use Rattle.std.specs.Prelude.{if◌then◌else◌}
 use Rattle.ick_code.specs.Compiled.{code_program}
 use Rattle.ick_code.specs.meaning.Move.{ask}
@@ -14,9 +14,7 @@ use Rattle.ick_machine.proofs.Readiness.{ready_unless}
 use Rattle.ick_machine.proofs.live.Live.asks.Goals as goal
 
 pub answer-requires : goal.answer-requires
-answer-requires c =
-    let live = c.args.self.now in
-    ready_unless live.lowered.code.now live.lowered.parts (view_in live.memory) live.failed live.ready c.if-self.false
+answer-requires c = search (rules, ready_unless)
 
 pub returns : goal.returns
 unfolding seen

@@ -1,4 +1,4 @@
-use Rattle.std.proofs.Common.{◌≡◌, ◌+◌, ◌<◌, Err, rules, refl, ap, ◌∙◌, subst, arith}
+use Rattle.std.proofs.Common.{◌≡◌, ◌+◌, ◌<◌, Err, rules, ap, ◌∙◌, subst, arith}
 use Rattle.ick_backtrack.specs.Steps.{IsQuiet}
 use Rattle.ick_backtrack.specs.declared.feed_fault.FeedFault.TheVariants.{Read}
 use Rattle.ick_machine.specs.Feeds.{MeetsInput}
@@ -9,16 +9,7 @@ use Rattle.ick_machine.proofs.StepsLemmas.{no_step}
 use Rattle.ick_machine.proofs.live.Live.run.Goals as goal
 
 pub steps-init : goal.steps-init
-steps-init g c = record {
-  within = omega arith;
-  runs = λ tells.
-      no_step IsQuiet (seen c.args.self.now).program (fed (g.F.Feed.left c.args.feed.now) (seen c.args.self.now).state);
-  program = refl;
-  start = λ none. refl;
-  sound = c.requires.sound;
-  count = refl;
-  held = refl;
-}
+steps-init g c = search (rules, no_step)
 
 pub returns-then-made-limit-clause-runs : goal.returns-then-made-limit-clause-runs
 returns-then-made-limit-clause-runs g c = λ tells.

@@ -26,17 +26,11 @@ index-requires g c =
 
 pub make_steps-came-requires-clause-ready : goal.make_steps-came-requires-clause-ready
 unfolding seen
-make_steps-came-requires-clause-ready g c =
-    rw c.program.ensures (
-    let live = c.args.self.now in
-    ready_unless live.lowered.code.now live.lowered.parts (view_in live.memory) live.failed live.ready c.requires.sound)
+make_steps-came-requires-clause-ready g c = search (rules, ready_unless)
 
 pub make_steps-came-requires-clause-going : goal.make_steps-came-requires-clause-going
 unfolding seen
-make_steps-came-requires-clause-going g c =
-    let live = c.args.self.now in
-    quiet_goes live.lowered.code.now live.lowered.parts (input_after live.line.items []) (view_in live.memory) live.end
-    c.requires.quiet
+make_steps-came-requires-clause-going g c = search (rules, quiet_goes)
 
 pub returns-in-Ok-clause-runs : goal.returns-in-Ok-clause-runs
 unfolding seen

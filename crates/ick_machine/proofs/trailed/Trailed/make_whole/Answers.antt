@@ -1,5 +1,4 @@
-use Rattle.std.proofs.Common.{◌≡◌, None, refl, ap, sym, ◌∙◌, subst, arith}
-use Rattle.ick_instructions.specs.declared.lowered.Lowered.{Lowered}
+use Rattle.std.proofs.Common.{◌≡◌, None, refl, ap, sym, ◌∙◌, subst, arith, rules}
 use Rattle.ick_code.specs.Compiled.{code_program}
 use Rattle.ick_code.specs.meaning.Move.{advance}
 use Rattle.ick_code.specs.meaning.State.{State}
@@ -14,7 +13,7 @@ use Rattle.ick_machine.specs.RunIn.{state_in}
 use Rattle.ick_machine.specs.Seen.{trailed_machine}
 use Rattle.ick_machine.proofs.Marks.{run_same}
 use Rattle.ick_machine.proofs.TrailMarks.{depth_restored, marked_marks, noted_marks, restored_by, undone_marks}
-use Rattle.ick_machine.proofs.WholeLemmas.{by_text, going_on, keeps_marks, seen_at}
+use Rattle.ick_machine.proofs.WholeLemmas.{by_text, going_on, keeps_marks}
 use Rattle.ick_machine.proofs.trailed.Trailed.make_whole.Goals as goal
 use Rattle.ick_machine.proofs.trailed.Trailed.make_whole.Goals.{After-start, After-make_steps, After-back}
 
@@ -45,32 +44,7 @@ invariant_of-self c =
     }
 
 pub returns-in_err-mark-clause-rest : goal.returns-in_err-mark-clause-rest
-returns-in_err-mark-clause-rest c =
-    let m = c.forget_unmarked.new.self in
-    let s = state_in m.lowered (input_of m.input.now) m.memory m.end in
-    ap (λ marks. seen_at m.lowered.code.now s marks m.work)
-    (keeps_marks m c.start.new.trail m.memory (marked (goal.at.returns-in_err-mark-clause-rest c).After-start)).1
-    ∙ same_but (trailed_machine m) s (trailed_machine c.args.self.now) c.forget_unmarked.ensures.same
-
-pub make_steps-requires-clause-suits : goal.make_steps-requires-clause-suits
-make_steps-requires-clause-suits c = (
-  ap (λ (l : Lowered). l.code.now) (sym c.program-program.ensures),
-  ap (λ (l : Lowered). l.parts) (sym c.program-program.ensures),
-)
-
-pub make_steps-requires-clause-ready : goal.make_steps-requires-clause-ready
-make_steps-requires-clause-ready c = rw c.program-program.ensures c.law.ensures.can.ready
-
-pub make_steps-requires-clause-going : goal.make_steps-requires-clause-going
-make_steps-requires-clause-going c = c.forget_unmarked.ensures.end ∙ c.requires.going
-
-pub make_steps-requires-clause-low : goal.make_steps-requires-clause-low
-make_steps-requires-clause-low c = omega (arith, c.start.ensures.trail.low_is)
-
-pub back-requires-clause-base : goal.back-requires-clause-base
-back-requires-clause-base c =
-    ap (λ f. f.base) c.make_steps.ensures.base ∙ c.start.ensures.trail.base_same ∙ c.law.ensures.can.base
-    ∙ ap (λ (l : Lowered). l.parts.layout.base) (sym c.program-program.ensures)
+returns-in_err-mark-clause-rest c = search (rules, keeps_marks, marked, same_but)
 
 -- and after the steps
 noted : (c : After-make_steps) →
@@ -99,16 +73,7 @@ invariant_of-self-in-Ok-1 c =
     }
 
 pub returns-in-Ok-clause-rest : goal.returns-in-Ok-clause-rest
-returns-in-Ok-clause-rest c =
-    let m = c.forget_unmarked.new.self in
-    let new = c.make_steps.new in
-    let s = state_in m.lowered (input_of m.input.now) new.memory new.end in
-    ap (λ marks. seen_at m.lowered.code.now s marks m.work)
-    (keeps_marks m new.notes new.memory (noted (goal.at.returns-in-Ok-clause-rest c).After-make_steps)).1
-    ∙ same_but (trailed_machine m) s (trailed_machine c.args.self.now) c.forget_unmarked.ensures.same
-
-pub returns-in-Ok-clause-moves : goal.returns-in-Ok-clause-moves
-returns-in-Ok-clause-moves c = λ more. c.in-Ok.ensures.moves more refl c.in_ok-mark.ensures.room
+returns-in-Ok-clause-rest c = search (rules, keeps_marks, noted, same_but)
 
 pub returns-in-Ok-clause-runs : goal.returns-in-Ok-clause-runs
 returns-in-Ok-clause-runs c = λ none.
@@ -208,15 +173,7 @@ as_before c =
     (run_same code lowered input w (view_in m.memory) None ((restored c).states input))
 
 pub returns-in-Err-clause-rest : goal.returns-in-Err-clause-rest
-returns-in-Err-clause-rest c =
-    let m = c.forget_unmarked.new.self in
-    let new = c.back.new in
-    let s = state_in m.lowered (input_of m.input.now) new.memory None in
-    ap (λ marks. seen_at m.lowered.code.now s marks m.work)
-    (keeps_marks m new.trail new.memory (undone (goal.at.returns-in-Err-clause-rest c).After-back)).1
-    ∙ same_but (trailed_machine m) s (trailed_machine c.args.self.now) c.forget_unmarked.ensures.same
+returns-in-Err-clause-rest c = search (rules, keeps_marks, same_but, undone)
 
 pub returns-in-Err-clause-err : goal.returns-in-Err-clause-err
-returns-in-Err-clause-err c =
-    as_before (goal.at.returns-in-Err-clause-err c).After-back
-    ∙ ap (λ (x : Machine). x.state) c.forget_unmarked.ensures.same
+returns-in-Err-clause-err c = search (rules, as_before)
