@@ -1,4 +1,5 @@
 use Rattle.std.proofs.Common.{◌≡◌, None, refl, ap, sym, ◌∙◌, subst, arith, rules}
+use Rattle.std.proofs.lemmas.Grind.{common_steps}
 use Rattle.ick_code.specs.Compiled.{code_program}
 use Rattle.ick_code.specs.meaning.Move.{advance}
 use Rattle.ick_code.specs.meaning.State.{State}
@@ -32,16 +33,7 @@ marked c =
     c.law.ensures.can.base c.law.ensures.can.ready.steady.constants c.start.ensures.trail
 
 pub invariant_of-self : goal.invariant_of-self
-invariant_of-self c =
-    let m = c.forget_unmarked.new.self in
-    record {
-      can = ∣ record {
-        ready = c.law.ensures.can.ready;
-        low = omega (arith, c.start.ensures.trail.low_is);
-        base = c.start.ensures.trail.base_same ∙ c.law.ensures.can.base;
-      } ∣₁;
-      marked = (keeps_marks m c.start.new.trail m.memory (marked (goal.at.invariant_of-self c).After-start)).0;
-    }
+invariant_of-self c = grind (arith, common_steps, keeps_marks, marked)
 
 pub returns-in_err-mark-clause-rest : goal.returns-in_err-mark-clause-rest
 returns-in_err-mark-clause-rest c = search (rules, keeps_marks, marked, same_but)
