@@ -1,4 +1,4 @@
-use Rattle.std.proofs.Common.{ℕ, ap₂, rules}
+use Rattle.std.proofs.Common.{ℕ, rules}
 use Rattle.ick_backtrack.specs.Steps.{HasRun}
 use Rattle.ick_machine.specs.Seen.{fixed_parts, trailed_machine}
 use Rattle.ick_machine.proofs.CopyLemmas.{copied_over, still_copied}
@@ -14,10 +14,7 @@ ran_over : (c : goal.After-self-1) (k : ℕ) →
     HasRun (trailed_machine old.machine) k (trailed_machine new) →
     HasRun (copied_over (trailed_machine old.machine) (fixed_parts old.machine) old.copies.items) k
     (copied_over (trailed_machine new) (fixed_parts new) old.copies.items)
-ran_over c k ran = record {
-  runs = ran.runs;
-  machine_is = ap₂ (λ m fixed. copied_over m fixed c.args.self.now.copies.items) ran.machine_is c.run.ensures.fixed;
-}
+ran_over c k ran = search rules
 
 pub returns-clause-ok : goal.returns-clause-ok
 returns-clause-ok c = if_ok c.run.result _ _ c.run.ensures.ok (ran_over c)

@@ -27,10 +27,7 @@ same_but m s old same = ap (λ (x : Machine). record x { state = s }) same
 marked : (c : After-start) →
     let m = c.forget_unmarked.new.self in
     KeepsMarks m.lowered.code.now m.lowered.parts m.trail m.memory c.start.new.trail m.memory
-marked c =
-    let m = c.forget_unmarked.new.self in
-    marked_marks m.lowered.code.now m.lowered.parts c.law.ensures.program m.trail c.start.new.trail m.memory
-    c.law.ensures.can.base c.law.ensures.can.ready.steady.constants c.start.ensures.trail
+marked c = search (rules, marked_marks)
 
 pub invariant_of-self : goal.invariant_of-self
 invariant_of-self c = grind (arith, common_steps, keeps_marks, marked)
