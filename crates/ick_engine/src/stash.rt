@@ -265,15 +265,11 @@ pub fn restore_array<N: Notes>(
     }
     if arrays[slot as usize].hidden {
         let newest = &stash.items[stash.depth - 1];
-        let Ok(()) = notes.note_array(ArrayChange::Taken, slot, newest) else {
-            return Err(Halt::NoMemory);
-        };
+        notes.note_array(ArrayChange::Taken, slot, newest)?;
         stashes[slot as usize].drop_newest();
         return Ok(());
     }
-    let Ok(()) = notes.note_array(ArrayChange::Restored, slot, &arrays[slot as usize]) else {
-        return Err(Halt::NoMemory);
-    };
+    notes.note_array(ArrayChange::Restored, slot, &arrays[slot as usize])?;
     stashes[slot as usize].exchange(&mut arrays[slot as usize]);
     Ok(())
 }

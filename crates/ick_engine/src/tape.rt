@@ -70,17 +70,10 @@ pub fn print_array<N: Notes>(
     if array.dimensions.len() != 1 {
         return Err(Halt::Fault(FaultKind::Hyperspace));
     }
-    let Ok(()) = note_printing(rest, notes, longest) else {
-        return Err(Halt::NoMemory);
-    };
+    note_printing(rest, notes, longest)?;
     let array = &rest.arrays[slot as usize];
-    match append_elements(&mut rest.output, rest.last, &array.elements) {
-        Ok(position) => {
-            rest.last = position;
-            Ok(())
-        }
-        Err(_) => Err(Halt::NoMemory),
-    }
+    rest.last = append_elements(&mut rest.output, rest.last, &array.elements)?;
+    Ok(())
 }
 
 /// The position of the next byte of the input, and the byte that was read last.
@@ -187,23 +180,15 @@ pub fn read_array<N: Notes, R: Reader>(
     if array.dimensions.len() != 1 {
         return Err(Halt::Fault(FaultKind::Hyperspace));
     }
-    let Ok(()) = notes.note_array(ArrayChange::Replaced, slot, array) else {
-        return Err(Halt::NoMemory);
-    };
-    let Ok(()) = note_reading(rest, notes, longest) else {
-        return Err(Halt::NoMemory);
-    };
+    notes.note_array(ArrayChange::Replaced, slot, array)?;
+    note_reading(rest, notes, longest)?;
     let start = Tape {
         to: rest.taken,
         last: rest.lastin,
     };
     let array = &mut rest.arrays[slot as usize];
-    match read_bytes(array.hidden, array.elements.as_mut_slice(), reader, start) {
-        Ok(end) => {
-            rest.taken = end.to;
-            rest.lastin = end.last;
-            Ok(())
-        }
-        Err(_) => Err(Halt::NoMemory),
-    }
+    let end = read_bytes(array.hidden, array.elements.as_mut_slice(), reader, start)?;
+    rest.taken = end.to;
+    rest.lastin = end.last;
+    Ok(())
 }

@@ -39,7 +39,7 @@ returns-then-index-clause-notes g c = λ k v m arrays same h.
     c.index-newest.result.now c.requires.slot c.index-stash.ensures c.index_mut.ensures.value c.drop_newest.ensures
     (omega arith) c.index-newest.ensures in
     subst (λ l. g.N.Notes.Undoes c.note_array.new.self k (with_array_stashes new (with_arrays l v)) m) arrays
-    (c.in-Ok.ensures.notes k (with_array_stashes new v) m at.here.place
+    (c.in_ok-note_array.ensures.notes k (with_array_stashes new v) m at.here.place
     (c.law.ensures.alike k v _ m
     (like_arrays _ _ v _ (taken_like x c.args.slot _ old new same at)) h))
 
@@ -92,5 +92,5 @@ returns-clause-notes g c = λ k v m same_arrays same h.
     subst (λ a. Like base low v (undone (array_was now.Restored slot a) w)) was
     (subst (λ l. Like base low v (undone (array_was now.Restored slot (get_or v.parts.arrays slot no_array))
     (with_array_stashes new (with_arrays l v)))) is (exchanged_like base low slot v x new there at)) in
-    c.in-Ok-note_array.ensures.notes k w m at.here.place
+    c.in_ok-note_array-2.ensures.notes k w m at.here.place
     (c.law.ensures.alike k v (undone (array_was now.Restored slot (array_of c.index-2.result.now)) w) m like h)

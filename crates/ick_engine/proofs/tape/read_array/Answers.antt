@@ -7,21 +7,21 @@ use Rattle.ick_engine.proofs.ArrayLists.{array_filled, all_read, put_back, put_s
 use Rattle.ick_engine.proofs.NotingLemmas.{noted_parts, array_noted}
 use Rattle.ick_engine.proofs.tape.read_array.Goals as goal
 
-pub returns-in-Ok-read_bytes-clause-read : goal.returns-in-Ok-read_bytes-clause-read
-returns-in-Ok-read_bytes-clause-read g c = grind (arith, common_steps, all_read, array_filled, get_or-map, map-set_same, with_items_is)
+pub returns-clause-read : goal.returns-clause-read
+returns-clause-read g c = grind (arith, common_steps, all_read, array_filled, get_or-map, map-set_same, with_items_is)
 
-pub returns-in_default-note_reading-clause-notes : goal.returns-in_default-note_reading-clause-notes
-returns-in_default-note_reading-clause-notes g c =
+pub returns-in_err-note_reading-clause-notes : goal.returns-in_err-note_reading-clause-notes
+returns-in_err-note_reading-clause-notes g c =
     let m = c.args.rest.now in
     let old = parts_of m in
     let r = c.index-array.result.now in
     noted_parts
     (array_noted c.note_reading.ensures.notes c.args.slot ((g.N.Notes.fixed c.args.notes.now).base) (array_of r)
-    c.in-Ok.ensures.noted.kept c.in-Ok.ensures.notes) old old
+    c.in_ok-note_array.ensures.noted.kept c.in_ok-note_array.ensures.notes) old old
     (ap (λ l. record old { arrays = l }) (put_same array_of m.arrays.items c.args.slot r c.index-array.ensures))
 
-pub returns-in-Ok-read_bytes-clause-notes : goal.returns-in-Ok-read_bytes-clause-notes
-returns-in-Ok-read_bytes-clause-notes g c =
+pub returns-clause-notes : goal.returns-clause-notes
+returns-clause-notes g c =
     let m = c.args.rest.now in
     let old = parts_of m in
     let all = m.arrays.items in
@@ -29,16 +29,16 @@ returns-in-Ok-read_bytes-clause-notes g c =
     let r = c.index-array.result.now in
     noted_parts
     (array_noted c.note_reading.ensures.notes slot ((g.N.Notes.fixed c.args.notes.now).base) (array_of r)
-    c.in-Ok.ensures.noted.kept c.in-Ok.ensures.notes) old _
+    c.in_ok-note_array.ensures.noted.kept c.in_ok-note_array.ensures.notes) old _
     (ap₂ (λ arrays hidden. record old { arrays = arrays; hidden = hidden })
     (put_back array_of all slot _ r c.index-array.ensures)
     (map-set_same is_hidden all slot _ c.index_mut-array.result.now (ap is_hidden c.index_mut-array.ensures.value)))
 
-pub returns-in-Ok-read_bytes-clause-others : goal.returns-in-Ok-read_bytes-clause-others
-returns-in-Ok-read_bytes-clause-others g c = search (rules, map-set_same, others_by)
+pub returns-clause-others : goal.returns-clause-others
+returns-clause-others g c = search (rules, map-set_same, others_by)
 
-pub returns-in-Err-clause-notes : goal.returns-in-Err-clause-notes
-returns-in-Err-clause-notes g c =
+pub returns-in_err-end-clause-notes : goal.returns-in_err-end-clause-notes
+returns-in_err-end-clause-notes g c =
     let m = c.args.rest.now in
     let old = parts_of m in
     let all = m.arrays.items in
@@ -46,10 +46,10 @@ returns-in-Err-clause-notes g c =
     let r = c.index-array.result.now in
     noted_parts
     (array_noted c.note_reading.ensures.notes slot ((g.N.Notes.fixed c.args.notes.now).base) (array_of r)
-    c.in-Ok.ensures.noted.kept c.in-Ok.ensures.notes) old _
+    c.in_ok-note_array.ensures.noted.kept c.in_ok-note_array.ensures.notes) old _
     (ap₂ (λ arrays hidden. record old { arrays = arrays; hidden = hidden })
     (put_back array_of all slot _ r c.index-array.ensures)
     (map-set_same is_hidden all slot _ c.index_mut-array.result.now (ap is_hidden c.index_mut-array.ensures.value)))
 
-pub returns-in-Err-clause-others : goal.returns-in-Err-clause-others
-returns-in-Err-clause-others g c = search (rules, map-set_same, others_by)
+pub returns-in_err-end-clause-others : goal.returns-in_err-end-clause-others
+returns-in_err-end-clause-others g c = search (rules, map-set_same, others_by)
