@@ -80,8 +80,7 @@ same_parts_refl p = record { others = refl; scalars = refl; arrays = refl }
 pub same_parts_trans : {p q r : Parts} → AreSame p q → AreSame q r → AreSame p r
 same_parts_trans a b = search rules
 
-map_used : {A B : Type 0} (f : A → Stash B) (xs : List A) →
-    map used_values (map f xs) ≡ map (λ x. used_values (f x)) xs
+map_used : {A B : Type 0} (f : A → Stash B) (xs : List A) → map used_values (map f xs) ≡ map (λ x. used_values (f x)) xs
 map_used f [] = refl
 map_used f (x ∷ xs) = ap (λ l. used_values (f x) ∷ l) (map_used f xs)
 

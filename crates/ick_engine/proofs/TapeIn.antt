@@ -18,8 +18,7 @@ next_numbers (suc n) lastin b [] rest is = absurd (cc)
 next_numbers (suc n) lastin b (a ∷ input) rest is =
     ap (λ l. tape_difference lastin a ∷ l) (next_numbers n a b input rest is)
 
-next_last : (n lastin b : ℕ) (input rest : List ℕ) → drop n input ≡ b ∷ rest →
-    last_read (suc n) lastin input ≡ b
+next_last : (n lastin b : ℕ) (input rest : List ℕ) → drop n input ≡ b ∷ rest → last_read (suc n) lastin input ≡ b
 next_last zero lastin b [] rest is = absurd (cc)
 next_last zero lastin b (a ∷ input) rest is = cc
 next_last (suc n) lastin b [] rest is = absurd (cc)

@@ -21,8 +21,7 @@ tape_after-append last (x ∷ vs) v = tape_after-append (tape_position last x) v
 low_position : (last v : ℕ) → tape_position last (v % 65536) ≡ tape_position last v
 low_position last v = let low : v % 65536 % 256 ≡ v % 256 = omega arith in ap (λ n. (last + (256 - n)) % 256) low
 
-next_taken : (vs : List ℕ) (at v : ℕ) → at < length vs → v ≡ get_or vs at v →
-    take (at + 1) vs ≡ take at vs ++ v ∷ []
+next_taken : (vs : List ℕ) (at v : ℕ) → at < length vs → v ≡ get_or vs at v → take (at + 1) vs ≡ take at vs ++ v ∷ []
 next_taken vs at v within read = grind (arith, common_steps)
 
 -- one more element

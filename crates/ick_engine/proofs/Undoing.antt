@@ -43,8 +43,7 @@ pub alike : {base deep : ℕ} {v w : View} → SameFirst base v.registers w.regi
 alike registers home statuses parts returns = search rules
 
 pub like_refl : (base deep : ℕ) (v : View) → Like base deep v v
-like_refl base deep v =
-    alike (first_refl base v.registers) refl refl (parts_refl v.parts) (first_refl deep v.returns)
+like_refl base deep v = alike (first_refl base v.registers) refl refl (parts_refl v.parts) (first_refl deep v.returns)
 
 pub like_moved : {base deep : ℕ} {v w : View} (place depth : ℕ) → Like base deep v w →
     Like base deep v (record w { place = place; depth = depth })

@@ -26,7 +26,6 @@ pub returns-in_default-clause-index : goal.returns-in_default-clause-index
 returns-in_default-clause-index c =
     let a = array_of c.args.array.now in
     let subs = values_of c.args.subscripts.now c.args.registers.now in
-    let count = count_is c.args.subscripts.now c.args.registers.now in
     let at = c.loop-at.at in
     let r = get_or c.args.subscripts.now c.loop-at.at 0 in
     ap (λ o. inside (length a.elements)
@@ -34,7 +33,7 @@ returns-in_default-clause-index c =
     ∙ ap (inside (length a.elements))
     (walk_next a.dimensions subs c.loop-at.offset at c.index.result.now (reg c.args.registers.now r) (Wide (reg c.args.registers.now r))
     (omega (arith, c.loop-at-test.true, c.if-len-subscripts.false, c.len.ensures, c.args.array.now.dimensions.ok.0))
-    (omega (arith, c.loop-at-test.true, count)) c.index.ensures
+    (omega (arith, c.loop-at-test.true, count_is c.args.subscripts.now c.args.registers.now)) c.index.ensures
     (value_at c.args.subscripts.now c.args.registers.now at c.loop-at-test.true) refl ∙ c.loop-at.invariant.walked)
     ∙ place_is a subs
 
@@ -43,9 +42,8 @@ returns-then-offset-ge-FAR-clause-index c =
     let a = array_of c.args.array.now in
     let subs = values_of c.args.subscripts.now c.args.registers.now in
     let at = c.loop-at.at in
-    let few = c.args.array.now.few in
     beyond c.loop-at.offset (drop at a.dimensions) (drop at subs) (length a.elements)
-    (omega (arith, c.if-offset-ge-FAR.true, few))
+    (omega (arith, c.if-offset-ge-FAR.true, c.args.array.now.few))
     ∙ ap (inside (length a.elements)) c.loop-at.invariant.walked
     ∙ place_is a subs
 
@@ -53,16 +51,14 @@ pub loop-at-preserved : goal.loop-at-preserved
 loop-at-preserved c =
     let a = array_of c.args.array.now in
     let subs = values_of c.args.subscripts.now c.args.registers.now in
-    let count = count_is c.args.subscripts.now c.args.registers.now in
     let at = c.loop-at.at in
     let ds = drop (at + 1) a.dimensions in
-    let vs = drop (at + 1) subs in
     let r = get_or c.args.subscripts.now c.loop-at.at 0 in
     record {
-      walked = ap (option_and_then (λ next. walk next ds vs)) (sym c.in-Some.is ∙ c.step.ensures)
+      walked = ap (option_and_then (λ next. walk next ds (drop (at + 1) subs))) (sym c.in-Some.is ∙ c.step.ensures)
           ∙ walk_next a.dimensions subs c.loop-at.offset at c.index.result.now (reg c.args.registers.now r) (Wide (reg c.args.registers.now r))
           (omega (arith, c.loop-at-test.true, c.if-len-subscripts.false, c.len.ensures, c.args.array.now.dimensions.ok.0))
-          (omega (arith, c.loop-at-test.true, count)) c.index.ensures
+          (omega (arith, c.loop-at-test.true, count_is c.args.subscripts.now c.args.registers.now)) c.index.ensures
           (value_at c.args.subscripts.now c.args.registers.now at c.loop-at-test.true) refl
           ∙ c.loop-at.invariant.walked;
     }
@@ -74,12 +70,11 @@ walked : (c : After-loop-at) →
 walked c =
     let a = array_of c.args.array.now in
     let subs = values_of c.args.subscripts.now c.args.registers.now in
-    let count = count_is c.args.subscripts.now c.args.registers.now in
     let high = c.loop-at-test.false in
     ap (inside (length a.elements))
     (walk_done a.dimensions subs c.loop-at.offset c.loop-at.at
     (omega (arith, high, c.if-len-subscripts.false, c.len.ensures, c.args.array.now.dimensions.ok.0))
-    (omega (arith, high, count))
+    (omega (arith, high, count_is c.args.subscripts.now c.args.registers.now))
     ∙ c.loop-at.invariant.walked)
     ∙ place_is a subs
 

@@ -10,7 +10,6 @@ pub returns-clause-notes : goal.returns-clause-notes
 returns-clause-notes g c = λ k v m same h.
     let all = c.args.arrays.now.items in
     let hidden = map is_hidden all in
-    let new = map is_hidden c.set_hidden.new.arrays.items in
     let slot = c.args.slot in
     let old = is_hidden c.index.result.now in
     let was : old ≡ get_or hidden slot false =
@@ -19,5 +18,5 @@ returns-clause-notes g c = λ k v m same h.
     ap (λ l. with_hidden (slice_set l slot old) v) c.set_hidden.ensures.hidden
     ∙ ap (λ b. with_hidden (slice_set (slice_set hidden slot c.args.on) slot b) v) was
     ∙ hidden_back v hidden slot c.args.on same in
-    c.note.ensures.notes k (with_hidden new v) m tt
+    c.note.ensures.notes k (with_hidden (map is_hidden c.set_hidden.new.arrays.items) v) m tt
     (subst (λ u. g.N.Notes.Undoes c.args.notes.now k u m) (sym back) h)

@@ -34,12 +34,11 @@ returns-in-None-clause-undone c =
 
 pub returns-in-Some-pop-clause-undone : goal.returns-in-Some-pop-clause-undone
 returns-in-Some-pop-clause-undone c =
-    let t = c.args.trail.now in
     let new = c.pop-in-Statuses.new.self in
     record {
       change = statuses_were c.in-Some-pop.old.items;
       off = λ older.
-          off_statuses t c.args.entry new.items c.in-Some-pop.old older c.in-Statuses.is
+          off_statuses c.args.trail.now c.args.entry new.items c.in-Some-pop.old older c.in-Statuses.is
           (c.pop-in-Statuses.ensures.items ∙ ap (λ o. new.items ++ option_to_list o) c.in-Some-pop.is);
       view_is = refl;
     }

@@ -20,9 +20,8 @@ returns-clause-saved g c =
     let array : array_of c.index.result.now ≡ get_or (map array_of arrays) c.args.slot no_array =
     ap array_of c.index.ensures
     ∙ sym (get_or-map array_of arrays c.args.slot c.index.result.now no_array c.requires.array) in
-    let old = map arrays_of c.args.stashes.now.items in
     let new = map arrays_of (slice_set c.args.stashes.now.items c.args.slot c.save.new.self) in
-    subst (λ x. ChangesAt c.args.slot (IsPutOn x) old new) array
+    subst (λ x. ChangesAt c.args.slot (IsPutOn x) (map arrays_of c.args.stashes.now.items) new) array
     (changes_at arrays_of (IsPutOn (array_of c.index.result.now)) c.args.stashes.now.items c.args.slot
     c.index_mut.result.now c.save.new.self c.requires.slot c.index_mut.ensures.value c.in_ok-save.ensures.ok)
 

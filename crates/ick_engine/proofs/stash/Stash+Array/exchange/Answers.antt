@@ -11,7 +11,6 @@ returns-clause-taken c =
     let items = stash.items.items in
     let at = stash.depth - 1 in
     let x = array_of c.swap.new.x in
-    let y = array_of c.swap.new.y in
     let next : stash.depth - 1 + 1 ≡ stash.depth = omega (arith, c.requires) in
     let low : stash.depth - 1 < length items = omega (arith, stash.there, c.requires) in
     let inside : stash.depth - 1 < length (map array_of items) = omega (arith, low, length-map items array_of) in
@@ -21,4 +20,4 @@ returns-clause-taken c =
     ∙ sym (get_or-map array_of items at c.index_mut.result.now x low) in
     subst (λ l. IsTakenOff x (arrays_of stash) (record { items = l; depth = at }))
     (sym (map-set array_of items at c.swap.new.y))
-    (take_replaced x y (arrays_of stash) at next inside is)
+    (take_replaced x (array_of c.swap.new.y) (arrays_of stash) at next inside is)
