@@ -6,7 +6,6 @@ use Rattle.std.proofs.lemmas.List.{take-take, length-map, map-set, get_or-map}
 use Rattle.std.proofs.lemmas.Simd.{map-map}
 use Rattle.ick_code.specs.meaning.State.{Array}
 use Rattle.ick_engine.specs.declared.change.ArrayChange.{ArrayChange}
-use Rattle.ick_engine.specs.declared.change.ArrayChange.TheVariants as now
 use Rattle.ick_engine.specs.declared.memory.Array.{Array as Kept}
 use Rattle.ick_engine.specs.declared.memory.Stash.{Stash as KeptStash}
 use Rattle.ick_engine.specs.View.{View, Parts, Stash, array_of, arrays_of, no_stash, stash_in, used}

@@ -1,4 +1,4 @@
-use Rattle.std.proofs.Common.{ap, map, take, rules}
+use Rattle.std.proofs.Common.{rules}
 use Rattle.std.proofs.lemmas.List.{take-map, take-take}
 use Rattle.ick_engine.proofs.Saving.{copied_next}
 use Rattle.ick_engine.proofs.copy.copy_array_stashes.Goals as goal

@@ -1,4 +1,4 @@
-use Rattle.std.proofs.Common.{take, rules}
+use Rattle.std.proofs.Common.{rules}
 use Rattle.std.proofs.lemmas.List.{take-take}
 use Rattle.ick_engine.proofs.Saving.{copied_next}
 use Rattle.ick_engine.proofs.copy.copy_number_stashes.Goals as goal

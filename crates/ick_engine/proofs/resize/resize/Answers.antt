@@ -1,4 +1,4 @@
-use Rattle.std.proofs.Common.{map, ap, ◌∙◌, rules}
+use Rattle.std.proofs.Common.{ap, ◌∙◌, rules}
 use Rattle.std.proofs.Math.Seq.{map-set_same}
 use Rattle.ick_engine.specs.View.{array_of, is_hidden}
 use Rattle.ick_engine.proofs.DimensionLemmas.{no_fault, array_sized, sized_back}

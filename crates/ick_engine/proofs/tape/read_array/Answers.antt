@@ -1,4 +1,4 @@
-use Rattle.std.proofs.Common.{map, get_or, ap, ap₂, arith, rules}
+use Rattle.std.proofs.Common.{ap, ap₂, arith, rules}
 use Rattle.std.proofs.lemmas.Grind.{common_steps}
 use Rattle.std.proofs.Math.Seq.{map-set_same}
 use Rattle.std.proofs.lemmas.List.{get_or-map, with_items_is}

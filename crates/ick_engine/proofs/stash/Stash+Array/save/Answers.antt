@@ -1,4 +1,4 @@
-use Rattle.std.proofs.Common.{ap, map, arith, length, rules}
+use Rattle.std.proofs.Common.{arith, rules}
 use Rattle.std.proofs.lemmas.Grind.{common_steps}
 use Rattle.std.proofs.lemmas.List.{map-set, length-map}
 use Rattle.ick_engine.proofs.StashLemmas.{stash_trans}

@@ -1,4 +1,4 @@
-use Rattle.std.proofs.Common.{◌-◌, Err, rules}
+use Rattle.std.proofs.Common.{rules}
 use Rattle.ick_engine.proofs.TextLemmas.{rest_of, word_line}
 use Rattle.ick_engine.proofs.text_reader.TextReaderReader.line.Goals as goal
 

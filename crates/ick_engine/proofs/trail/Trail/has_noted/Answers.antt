@@ -1,4 +1,4 @@
-use Rattle.std.proofs.Common.{◌-◌, rules}
+use Rattle.std.proofs.Common.{rules}
 use Rattle.std.proofs.lemmas.Bool.Decides.{nat_tests}
 use Rattle.ick_engine.proofs.Changes.{newest_register}
 use Rattle.ick_engine.proofs.trail.Trail.has_noted.Goals as goal
