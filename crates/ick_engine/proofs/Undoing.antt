@@ -8,9 +8,9 @@ use Rattle.ick_code.specs.meaning.State.{Array, no_array}
 use Rattle.ick_engine.specs.View.{View, Parts}
 use Rattle.ick_engine.specs.Undo.{Change, register_was, home_was, status_was, return_was, element_was, hidden_was}
 use Rattle.ick_engine.specs.Undo.{scalar_saved, scalar_taken, scalar_restored, array_saved, array_was, statuses_were, taken_was}
-use Rattle.ick_engine.specs.Undo.{output_was, last_was, lastin_was, no_change, undone, rewound, with_arrays, with_number, put_on, taken_off, at_slot}
+use Rattle.ick_engine.specs.Undo.{output_was, last_was, lastin_was, no_change, undone, rewound, with_arrays, with_number, put_on, at_slot}
 use Rattle.ick_engine.specs.Undo.{StashesLike, PartsLike, but_stashes, IsUndoable, SameFirst, Like, HighSame, Rewinds}
-use Rattle.ick_engine.proofs.StashLemmas.{parts_refl, taken_off_like, put_on_like, scalars_alike, arrays_alike, array_alike}
+use Rattle.ick_engine.proofs.StashLemmas.{parts_refl, taken_off_like, scalars_alike, arrays_alike}
 
 -- lists of which the first numbers are the same
 first_refl : (n : ℕ) (xs : List ℕ) → SameFirst n xs xs
@@ -84,43 +84,22 @@ noted base changes low low' k change u v m h back = grind (arith, common_steps)
 -- views that are alike are so after a change of both is undone
 pub undone_like : (base low : ℕ) (change : Change) (v w : View) → IsUndoable base change v → Like base low v w →
     Like base low (undone change v) (undone change w)
-undone_like base low (register_was at old) v w can l =
-    alike (first_set at old l.registers) l.home l.statuses l.parts l.returns
-undone_like base low (home_was at old) v w can l =
-    alike l.registers (ap (λ h. slice_set h at old) l.home) l.statuses l.parts l.returns
-undone_like base low (status_was at old) v w can l =
-    alike l.registers l.home (ap (λ s. slice_set s at old) l.statuses) l.parts l.returns
-undone_like base low (return_was at old) v w can l =
-    alike l.registers l.home l.statuses l.parts (first_set at old l.returns)
-undone_like base low (element_was slot at old) v w can l =
-    with_others l (ap {A = Parts} (λ p. record p { arrays = with_number p.arrays slot at old }) l.parts.others)
-    l.parts.scalars l.parts.arrays
-undone_like base low (hidden_was slot old) v w can l =
-    with_others l (ap {A = Parts} (λ p. record p { hidden = slice_set p.hidden slot old }) l.parts.others)
-    l.parts.scalars l.parts.arrays
-undone_like base low (scalar_saved slot) v w can l =
-    with_parts l (scalars_alike taken_off slot v.parts w.parts l.parts (taken_off_like (l.parts.scalars.each slot)))
-undone_like base low (scalar_taken slot number) v w can l =
-    with_parts l (scalars_alike (put_on number) slot v.parts w.parts l.parts
-    (put_on_like number can (l.parts.scalars.each slot)))
-undone_like base low (scalar_restored slot number old) v w can l =
-    alike (first_set slot old l.registers) l.home l.statuses
-    (scalars_alike (put_on number) slot v.parts w.parts l.parts (put_on_like number can.1 (l.parts.scalars.each slot)))
-    l.returns
-undone_like base low (array_saved slot) v w can l =
-    with_parts l (arrays_alike taken_off slot v.parts w.parts l.parts (taken_off_like (l.parts.arrays.each slot)))
-undone_like base low (array_was change slot old) v w can l =
-    with_parts l (array_alike base change slot old v w.parts l.parts can)
+undone_like base low (register_was at old) v w can l = grind (arith, common_steps)
+undone_like base low (home_was at old) v w can l = search rules
+undone_like base low (status_was at old) v w can l = search rules
+undone_like base low (return_was at old) v w can l = grind (arith, common_steps)
+undone_like base low (element_was slot at old) v w can l = search rules
+undone_like base low (hidden_was slot old) v w can l = search rules
+undone_like base low (scalar_saved slot) v w can l = grind (arith, common_steps, scalars_alike, taken_off_like, with_parts)
+undone_like base low (scalar_taken slot number) v w can l = grind (arith, common_steps)
+undone_like base low (scalar_restored slot number old) v w can l = grind (arith, common_steps)
+undone_like base low (array_saved slot) v w can l = grind (arith, common_steps, arrays_alike, taken_off_like, with_parts)
+undone_like base low (array_was change slot old) v w can l = grind (arith, common_steps)
 undone_like base low (statuses_were old) v w can l = alike l.registers l.home refl l.parts l.returns
-undone_like base low (taken_was old) v w can l =
-    with_others l (ap {A = Parts} (λ p. record p { taken = old }) l.parts.others) l.parts.scalars l.parts.arrays
-undone_like base low (output_was count) v w can l =
-    with_others l (ap {A = Parts} (λ p. record p { output = take count p.output }) l.parts.others)
-    l.parts.scalars l.parts.arrays
-undone_like base low (last_was old) v w can l =
-    with_others l (ap {A = Parts} (λ p. record p { last = old }) l.parts.others) l.parts.scalars l.parts.arrays
-undone_like base low (lastin_was old) v w can l =
-    with_others l (ap {A = Parts} (λ p. record p { lastin = old }) l.parts.others) l.parts.scalars l.parts.arrays
+undone_like base low (taken_was old) v w can l = search rules
+undone_like base low (output_was count) v w can l = search rules
+undone_like base low (last_was old) v w can l = search rules
+undone_like base low (lastin_was old) v w can l = search rules
 undone_like base low no_change v w can l = l
 
 undone_high : (base : ℕ) (change : Change) (v w : View) → IsUndoable base change v → HighSame base w (undone change w)
