@@ -5,11 +5,10 @@ use Rattle.std.specs.Prelude.{replicate, slice_set}
 use Rattle.std.proofs.lemmas.List.{take-take, length-map, map-set, get_or-map}
 use Rattle.std.proofs.lemmas.Simd.{map-map}
 use Rattle.ick_code.specs.meaning.State.{Array}
-use Rattle.ick_engine.specs.declared.change.ArrayChange.{ArrayChange}
 use Rattle.ick_engine.specs.declared.memory.Array.{Array as Kept}
 use Rattle.ick_engine.specs.declared.memory.Stash.{Stash as KeptStash}
-use Rattle.ick_engine.specs.View.{View, Parts, Stash, array_of, arrays_of, no_stash, stash_in, used}
-use Rattle.ick_engine.specs.Undo.{StashLike, PartsLike, IsUndoable, array_was, put_on, taken_off, at_slot, undone_array}
+use Rattle.ick_engine.specs.View.{Parts, Stash, array_of, arrays_of, no_stash, stash_in, used}
+use Rattle.ick_engine.specs.Undo.{StashLike, PartsLike, put_on, taken_off, at_slot}
 
 pub stash_trans : {A : Type 0} {a b c : Stash A} → StashLike a b → StashLike b c → StashLike a c
 stash_trans p q = search rules
@@ -28,10 +27,6 @@ fewer_used n xs ys same =
 
 pub taken_off_like : {A : Type 0} {a b : Stash A} → StashLike a b → StashLike (taken_off a) (taken_off b)
 taken_off_like {a} {b} p = search (rules, fewer_used)
-
-pub put_on_like : {A : Type 0} {a b : Stash A} (x : A) → a.depth < length a.items → StashLike a b →
-    StashLike (put_on x a) (put_on x b)
-put_on_like x low p = grind (arith, common_steps)
 
 -- the values of all stashes
 pub used_same : {A : Type 0} (xs ys : List (Stash A)) → length ys ≡ length xs →
@@ -59,11 +54,6 @@ pub arrays_alike : (f : Stash Array → Stash Array) (slot : ℕ) (p q : Parts) 
     PartsLike (record p { array_stashes = at_slot f slot p.array_stashes })
     (record q { array_stashes = at_slot f slot q.array_stashes })
 arrays_alike f slot p q like one = grind (arith, common_steps)
-
-pub array_alike : (base : ℕ) (change : ArrayChange) (slot : ℕ) (old : Array) (v : View) (q : Parts) →
-    PartsLike v.parts q → IsUndoable base (array_was change slot old) v →
-    PartsLike (undone_array change slot old v.parts) (undone_array change slot old q)
-array_alike = grind (arith, common_steps)
 
 -- the values of a stash as others
 abbrev pub seen : {A B : Type 0} → (A → B) → Stash A → Stash B

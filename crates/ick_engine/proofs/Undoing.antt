@@ -9,7 +9,7 @@ use Rattle.ick_engine.specs.View.{View, Parts}
 use Rattle.ick_engine.specs.Undo.{Change, register_was, home_was, status_was, return_was, element_was, hidden_was}
 use Rattle.ick_engine.specs.Undo.{scalar_saved, scalar_taken, scalar_restored, array_saved, array_was, statuses_were, taken_was}
 use Rattle.ick_engine.specs.Undo.{output_was, last_was, lastin_was, no_change, undone, rewound, with_arrays, with_number, put_on, at_slot}
-use Rattle.ick_engine.specs.Undo.{StashesLike, PartsLike, but_stashes, IsUndoable, SameFirst, Like, HighSame, Rewinds}
+use Rattle.ick_engine.specs.Undo.{PartsLike, IsUndoable, SameFirst, Like, HighSame, Rewinds}
 use Rattle.ick_engine.proofs.StashLemmas.{parts_refl, taken_off_like, scalars_alike, arrays_alike}
 
 -- lists of which the first numbers are the same
@@ -33,10 +33,6 @@ set_same : (xs ys : List ℕ) (at n r : ℕ) → length ys ≡ length xs → get
     get_or (slice_set ys at n) r 0 ≡ get_or (slice_set xs at n) r 0
 set_same = grind (arith, common_steps)
 
-first_set : {n : ℕ} {xs ys : List ℕ} (at number : ℕ) → SameFirst n xs ys →
-    SameFirst n (slice_set xs at number) (slice_set ys at number)
-first_set {n} {xs} {ys} at number s = grind (arith, common_steps)
-
 -- views that are alike
 pub alike : {base deep : ℕ} {v w : View} → SameFirst base v.registers w.registers → w.home ≡ v.home →
     w.statuses ≡ v.statuses → PartsLike v.parts w.parts → SameFirst deep v.returns w.returns → Like base deep v w
@@ -52,11 +48,6 @@ like_moved place depth a = alike a.registers a.home a.statuses a.parts a.returns
 with_parts : {base deep : ℕ} {v w : View} {p q : Parts} → Like base deep v w → PartsLike p q →
     Like base deep (record v { parts = p }) (record w { parts = q })
 with_parts l parts = alike l.registers l.home l.statuses parts l.returns
-
-with_others : {base deep : ℕ} {v w : View} {p q : Parts} → Like base deep v w → but_stashes q ≡ but_stashes p →
-    StashesLike p.scalar_stashes q.scalar_stashes → StashesLike p.array_stashes q.array_stashes →
-    Like base deep (record v { parts = p }) (record w { parts = q })
-with_others l others scalars arrays = with_parts l (record { others = others; scalars = scalars; arrays = arrays })
 
 -- what can be undone from a view can be undone from each one like it
 pub alike_rewinds : {base low k : ℕ} {changes : List Change} {v w m : View} → Like base low v w →
