@@ -28,11 +28,6 @@ first_more : (at n : ℕ) (xs ys : List ℕ) → n ≡ at + 1 → at < length xs
     SameFirst n xs (slice_set ys at (get_or xs at 0))
 first_more at n xs ys next there s = search rules
 
--- a number is set in both
-set_same : (xs ys : List ℕ) (at n r : ℕ) → length ys ≡ length xs → get_or ys r 0 ≡ get_or xs r 0 →
-    get_or (slice_set ys at n) r 0 ≡ get_or (slice_set xs at n) r 0
-set_same = grind (arith, common_steps)
-
 -- views that are alike
 pub alike : {base deep : ℕ} {v w : View} → SameFirst base v.registers w.registers → w.home ≡ v.home →
     w.statuses ≡ v.statuses → PartsLike v.parts w.parts → SameFirst deep v.returns w.returns → Like base deep v w
