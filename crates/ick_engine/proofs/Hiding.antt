@@ -1,6 +1,5 @@
 -- Arrays that are ignored.
-use Rattle.std.proofs.Common.{◌≡◌, ℕ, Bool, false, List, get_or, rules}
-use Rattle.std.specs.Prelude.{slice_set}
+use Rattle.std.proofs.Common.{◌≡◌, ℕ, Bool, false, List, get_or, rules, slice_set}
 use Rattle.std.proofs.lemmas.List.{set-set, set-get_or}
 use Rattle.ick_engine.specs.Undo.{with_hidden}
 use Rattle.ick_engine.specs.View.{View}

@@ -1,7 +1,6 @@
 -- Changes of parts that were noted.
-use Rattle.std.proofs.Common.{◌≡◌, ℕ, Bool, List, rules, arith}
+use Rattle.std.proofs.Common.{◌≡◌, ℕ, Bool, List, rules, arith, slice_set}
 use Rattle.std.proofs.lemmas.Grind.{common_steps}
-use Rattle.std.specs.Prelude.{slice_set}
 use Rattle.ick_code.specs.meaning.State.{Array}
 use Rattle.ick_instructions.specs.Extends.{Extends}
 use Rattle.ick_engine.specs.declared.change.ArrayChange.TheVariants.{Replaced}

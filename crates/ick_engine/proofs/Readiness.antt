@@ -1,6 +1,5 @@
 -- That a run can go on is a proposition, and states are a set: what is known of either comes out of a truncation.
-use Rattle.std.proofs.Common.{◌≡◌, ℕ, ◌<◌, List, [], ◌∷◌, inl, inr, ap, arith}
-use Rattle.std.specs.Prelude.{◌⊎◌}
+use Rattle.std.proofs.Common.{◌≡◌, ℕ, ◌<◌, List, [], ◌∷◌, inl, inr, ap, arith, ◌⊎◌}
 use Rattle.std.proofs.Props.{props}
 use mathlib.Core.Logic.{∥∥₁_elim}
 use mathlib.Core.Path.{fun_ext}

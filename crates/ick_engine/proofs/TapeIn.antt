@@ -1,7 +1,6 @@
 -- Bytes that are read into elements.
-use Rattle.std.proofs.Common.{◌≡◌, ℕ, zero, suc, ◌+◌, ◌<◌, Bool, true, false, List, [], ◌∷◌, ◌++◌}
+use Rattle.std.proofs.Common.{◌≡◌, ℕ, zero, suc, ◌+◌, ◌<◌, Bool, true, false, List, [], ◌∷◌, ◌++◌, slice_set, if◌then◌else◌}
 use Rattle.std.proofs.Common.{length, drop, Option, Some, None, refl, sym, ap, ap₂, ◌∙◌, arith, length-drop}
-use Rattle.std.specs.Prelude.{slice_set, if◌then◌else◌}
 use Rattle.std.proofs.lemmas.List.{drop-drop}
 use Rattle.ick_bits.specs.Tape.{tape_difference}
 use Rattle.ick_code.specs.meaning.Tape.{tape_numbers, last_read}

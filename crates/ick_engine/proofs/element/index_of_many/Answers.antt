@@ -1,5 +1,4 @@
-use Rattle.std.proofs.Common.{◌≡◌, ℕ, ◌+◌, ◌<◌, List, length, drop, get_or, Some, refl, ap, ◌∙◌, sym, arith, rules}
-use Rattle.std.specs.Prelude.{option_and_then}
+use Rattle.std.proofs.Common.{◌≡◌, ℕ, ◌+◌, ◌<◌, List, length, drop, get_or, Some, refl, ap, ◌∙◌, sym, arith, rules, option_and_then}
 use Rattle.std.proofs.lemmas.List.{length-map, get_or-map}
 use Rattle.ick_bits.specs.Values.{Wide}
 use Rattle.ick_code.specs.meaning.Value.{element_offset}

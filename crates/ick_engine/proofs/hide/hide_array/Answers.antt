@@ -1,5 +1,4 @@
-use Rattle.std.proofs.Common.{◌≡◌, ap, sym, ◌∙◌, subst, map, get_or, false}
-use Rattle.std.specs.Prelude.{slice_set}
+use Rattle.std.proofs.Common.{◌≡◌, ap, sym, ◌∙◌, subst, map, get_or, false, slice_set}
 use Rattle.std.proofs.lemmas.List.{get_or-map}
 use Rattle.ick_engine.specs.Undo.{with_hidden}
 use Rattle.ick_engine.specs.View.{is_hidden}

@@ -1,5 +1,4 @@
-use Rattle.std.proofs.Common.{ap, ◌∙◌, map}
-use Rattle.std.specs.Prelude.{slice_set}
+use Rattle.std.proofs.Common.{ap, ◌∙◌, map, slice_set}
 use Rattle.std.proofs.Math.Seq.{map-set_same}
 use Rattle.std.proofs.lemmas.List.{map-set}
 use Rattle.ick_engine.specs.View.{array_of, is_hidden}

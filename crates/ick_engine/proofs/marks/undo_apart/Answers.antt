@@ -1,5 +1,4 @@
-use Rattle.std.proofs.Common.{refl, ap, ◌∙◌, ◌++◌, arith, length, ◌≤◌}
-use Rattle.std.specs.Prelude.{option_to_list}
+use Rattle.std.proofs.Common.{refl, ap, ◌∙◌, ◌++◌, arith, length, ◌≤◌, option_to_list}
 use Rattle.ick_engine.specs.Memory.{view_in}
 use Rattle.ick_engine.specs.Undo.{array_was, statuses_were, no_change}
 use Rattle.ick_engine.specs.View.{View, Parts, array_of}

@@ -1,5 +1,4 @@
-use Rattle.std.proofs.Common.{◌≡◌, drop, take}
-use Rattle.std.specs.Prelude.{reverse, vec_len}
+use Rattle.std.proofs.Common.{◌≡◌, drop, take, reverse, vec_len}
 use Rattle.ick_engine.specs.TrailChanges.{changes_in}
 use Rattle.ick_engine.specs.Memory.{view_in}
 use Rattle.ick_engine.specs.Undo.{HighSame, Like, Rewinds, rewound}

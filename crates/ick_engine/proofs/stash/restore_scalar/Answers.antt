@@ -1,5 +1,4 @@
-use Rattle.std.proofs.Common.{subst, map, get_or, rules}
-use Rattle.std.specs.Prelude.{slice_set}
+use Rattle.std.proofs.Common.{subst, map, get_or, rules, slice_set}
 use Rattle.ick_engine.specs.Stashes.{IsTakenOff, ChangesAt}
 use Rattle.ick_engine.specs.Undo.{with_scalar_stashes}
 use Rattle.ick_engine.specs.View.{Parts, no_stash, numbers_of}

@@ -1,5 +1,4 @@
-use Rattle.std.proofs.Common.{◌≡◌, ap, sym, ◌∙◌, subst, map, get_or, rules}
-use Rattle.std.specs.Prelude.{slice_set}
+use Rattle.std.proofs.Common.{◌≡◌, ap, sym, ◌∙◌, subst, map, get_or, rules, slice_set}
 use Rattle.std.proofs.lemmas.List.{get_or-map}
 use Rattle.ick_code.specs.meaning.State.{no_array}
 use Rattle.ick_engine.specs.Stashes.{IsPutOn, ChangesAt}

@@ -1,5 +1,4 @@
-use Rattle.std.proofs.Common.{map, rules}
-use Rattle.std.specs.Prelude.{slice_set}
+use Rattle.std.proofs.Common.{map, rules, slice_set}
 use Rattle.ick_engine.specs.Stashes.{IsPutOn, ChangesAt}
 use Rattle.ick_engine.specs.Undo.{with_scalar_stashes}
 use Rattle.ick_engine.specs.View.{numbers_of}

@@ -1,5 +1,4 @@
-use Rattle.std.proofs.Common.{◌<◌, length, ap, ◌∙◌, arith}
-use Rattle.std.specs.Prelude.{slice_set, if◌then◌else◌}
+use Rattle.std.proofs.Common.{◌<◌, length, ap, ◌∙◌, arith, slice_set, if◌then◌else◌}
 use Rattle.ick_engine.proofs.TapeIn.{read_next}
 use Rattle.ick_engine.proofs.tape.read_bytes.Goals as goal
 

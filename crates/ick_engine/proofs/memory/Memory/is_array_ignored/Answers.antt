@@ -1,5 +1,4 @@
-use Rattle.std.proofs.Common.{◌==◌, false, ap, ◌∙◌, map, arith}
-use Rattle.std.specs.Prelude.{if◌then◌else◌}
+use Rattle.std.proofs.Common.{◌==◌, false, ap, ◌∙◌, map, arith, if◌then◌else◌}
 use Rattle.ick_engine.specs.View.{array_names, scalar_names, is_hidden, map_of, dump_of}
 use Rattle.ick_engine.proofs.Maps.{map_of-map, array_kind}
 use Rattle.ick_engine.proofs.memory.Memory.is_array_ignored.Goals as goal

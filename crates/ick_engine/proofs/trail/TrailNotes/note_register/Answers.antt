@@ -1,5 +1,4 @@
-use Rattle.std.proofs.Common.{sym, subst, arith}
-use Rattle.std.specs.Prelude.{slice_set}
+use Rattle.std.proofs.Common.{sym, subst, arith, slice_set}
 use Rattle.ick_engine.specs.TrailChanges.{changes_in, UndoesBy}
 use Rattle.ick_engine.proofs.Undoing.{keeps_register, register_back}
 use Rattle.ick_engine.proofs.trail.TrailNotes.note_register.Goals as goal
