@@ -4,6 +4,7 @@ use Rattle.std.proofs.lemmas.Grind.{common_steps}
 use Rattle.std.proofs.Common.{length, take, drop, get_or, map, arith, if◌then◌else◌}
 use Rattle.ick_syntax.specs.declared.tree.Name.{Name}
 use Rattle.std.proofs.lemmas.List.{length-append, length-drop, map-append, length-take-le, get_or-map, length-map}
+use Rattle.std.proofs.lemmas.Simd.{map-map}
 use Rattle.std.proofs.Math.Seq.{take-suc}
 use Rattle.ick_code.specs.meaning.State.{same_name}
 use Rattle.ick_code.specs.declared.code.Code.{Code}
@@ -80,10 +81,6 @@ same_parts_refl p = record { others = refl; scalars = refl; arrays = refl }
 pub same_parts_trans : {p q r : Parts} → AreSame p q → AreSame q r → AreSame p r
 same_parts_trans a b = search rules
 
-map_used : {A B : Type 0} (f : A → Stash B) (xs : List A) → map used_values (map f xs) ≡ map (λ x. used_values (f x)) xs
-map_used f [] = refl
-map_used f (x ∷ xs) = ap (λ l. used_values (f x) ∷ l) (map_used f xs)
-
 as_many : {A : Type 0} (new old : List (Stash A)) → map used_values new ≡ map used_values old → length new ≡ length old
 as_many new old same = sym (length-map new used_values) ∙ ap length same ∙ length-map old used_values
 
@@ -92,7 +89,7 @@ pub rest_same : (p q : Rest) → map array_of q.arrays.items ≡ map array_of p.
     map numbers_on q.scalar_stashes.items ≡ map numbers_on p.scalar_stashes.items →
     map arrays_on q.array_stashes.items ≡ map arrays_on p.array_stashes.items → q.taken ≡ p.taken →
     q.output.items ≡ p.output.items → q.last ≡ p.last → q.lastin ≡ p.lastin → AreSame (parts_of p) (parts_of q)
-rest_same p q arrays hidden numbers stashed taken output last lastin = search (rules, map_used)
+rest_same p q arrays hidden numbers stashed taken output last lastin = search (rules, map-map)
 
 -- the first values of a list are those that names lead to
 map_first : {A : Type 0} (names : List Name) (n : ℕ) (xs : List A) (none : A) (name : Name) → length names ≤ n →

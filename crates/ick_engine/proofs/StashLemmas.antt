@@ -87,10 +87,11 @@ arrays_put old new slot x is =
     ∙ seen_at array_of (put_on x) (put_on (array_of x)) slot (map stash_in old) (seen_put array_of x)
     ∙ ap (at_slot (put_on (array_of x)) slot) (sym (arrays_seen old))
 
-none_seen : {A B : Type 0} (f : A → B) (n : ℕ) → map (seen f) (replicate n no_stash) ≡ replicate n no_stash
-none_seen f zero = refl
-none_seen f (suc n) = ap (λ l. no_stash ∷ l) (none_seen f n)
+-- a list of equal values, mapped
+pub map_replicate : {A B : Type 0} (f : A → B) (n : ℕ) (x : A) → map f (replicate n x) ≡ replicate n (f x)
+map_replicate f zero x = refl
+map_replicate f (suc n) x = ap (λ l. f x ∷ l) (map_replicate f n x)
 
 pub arrays_empty : (xs : List (KeptStash Kept)) (n : ℕ) → map stash_in xs ≡ replicate n no_stash →
     map arrays_of xs ≡ replicate n no_stash
-arrays_empty xs n is = arrays_seen xs ∙ ap (map (seen array_of)) is ∙ none_seen array_of n
+arrays_empty xs n is = arrays_seen xs ∙ ap (map (seen array_of)) is ∙ map_replicate (seen array_of) n no_stash

@@ -2,6 +2,7 @@
 use Rattle.std.proofs.Common.{◌≡◌, ℕ, zero, suc, ◌+◌, ◌<◌, Bool, true, false, List, [], ◌∷◌, ◌++◌, slice_set, if◌then◌else◌}
 use Rattle.std.proofs.Common.{length, drop, Option, Some, None, refl, sym, ap, ap₂, ◌∙◌, arith, length-drop}
 use Rattle.std.proofs.lemmas.List.{drop-drop}
+use Rattle.std.proofs.Math.Seq.{drop-nil}
 use Rattle.ick_bits.specs.Tape.{tape_difference}
 use Rattle.ick_code.specs.meaning.Tape.{tape_numbers, last_read}
 use Rattle.ick_engine.specs.View.{Input}
@@ -30,15 +31,11 @@ next_rest (suc n) b [] rest is = absurd (cc)
 next_rest (suc n) b (a ∷ input) rest is = next_rest n b input rest is
 
 -- and past the end
-drop_none : (n : ℕ) → drop {A = ℕ} n [] ≡ []
-drop_none zero = refl
-drop_none (suc n) = refl
-
 end_numbers : (n lastin : ℕ) (input : List ℕ) → drop n input ≡ [] →
     tape_numbers (suc n) lastin input ≡ tape_numbers n lastin input ++ 256 ∷ []
 end_numbers zero lastin [] is = refl
 end_numbers zero lastin (a ∷ input) is = absurd (cc)
-end_numbers (suc n) lastin [] is = ap (λ l. 256 ∷ l) (end_numbers n lastin [] (drop_none n))
+end_numbers (suc n) lastin [] is = ap (λ l. 256 ∷ l) (end_numbers n lastin [] (drop-nil n))
 end_numbers (suc n) lastin (a ∷ input) is = ap (λ l. tape_difference lastin a ∷ l) (end_numbers n a input is)
 
 end_last : (n lastin : ℕ) (input : List ℕ) → drop n input ≡ [] →
