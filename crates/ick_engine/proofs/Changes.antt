@@ -1,5 +1,5 @@
 -- The changes that a trail has.
-use Rattle.std.proofs.Common.{arith, ◌≤◌, ◌≡◌, ℕ, suc, false, List, [], ◌∷◌, ◌++◌, refl, ap, sym, ◌∙◌, get_or, length, map, reverse, take, take_all, rules}
+use Rattle.std.proofs.Common.{arith, ◌≤◌, ◌≡◌, ℕ, suc, false, List, [], ◌∷◌, ◌++◌, refl, ap, get_or, length, map, reverse, take, take_all, rules}
 use Rattle.std.proofs.lemmas.Grind.{common_steps}
 use Rattle.std.specs.Global.{Vec}
 use Rattle.std.proofs.lemmas.List.{reverse-append, length-reverse, length-take-le, take-append-le}
@@ -84,8 +84,7 @@ newest_register t n at old e count is newer =
     let all = t.entries.items in
     let rest = take n all in
     let behind : all ≡ rest ++ entry.Register at old ∷ [] =
-    sym (take_all (suc n) all (omega (arith, count))) ∙ take-suc all n e (omega (arith, count))
-    ∙ ap (λ x. rest ++ x ∷ []) is in
+    cc (take_all (suc n) all (omega (arith, count)), take-suc all n e (omega (arith, count)), is) in
     record {
       older = reverse (changes_by t (reverse rest));
       old = old;

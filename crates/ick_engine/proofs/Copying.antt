@@ -20,9 +20,7 @@ pub record IsCopy (one copy : Saved) : Type 0 where
 
 pub copy_kept : (code : Code) (lowered : LoweredParts) (one copy : Saved) → IsCopy one copy →
     IsKept code lowered one → IsKept code lowered copy
-copy_kept code lowered one copy is kept =
-    ∥∥₁_elim kept (hlevel props)
-    (λ k. let was = k.2 in
+copy_kept code lowered one copy is kept = ∥∥₁_elim kept (hlevel props) (λ k. let was = k.2 in
     ∣ (
       k.0,
       k.1,

@@ -36,8 +36,7 @@ module _ {N : Type 0} {Undoes : N → ℕ → View → View → Type 0} {low : N
 module _ {N : Type 0} {Undoes : N → ℕ → View → View → Type 0} {low : N → ℕ} {fixed : N → Fixed}
     {changes : N → List Change} {first mid last : N} {old new : Parts} (noted : NotesParts Undoes low fixed changes first mid old new) where
   pub arrays_noted : (arrays : List Array) (hidden : List Bool) → KeepsNotes low fixed changes mid last →
-      hidden ≡ new.hidden →
-      ((k : ℕ) (v m : View) → v.parts.arrays ≡ new.arrays → Undoes mid k v m →
+      hidden ≡ new.hidden → ((k : ℕ) (v m : View) → v.parts.arrays ≡ new.arrays → Undoes mid k v m →
       Undoes last k (with_arrays arrays v) m) →
       NotesParts Undoes low fixed changes first last old (record new { arrays = arrays; hidden = hidden })
   arrays_noted arrays hidden more kept change = grind (arith, common_steps)

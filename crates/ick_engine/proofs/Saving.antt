@@ -29,10 +29,7 @@ copied_next f xs copies copies' at x y within read pushed same done =
     let there : get_or (map f xs) at (f y) ≡ f y = get_or-map f xs at y (f y) within ∙ ap f (sym read) in
     let inside : at < length (map f xs) = subst (λ n. at < n) (sym (length-map xs f)) within in
     let one : suc at ≡ at + 1 = omega arith in
-    ap (map f) pushed ∙ map-append f copies (x ∷ [])
-    ∙ ap (λ l. l ++ f x ∷ []) done
-    ∙ ap (λ z. take at (map f xs) ++ z ∷ []) (same ∙ sym there)
-    ∙ sym (take-suc (map f xs) at (f y) inside) ∙ ap (λ n. take n (map f xs)) one
+    cc (pushed, map-append f copies (x ∷ []), done, same, there, take-suc (map f xs) at (f y) inside, one)
 
 -- lists that are compared value by value
 pub compared_next : {A B : Type 0} (f : A → B) (xs ys : List A) (at : ℕ) (x y : A) → at < length xs →
@@ -162,12 +159,9 @@ module _ (code : Code) (lowered : LoweredParts) (is : IsProgram code lowered) wh
         m' = record m { parts = new.parts }
 
         like : Like base m.depth m' new
-        like =
-            alike
-            (first_put base m.registers old.registers new.registers registers
+        like = alike (first_put base m.registers old.registers new.registers registers
             (put_count first old.registers first_low ∙ was.registers ∙ sym marked.steady.registers) first_count)
-            home statuses (parts_same refl)
-            (first_put m.depth m.returns old.returns new.returns returns
+            home statuses (parts_same refl) (first_put m.depth m.returns old.returns new.returns returns
             (put_count used old.returns used_low ∙ was.returns ∙ sym marked.steady.returns) used_count)
 
         high : HighSame base old new

@@ -35,8 +35,7 @@ used_same [] [] count each = refl
 used_same [] (b ∷ ys) count each = absurd (omega (arith, count))
 used_same (a ∷ xs) [] count each = absurd (omega (arith, count))
 used_same (a ∷ xs) (b ∷ ys) count each =
-    ap (λ l. l ∷ map used ys) (each 0).values
-    ∙ ap (λ l. used a ∷ l) (used_same xs ys (omega (arith, count)) (λ k. each (suc k)))
+    cc ((each 0).values, used_same xs ys (omega (arith, count)) (λ k. each (suc k)))
 
 pub set_at : {A B : Type 0} (g : B → Stash A) (f : Stash A → Stash A) (xs : List B) (slot : ℕ) (old new : B) →
     slot < length xs → old ≡ get_or xs slot old → g new ≡ f (g old) → map g (slice_set xs slot new) ≡ at_slot f slot (map g xs)
@@ -75,17 +74,13 @@ arrays_seen xs = sym (map-map (seen array_of) stash_in xs)
 pub arrays_dropped : (old new : List (KeptStash Kept)) (slot : ℕ) →
     map stash_in new ≡ at_slot taken_off slot (map stash_in old) → map arrays_of new ≡ at_slot taken_off slot (map arrays_of old)
 arrays_dropped old new slot is =
-    arrays_seen new ∙ ap (map (seen array_of)) is
-    ∙ seen_at array_of taken_off taken_off slot (map stash_in old) (λ s. refl)
-    ∙ ap (at_slot taken_off slot) (sym (arrays_seen old))
+    cc (arrays_seen new, is, seen_at array_of taken_off taken_off slot (map stash_in old) (λ s. refl), arrays_seen old)
 
 pub arrays_put : (old new : List (KeptStash Kept)) (slot : ℕ) (x : Kept) →
     map stash_in new ≡ at_slot (put_on x) slot (map stash_in old) →
     map arrays_of new ≡ at_slot (put_on (array_of x)) slot (map arrays_of old)
 arrays_put old new slot x is =
-    arrays_seen new ∙ ap (map (seen array_of)) is
-    ∙ seen_at array_of (put_on x) (put_on (array_of x)) slot (map stash_in old) (seen_put array_of x)
-    ∙ ap (at_slot (put_on (array_of x)) slot) (sym (arrays_seen old))
+    cc (arrays_seen new, is, seen_at array_of (put_on x) (put_on (array_of x)) slot (map stash_in old) (seen_put array_of x), arrays_seen old)
 
 -- a list of equal values, mapped
 pub map_replicate : {A B : Type 0} (f : A → B) (n : ℕ) (x : A) → map f (replicate n x) ≡ replicate n (f x)

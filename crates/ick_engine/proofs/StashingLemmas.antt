@@ -1,7 +1,7 @@
 -- Values that are put on stashes and taken off.
-use Rattle.std.proofs.Common.{◌≡◌, ℕ, ◌+◌, ◌-◌, ◌<◌, List, refl, ap, sym, ◌∙◌, subst, rules, length, map, get_or, arith, true}
+use Rattle.std.proofs.Common.{◌≡◌, ℕ, ◌+◌, ◌-◌, ◌<◌, List, refl, ap, sym, ◌∙◌, rules, length, map, get_or, arith, true}
 use Rattle.std.proofs.lemmas.Grind.{common_steps}
-use Rattle.std.specs.Prelude.{nat_lt, Result, Ok, Err, OnErr, slice_set, if◌then◌else◌}
+use Rattle.std.specs.Prelude.{nat_lt, Result, Ok, Err, OnErr, slice_set}
 use Rattle.std.proofs.lemmas.Bool.Decides.{nat_tests}
 use Rattle.std.proofs.lemmas.List.{length-set, length-map, map-set, get_or-map, set-set, set-get_or, get_or-set_same}
 use Rattle.ick_code.specs.meaning.State.{Array, no_array}
@@ -10,8 +10,8 @@ use Rattle.ick_engine.specs.declared.memory.Array.{Array as Kept}
 use Rattle.ick_engine.specs.declared.memory.Stash.{Stash as KeptStash}
 use Rattle.ick_engine.specs.Stashes.{IsPutOn, IsTakenOff, ChangesAt, IsRestoredTo}
 use Rattle.ick_engine.specs.Undo.{StashLike, StashesLike, Like, put_on, taken_off, at_slot, with_array_stashes}
-use Rattle.ick_engine.specs.Undo.{with_arrays, with_scalar_stashes, array_was, given_back, undone}
-use Rattle.ick_engine.specs.View.{View, Parts, Stash, array_of, arrays_of, no_stash, stash_in}
+use Rattle.ick_engine.specs.Undo.{with_arrays, with_scalar_stashes, array_was, undone}
+use Rattle.ick_engine.specs.View.{View, Stash, array_of, arrays_of, no_stash, stash_in}
 use Rattle.ick_engine.proofs.StashLemmas.{seen}
 
 -- a value goes to spare room
@@ -38,9 +38,7 @@ changes_at g P xs slot old new low is h = search (rules, get_or-map, get_or-set_
 pub kept_at : {A B : Type 0} (g : B → A) (xs : List B) (slot : ℕ) (old new : B) (none : A) → slot < length xs →
     old ≡ get_or xs slot old → g new ≡ g old → map g (slice_set xs slot new) ≡ map g xs
 kept_at g xs slot old new none low is same =
-    map-set g xs slot new
-    ∙ ap (slice_set (map g xs) slot) (same ∙ ap g is ∙ sym (get_or-map g xs slot old none low))
-    ∙ set-get_or (map g xs) slot none
+    cc (map-set g xs slot new, same, is, get_or-map g xs slot old none low, set-get_or (map g xs) slot none)
 
 -- one of many stashes is like it was
 pub set_like : {A : Type 0} (xs : List (Stash A)) (slot : ℕ) (y : Stash A) → StashLike (get_or xs slot no_stash) y →
@@ -106,29 +104,22 @@ drops_at xs slot stash met new e low is met_is new_is some e_is =
     let inside : at < length stash.items.items = omega (arith, stash.there, some) in
     let inside' : at < length (map array_of stash.items.items) = omega (arith, inside, length-map stash.items.items array_of) in
     changes_at arrays_of (IsTakenOff x) xs slot stash new low is
-    (subst (IsTakenOff x (arrays_of stash)) (sym (ap (seen array_of) new_is ∙ ap (λ s. taken_off (arrays_of s)) same))
+    (rw (ap (seen array_of) new_is ∙ ap (λ s. taken_off (arrays_of s)) same)
     (take_newest x (arrays_of stash) at next inside'
     (ap array_of e_is ∙ sym (get_or-map array_of stash.items.items at e x inside))))
 
 -- an array that was exchanged for the newest one of its stash
 pub exchanged_like : (base low slot : ℕ) (v : View) (x : Array) (new : List (Stash Array)) → slot < length v.parts.arrays →
     ChangesAt slot (IsTakenOff x) v.parts.array_stashes new →
-    Like base low v
-    (undone (array_was now.Restored slot (get_or v.parts.arrays slot no_array))
+    Like base low v (undone (array_was now.Restored slot (get_or v.parts.arrays slot no_array))
     (with_array_stashes new (with_arrays (slice_set v.parts.arrays slot x) v)))
 exchanged_like base low slot v x new there h =
     let arrays = v.parts.arrays in
     let old = get_or arrays slot no_array in
     let changed = slice_set arrays slot x in
-    let p : Parts = record v.parts { arrays = changed; array_stashes = new } in
     let within : nat_lt slot (length changed) ≡ true =
     grind (arith, nat_tests, length-set arrays slot x, there) in
     let back : slice_set changed slot old ≡ arrays = set-set arrays slot x old ∙ set-get_or arrays slot no_array in
     let present : get_or changed slot no_array ≡ x = get_or-set_same arrays slot x no_array there in
-    let given : Parts → View = λ q. record v { parts = q } in
-    let put : List Array → List (Stash Array) → Parts = λ l ss. record v.parts { arrays = l; array_stashes = ss } in
-    subst (Like base low v)
-    (sym (ap (λ b. given (if b then given_back slot old p else p)) within
-    ∙ ap (λ l. given (put l (at_slot (put_on (get_or changed slot no_array)) slot new))) back
-    ∙ ap (λ a. given (put arrays (at_slot (put_on a) slot new))) present))
+    rw (within, back, present)
     (like_arrays base low v (at_slot (put_on x) slot new) (taken_like x slot v.parts.array_stashes v.parts.array_stashes new refl h))

@@ -92,8 +92,7 @@ read_next stays count lastin from old now new last last' to to' None before mid 
           (tape_count count lastin input) within
           (ap (λ n. tape_numbers n lastin input) (sym one) ∙ end_numbers count lastin input none)
           read.elements_are put;
-      last_is = more_last ∙ read.last_is ∙ sym (end_last count lastin input none)
-          ∙ ap (λ n. last_read n lastin input) one;
+      last_is = cc (more_last, read.last_is, end_last count lastin input none, one);
       rest_is = ap (after.left) more_to ∙ end.1 ∙ sym (end_rest count input none) ∙ ap (λ n. drop n input) one;
     }
 read_next stays count lastin from old now new last last' to to' (Some (b, next)) before mid after within read here put
@@ -105,12 +104,8 @@ read_next stays count lastin from old now new last last' to to' (Some (b, next))
       elements_are =
           fill_next stays (tape_numbers count lastin input) (tape_numbers (count + 1) lastin input) old now new count
           (tape_difference last b) (tape_count count lastin input) within
-          (ap (λ n. tape_numbers n lastin input) (sym one)
-          ∙ next_numbers count lastin b input (after.left next) some
-          ∙ ap (λ p. tape_numbers count lastin input ++ tape_difference p b ∷ []) (sym read.last_is))
+          (cc (one, next_numbers count lastin b input (after.left next) some, read.last_is))
           read.elements_are put;
-      last_is = more_last ∙ sym (next_last count lastin b input (after.left next) some)
-          ∙ ap (λ n. last_read n lastin input) one;
-      rest_is = ap (after.left) more_to ∙ sym (next_rest count b input (after.left next) some)
-          ∙ ap (λ n. drop n input) one;
+      last_is = cc (more_last, next_last count lastin b input (after.left next) some, one);
+      rest_is = cc (more_to, next_rest count b input (after.left next) some, one);
     }

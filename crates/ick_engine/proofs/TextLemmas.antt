@@ -30,11 +30,7 @@ module _ (text rest : List ℕ) (from n : ℕ) (is : rest ≡ drop from text) (s
       let inside : end ≤ n = omega (arith, within, length-take n rest) in
       let whole : n ≡ begin + (n - begin) = omega (arith, more, inside) in
       let size : end - begin ≡ from + end - (from + begin) = omega (arith, more) in
-      ap (λ k. take (end - begin) (drop begin (take k rest))) whole
-      ∙ ap (take (end - begin)) (drop-take begin (n - begin) rest)
-      ∙ take-take (end - begin) (n - begin) (drop begin rest) (omega (arith, more, inside))
-      ∙ ap (take (end - begin)) (ap (drop begin) is ∙ drop-drop begin from text)
-      ∙ ap (λ k. take k (drop (from + begin) text)) size
+      rw (whole, drop-take, take-take (end - begin) (n - begin) (drop begin rest) (omega (arith, more, inside)), is, drop-drop begin from text, size)
 
   pub word_line : (begin end : ℕ) → Err (digit.Word begin end) ≡ line_answer (take n rest) → begin < end →
       end ≤ length (take n rest) →

@@ -95,8 +95,7 @@ undone_high = search rules
 pub notes_back : (base : ℕ) (changes : List Change) (low k : ℕ) (change : Change) (u v m : View) →
     IsUndoable base change u → undone change u ≡ v → Rewinds base changes low k v m →
     Rewinds base (changes ++ change ∷ []) low k u m
-notes_back base changes low k change u v m can same h =
-    noted base changes low low k change u v m h
+notes_back base changes low k change u v m can same h = noted base changes low low k change u v m h
     (λ w like. (
       subst (λ x. Like base low x (undone change w)) same (undone_like base low change u w can like),
       undone_high base change u w can,
@@ -145,8 +144,7 @@ keeps_register base changes older low k at old number registers v m from below i
   within = h.within;
   leads = λ w like. subst (Like base m.depth m) (same w) (h.leads (before w) (back w like));
   stays = λ w like r high.
-      subst (λ u. get_or u.registers r 0 ≡ get_or w.registers r 0) (same w)
-      (h.stays (before w) (back w like) r high ∙ undone_high base change after w below r high);
+      rw (← same w) (h.stays (before w) (back w like) r high ∙ undone_high base change after w below r high);
 }
   where
     change : Change
@@ -159,9 +157,7 @@ keeps_register base changes older low k at old number registers v m from below i
     before w = undone change w
 
     back : (w : View) → Like base low after w → Like base low v (before w)
-    back w like =
-        subst (λ u. Like base low u (before w)) (register_back at number registers v from)
-        (undone_like base low change after w below like)
+    back w like = rw (← register_back at number registers v from) (undone_like base low change after w below like)
 
     first : reverse (drop k changes) ≡ register_was at old ∷ reverse (drop k older)
     first = ap (λ l. reverse (drop k l)) is ∙ newest_first older (register_was at old) k few
@@ -216,16 +212,14 @@ composed base changes low k j v m n h below = record {
   within = omega (arith, below.within, length-take-le k changes h.within, h.within);
   leads = λ w like.
       subst (Like base n.depth n) (sym (order w)) (below.leads (rewound (reverse (drop k changes)) w) (h.leads w like));
-  stays = λ w like r high.
-      subst (λ u. get_or u.registers r 0 ≡ get_or w.registers r 0) (sym (order w))
+  stays = λ w like r high. rw (order w)
       (below.stays (rewound (reverse (drop k changes)) w) (h.leads w like) r high ∙ h.stays w like r high);
 }
   where
     order : (w : View) →
         rewound (reverse (drop j changes)) w
         ≡ rewound (reverse (drop j (take k changes))) (rewound (reverse (drop k changes)) w)
-    order w =
-        ap (λ es. rewound (reverse es) w)
+    order w = ap (λ es. rewound (reverse es) w)
         (ap (drop j) (sym (take-append-drop k changes)) ∙ drop-append-le j (take k changes) (drop k changes) below.within)
         ∙ ap (λ es. rewound es w) (reverse-append (drop j (take k changes)) (drop k changes))
         ∙ rewound-append (reverse (drop k changes)) (reverse (drop j (take k changes))) w

@@ -14,8 +14,7 @@ returns c =
       output = c.in_ok-copy_list.field-0;
       last = c.args.rest.now.last;
       lastin = c.args.rest.now.lastin;
-    })
-    (c.in_ok-copy_arrays.ensures.arrays ∙ ap (map array_of) c.deref.ensures.value)
+    }) (c.in_ok-copy_arrays.ensures.arrays ∙ ap (map array_of) c.deref.ensures.value)
     (c.in_ok-copy_arrays.ensures.hidden ∙ ap (map is_hidden) c.deref.ensures.value)
     (c.in_ok-copy_number_stashes.ensures ∙ ap (map numbers_on) c.deref-2.ensures.value)
     (c.in_ok-copy_array_stashes.ensures ∙ ap (map arrays_on) c.deref-3.ensures.value) refl

@@ -70,21 +70,18 @@ walked c =
     let a = array_of c.args.array.now in
     let subs = values_of c.args.subscripts.now c.args.registers.now in
     let high = c.loop-at-test.false in
-    ap (inside (length a.elements))
-    (walk_done a.dimensions subs c.loop-at.offset c.loop-at.at
+    ap (inside (length a.elements)) (walk_done a.dimensions subs c.loop-at.offset c.loop-at.at
     (omega (arith, high, c.if-len-subscripts.false, c.len.ensures, c.args.array.now.dimensions.ok.0))
     (omega (arith, high, count_is c.args.subscripts.now c.args.registers.now))
     ∙ c.loop-at.invariant.walked)
     ∙ place_is a subs
 
 pub returns-then-offset-count-clause-index : goal.returns-then-offset-count-clause-index
-returns-then-offset-count-clause-index c =
-    is_inside c.loop-at.offset (length (array_of c.args.array.now).elements)
+returns-then-offset-count-clause-index c = is_inside c.loop-at.offset (length (array_of c.args.array.now).elements)
     (omega (arith, c.if-offset-count.true, c.len-count.ensures, c.args.array.now.elements.ok.0))
     ∙ walked (goal.at.returns-then-offset-count-clause-index c).After-loop-at
 
 pub returns-else-offset-count-clause-index : goal.returns-else-offset-count-clause-index
-returns-else-offset-count-clause-index c =
-    is_outside c.loop-at.offset (length (array_of c.args.array.now).elements)
+returns-else-offset-count-clause-index c = is_outside c.loop-at.offset (length (array_of c.args.array.now).elements)
     (omega (arith, c.if-offset-count.false, c.len-count.ensures, c.args.array.now.elements.ok.0))
     ∙ walked (goal.at.returns-else-offset-count-clause-index c).After-loop-at

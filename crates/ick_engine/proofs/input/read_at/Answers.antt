@@ -1,4 +1,4 @@
-use Rattle.std.proofs.Common.{◌≡◌, ◌+◌, ◌<◌, ℕ, List, Option, Some, None, length, map, get_or, refl, ap, sym, ◌∙◌, arith, rules, slice_range}
+use Rattle.std.proofs.Common.{◌≡◌, ◌+◌, ◌<◌, ℕ, List, Option, Some, None, length, map, get_or, refl, ap, ◌∙◌, arith, rules, slice_range}
 use Rattle.std.proofs.lemmas.List.{get_or-map, length-map}
 use Rattle.ick_code.specs.meaning.State.{no_array}
 use Rattle.ick_code.specs.meaning.Value.{element_offset}
@@ -22,8 +22,7 @@ placed all slot r subs subs' regs from to o within here same is = search (rules,
 long : (new old : List Array) → map is_hidden new ≡ map is_hidden old →
     length (map array_of new) ≡ length (map array_of old)
 long new old same =
-    length-map new array_of ∙ sym (length-map new is_hidden) ∙ ap length same ∙ length-map old is_hidden
-    ∙ sym (length-map old array_of)
+    cc (length-map new array_of, length-map new is_hidden, same, length-map old is_hidden, length-map old array_of)
 
 pub returns-in_default-clause-does : goal.returns-in_default-clause-does
 returns-in_default-clause-does g c = λ home statuses returns place depth text steady.

@@ -1,7 +1,7 @@
 use Rattle.std.proofs.Common.{sym, ◌∙◌, subst}
 use Rattle.ick_engine.specs.Memory.{view_in}
 use Rattle.ick_engine.specs.View.{View}
-use Rattle.ick_engine.specs.Undo.{Like, HighSame}
+use Rattle.ick_engine.specs.Undo.{HighSame}
 use Rattle.ick_engine.proofs.Changes.{count_history}
 use Rattle.ick_engine.proofs.Restoring.{restored}
 use Rattle.ick_engine.proofs.Undoing.{like_moved}
@@ -15,8 +15,7 @@ returns-clause-back c = λ m place depth marked h.
     restored c.args.program.now.code.now c.args.program.now.parts
     (record { compiled = c.law-2.ensures; lowered_is = c.law.ensures }) (view_in c.args.memory.now) m v
     c.requires.steady.constants marked
-    (subst (λ b. Like b m.depth m v) c.requires.base
-    (like_moved c.args.mark.place c.args.mark.depth (undone.leads m h)))
+    (rw (← c.requires.base) (like_moved c.args.mark.place c.args.mark.depth (undone.leads m h)))
     (subst (λ b. HighSame b (view_in c.args.memory.now) v) c.requires.base (undone.stays m h)) (sym place) (sym depth)
 
 pub returns-clause-kept : goal.returns-clause-kept

@@ -25,8 +25,7 @@ returns-in-None-clause-undone c =
     let new_none : length new.items ≤ 0 = omega (arith, c.in-None.ensures.cases.1, new.ok.0) in
     record {
       change = no_change;
-      off = λ older.
-          off_no_array t c.args.entry new.items c.in-Array.change c.in-Array.slot older c.in-Array.is
+      off = λ older. off_no_array t c.args.entry new.items c.in-Array.change c.in-Array.slot older c.in-Array.is
           (none_left t.arrays.items old_none) (none_left new.items new_none);
       view_is = refl;
     }
@@ -36,8 +35,7 @@ returns-in-Some-pop-clause-undone c =
     let new = c.pop-in-Statuses.new.self in
     record {
       change = statuses_were c.in-Some-pop.old.items;
-      off = λ older.
-          off_statuses c.args.trail.now c.args.entry new.items c.in-Some-pop.old older c.in-Statuses.is
+      off = λ older. off_statuses c.args.trail.now c.args.entry new.items c.in-Some-pop.old older c.in-Statuses.is
           (c.pop-in-Statuses.ensures.items ∙ ap (λ o. new.items ++ option_to_list o) c.in-Some-pop.is);
       view_is = refl;
     }
@@ -50,8 +48,7 @@ returns-in-None-pop-clause-undone c =
     let new_none : length new.items ≤ 0 = omega (arith, c.in-None-pop.ensures.cases.1, new.ok.0) in
     record {
       change = no_change;
-      off = λ older.
-          off_no_statuses t c.args.entry new.items older c.in-Statuses.is
+      off = λ older. off_no_statuses t c.args.entry new.items older c.in-Statuses.is
           (none_left t.statuses.items old_none) (none_left new.items new_none);
       view_is = refl;
     }

@@ -17,8 +17,7 @@ returns c =
     record {
       kept = sym (take_all c.args.changes all few) ∙ inv.kept;
       base_same = inv.base;
-      leads = λ m h.
-          all_undone (Like c.args.trail.now.base m.depth m) all c.args.changes last few (inv.leads m h);
+      leads = λ m h. all_undone (Like c.args.trail.now.base m.depth m) all c.args.changes last few (inv.leads m h);
       stays = λ m h.
           all_undone (HighSame c.args.trail.now.base (view_in c.args.memory.now)) all c.args.changes last few
           (inv.stays m h);
@@ -50,8 +49,7 @@ changes-preserved-in-Some c =
       base = c.undo_newest.ensures.base ∙ inv.base;
       none = c.undo_newest.ensures.kept ∙ inv.none;
       kept = sym (ap (take mark) are ∙ take-append-le mark rest (undone.change ∷ []) within) ∙ inv.kept;
-      leads = λ m h.
-          undone_one (Like base m.depth m) all rest undone.change mark (view_in c.changes.memory)
+      leads = λ m h. undone_one (Like base m.depth m) all rest undone.change mark (view_in c.changes.memory)
           (view_in c.undo_newest.new.memory) are within undone.view_is (inv.leads m h);
       stays = λ m h.
           undone_one (HighSame base (view_in c.args.memory.now)) all rest undone.change mark (view_in c.changes.memory)

@@ -10,13 +10,11 @@ invariant-changes l = record {
   base : l.trail.base ≡ l.initial.trail.base;
   none : l.trail.kept ≡ 0;
   kept : take l.changes (changes_in l.trail) ≡ take l.changes (changes_in l.initial.trail);
-  leads : (m : View) →
-      Rewinds l.initial.trail.base (changes_in l.initial.trail) l.initial.trail.low l.changes
+  leads : (m : View) → Rewinds l.initial.trail.base (changes_in l.initial.trail) l.initial.trail.low l.changes
       (view_in l.initial.memory) m →
       Like l.initial.trail.base m.depth m
       (rewound (reverse (drop l.changes (changes_in l.trail))) (view_in l.memory));
-  stays : (m : View) →
-      Rewinds l.initial.trail.base (changes_in l.initial.trail) l.initial.trail.low l.changes
+  stays : (m : View) → Rewinds l.initial.trail.base (changes_in l.initial.trail) l.initial.trail.low l.changes
       (view_in l.initial.memory) m →
       HighSame l.initial.trail.base (view_in l.initial.memory)
       (rewound (reverse (drop l.changes (changes_in l.trail))) (view_in l.memory));

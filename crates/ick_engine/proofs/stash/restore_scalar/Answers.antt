@@ -1,4 +1,4 @@
-use Rattle.std.proofs.Common.{subst, map, get_or, rules, slice_set}
+use Rattle.std.proofs.Common.{map, get_or, rules, slice_set}
 use Rattle.ick_engine.specs.Stashes.{IsTakenOff, ChangesAt}
 use Rattle.ick_engine.specs.Undo.{with_scalar_stashes}
 use Rattle.ick_engine.specs.View.{Parts, no_stash, numbers_of}
@@ -34,10 +34,8 @@ returns-then-home-slot-clause-notes g c = λ k v m registers same h.
     let new = map numbers_of (slice_set c.args.stashes.now.items c.args.slot c.take_newest.new.self) in
     let number = c.in-Some.number in
     let at : ChangesAt c.args.slot (IsTakenOff number) old new = taken g (goal.at.returns-then-home-slot-clause-notes g c).In-Some in
-    subst (λ r. g.N.Notes.Undoes c.note.new.self k (with_scalar_stashes new (record v { registers = r })) m) registers
-    (c.note.ensures.notes k (with_scalar_stashes new v) m at.here.place
-    (c.law.ensures.alike k v _ m
-    (like_scalars _ _ v _ (taken_like number c.args.slot _ old new same at)) h))
+    rw (← registers) (c.note.ensures.notes k (with_scalar_stashes new v) m at.here.place
+    (c.law.ensures.alike k v _ m (like_scalars _ _ v _ (taken_like number c.args.slot _ old new same at)) h))
 
 pub returns-clause-restored : goal.returns-clause-restored
 returns-clause-restored g c =

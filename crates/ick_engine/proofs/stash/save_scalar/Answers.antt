@@ -23,6 +23,5 @@ returns-clause-notes g c = λ k v m same h.
     let at : ChangesAt c.args.slot (IsPutOn c.args.number) old new =
     changes_at numbers_of (IsPutOn c.args.number) c.args.stashes.now.items c.args.slot c.index_mut.result.now c.save.new.self
     c.requires.slot c.index_mut.ensures.value c.in_ok-save.ensures.ok in
-    c.note.ensures.notes k (with_scalar_stashes new v) m tt
-    (c.law.ensures.alike k v _ m
+    c.note.ensures.notes k (with_scalar_stashes new v) m tt (c.law.ensures.alike k v _ m
     (like_scalars _ _ v _ (saved_like c.args.number c.args.slot _ old new same at)) h)

@@ -1,4 +1,4 @@
-use Rattle.std.proofs.Common.{◌<◌, ◌≤◌, ◌+◌, length, arith, sym, subst, vec_len}
+use Rattle.std.proofs.Common.{◌<◌, length, arith}
 use Rattle.ick_engine.proofs.TapeOut.{next_bytes, next_position}
 use Rattle.ick_engine.proofs.tape.append_elements.Goals as goal
 
@@ -16,8 +16,6 @@ loop-at-preserved c =
       position =
           next_position vs at c.index.result.now c.args.last c.loop-at.position c.tape_out-next.result.0 within
           c.index.ensures c.loop-at.invariant.position c.tape_out-next.ensures.position;
-      room =
-          subst (λ n. vec_len c.reserve.new.self + vec_len c.args.elements.now ≤ n)
-          (sym c.push_reserved.ensures.capacity) c.loop-at.invariant.room;
+      room = rw c.push_reserved.ensures.capacity c.loop-at.invariant.room;
       count = omega (arith, c.push_reserved.ensures.len, c.loop-at.invariant.count);
     }

@@ -30,7 +30,6 @@ returns-clause-loaded c =
     (put.depth ∙ ap length h.2.returns_kept) h.2.parts_kept taken in
     record {
       ready = ready_of code parts new kept (λ h. (by h).ready);
-      states = λ input.
-          state_of_both _ _ kept
+      states = λ input. state_of_both _ _ kept
           (λ h. (by h).states input ∙ sym (kept_state code parts saved h.0 is.lowered_is.base h.2 input));
     }

@@ -27,7 +27,6 @@ returns c =
     (put.depth ∙ ap length h.2.returns_kept) h.2.parts_kept (same_parts_refl _) in
     record {
       ready = ready_of code parts _ kept (λ h. (by h).ready);
-      states = λ input.
-          state_of_both _ _ kept
+      states = λ input. state_of_both _ _ kept
           (λ h. (by h).states input ∙ sym (kept_state code parts saved h.0 is.lowered_is.base h.2 input));
     }

@@ -1,6 +1,5 @@
-use Rattle.std.proofs.Common.{◌≡◌, ◌+◌, ◌-◌, ◌<◌, ap, sym, ◌∙◌, subst, map, arith, length, get_or}
+use Rattle.std.proofs.Common.{◌≡◌, ◌+◌, ◌-◌, ◌<◌, ap, map, arith, length, get_or}
 use Rattle.std.proofs.lemmas.List.{get_or-map, length-map, map-set}
-use Rattle.ick_engine.specs.Stashes.{IsTakenOff}
 use Rattle.ick_engine.specs.View.{array_of, arrays_of}
 use Rattle.ick_engine.proofs.StashingLemmas.{take_replaced}
 use Rattle.ick_engine.proofs.stash.Stash+Array.exchange.Goals as goal
@@ -16,8 +15,6 @@ returns-clause-taken c =
     let inside : stash.depth - 1 < length (map array_of items) = omega (arith, low, length-map items array_of) in
     let same : x ≡ array_of c.index_mut.result.now = ap array_of c.swap.ensures.x_after in
     let is : x ≡ get_or (map array_of items) at x =
-    same ∙ ap array_of c.index_mut.ensures.value
-    ∙ sym (get_or-map array_of items at c.index_mut.result.now x low) in
-    subst (λ l. IsTakenOff x (arrays_of stash) (record { items = l; depth = at }))
-    (sym (map-set array_of items at c.swap.new.y))
+    cc (same, c.index_mut.ensures.value, get_or-map array_of items at c.index_mut.result.now x low) in
+    rw (map-set array_of items at c.swap.new.y)
     (take_replaced x (array_of c.swap.new.y) (arrays_of stash) at next inside is)

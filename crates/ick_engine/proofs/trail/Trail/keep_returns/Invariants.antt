@@ -14,8 +14,7 @@ invariant-returns l = record {
   base : l.self.base ≡ l.initial.self.base;
   kept : l.self.kept ≡ l.initial.self.kept;
   changes : Extends (changes_in l.initial.self) (changes_in l.self);
-  notes : (k : ℕ) (v m : View) →
-      v.returns ≡ l.returns →
+  notes : (k : ℕ) (v m : View) → v.returns ≡ l.returns →
       Rewinds l.initial.self.base (changes_in l.initial.self) l.initial.self.low k v m →
       Rewinds l.initial.self.base (changes_in l.self) l.self.low k v m;
 }

@@ -1,7 +1,7 @@
-use Rattle.std.proofs.Common.{refl, sym, subst, arith}
+use Rattle.std.proofs.Common.{refl, arith}
 use Rattle.std.proofs.lemmas.Grind.{common_steps}
 use Rattle.ick_engine.specs.TrailChanges.{changes_in}
-use Rattle.ick_engine.specs.Undo.{Rewinds, change_of, undone}
+use Rattle.ick_engine.specs.Undo.{change_of, undone}
 use Rattle.ick_engine.proofs.Changes.{fixed_grown, newest_alone, grown}
 use Rattle.ick_engine.proofs.Undoing.{notes_back}
 use Rattle.ick_engine.proofs.trail.TrailNotes.note.Goals as goal
@@ -13,9 +13,7 @@ pub returns-clause-notes : goal.returns-clause-notes
 returns-clause-notes c = λ k v m can h.
     let t = c.args.self.now in (
       h.0,
-      subst (λ es. Rewinds t.base es t.low k v m)
-          (sym (newest_alone t c.push_reserved.new.self.items t.entries.items c.args.entry c.requires.alone
-          c.push_reserved.ensures.items))
-          (notes_back t.base (changes_in t) t.low k (change_of c.args.entry) v (undone (change_of c.args.entry) v) m can refl
+      rw (newest_alone t c.push_reserved.new.self.items t.entries.items c.args.entry c.requires.alone
+          c.push_reserved.ensures.items) (notes_back t.base (changes_in t) t.low k (change_of c.args.entry) v (undone (change_of c.args.entry) v) m can refl
           h.1),
     )

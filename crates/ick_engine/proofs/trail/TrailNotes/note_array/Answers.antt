@@ -1,7 +1,7 @@
-use Rattle.std.proofs.Common.{refl, sym, subst, arith}
+use Rattle.std.proofs.Common.{refl, arith}
 use Rattle.std.proofs.lemmas.Grind.{common_steps}
 use Rattle.ick_engine.specs.TrailChanges.{changes_in}
-use Rattle.ick_engine.specs.Undo.{Rewinds, array_was, undone}
+use Rattle.ick_engine.specs.Undo.{array_was, undone}
 use Rattle.ick_engine.specs.View.{array_of}
 use Rattle.ick_engine.proofs.Changes.{fixed_grown, grown_one, newest_array}
 use Rattle.ick_engine.proofs.Undoing.{notes_back}
@@ -15,8 +15,6 @@ returns-clause-notes c = λ k v m can h.
     let t = c.args.self.now in
     let change = array_was c.args.change c.args.slot (array_of c.args.array.now) in (
       h.0,
-      subst (λ es. Rewinds t.base es t.low k v m)
-          (sym (newest_array t c.push_reserved.new.self.items c.push.new.self.items c.args.change c.args.slot c.in_ok-copy_array.field-0
-          (array_of c.args.array.now) c.push_reserved.ensures.items c.in_ok-push.ensures.items c.in_ok-copy_array.ensures.array))
-          (notes_back t.base (changes_in t) t.low k change v (undone change v) m can refl h.1),
+      rw (newest_array t c.push_reserved.new.self.items c.push.new.self.items c.args.change c.args.slot c.in_ok-copy_array.field-0
+          (array_of c.args.array.now) c.push_reserved.ensures.items c.in_ok-push.ensures.items c.in_ok-copy_array.ensures.array) (notes_back t.base (changes_in t) t.low k change v (undone change v) m can refl h.1),
     )

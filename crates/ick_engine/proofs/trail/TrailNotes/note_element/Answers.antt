@@ -1,16 +1,14 @@
-use Rattle.std.proofs.Common.{◌≡◌, sym, ap, ◌∙◌, subst, arith, length, get_or, map}
+use Rattle.std.proofs.Common.{◌≡◌, sym, ap, ◌∙◌, arith, length, get_or, map}
 use Rattle.std.proofs.lemmas.Grind.{get_or_default_zero}
 use Rattle.std.proofs.lemmas.List.{get_or-map, length-map}
 use Rattle.ick_code.specs.meaning.State.{Array, no_array}
-use Rattle.ick_engine.specs.TrailChanges.{UndoesBy}
-use Rattle.ick_engine.specs.Undo.{undone, with_arrays, with_number, element_was}
+use Rattle.ick_engine.specs.Undo.{with_arrays, with_number}
 use Rattle.ick_engine.specs.View.{array_of}
 use Rattle.ick_engine.proofs.Undoing.{element_back}
 use Rattle.ick_engine.proofs.trail.TrailNotes.note_element.Goals as goal
 
 pub returns-clause-notes : goal.returns-clause-notes
 returns-clause-notes c = λ k number v m same h.
-    let t = c.args.self.now in
     let slot = c.args.slot in
     let at = c.args.at in
     let a = get_or c.args.arrays.now slot c.index-arrays-slot.result in
@@ -23,7 +21,4 @@ returns-clause-notes c = λ k number v m same h.
     c.index-old.ensures
     ∙ get_or_default_zero a.elements.items at old (omega (arith, c.requires.at, ap (λ (x : Array). length x.elements) here))
     ∙ sym (ap (λ (x : Array). get_or x.elements at 0) here) in
-    c.note.ensures.notes k w m tt
-    (subst (λ n. UndoesBy t k (undone (element_was slot at n) w) m) (sym old_is)
-    (subst (λ u. UndoesBy t k u m) (sym (element_back slot at number arrays v same
-    (omega (arith, c.requires.slot, length-map c.args.arrays.now array_of)))) h))
+    c.note.ensures.notes k w m tt (rw (old_is, element_back slot at number arrays v same (omega (arith, c.requires.slot, length-map c.args.arrays.now array_of))) h)
