@@ -65,8 +65,7 @@ put_same given xs ys same = ap (λ l. l ++ drop (length xs) ys) same
 
 pub put_in : (new given kept now old : List ℕ) → new ≡ given ++ drop (length given) now → given ≡ kept → now ≡ old →
     new ≡ kept ++ drop (length kept) old
-put_in new given kept now old is same whole =
-    is ∙ ap (λ l. l ++ drop (length l) now) same ∙ ap (λ l. kept ++ drop (length kept) l) whole
+put_in new given kept now old is same whole = search rules
 
 -- parts that differ in spare places alone
 pub same_parts_sym : {p q : Parts} → AreSame p q → AreSame q p

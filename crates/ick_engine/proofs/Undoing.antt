@@ -107,8 +107,7 @@ put_back xs at n = set-set xs at n (get_or xs at 0) ∙ set-get_or xs at 0
 -- undoing the change of a register, of a home and of a status
 pub register_back : (at number : ℕ) (registers : List ℕ) (v : View) → v.registers ≡ registers →
     undone (register_was at (get_or registers at 0)) (record v { registers = slice_set registers at number }) ≡ v
-register_back at number registers v same =
-    ap {A = List ℕ} (λ l. record v { registers = l }) (put_back registers at number ∙ sym same)
+register_back at number registers v same = search (rules, put_back)
 
 pub home_back : (at number : ℕ) (v : View) →
     undone (home_was at (get_or v.home at 0)) (record v { home = slice_set v.home at number }) ≡ v
@@ -123,8 +122,7 @@ pub restored_back : (base low slot number n : ℕ) (registers : List ℕ) (v : V
     PartsLike v.parts (record p { scalar_stashes = at_slot (put_on number) slot p.scalar_stashes }) →
     Like base low v (undone (scalar_restored slot number (get_or registers slot 0))
     (record v { registers = slice_set registers slot n; parts = p }))
-restored_back base low slot number n registers v p same parts =
-    alike (first_by base v.registers _ (put_back registers slot n ∙ sym same)) refl refl parts (first_refl low v.returns)
+restored_back base low slot number n registers v p same parts = grind (arith, common_steps)
 
 -- the same with a register that is never restored
 pub taken_back : (base low slot number n : ℕ) (registers : List ℕ) (v : View) (p : Parts) → v.registers ≡ registers →
@@ -132,8 +130,7 @@ pub taken_back : (base low slot number n : ℕ) (registers : List ℕ) (v : View
     PartsLike v.parts (record p { scalar_stashes = at_slot (put_on number) slot p.scalar_stashes }) →
     Like base low v (undone (scalar_taken slot number)
     (record v { registers = slice_set registers slot n; parts = p }))
-taken_back base low slot number n registers v p same above parts =
-    alike (first_above base slot n v.registers registers same above) refl refl parts (first_refl low v.returns)
+taken_back base low slot number n registers v p same above parts = search rules
 
 -- a register of which the newest change was noted
 pub keeps_register : (base : ℕ) (changes older : List Change) (low k at old number : ℕ) (registers : List ℕ) (v m : View) →
@@ -178,8 +175,7 @@ pub element_back : (slot at number : ℕ) (arrays : List Array) (v : View) → v
     slot < length arrays →
     undone (element_was slot at (get_or (get_or arrays slot no_array).elements at 0))
     (with_arrays (with_number arrays slot at number) v) ≡ v
-element_back slot at number arrays v same there =
-    ap {A = List Array} (λ l. with_arrays l v) (element_same arrays slot at number there ∙ sym same)
+element_back slot at number arrays v same there = search (rules, element_same)
 
 -- the return address below the depth is noted
 pub notes_return : (base : ℕ) (changes : List Change) (low at k : ℕ) (v m : View) → low ≡ at + 1 →
