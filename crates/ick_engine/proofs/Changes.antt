@@ -2,7 +2,7 @@
 use Rattle.std.proofs.Common.{arith, ◌≤◌, ◌≡◌, ℕ, suc, false, List, [], ◌∷◌, ◌++◌, refl, ap, get_or, length, map, reverse, take, take_all, rules}
 use Rattle.std.proofs.lemmas.Grind.{common_steps}
 use Rattle.std.specs.Global.{Vec}
-use Rattle.std.proofs.lemmas.List.{reverse-append, length-reverse, length-take-le, take-append-le}
+use Rattle.std.proofs.lemmas.List.{length-reverse, length-take-le, take-append-le}
 use Rattle.std.proofs.Math.Seq.{take-suc}
 use Rattle.ick_code.specs.meaning.State.{Array as ArrayValue}
 use Rattle.ick_instructions.specs.Extends.{Extends}
@@ -62,13 +62,6 @@ pub fixed_moved : (t u : Trail) → u.base ≡ t.base → u.kept ≡ t.kept → 
 fixed_moved t u base kept more = search (rules, fixed_grown)
 
 -- the newest entry is the newest change
-newest : (all rest : List Entry) (e : Entry) (change : Change) (arrays arrays' : List ArrayValue)
-    (statuses statuses' : List (List ℕ)) → all ≡ rest ++ e ∷ [] →
-    changes_of (e ∷ reverse rest) arrays statuses ≡ change ∷ changes_of (reverse rest) arrays' statuses' →
-    reverse (changes_of (reverse all) arrays statuses)
-    ≡ reverse (changes_of (reverse rest) arrays' statuses') ++ change ∷ []
-newest all rest e change arrays arrays' statuses statuses' is there = grind (arith, common_steps, reverse-append)
-
 pub newest_alone : (t : Trail) (all rest : List Entry) (e : Entry) → stands_apart e ≡ false → all ≡ rest ++ e ∷ [] →
     reverse (changes_by t (reverse all)) ≡ reverse (changes_by t (reverse rest)) ++ change_of e ∷ []
 newest_alone t all rest e h is = grind (arith, common_steps)

@@ -2,7 +2,6 @@
 use Rattle.std.proofs.Common.{◌≡◌, ℕ, Bool, List, rules, arith, slice_set}
 use Rattle.std.proofs.lemmas.Grind.{common_steps}
 use Rattle.ick_code.specs.meaning.State.{Array}
-use Rattle.ick_instructions.specs.Extends.{Extends}
 use Rattle.ick_engine.specs.declared.change.ArrayChange.TheVariants.{Replaced}
 use Rattle.ick_engine.specs.Noting.{KeepsNotes, NotesParts, NotesBefore}
 use Rattle.ick_engine.specs.Undo.{Change, Fixed, NotesChange, array_was, with_arrays}
@@ -13,10 +12,6 @@ module _ {N : Type 0} {Undoes : N → ℕ → View → View → Type 0} {low : N
   -- parts that were the old ones before
   pub noted_parts : (old new : Parts) → before new ≡ old → NotesParts Undoes low fixed changes first last old new
   noted_parts old new is = search rules
-
--- lists that grow twice
-pub grown_twice : {A : Type 0} {old mid new : List A} → Extends old mid → Extends mid new → Extends old new
-grown_twice {A} {old} one other = grind (arith, common_steps)
 
 -- notes on notes
 pub kept_twice : {N : Type 0} {low : N → ℕ} {fixed : N → Fixed} {changes : N → List Change} {old mid new : N} →

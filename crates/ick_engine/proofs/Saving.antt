@@ -11,7 +11,7 @@ use Rattle.ick_code.specs.declared.code.Code.{Code}
 use Rattle.ick_instructions.specs.declared.lowered.LoweredParts.{LoweredParts}
 use Rattle.ick_engine.specs.declared.memory.Rest.{Rest}
 use Rattle.ick_engine.specs.declared.saved.Saved.{Saved}
-use Rattle.ick_engine.specs.Saved.{AreSame, HasLists, IsLoaded, IsSaved, arrays_on, numbers_on, saved_view}
+use Rattle.ick_engine.specs.Saved.{AreSame, IsLoaded, IsSaved, arrays_on, numbers_on, saved_view}
 use Rattle.ick_engine.specs.Steady.{IsSteady, IsReady, IsProgram}
 use Rattle.ick_engine.specs.Undo.{SameFirst, Like, HighSame, IsRestored}
 use Rattle.ick_engine.specs.View.{View, Parts, Input, state_of, dump_of, map_of, used as used_values}
@@ -60,9 +60,6 @@ first_put : (n : ℕ) (xs old new : List ℕ) → new ≡ take n xs ++ drop (len
     length (take n xs ++ drop (length (take n xs)) old) ≡ length xs → length (take n xs) ≡ n → SameFirst n xs new
 first_put n xs old new is count long = grind (arith, common_steps)
 
-pub put_same : (given xs ys : List ℕ) → given ≡ xs → given ++ drop (length xs) ys ≡ xs ++ drop (length xs) ys
-put_same given xs ys same = ap (λ l. l ++ drop (length xs) ys) same
-
 pub put_in : (new given kept now old : List ℕ) → new ≡ given ++ drop (length given) now → given ≡ kept → now ≡ old →
     new ≡ kept ++ drop (length kept) old
 put_in new given kept now old is same whole = search rules
@@ -101,10 +98,6 @@ pub kept_state : (code : Code) (lowered : LoweredParts) (saved : Saved) (v : Vie
     lowered.layout.base ≡ length (scalar_names code) → IsSaved lowered saved v → (input : Input) →
     state_of code lowered input (saved_view saved) ≡ state_of code lowered input v
 kept_state code lowered saved v count is input = grind (arith, common_steps, all_same, map_first, state_by)
-
--- lists that a memory may take in place of its own
-pub lists_of : (code : Code) (lowered : LoweredParts) (v : View) → IsSteady code lowered v → HasLists code v.parts
-lists_of code lowered v steady = search rules
 
 module _ (code : Code) (lowered : LoweredParts) (is : IsProgram code lowered) where
   abbrev pub base : ℕ

@@ -16,13 +16,6 @@ use Rattle.ick_engine.proofs.StashLemmas.{parts_refl, taken_off_like, scalars_al
 first_refl : (n : ℕ) (xs : List ℕ) → SameFirst n xs xs
 first_refl n xs = record { count = refl; same = λ k low. refl }
 
-first_by : (n : ℕ) (xs ys : List ℕ) → ys ≡ xs → SameFirst n xs ys
-first_by n xs ys is = subst (SameFirst n xs) (sym is) (first_refl n xs)
-
--- a number behind them is set
-first_above : (n at number : ℕ) (xs ys : List ℕ) → xs ≡ ys → n ≤ at → SameFirst n xs (slice_set ys at number)
-first_above n at number xs ys same above = search rules
-
 -- the next number goes back
 first_more : (at n : ℕ) (xs ys : List ℕ) → n ≡ at + 1 → at < length xs → SameFirst at xs ys →
     SameFirst n xs (slice_set ys at (get_or xs at 0))
