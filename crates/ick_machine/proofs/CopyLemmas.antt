@@ -1,6 +1,5 @@
 -- Copies that marks are kept by: one more, and one less.
-use Rattle.std.proofs.Common.{◌≡◌, ℕ, List, [], ◌∷◌}
-use Rattle.std.proofs.Common.{◌++◌, Bool, true, false, Option, Some, None}
+use Rattle.std.proofs.Common.{◌≡◌, ℕ, List, [], ◌∷◌, ◌++◌, Bool, true, false, Option, Some, None}
 use Rattle.std.proofs.Common.{sym, ◌∙◌, subst, append-nil}
 use Rattle.std.specs.Prelude.{map, if◌then◌else◌, vec_len}
 use Rattle.std.specs.List.{All}
@@ -28,8 +27,7 @@ module _ (code : Code) (lowered : LoweredParts) where
   pub more : (copies all : List Copy) (copy : Copy) (grown : Bool) →
       all ≡ (if grown then copies ++ copy ∷ [] else copies) → IsKept code lowered copy.saved →
       AreCopies code lowered copies → AreCopies code lowered all
-  more copies all copy true is kept given =
-      subst (AreCopies code lowered) (sym is)
+  more copies all copy true is kept given = subst (AreCopies code lowered) (sym is)
       (All-append (λ (copy : Copy). IsKept code lowered copy.saved) copies (copy ∷ []) given
       (All-cons (λ (copy : Copy). IsKept code lowered copy.saved) copy [] kept
       (All-nil (λ (copy : Copy). IsKept code lowered copy.saved))))
@@ -37,8 +35,7 @@ module _ (code : Code) (lowered : LoweredParts) where
 
   pub one_less : (copies all : List Copy) (copy : Copy) → all ≡ copies ++ copy ∷ [] → AreCopies code lowered all →
       AreCopies code lowered copies × IsKept code lowered copy.saved
-  one_less copies all copy is given =
-      all_but_one (λ (copy : Copy). IsKept code lowered copy.saved) copies copy
+  one_less copies all copy is given = all_but_one (λ (copy : Copy). IsKept code lowered copy.saved) copies copy
       (subst (AreCopies code lowered) is given)
 
   pub less : (copies all : List Copy) (o : Option Copy) → all ≡ copies ++ option_to_list o →

@@ -1,6 +1,5 @@
 -- What a feed gives is what the input begins with.
-use Rattle.std.proofs.Common.{◌≡◌, ◌≢◌, ℕ, ◌+◌, ◌==◌, Bool, true, false, List, [], ◌∷◌}
-use Rattle.std.proofs.Common.{◌++◌, length, take, rules}
+use Rattle.std.proofs.Common.{◌≡◌, ◌≢◌, ℕ, ◌+◌, ◌==◌, Bool, true, false, List, [], ◌∷◌, ◌++◌, length, take, rules}
 use Rattle.std.proofs.Common.{drop, Some, None, Result, Ok, Err, refl, sym, ap, ◌∙◌, arith}
 use Rattle.std.specs.Prelude.{slice_range}
 use Rattle.std.specs.List.{position_or_len}
@@ -47,16 +46,14 @@ not_empty (b ∷ line) rest e = cc
 module _ (after : Input) (line : List ℕ) (from : ℕ)
     (word : (begin end : ℕ) → after.word begin end ≡ slice_range line begin end) (s : State)
     (go : ℕ → State → Completion) where
-  by_answer : (answer : Result ℕ DigitFault) →
-      with_number line answer (record s { input = after.left from }) go
+  by_answer : (answer : Result ℕ DigitFault) → with_number line answer (record s { input = after.left from }) go
       ≡ line_outcome (line_with answer from) after from s go
   by_answer (Ok n) = refl
   by_answer (Err (Word begin end)) =
       ap (λ w. faults NoDigit w (record s { input = after.left from })) (sym (word begin end))
   by_answer (Err TooLarge) = refl
 
-  line_taken : (left : List ℕ) → left ≢ [] → line ≡ first_line left →
-      after.left from ≡ later_lines left →
+  line_taken : (left : List ℕ) → left ≢ [] → line ≡ first_line left → after.left from ≡ later_lines left →
       with_input left s go ≡ line_outcome (line_with (line_answer line) from) after from s go
   line_taken [] some is rest = absurd (some refl)
   line_taken (b ∷ bs) some is rest = search (rules, by_answer)
@@ -77,8 +74,7 @@ Before told ended line left Read = (before : Input) × MayBeLeft told ended line
 
 -- what a feed gave that had not come to its end
 module _ (told ended : Bool) (goes_on : ended ≡ false) (old_line line old new : List ℕ) (from : ℕ) where
-  had : (left : List ℕ) → (told ≡ true → left ≡ old) →
-      MayBeLeft told ended old_line old (input_after old_line left)
+  had : (left : List ℕ) → (told ≡ true → left ≡ old) → MayBeLeft told ended old_line old (input_after old_line left)
   had left is = search (rules, false≢true)
 
   -- a line

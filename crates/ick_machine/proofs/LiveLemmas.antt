@@ -1,6 +1,5 @@
 -- What a machine shows that takes its input from a feed.
-use Rattle.std.proofs.Common.{◌≡◌, ℕ, ◌+◌, false, List, [], Option, Some, None, refl, ap}
-use Rattle.std.proofs.Common.{◌∙◌, subst, rules}
+use Rattle.std.proofs.Common.{◌≡◌, ℕ, ◌+◌, false, List, [], Option, Some, None, refl, ap, ◌∙◌, subst, rules}
 use Rattle.std.specs.Prelude.{option_map}
 use Rattle.ick_syntax.specs.StatementTree.{StatementTree}
 use Rattle.ick_code.specs.declared.code.Code.{Code}

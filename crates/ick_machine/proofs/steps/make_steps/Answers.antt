@@ -9,10 +9,8 @@ returns-in-Limit-clause-runs g c =
     let told = at_rest c.run_steps-exit.result c.in-Limit.is in
     let call = c.run_steps-exit in
     has_made c.args.lowered.now.code.now c.args.lowered.now.parts g.R.Reader.Has c.args.reader.now call.new.reader
-    c.args.limit
-    call.new.self.cursor.left c.args.answer call.new.self.cursor.answer (view_in c.args.memory.now)
-    (view_in call.new.self) call.result told.0 c.args.end.now (c.requires.going ∙ told.3)
-    call.ensures.comes
+    c.args.limit call.new.self.cursor.left c.args.answer call.new.self.cursor.answer (view_in c.args.memory.now)
+    (view_in call.new.self) call.result told.0 c.args.end.now (c.requires.going ∙ told.3) call.ensures.comes
 
 pub returns-in-Limit-clause-rests : goal.returns-in-Limit-clause-rests
 returns-in-Limit-clause-rests g c =
@@ -39,10 +37,8 @@ returns-in-Room-clause-runs g c =
     let told = on_the_way c.run_steps-exit.result c.in-Room.is in
     let call = c.run_steps-exit in
     has_made c.args.lowered.now.code.now c.args.lowered.now.parts g.R.Reader.Has c.args.reader.now call.new.reader
-    c.args.limit
-    call.new.self.cursor.left c.args.answer call.new.self.cursor.answer (view_in c.args.memory.now)
-    (view_in call.new.self) call.result told.0 c.args.end.now (c.requires.going ∙ told.1)
-    call.ensures.comes
+    c.args.limit call.new.self.cursor.left c.args.answer call.new.self.cursor.answer (view_in c.args.memory.now)
+    (view_in call.new.self) call.result told.0 c.args.end.now (c.requires.going ∙ told.1) call.ensures.comes
 
 pub returns-in-Room-clause-moves : goal.returns-in-Room-clause-moves
 returns-in-Room-clause-moves g c = search (rules, if_room, if_waits, moves_by)
@@ -55,10 +51,8 @@ returns-in-Ended-clause-runs g c =
     let told = at_end c.run_steps-exit.result c.in-Ended.ended c.in-Ended.is in
     let call = c.run_steps-exit in
     has_made c.args.lowered.now.code.now c.args.lowered.now.parts g.R.Reader.Has c.args.reader.now call.new.reader
-    c.args.limit
-    call.new.self.cursor.left c.args.answer call.new.self.cursor.answer (view_in c.args.memory.now)
-    (view_in call.new.self) call.result told.0 (Some c.in-Ended.ended) told.3
-    call.ensures.comes
+    c.args.limit call.new.self.cursor.left c.args.answer call.new.self.cursor.answer (view_in c.args.memory.now)
+    (view_in call.new.self) call.result told.0 (Some c.in-Ended.ended) told.3 call.ensures.comes
 
 pub returns-in-Ended-clause-rests : goal.returns-in-Ended-clause-rests
 returns-in-Ended-clause-rests g c =

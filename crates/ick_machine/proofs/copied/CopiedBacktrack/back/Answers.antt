@@ -39,8 +39,7 @@ invariant_of-self c =
     let m = c.args.self.now in
     record {
       unmarked = m.unmarked;
-      copied =
-          ∥∥₁_map m.copied (λ are.
+      copied = ∥∥₁_map m.copied (λ are.
           (one_less m.machine.lowered.code.now m.machine.lowered.parts c.pop.new.self.items m.copies.items c.in-Some.copy
           c.in-Some.ensures.items are).0);
     }

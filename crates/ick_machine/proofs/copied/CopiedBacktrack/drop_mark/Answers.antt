@@ -7,8 +7,7 @@ invariant_of-self c =
     let m = c.args.self.now in
     record {
       unmarked = m.unmarked;
-      copied =
-          ∥∥₁_map m.copied
+      copied = ∥∥₁_map m.copied
           (less m.machine.lowered.code.now m.machine.lowered.parts c.pop.new.self.items m.copies.items c.pop.result
           c.pop.ensures.items);
     }

@@ -33,8 +33,7 @@ returns-in_err-step-clause-reads g c = λ tells read.
       steps = c.steps.made + c.in_ok-made.field-0;
       within = within;
       state = fed rest mid.state;
-      runs =
-          fed_further old (seen c.steps.self) mid (left c.args.feed.now) (left c.steps.feed) rest c.steps.made
+      runs = fed_further old (seen c.steps.self) mid (left c.args.feed.now) (left c.steps.feed) rest c.steps.made
           c.in_ok-made.field-0 c.steps.invariant.program (c.steps.invariant.runs tells)
           (c.in_ok-made.ensures.runs tells);
       quiet = quiet_fed old.program mid.state rest

@@ -52,8 +52,7 @@ returns-in-Ok-clause-runs g c = λ tells.
     quiet_goes live.lowered.code.now live.lowered.parts (input_after live.line.items []) v live.end c.requires.quiet in
     let told =
     told_before code lowered g.F.Feed.told false n.ended live.line.items n.line.now.items (left c.args.feed.now)
-    (left n.feed.now) v w live.end end (λ s t. RunsOn IsQuiet (code_program code) s made t) going tells
-    n.over
+    (left n.feed.now) v w live.end end (λ s t. RunsOn IsQuiet (code_program code) s made t) going tells n.over
     (λ after may.
     let found = c.in-Ok.ensures.runs refl after may in (
       found.0,
@@ -67,8 +66,7 @@ returns-in-Ok-clause-runs g c = λ tells.
 
 pub returns-in-Ok-clause-moves : goal.returns-in-Ok-clause-moves
 unfolding seen
-returns-in-Ok-clause-moves g c =
-    rw (sym c.program.ensures) (λ rests.
+returns-in-Ok-clause-moves g c = rw (sym c.program.ensures) (λ rests.
     let live = c.args.self.now in
     let program = c.program.result.now in
     let code = program.code.now in
