@@ -1,26 +1,18 @@
 -- What a machine asks, by the status of the statement that is met.
-use Rattle.std.proofs.Common.{◌≡◌, ℕ, ◌+◌, ◌-◌, ◌<◌, ◌≤◌, true, false, List, [], length, get_or}
-use Rattle.std.proofs.Common.{Option, Some, None, refl, ap, arith, rules}
+use Rattle.std.proofs.Common.{◌≡◌, ℕ, ◌+◌, ◌-◌, ◌<◌, ◌≤◌, true, false, List, [], length, get_or, Option, Some, None}
+use Rattle.std.proofs.Common.{refl, ap, arith, rules}
 use Rattle.std.specs.Prelude.{◌⊎◌, nat_lt, ◌&&◌, option_map, if◌then◌else◌, is_some}
-use Rattle.std.proofs.lemmas.Bool.{cases_lt}
-use Rattle.std.proofs.lemmas.Bool.Decides.{nat_tests}
-use Rattle.std.proofs.lemmas.Option.{slice_get_past}
+use Rattle.std.proofs.{lemmas.Bool.cases_lt, lemmas.Bool.Decides.nat_tests, lemmas.Option.slice_get_past}
 use Rattle.ick_syntax.specs.StatementTree.{StatementTree}
-use Rattle.ick_code.specs.declared.code.Code.{Code}
+use Rattle.ick_code.specs.{declared.code.Code.Code, Compiled.code_program}
 use Rattle.ick_code.specs.meaning.State.{State, Ending, statement_at}
 use Rattle.ick_code.specs.meaning.Move.{plain, choice, ask, ask_of, ask_at, is_uncertain}
-use Rattle.ick_code.specs.Compiled.{code_program}
 use Rattle.ick_instructions.specs.declared.lowered.LoweredParts.{LoweredParts}
-use Rattle.ick_engine.specs.declared.exit.RawEnd.{RawEnd}
-use Rattle.ick_engine.specs.View.{View, Input, end_of}
-use Rattle.ick_engine.specs.Status.{percent_of, lack_of, is_abstained}
-use Rattle.ick_engine.specs.Steady.{IsReady}
+use Rattle.ick_engine.specs.{declared.exit.RawEnd.RawEnd, View.View, View.Input, View.end_of, Status.percent_of}
+use Rattle.ick_engine.specs.{Status.lack_of, Status.is_abstained, Steady.IsReady}
 use Rattle.ick_engine.proofs.Statuses.{some_and}
-use Rattle.ick_backtrack.specs.Asked.{Finish, finished, asked_at_end}
-use Rattle.ick_backtrack.specs.Machine.{Program}
-use Rattle.ick_backtrack.specs.Steps.{IsPlain}
-use Rattle.ick_machine.specs.Asked.{is_open, asked_by}
-use Rattle.ick_machine.specs.Run.{ending_of, run_state}
+use Rattle.ick_backtrack.specs.{Asked.Finish, Asked.finished, Asked.asked_at_end, Machine.Program, Steps.IsPlain}
+use Rattle.ick_machine.specs.{Asked.is_open, Asked.asked_by, Run.ending_of, Run.run_state}
 
 -- what a status lacks to 100, if no choice is asked at it
 certain_lacks : (status : ℕ) → is_open status ≡ false → is_abstained status ≡ false →

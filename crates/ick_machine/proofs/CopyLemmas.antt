@@ -1,21 +1,16 @@
 -- Copies that marks are kept by: one more, and one less.
-use Rattle.std.proofs.Common.{◌≡◌, ℕ, List, [], ◌∷◌, ◌++◌, Bool, true, false, Option, Some, None}
-use Rattle.std.proofs.Common.{sym, ◌∙◌, subst, append-nil}
+use Rattle.std.proofs.Common.{◌≡◌, ℕ, List, [], ◌∷◌, ◌++◌, Bool, true, false, Option, Some, None, sym, ◌∙◌, subst}
+use Rattle.std.proofs.Common.{append-nil}
 use Rattle.std.specs.Prelude.{map, if◌then◌else◌, vec_len}
-use Rattle.std.specs.List.{All}
-use Rattle.std.specs.Option.{option_to_list}
+use Rattle.std.specs.{List.All, Option.option_to_list}
 use Rattle.std.proofs.lemmas.List.Elements.{All-append, All-cons, All-head, All-nil, All-tail}
 use Rattle.ick_code.specs.declared.code.Code.{Code}
-use Rattle.ick_instructions.specs.declared.lowered.LoweredParts.{LoweredParts}
-use Rattle.ick_instructions.specs.declared.lowered.Lowered.{Lowered}
-use Rattle.ick_engine.specs.Saved.{IsKept}
-use Rattle.ick_engine.specs.View.{input_of}
+use Rattle.ick_instructions.specs.{declared.lowered.LoweredParts.LoweredParts, declared.lowered.Lowered.Lowered}
+use Rattle.ick_engine.specs.{Saved.IsKept, View.input_of}
 use Rattle.ick_backtrack.specs.Machine.{Machine}
-use Rattle.ick_machine.specs.declared.copied.Copied.{Copied}
-use Rattle.ick_machine.specs.declared.copied.Copy.{Copy}
-use Rattle.ick_machine.specs.declared.trailed.Trailed.{Trailed}
+use Rattle.ick_machine.specs.{declared.copied.Copied.Copied, declared.copied.Copy.Copy}
+use Rattle.ick_machine.specs.{declared.trailed.Trailed.Trailed, Seen.fixed_parts}
 use Rattle.ick_machine.specs.Copies.{AreCopies, copied_state}
-use Rattle.ick_machine.specs.Seen.{fixed_parts}
 
 all_but_one : {A : Type 0} (P : A → Type 0) (xs : List A) (x : A) → All P (xs ++ x ∷ []) → All P xs × P x
 all_but_one P [] x all = (All-nil P, All-head P x [] all)

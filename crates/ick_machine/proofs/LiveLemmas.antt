@@ -2,23 +2,17 @@
 use Rattle.std.proofs.Common.{◌≡◌, ℕ, ◌+◌, false, List, [], Option, Some, None, refl, ap, ◌∙◌, subst, rules}
 use Rattle.std.specs.Prelude.{option_map}
 use Rattle.ick_syntax.specs.StatementTree.{StatementTree}
-use Rattle.ick_code.specs.declared.code.Code.{Code}
-use Rattle.ick_code.specs.Compiled.{code_program}
+use Rattle.ick_code.specs.{declared.code.Code.Code, Compiled.code_program}
 use Rattle.ick_code.specs.meaning.State.{State, Ending, statement_at}
 use Rattle.ick_code.specs.meaning.Move.{Asking, ended, ask, ask_at, ask_of, advance}
 use Rattle.ick_code.proofs.AskLaws.{ask_same}
 use Rattle.ick_instructions.specs.declared.lowered.LoweredParts.{LoweredParts}
-use Rattle.ick_engine.specs.declared.exit.RawEnd.{RawEnd}
-use Rattle.ick_engine.specs.View.{View, input_of}
+use Rattle.ick_engine.specs.{declared.exit.RawEnd.RawEnd, View.View, View.input_of}
 use Rattle.ick_backtrack.specs.Asked.{Finish, finished, asked_at_end}
-use Rattle.ick_backtrack.specs.Machine.{Program}
-use Rattle.ick_backtrack.specs.Steps.{IsQuiet, RunsOn}
-use Rattle.ick_machine.specs.Feeds.{input_after}
-use Rattle.ick_machine.specs.Live.{LiveMachine, fed}
-use Rattle.ick_machine.specs.Message.{asked_message, end_message}
-use Rattle.ick_machine.specs.Run.{ending_of, run_state}
-use Rattle.ick_machine.proofs.FedLemmas.{same_end}
-use Rattle.ick_machine.proofs.StepsLemmas.{no_step, one_more, steps_on}
+use Rattle.ick_backtrack.specs.{Machine.Program, Steps.IsQuiet, Steps.RunsOn}
+use Rattle.ick_machine.specs.{Feeds.input_after, Live.LiveMachine, Live.fed, Message.asked_message}
+use Rattle.ick_machine.specs.{Message.end_message, Run.ending_of, Run.run_state}
+use Rattle.ick_machine.proofs.{FedLemmas.same_end, StepsLemmas.no_step, StepsLemmas.one_more, StepsLemmas.steps_on}
 
 -- the message of an end
 message_at : (end : Ending) (asked : Asking) → Some (ended end) ≡ Some asked → asked_message asked ≡ end_message end

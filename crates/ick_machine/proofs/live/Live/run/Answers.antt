@@ -1,11 +1,8 @@
 use Rattle.std.proofs.Common.{◌≡◌, ◌+◌, ◌<◌, Err, rules, ap, ◌∙◌, subst, arith}
-use Rattle.ick_backtrack.specs.Steps.{IsQuiet}
-use Rattle.ick_backtrack.specs.declared.feed_fault.FeedFault.TheVariants.{Read}
-use Rattle.ick_machine.specs.Feeds.{MeetsInput}
-use Rattle.ick_machine.specs.Live.{fed, seen}
-use Rattle.ick_machine.proofs.FedLemmas.{same_fault}
+use Rattle.ick_backtrack.specs.{Steps.IsQuiet, declared.feed_fault.FeedFault.TheVariants.Read}
+use Rattle.ick_machine.specs.{Feeds.MeetsInput, Live.fed, Live.seen}
+use Rattle.ick_machine.proofs.{FedLemmas.same_fault, StepsLemmas.no_step}
 use Rattle.ick_machine.proofs.LiveLemmas.{fed_further, fed_once, quiet_fed}
-use Rattle.ick_machine.proofs.StepsLemmas.{no_step}
 use Rattle.ick_machine.proofs.live.Live.run.Goals as goal
 
 pub steps-init : goal.steps-init

@@ -4,14 +4,10 @@ use Rattle.ick_code.specs.Compiled.{code_program}
 use Rattle.ick_backtrack.specs.Steps.{IsQuiet, RunsOn}
 use Rattle.ick_engine.specs.Memory.{view_in}
 use Rattle.ick_instructions.specs.declared.lowered.Lowered.{Lowered}
-use Rattle.ick_machine.specs.Feeds.{input_after, some_left}
-use Rattle.ick_machine.specs.Live.{seen}
-use Rattle.ick_machine.specs.Run.{run_state}
-use Rattle.ick_machine.specs.RunIn.{program_of, state_in}
-use Rattle.ick_machine.proofs.AnswerLemmas.{place_low}
+use Rattle.ick_machine.specs.{Feeds.input_after, Feeds.some_left, Live.seen, Run.run_state, RunIn.program_of}
+use Rattle.ick_machine.specs.RunIn.{state_in}
+use Rattle.ick_machine.proofs.{AnswerLemmas.place_low, Readiness.ready_unless, StepLemmas.plain_any}
 use Rattle.ick_machine.proofs.FedLemmas.{told_before, no_items, quiet_goes, quiet_run, has_moved}
-use Rattle.ick_machine.proofs.Readiness.{ready_unless}
-use Rattle.ick_machine.proofs.StepLemmas.{plain_any}
 use Rattle.ick_machine.proofs.live.Live.run_to_stream.Goals as goal
 
 pub index-requires : goal.index-requires

@@ -1,20 +1,11 @@
 use Rattle.std.proofs.Common.{◌≡◌, None, refl, ap, sym, ◌∙◌, subst, arith, rules}
 use Rattle.std.proofs.lemmas.Grind.{common_steps}
-use Rattle.ick_code.specs.Compiled.{code_program}
-use Rattle.ick_code.specs.meaning.Move.{advance}
-use Rattle.ick_code.specs.meaning.State.{State}
-use Rattle.ick_backtrack.specs.Machine.{Machine}
-use Rattle.ick_backtrack.specs.Steps.{IsPlain, RunsOn}
-use Rattle.ick_engine.specs.Memory.{view_in}
-use Rattle.ick_engine.specs.Undo.{IsRestored}
-use Rattle.ick_engine.specs.View.{View, input_of}
-use Rattle.ick_machine.specs.Marks.{KeepsMarks}
-use Rattle.ick_machine.specs.Run.{run_state}
-use Rattle.ick_machine.specs.RunIn.{state_in}
-use Rattle.ick_machine.specs.Seen.{trailed_machine}
-use Rattle.ick_machine.proofs.Marks.{run_same}
+use Rattle.ick_code.specs.{Compiled.code_program, meaning.Move.advance, meaning.State.State}
+use Rattle.ick_backtrack.specs.{Machine.Machine, Steps.IsPlain, Steps.RunsOn}
+use Rattle.ick_engine.specs.{Memory.view_in, Undo.IsRestored, View.View, View.input_of}
+use Rattle.ick_machine.specs.{Marks.KeepsMarks, Run.run_state, RunIn.state_in, Seen.trailed_machine}
+use Rattle.ick_machine.proofs.{Marks.run_same, WholeLemmas.by_text, WholeLemmas.going_on, WholeLemmas.keeps_marks}
 use Rattle.ick_machine.proofs.TrailMarks.{depth_restored, marked_marks, noted_marks, restored_by, undone_marks}
-use Rattle.ick_machine.proofs.WholeLemmas.{by_text, going_on, keeps_marks}
 use Rattle.ick_machine.proofs.trailed.Trailed.make_whole.Goals as goal
 use Rattle.ick_machine.proofs.trailed.Trailed.make_whole.Goals.{After-start, After-make_steps, After-back}
 
