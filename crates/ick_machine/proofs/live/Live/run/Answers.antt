@@ -36,8 +36,7 @@ returns-in_err-step-clause-reads g c = λ tells read.
       quiet = quiet_fed old.program mid.state rest
           (subst (λ p. IsQuiet p mid.state) same (c.is_quiet-else-made-limit.ensures.quiet c.if-not-is_quiet.false));
       meets = subst (λ p. MeetsInput p mid.state) same
-          (c.in_err-step.ensures.reads
-          (ap Err (same_fault c.from_residual-in_err-step.result fault Read e read)));
+          (c.in_err-step.ensures.reads (ap Err (same_fault c.from_residual-in_err-step.result fault Read e read)));
     }
 
 pub steps-preserved : goal.steps-preserved

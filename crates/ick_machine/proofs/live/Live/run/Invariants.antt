@@ -9,8 +9,7 @@ invariant-steps g l =
     let first = l.fn in
     record {
       within : l.made ≤ l.limit;
-      runs : g.F.Feed.told ≡ true →
-          HasFed (seen first.self) (left first.feed) l.made (seen l.self) (left l.feed);
+      runs : g.F.Feed.told ≡ true → HasFed (seen first.self) (left first.feed) l.made (seen l.self) (left l.feed);
       program : (seen l.self).program ≡ (seen first.self).program;
       start : l.made ≡ 0 → (seen l.self).state ≡ (seen first.self).state;
       sound : (seen l.self).failed ≡ false;
