@@ -67,7 +67,7 @@ seen_at f g h (suc slot) (x ∷ xs) each = ap (λ l. seen f x ∷ l) (seen_at f 
 seen_put : {A B : Type 0} (f : A → B) (x : A) (s : Stash A) → seen f (put_on x s) ≡ put_on (f x) (seen f s)
 seen_put f x s = search (rules, length-map, map-set)
 
--- the arrays on stashes, of which one is changed
+-- if one stash changes, its arrays change in the same way
 arrays_seen : (xs : List (KeptStash Kept)) → map arrays_of xs ≡ map (seen array_of) (map stash_in xs)
 arrays_seen xs = sym (map-map (seen array_of) stash_in xs)
 

@@ -114,7 +114,7 @@ pub goes_by_itself : (m : LiveMachine) (r : LiveAsk) → m.failed ≡ false → 
     IsQuiet m.program m.state
 goes_by_itself m r sound e i j empty = (same_plain (ask m.program m.state) r (asked_by m r e sound) i j, empty)
 
--- a part of an output is written, if anything is told of what is written
+-- if the sink tells what is written, a part of an output is written
 written_part : (told : Bool) (output written written' : List ℕ) →
     (told ≡ true → (k : ℕ) × (k ≤ length output) × (written' ≡ written ++ take k output)) →
     (k : ℕ) × (k ≤ length output) × (told ≡ true → written' ≡ written ++ take k output)
