@@ -6,13 +6,9 @@ use Rattle.ick_code.specs.meaning.State.{State}
 use Rattle.ick_code.specs.meaning.Completion.{Completion, faults}
 use Rattle.ick_code.specs.meaning.InputOutput.{with_input}
 use Rattle.ick_code.specs.meaning.Tape.{tape_numbers, last_read}
-use Rattle.ick_engine.specs.View.{Input}
+use Rattle.ick_memory.specs.Inputs.{Input}
 use Rattle.ick_engine.specs.declared.reader.Line.{Line}
 use Rattle.ick_engine.specs.declared.reader.Line.TheVariants.{Nothing, Number, TooLarge, BadWord}
-
--- for each input that may be left now there is one that may have been left before, and the relation holds between both
-abbrev pub Leads : {R : Type 0} → (R → Input → Type 0) → R → R → (Input → Input → Type 0) → Type 0
-Leads Has old new P = (after : Input) → Has new after → (before : Input) × Has old before × P before after
 
 -- what comes of a line that was taken at a position
 abbrev pub line_outcome : Line → Input → ℕ → State → (ℕ → State → Completion) → Completion

@@ -2,14 +2,12 @@
 use Rattle.std.specs.Prelude.{ℕ, ◌≡◌, ◌≢◌, ◌++◌, false, drop, length, Result, Ok, Err, slice_set, if◌then◌else◌}
 use Rattle.std.proofs.Common.{get_or}
 use Rattle.ick_bits.specs.declared.faults.FaultKind.TheVariants.{Hyperspace}
-use Rattle.ick_code.specs.meaning.State.{Array, no_array}
+use Rattle.ick_code.specs.meaning.State.{Array}
 use Rattle.ick_code.specs.meaning.Tape.{tape_bytes, tape_after, tape_numbers, last_read, with_elements}
-use Rattle.ick_engine.specs.View.{Parts, Input}
-use Rattle.ick_engine.specs.declared.halt.Halt.{Halt}
-use Rattle.ick_engine.specs.declared.halt.Halt.TheVariants.{Fault, Word, NoMemory}
-
-abbrev pub array_at : Parts → ℕ → Array
-array_at parts slot = get_or parts.arrays slot no_array
+use Rattle.ick_memory.specs.View.{Parts, array_at}
+use Rattle.ick_memory.specs.Inputs.{Input}
+use Rattle.ick_memory.specs.declared.halt.Halt.{Halt}
+use Rattle.ick_memory.specs.declared.halt.Halt.TheVariants.{Fault, Word, NoMemory}
 
 -- the parts after an array was printed
 abbrev pub array_printed : Array → Parts → Parts

@@ -1,6 +1,10 @@
 //! Why a run stops.
 
+ghost use Rattle.std.specs.Prelude.{◌≡◌};
+ghost use Rattle.ick_engine.specs.Exits.{exit_of};
+
 use ick_bits::FaultKind;
+use ick_memory::Halt;
 
 /// How a run ended. A fault has the number of its statement, and what gives its subject.
 #[derive(Clone, Copy)]
@@ -31,4 +35,16 @@ pub enum Exit {
     NoMemory,
     /// The run has ended.
     Ended(RawEnd),
+}
+
+/// Returns why the run stops if an instruction of input or output stops it.
+#[cold]
+pub fn stopped_by(halt: Halt, here: u32) -> Exit
+    ensures { result ≡ exit_of halt here }
+{
+    match halt {
+        Halt::Fault(kind) => Exit::Ended(RawEnd::Faulted(kind, here)),
+        Halt::Word(from, to) => Exit::Ended(RawEnd::Word(here, from, to)),
+        Halt::NoMemory => Exit::NoMemory,
+    }
 }

@@ -1,8 +1,9 @@
 //! Readers of a run's input, line by line or byte by byte.
 
 ghost use Rattle.std.specs.Prelude.{◌≡◌, Bool, IfOk};
-ghost use Rattle.ick_engine.specs.Reads.{Leads, IsNext, IsByte};
-ghost use Rattle.ick_engine.specs.View.{Input};
+ghost use Rattle.ick_engine.specs.Reads.{IsNext, IsByte};
+ghost use Rattle.ick_memory.specs.Inputs.{Leads};
+ghost use Rattle.ick_memory.specs.Inputs.{Input};
 
 use ick_bits::NoMemory;
 

@@ -7,7 +7,8 @@ use Rattle.ick_code.specs.meaning.State.{State, Ending, statement_at}
 use Rattle.ick_code.specs.meaning.Move.{Asking, ended, ask, ask_at, ask_of, advance}
 use Rattle.ick_code.proofs.AskLaws.{ask_same}
 use Rattle.ick_instructions.specs.declared.lowered.LoweredParts.{LoweredParts}
-use Rattle.ick_engine.specs.{declared.exit.RawEnd.RawEnd, View.View, View.input_of}
+use Rattle.ick_engine.specs.{declared.exit.RawEnd.RawEnd}
+use Rattle.ick_memory.specs.{View.View, Inputs.input_of}
 use Rattle.ick_backtrack.specs.Asked.{Finish, finished, asked_at_end}
 use Rattle.ick_backtrack.specs.{Machine.Program, Steps.IsQuiet, Steps.RunsOn}
 use Rattle.ick_machine.specs.{Feeds.input_after, Live.LiveMachine, Live.fed, Message.asked_message}

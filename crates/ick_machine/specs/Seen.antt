@@ -1,7 +1,7 @@
 -- What contracts see of the machines with marks.
 use Rattle.std.specs.Prelude.{ℕ, List, map, reverse, vec_len}
 use Rattle.ick_instructions.specs.declared.lowered.Lowered.{Lowered}
-use Rattle.ick_engine.specs.View.{input_of}
+use Rattle.ick_memory.specs.Inputs.{input_of}
 use Rattle.ick_backtrack.specs.Machine.{Machine}
 use Rattle.ick_machine.specs.declared.trailed.Trailed.{Trailed}
 use Rattle.ick_machine.specs.declared.copied.Copied.{Copied}

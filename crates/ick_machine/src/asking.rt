@@ -4,9 +4,10 @@ ghost use Rattle.std.specs.Prelude.{◌≡◌, true, false, Some, slice_range, o
 ghost use Rattle.ick_code.specs.meaning.State.{statement_at};
 ghost use Rattle.ick_code.specs.meaning.Move.{ask};
 ghost use Rattle.ick_code.specs.Compiled.{code_program};
-ghost use Rattle.ick_engine.specs.Memory.{view_in};
-ghost use Rattle.ick_engine.specs.Steady.{IsReady};
-ghost use Rattle.ick_engine.specs.View.{input_of, text_of as text_in};
+ghost use Rattle.ick_memory.specs.Memory.{view_in};
+ghost use Rattle.ick_memory.specs.Steady.{IsReady};
+ghost use Rattle.ick_memory.specs.View.{text_of as text_in};
+ghost use Rattle.ick_memory.specs.Inputs.{input_of};
 ghost use Rattle.ick_machine.specs.Asked.{asked_by, is_open};
 ghost use Rattle.ick_machine.specs.Run.{ending_of, run_state};
 ghost use Rattle.ick_backtrack.specs.Asked.{asked_of, finish_of, finished};
@@ -14,7 +15,8 @@ ghost use Rattle.ick_backtrack.specs.Asked.{asked_of, finish_of, finished};
 use ick_backtrack::{Ask, End};
 use ick_bits::{Fault, FaultKind};
 use ick_code::Code;
-use ick_engine::{Memory, RawEnd};
+use ick_engine::RawEnd;
+use ick_memory::Memory;
 use ick_traces::Followed;
 
 /// Returns the bytes of a text between two positions. It stops at the end of the text.

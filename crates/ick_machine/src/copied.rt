@@ -10,7 +10,8 @@ use crate::trailed::Trailed;
 use ick_backtrack::{Ask, Asks, Backtrack};
 use ick_bits::NoMemory;
 use ick_code::Code;
-use ick_engine::{RawEnd, Saved};
+use ick_engine::RawEnd;
+use ick_marks::Saved;
 use std::alloc::Global;
 
 /// A copy of a state, and how the run had ended.

@@ -4,7 +4,8 @@ ghost use Rattle.std.specs.Prelude.{◌≡◌, reverse};
 ghost use Rattle.ick_machine.specs.RunIn.{CanGoOn};
 
 use ick_backtrack::Backtrack;
-use ick_engine::{Memory, RawEnd};
+use ick_engine::RawEnd;
+use ick_memory::Memory;
 use ick_instructions::Lowered;
 
 /// The parts that represent the present state of a machine: the memory, the end of the run, if

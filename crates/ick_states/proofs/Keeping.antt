@@ -13,11 +13,13 @@ use Rattle.ick_backtrack.specs.Machine.{Program}
 use Rattle.ick_backtrack.specs.Steps.{IsPlain, RunsOn}
 use Rattle.ick_instructions.specs.declared.lowered.LoweredParts.{LoweredParts}
 use Rattle.ick_engine.specs.declared.exit.RawEnd.{RawEnd}
-use Rattle.ick_engine.specs.declared.saved.Saved.{Saved}
+use Rattle.ick_marks.specs.declared.saved.Saved.{Saved}
 use Rattle.ick_engine.specs.declared.text_reader.TextReader.{TextReader}
-use Rattle.ick_engine.specs.Reads.{Leads}
-use Rattle.ick_engine.specs.Saved.{IsKept, IsSaved, saved_view}
-use Rattle.ick_engine.specs.View.{View, Input, end_of, input_of, state_of}
+use Rattle.ick_memory.specs.Inputs.{Leads}
+use Rattle.ick_marks.specs.Saved.{IsKept, IsSaved, saved_view}
+use Rattle.ick_memory.specs.View.{View, state_of}
+use Rattle.ick_memory.specs.Inputs.{Input, input_of}
+use Rattle.ick_engine.specs.Exits.{end_of}
 use Rattle.ick_machine.specs.Asked.{asked_by}
 use Rattle.ick_machine.specs.Run.{ending_of, run_state}
 use Rattle.ick_outcomes.specs.Accounts.{Configuration}

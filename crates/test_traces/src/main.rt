@@ -3,13 +3,14 @@
 //! from there on, and prints where the run is then.
 #![tactic(auto)]
 
-ghost use Rattle.ick_engine.specs.Memory.{view_in};
-ghost use Rattle.ick_engine.specs.Steady.{IsReady};
+ghost use Rattle.ick_memory.specs.Memory.{view_in};
+ghost use Rattle.ick_memory.specs.Steady.{IsReady};
 ghost use Rattle.ick_traces.specs.Fixed.{AreAllowed};
 ghost use Rattle.ick_traces.specs.Traces.{AreTraces};
 
 use ick_code::{Code, compile};
-use ick_engine::{Exit, Memory, NoTraces, Nobody, Notes, TextReader, fresh_memory};
+use ick_engine::{Exit, TextReader, run_steps};
+use ick_memory::{Memory, NoTraces, Nobody, Notes, fresh_memory};
 use ick_instructions::Lowered;
 use ick_lowering::lower;
 use ick_source::read_source;
@@ -51,7 +52,7 @@ fn show_code(rt: &HostRuntime, code: &Code<'_>, steps: u32) -> io::Result<()> {
         return Err(ErrorKind::OutOfMemory.into());
     };
     memory.cursor.left = steps;
-    let Exit::Limit = memory.run_steps(&lowered, &mut Nobody, &mut TextReader::new(b""), &NoTraces)
+    let Exit::Limit = run_steps(&lowered, &mut memory, &mut Nobody, &mut TextReader::new(b""), &NoTraces)
     else {
         return Err(ErrorKind::InvalidData.into());
     };

@@ -1,5 +1,5 @@
 use Rattle.std.proofs.Common.{◌∙◌, Some, refl, rules, arith}
-use Rattle.ick_engine.specs.Memory.{view_in}
+use Rattle.ick_memory.specs.Memory.{view_in}
 use Rattle.ick_machine.proofs.StepLemmas.{has_stepped, at_rest, at_end}
 use Rattle.ick_machine.proofs.steps.make_step.Goals as goal
 

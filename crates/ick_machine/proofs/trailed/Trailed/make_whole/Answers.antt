@@ -2,7 +2,7 @@ use Rattle.std.proofs.Common.{◌≡◌, None, refl, ap, sym, ◌∙◌, subst, 
 use Rattle.std.proofs.lemmas.Grind.{common_steps}
 use Rattle.ick_code.specs.{Compiled.code_program, meaning.Move.advance, meaning.State.State}
 use Rattle.ick_backtrack.specs.{Machine.Machine, Steps.IsPlain, Steps.RunsOn}
-use Rattle.ick_engine.specs.{Memory.view_in, Undo.IsRestored, View.View, View.input_of}
+use Rattle.ick_memory.specs.{Memory.view_in, Undo.IsRestored, View.View, Inputs.input_of}
 use Rattle.ick_machine.specs.{Marks.KeepsMarks, Run.run_state, RunIn.state_in, Seen.trailed_machine}
 use Rattle.ick_machine.proofs.{Marks.run_same, WholeLemmas.by_text, WholeLemmas.going_on, WholeLemmas.keeps_marks}
 use Rattle.ick_machine.proofs.TrailMarks.{depth_restored, marked_marks, noted_marks, restored_by, undone_marks}

@@ -1,5 +1,0 @@
-use Rattle.ick_engine.proofs.Undoing.{alike_rewinds}
-use Rattle.ick_engine.proofs.trail.TrailNotes.law.Goals as goal
-
-pub returns-clause-alike : goal.returns-clause-alike
-returns-clause-alike c = λ k v w m like h. (h.0, alike_rewinds like h.1)

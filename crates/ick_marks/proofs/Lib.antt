@@ -1,0 +1,4 @@
+pub mod Changes
+pub mod Saving
+pub mod Copying
+pub mod Readiness

@@ -1,0 +1,23 @@
+use Rattle.std.proofs.Common.{sym, ◌∙◌, subst}
+use Rattle.ick_memory.specs.Memory.{view_in}
+use Rattle.ick_memory.specs.View.{View}
+use Rattle.ick_memory.specs.Undo.{HighSame}
+use Rattle.ick_marks.proofs.Changes.{count_history}
+use Rattle.ick_memory.proofs.Restoring.{restored}
+use Rattle.ick_memory.proofs.Undoing.{like_moved}
+use Rattle.ick_marks.proofs.marks.back.Goals as goal
+
+pub returns-clause-back : goal.returns-clause-back
+returns-clause-back c = λ m place depth marked h.
+    let undone = c.undo_newer.ensures in
+    let v : View =
+    record (view_in c.undo_newer.new.memory) { place = c.args.mark.place; depth = c.args.mark.depth } in
+    restored c.args.program.now.code.now c.args.program.now.parts
+    (record { compiled = c.law-2.ensures; lowered_is = c.law.ensures }) (view_in c.args.memory.now) m v
+    c.requires.steady.constants marked
+    (rw (← c.requires.base) (like_moved c.args.mark.place c.args.mark.depth (undone.leads m h)))
+    (subst (λ b. HighSame b (view_in c.args.memory.now) v) c.requires.base (undone.stays m h)) (sym place) (sym depth)
+
+pub returns-clause-kept : goal.returns-clause-kept
+returns-clause-kept c =
+    c.len-trail.ensures ∙ c.undo_newer.new.trail.entries.ok.0 ∙ sym (count_history c.undo_newer.new.trail)

@@ -1,0 +1,23 @@
+use Rattle.std.proofs.Common.{◌≡◌, ◌+◌, ◌-◌, ◌≤◌, ℕ, vec_len, vec_capacity}
+use Rattle.ick_instructions.specs.Extends.{Extends}
+use Rattle.ick_marks.specs.TrailChanges.{changes_in}
+use Rattle.ick_memory.specs.Undo.{Rewinds}
+use Rattle.ick_memory.specs.View.{View}
+use Rattle.ick_marks.proofs.trail.Trail.keep_returns.Given as goal
+
+abbrev pub invariant-returns : goal.invariant-returns
+invariant-returns l = record {
+  room : l.self.low ≤ vec_capacity l.self.entries - vec_len l.self.entries;
+  used : vec_capacity l.initial.self.entries - vec_len l.initial.self.entries
+      ≤ vec_capacity l.self.entries - vec_len l.self.entries + (l.initial.self.low - l.self.low);
+  lower : l.self.low ≤ l.initial.self.low;
+  base : l.self.base ≡ l.initial.self.base;
+  kept : l.self.kept ≡ l.initial.self.kept;
+  changes : Extends (changes_in l.initial.self) (changes_in l.self);
+  notes : (k : ℕ) (v m : View) → v.returns ≡ l.returns →
+      Rewinds l.initial.self.base (changes_in l.initial.self) l.initial.self.low k v m →
+      Rewinds l.initial.self.base (changes_in l.self) l.self.low k v m;
+}
+
+abbrev pub decreases-returns : goal.decreases-returns
+decreases-returns l = l.self.low

@@ -1,0 +1,20 @@
+use Rattle.std.proofs.Common.{refl, arith}
+use Rattle.std.proofs.lemmas.Grind.{common_steps}
+use Rattle.ick_marks.specs.TrailChanges.{changes_in}
+use Rattle.ick_memory.specs.Undo.{array_was, undone}
+use Rattle.ick_memory.specs.View.{array_of}
+use Rattle.ick_marks.proofs.Changes.{fixed_grown, grown_one, newest_array}
+use Rattle.ick_memory.proofs.Undoing.{notes_back}
+use Rattle.ick_marks.proofs.trail.TrailNotes.note_array.Goals as goal
+
+pub returns-clause-noted : goal.returns-clause-noted
+returns-clause-noted c = grind (arith, common_steps, fixed_grown, grown_one, newest_array)
+
+pub returns-clause-notes : goal.returns-clause-notes
+returns-clause-notes c = λ k v m can h.
+    let t = c.args.self.now in
+    let change = array_was c.args.change c.args.slot (array_of c.args.array.now) in (
+      h.0,
+      rw (newest_array t c.push_reserved.new.self.items c.push.new.self.items c.args.change c.args.slot c.in_ok-copy_array.field-0
+          (array_of c.args.array.now) c.push_reserved.ensures.items c.in_ok-push.ensures.items c.in_ok-copy_array.ensures.array) (notes_back t.base (changes_in t) t.low k change v (undone change v) m can refl h.1),
+    )

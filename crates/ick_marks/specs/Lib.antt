@@ -1,0 +1,2 @@
+pub mod TrailChanges
+pub mod Saved

@@ -1,0 +1,17 @@
+//! States that a run can go back to: changes that are undone, and states that are kept apart.
+//!
+//! - `trail`: changes that can be undone
+//! - `marks`: states that a trail leads back to
+//! - `saved`: states that are kept apart from a memory
+//! - `copy`, `same`: lists that are copied and compared
+#![tactic(auto)]
+
+mod copy;
+mod marks;
+mod same;
+mod saved;
+mod trail;
+
+pub use marks::{Mark, back, drop_mark, make_mark};
+pub use saved::Saved;
+pub use trail::Trail;

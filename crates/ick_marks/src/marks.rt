@@ -1,0 +1,254 @@
+//! Marks: states that a run can go back to.
+
+ghost use Rattle.std.specs.Prelude.{◌≡◌, ◌<◌, ◌≤◌, ℕ, length, map, slice_set, take, true};
+ghost use Rattle.std.proofs.Common.{get_or};
+ghost use Rattle.ick_code.specs.meaning.State.{no_array};
+ghost use Rattle.ick_marks.specs.TrailChanges.{changes_in, AreUndone, IsUndone};
+ghost use Rattle.ick_memory.specs.Memory.{view_in};
+ghost use Rattle.ick_memory.specs.Steady.{IsReady, IsSteady};
+ghost use Rattle.ick_memory.specs.Undo.{change_of, stands_apart, undone, undone_array};
+ghost use Rattle.ick_memory.specs.Undo.{with_number, IsRestored, Rewinds};
+ghost use Rattle.ick_memory.specs.View.{View, array_of, is_hidden, parts_of};
+
+use crate::trail::Trail;
+use ick_instructions::Lowered;
+use ick_memory::{
+    Array, ArrayChange, Entry, Memory, Rest, drop_at, put_at, set_element, set_hidden,
+};
+use std::mem::replace;
+
+/// A mark: the place and the depth of the NEXT stack, and how many changes were noted before it.
+#[derive(Clone, Copy)]
+pub struct Mark {
+    pub place: u32,
+    pub depth: usize,
+    pub changes: usize,
+}
+
+/// Marks the state of a run. What could be undone up to an older mark can still be undone. All
+/// changes noted so far belong to older marks.
+pub fn make_mark(trail: &mut Trail, memory: &Memory) -> Mark
+    requires { trail.old.low ≤ memory.now.cursor.depth }
+    ensures place { result.place ≡ memory.now.cursor.place }
+    ensures depth { result.depth ≡ memory.now.cursor.depth }
+    ensures low { trail.new.low ≡ memory.now.cursor.depth }
+    ensures base { trail.new.base ≡ trail.old.base }
+    ensures changes { changes_in trail.new ≡ changes_in trail.old }
+    ensures count { result.changes ≡ length (changes_in trail.new) }
+    ensures kept { trail.new.kept ≡ length (changes_in trail.new) }
+    ensures marked { Rewinds trail.new.base (changes_in trail.new) trail.new.low result.changes
+        (view_in memory.now) (view_in memory.now) }
+    ensures older { (k : ℕ) (m : View) →
+        Rewinds trail.old.base (changes_in trail.old) trail.old.low k (view_in memory.now) m →
+        Rewinds trail.new.base (changes_in trail.new) trail.new.low k (view_in memory.now) m }
+{
+    let changes = trail.entries.len();
+    trail.low = memory.cursor.depth;
+    trail.kept = changes;
+    Mark {
+        place: memory.cursor.place,
+        depth: memory.cursor.depth,
+        changes,
+    }
+}
+
+/// Puts a value back, if there is such an index.
+fn put_back<T: Copy>(values: &mut Vec<T>, at: u32, old: T)
+    ensures { values.new.items ≡ slice_set values.old.items at old }
+{
+    if (at as usize) < values.len() {
+        values[at as usize] = old;
+    }
+}
+
+/// Puts the number of an element back, if there is such an element.
+fn put_element(arrays: &mut Vec<Array>, slot: u32, at: u32, old: u32)
+    ensures arrays { map array_of arrays.new.items
+        ≡ with_number (map array_of arrays.old.items) slot at old }
+    ensures hidden { map is_hidden arrays.new.items ≡ map is_hidden arrays.old.items }
+{
+    if slot as usize >= arrays.len() {
+        return;
+    }
+    if at as usize >= arrays[slot as usize].elements.len() {
+        return;
+    }
+    set_element(arrays, slot, at, old);
+}
+
+/// Hides an array again, or shows it, if there is such an array.
+fn put_hidden(arrays: &mut Vec<Array>, slot: u32, old: bool)
+    ensures arrays { map array_of arrays.new.items ≡ map array_of arrays.old.items }
+    ensures hidden { map is_hidden arrays.new.items
+        ≡ slice_set (map is_hidden arrays.old.items) slot old }
+{
+    if slot as usize >= arrays.len() {
+        return;
+    }
+    set_hidden(arrays, slot, old);
+}
+
+/// Undoes a change whose old value is in its entry.
+fn undo(memory: &mut Memory, entry: Entry)
+    ensures { view_in memory.new ≡ undone (change_of entry) (view_in memory.old) }
+{
+    let rest = &mut memory.rest;
+    match entry {
+        Entry::Register(at, old) => put_back(&mut memory.registers, at, old),
+        Entry::Home(at, old) => put_back(&mut memory.home, at, old),
+        Entry::Status(at, old) => put_back(&mut memory.statuses, at, old),
+        Entry::Return(at, old) => put_back(&mut memory.returns, at, old),
+        Entry::Element(slot, at, old) => put_element(&mut rest.arrays, slot, at, old),
+        Entry::Hidden(slot, old) => put_hidden(&mut rest.arrays, slot, old),
+        Entry::ScalarSaved(slot) => drop_at(&mut rest.scalar_stashes, slot),
+        Entry::ScalarTaken(slot, old) => put_at(&mut rest.scalar_stashes, slot, old),
+        Entry::ScalarRestored(slot, number, old) => {
+            put_back(&mut memory.registers, slot, old);
+            put_at(&mut rest.scalar_stashes, slot, number);
+        }
+        Entry::ArraySaved(slot) => drop_at(&mut rest.array_stashes, slot),
+        Entry::Array(_, _) | Entry::Statuses => {}
+        Entry::Taken(old) => rest.taken = old,
+        Entry::Output(count) => rest.output.truncate(count),
+        Entry::Last(old) => rest.last = old,
+        Entry::LastIn(old) => rest.lastin = old,
+    }
+}
+
+/// Puts an array back, if there is such a slot. The present one is returned.
+fn replace_array(arrays: &mut Vec<Array>, slot: u32, old: Array) -> Array
+    requires { slot < length arrays.old.items }
+    ensures arrays { map array_of arrays.new.items
+        ≡ slice_set (map array_of arrays.old.items) slot (array_of old) }
+    ensures hidden { map is_hidden arrays.new.items ≡ map is_hidden arrays.old.items }
+    ensures present { array_of result ≡ get_or (map array_of arrays.old.items) slot no_array }
+{
+    let mut old = old;
+    old.hidden = arrays[slot as usize].hidden;
+    replace(&mut arrays[slot as usize], old)
+}
+
+/// Undoes a change of an array.
+fn undo_array(rest: &mut Rest, change: ArrayChange, slot: u32, old: Array)
+    ensures { parts_of rest.new ≡ undone_array change slot (array_of old) (parts_of rest.old) }
+{
+    match change {
+        ArrayChange::Taken => put_at(&mut rest.array_stashes, slot, old),
+        ArrayChange::Replaced => {
+            if slot as usize >= rest.arrays.len() {
+                return;
+            }
+            let _ = replace_array(&mut rest.arrays, slot, old);
+        }
+        ArrayChange::Restored => {
+            if slot as usize >= rest.arrays.len() {
+                return;
+            }
+            let present = replace_array(&mut rest.arrays, slot, old);
+            put_at(&mut rest.array_stashes, slot, present);
+        }
+    }
+}
+
+/// Undoes a change whose old value is kept apart from its entry, and takes it off the trail.
+fn undo_apart(trail: &mut Trail, memory: &mut Memory, entry: Entry)
+    requires { stands_apart entry ≡ true }
+    ensures entries { trail.new.entries ≡ trail.old.entries }
+    ensures low { trail.new.low ≡ trail.old.low }
+    ensures base { trail.new.base ≡ trail.old.base }
+    ensures kept { trail.new.kept ≡ trail.old.kept }
+    ensures undone { IsUndone entry trail.old trail.new (view_in memory.old)
+        (view_in memory.new) }
+{
+    match entry {
+        Entry::Array(change, slot) => match trail.arrays.pop() {
+            Some(old) => undo_array(&mut memory.rest, change, slot, old),
+            None => {}
+        },
+        Entry::Statuses => match trail.statuses.pop() {
+            Some(old) => memory.statuses = old,
+            None => {}
+        },
+        _ => unreachable!(),
+    }
+}
+
+/// Undoes a change whose entry was taken off the trail.
+fn undo_newest(trail: &mut Trail, memory: &mut Memory, entry: Entry)
+    ensures entries { trail.new.entries ≡ trail.old.entries }
+    ensures low { trail.new.low ≡ trail.old.low }
+    ensures base { trail.new.base ≡ trail.old.base }
+    ensures kept { trail.new.kept ≡ trail.old.kept }
+    ensures undone { IsUndone entry trail.old trail.new (view_in memory.old)
+        (view_in memory.new) }
+{
+    if entry.stands_apart() {
+        undo_apart(trail, memory, entry)
+    } else {
+        undo(memory, entry)
+    }
+}
+
+/// Undoes all changes behind the first ones, and takes them off the trail. The test whether there
+/// is any is another function, because going back from one choice to another often finds none.
+#[inline(never)]
+fn undo_changes(trail: &mut Trail, changes: usize, memory: &mut Memory)
+    ensures { AreUndone trail.old trail.new changes (view_in memory.old) (view_in memory.new) }
+{
+    trail.kept = 0;
+    'changes: while trail.entries.len() > changes {
+        if let Some(entry) = trail.entries.pop() {
+            undo_newest(trail, memory, entry);
+        }
+    }
+}
+
+/// Undoes all changes behind the first ones, if there are any, and takes them off the trail.
+#[inline(always)]
+fn undo_newer(trail: &mut Trail, changes: usize, memory: &mut Memory)
+    ensures { AreUndone trail.old trail.new changes (view_in memory.old) (view_in memory.new) }
+{
+    if trail.entries.len() <= changes {
+        return;
+    }
+    undo_changes(trail, changes, memory);
+}
+
+/// Goes back to a mark: undoes all changes noted since, and takes them off the trail. The mark
+/// stays, and newer marks are gone. The number of steps left stays.
+#[inline(always)]
+pub fn back(trail: &mut Trail, mark: Mark, memory: &mut Memory, program: &Lowered<'_, '_>)
+    requires base { trail.old.base ≡ program.now.parts.layout.base }
+    requires steady { IsSteady program.now.code.now program.now.parts (view_in memory.old) }
+    ensures back { (m : View) → m.place ≡ mark.place → m.depth ≡ mark.depth →
+        IsReady program.now.code.now program.now.parts m →
+        Rewinds trail.old.base (changes_in trail.old) trail.old.low mark.changes
+        (view_in memory.old) m →
+        IsRestored program.now.code.now program.now.parts m (view_in memory.new) }
+    ensures changes { changes_in trail.new ≡ take mark.changes (changes_in trail.old) }
+    ensures low { trail.new.low ≡ mark.depth }
+    ensures base { trail.new.base ≡ trail.old.base }
+    ensures kept { trail.new.kept ≡ length (changes_in trail.new) }
+{
+    // `back` needs that the instructions are those of the code.
+    program.law();
+    program.code.law();
+    undo_newer(trail, mark.changes, memory);
+    trail.kept = trail.entries.len();
+    trail.low = mark.depth;
+    memory.cursor.place = mark.place;
+    memory.cursor.depth = mark.depth;
+}
+
+/// Drops the newest mark: the changes noted since belong to the next older mark. `kept` is how many
+/// changes were noted before that mark, and 0 if there is none. A run can go back to an older mark
+/// from the present state, if it could from the state of the newest mark.
+pub fn drop_mark(trail: &mut Trail, kept: usize)
+    requires { kept ≤ trail.old.kept }
+    ensures changes { changes_in trail.new ≡ changes_in trail.old }
+    ensures low { trail.new.low ≡ trail.old.low }
+    ensures base { trail.new.base ≡ trail.old.base }
+    ensures kept { trail.new.kept ≡ kept }
+{
+    trail.kept = kept;
+}

@@ -1,0 +1,221 @@
+//! A trail of changes, which can be undone.
+
+ghost use Rattle.std.specs.Prelude.{◌≤◌, length};
+
+use crate::copy::{copy_array, copy_list};
+use ick_bits::NoMemory;
+use ick_memory::{Array, ArrayChange, Entry, Notes};
+use std::alloc::Global;
+
+/// Changes, the newest last, the least depth of the NEXT stack since the newest mark, the first
+/// temporary register, and how many changes were noted before the newest mark. Temporaries, and
+/// what is behind them, are never noted. Arrays and statuses are kept apart from their entries, so
+/// that an entry is small.
+#[derive(Drop)]
+pub struct Trail {
+    pub(crate) entries: Vec<Entry>,
+    pub(crate) arrays: Vec<Array>,
+    pub(crate) statuses: Vec<Vec<u8>>,
+    pub(crate) low: usize,
+    pub(crate) base: u32,
+    pub(crate) kept: usize,
+    pub ghost few: { kept ≤ length entries.items },
+}
+
+impl Trail {
+    ghost use Rattle.std.specs.Prelude.{◌≡◌, ◌+◌, ◌-◌, ◌≤◌, ℕ, true, [], length, OnOk};
+    ghost use Rattle.std.specs.Prelude.{vec_len, vec_capacity, List};
+    ghost use Rattle.ick_instructions.specs.Extends.{Extends};
+    ghost use Rattle.ick_marks.specs.declared.trail.Trail.{Trail};
+    ghost use Rattle.ick_marks.specs.TrailChanges.{changes_in, fixed_by, IsNoted, UndoesBy};
+    ghost use Rattle.ick_memory.specs.Undo.{Rewinds};
+    ghost use Rattle.ick_memory.specs.View.{View};
+
+    /// Returns a trail without changes, of a program whose first temporary register is `base`.
+    pub fn new(alloc: Global, base: u32) -> Trail
+        ensures empty { changes_in result ≡ [] }
+        ensures low { result.low ≡ 0 }
+        ensures base { result.base ≡ base }
+        ensures kept { result.kept ≡ 0 }
+    {
+        Trail {
+            entries: Vec::new(alloc),
+            arrays: Vec::new(alloc),
+            statuses: Vec::new(alloc),
+            low: 0,
+            base,
+            kept: 0,
+        }
+    }
+
+    /// Makes room for so many changes. Nothing else changes, also if memory runs out.
+    pub fn reserve(&mut self, changes: usize) -> Result<(), NoMemory>
+        ensures changes { changes_in self.new ≡ changes_in self.old }
+        ensures low { self.new.low ≡ self.old.low }
+        ensures base { self.new.base ≡ self.old.base }
+        ensures kept { self.new.kept ≡ self.old.kept }
+        ensures room { OnOk result (changes ≤
+            vec_capacity self.new.entries - vec_len self.new.entries) }
+    {
+        self.entries.reserve(changes)?;
+        Ok(())
+    }
+
+    /// Forgets all changes and all marks. The room for changes stays.
+    pub fn clear(&mut self)
+        ensures empty { changes_in self.new ≡ [] }
+        ensures low { self.new.low ≡ 0 }
+        ensures base { self.new.base ≡ self.old.base }
+        ensures kept { self.new.kept ≡ 0 }
+        ensures room { vec_capacity self.new.entries - vec_len self.new.entries
+            ≡ vec_capacity self.old.entries }
+    {
+        self.kept = 0;
+        self.entries.clear();
+        self.arrays.clear();
+        self.statuses.clear();
+        self.low = 0;
+    }
+
+    /// Returns whether the newest change is one of a register, and newer than the newest mark.
+    /// Undoing it restores the register, so a further change needs no entry.
+    #[inline(always)]
+    fn has_noted(&self, at: u32) -> bool
+        ensures { result ≡ true → IsNoted self.now at }
+    {
+        let count = self.entries.len();
+        if count <= self.kept {
+            return false;
+        }
+        match self.entries[count - 1] {
+            Entry::Register(newest, _) => newest == at,
+            _ => false,
+        }
+    }
+
+    /// Notes the return addresses from a depth on that aren't noted yet.
+    #[cold]
+    #[inline(never)]
+    fn keep_returns(&mut self, returns: &[u32], depth: usize)
+        requires room { 79 ≤ vec_capacity self.old.entries - vec_len self.old.entries }
+        requires stack { length returns.now ≡ 79 }
+        requires there { self.old.low ≤ 79 }
+        ensures room { vec_capacity self.old.entries - vec_len self.old.entries
+            ≤ vec_capacity self.new.entries - vec_len self.new.entries + 79 }
+        ensures low { self.new.low ≤ depth }
+        ensures lower { self.new.low ≤ self.old.low }
+        ensures base { self.new.base ≡ self.old.base }
+        ensures kept { self.new.kept ≡ self.old.kept }
+        ensures changes { Extends (changes_in self.old) (changes_in self.new) }
+        ensures notes { (k : ℕ) (v m : View) → v.returns ≡ returns.now →
+            Rewinds self.old.base (changes_in self.old) self.old.low k v m →
+            Rewinds self.new.base (changes_in self.new) self.new.low k v m }
+    {
+        'returns: while self.low > depth {
+            self.low -= 1;
+            let at = self.low;
+            self.entries
+                .push_reserved(Entry::Return(at as u32, returns[at]));
+        }
+    }
+}
+
+impl Notes for Trail {
+    ghost use Rattle.std.specs.Prelude.{◌-◌, true, vec_len, vec_capacity};
+    ghost use Rattle.ick_marks.specs.TrailChanges.{changes_in, fixed_by, UndoesBy};
+
+    ghost room = { λ t. vec_capacity t.entries - vec_len t.entries };
+
+    ghost low = { λ t. t.low };
+
+    ghost fixed = { fixed_by };
+
+    ghost tells = { true };
+
+    ghost changes = { changes_in };
+
+    ghost Undoes = { UndoesBy };
+
+    #[inline(always)]
+    fn count(&self) -> usize {
+        self.entries.len()
+    }
+
+    #[inline(always)]
+    fn notes_changes(&self) -> bool {
+        true
+    }
+
+    #[inline(always)]
+    fn has_room(&self, more: usize) -> bool {
+        let room = self.entries.capacity() - self.entries.len();
+        room >= 79 && room - 79 >= more
+    }
+
+    #[inline(always)]
+    fn law(&self) {}
+
+    #[inline(always)]
+    fn note_register(&mut self, registers: &[u32], at: u32) {
+        if at >= self.base {
+            return;
+        }
+        if self.has_noted(at) {
+            return;
+        }
+        self.note(Entry::Register(at, registers[at as usize]));
+    }
+
+    #[inline(always)]
+    fn note_element(&mut self, arrays: &[Array], slot: u32, at: u32) {
+        let old = arrays[slot as usize].elements[at as usize];
+        self.note(Entry::Element(slot, at, old));
+    }
+
+    #[inline(always)]
+    fn note_dropped(&mut self, returns: &[u32], depth: usize) {
+        if depth < self.low {
+            self.keep_returns(returns, depth);
+        }
+    }
+
+    #[inline(always)]
+    fn note(&mut self, entry: Entry) {
+        self.entries.push_reserved(entry);
+    }
+
+    fn note_restored(&mut self, registers: &[u32], slot: u32, number: u32) {
+        if slot >= self.base {
+            self.note(Entry::ScalarTaken(slot, number));
+            return;
+        }
+        let old = registers[slot as usize];
+        self.note(Entry::ScalarRestored(slot, number, old));
+    }
+
+    fn make_room(&mut self, more: usize) -> Result<(), NoMemory> {
+        let Some(places) = more.checked_add(79) else {
+            return Err(NoMemory);
+        };
+        self.reserve(places)
+    }
+
+    fn note_array(
+        &mut self,
+        change: ArrayChange,
+        slot: u32,
+        array: &Array,
+    ) -> Result<(), NoMemory> {
+        let alloc = *self.entries.allocator();
+        self.arrays.push(copy_array(alloc, array)?)?;
+        self.entries.push_reserved(Entry::Array(change, slot));
+        Ok(())
+    }
+
+    fn note_statuses(&mut self, statuses: &[u8]) -> Result<(), NoMemory> {
+        let alloc = *self.entries.allocator();
+        self.statuses.push(copy_list(alloc, statuses)?)?;
+        self.entries.push_reserved(Entry::Statuses);
+        Ok(())
+    }
+}

@@ -1,0 +1,16 @@
+pub mod Status
+pub mod Traced
+pub mod View
+pub mod Run
+pub mod Steady
+pub mod Returns
+pub mod Calculations
+pub mod Memory
+pub mod Walk
+pub mod Elements
+pub mod Undo
+pub mod Stashes
+pub mod Sizes
+pub mod Inputs
+pub mod Halts
+pub mod Noting

@@ -1,0 +1,54 @@
+//! The memory of a run.
+
+ghost use Rattle.std.specs.Prelude.{◌≤◌, length};
+
+use crate::cursor::Cursor;
+
+/// An array: its dimensions, none at first, and its elements row by row.
+#[derive(Drop)]
+pub struct Array {
+    pub dimensions: Vec<u32>,
+    pub elements: Vec<u32>,
+    pub hidden: bool,
+    pub ghost few: { length elements.items ≤ 65536 },
+}
+
+/// A stash: its values, the newest last. The items from `depth` on are spare, and keep their
+/// buffers. Whether an array on a stash is hidden doesn't matter.
+#[derive(Drop)]
+pub struct Stash<T> {
+    pub items: Vec<T>,
+    pub depth: usize,
+    pub ghost there: { depth ≤ length items.items },
+}
+
+/// The parts of a state that few instructions change. Arrays and stashes are in the order of their
+/// slots.
+#[derive(Drop)]
+pub struct Rest {
+    pub arrays: Vec<Array>,
+    pub scalar_stashes: Vec<Stash<u32>>,
+    pub array_stashes: Vec<Stash<Array>>,
+    pub taken: usize,
+    pub output: Vec<u8>,
+    pub last: u8,
+    pub lastin: u8,
+}
+
+/// The state of a run. The registers are those of lowering, and one more behind them, which nothing
+/// reads.
+#[derive(Drop)]
+pub struct Memory {
+    pub registers: Vec<u32>,
+    /// The register that each register leads to: itself, or the last one if its scalar is ignored.
+    pub home: Vec<u32>,
+    /// By the number of a statement: 0 if it is certain to be done, from 1 to 99 if a choice is
+    /// asked, and 100 or at least 128 if it is passed over. A statement of input or output that is
+    /// certain to be done has 101. One that is certain to be done may have 126, which says that a
+    /// trace begins with it. Past the end it is 127.
+    pub statuses: Vec<u8>,
+    /// The NEXT stack: 79 elements, of which `cursor.depth` are used.
+    pub returns: Vec<u32>,
+    pub rest: Rest,
+    pub cursor: Cursor,
+}
