@@ -5,17 +5,17 @@
 
 ghost use Rattle.std.specs.Prelude.{◌≡◌, ◌+◌, ◌<◌, ◌^◌, ◌⊎◌, IfErr, IfOk};
 ghost use Rattle.clap.specs.Words.{fault_of};
-ghost use Rattle.ick_cli.specs.Notice.{notice_text};
-ghost use Rattle.ick_cli.specs.Serve.{Finishes, FinishesDue, IsStatus};
-ghost use Rattle.ick_cli.specs.Usage.{AreMistakes, AreRequests, IsRefused};
-ghost use Rattle.ick_cli.specs.Usage.{words_notice, words_status};
+ghost use Rattle.ick_job.specs.Notice.{notice_text};
+ghost use Rattle.ick_job.specs.Serve.{Finishes, FinishesDue, IsStatus};
+ghost use Rattle.ick_job.specs.Usage.{AreMistakes, AreRequests, IsRefused, words_notice};
+ghost use Rattle.ick_job.specs.Usage.{words_status};
 ghost use Rattle.ick_cli.specs.Words.{ick_app};
 ghost use Rattle.ick_system.specs.Arguments.{after_name};
 
 mod serving;
 
-use ick_cli::{Status, WordsFault, refuse_words};
-use ick_runs::ByteSink;
+use ick_explorer::ByteSink;
+use ick_job::{Status, WordsFault, refuse_words};
 use ick_system::{DiskFiles, InStream, OutStream, arguments, exit_code};
 use serving::serve_arguments;
 use std::io::Lock;

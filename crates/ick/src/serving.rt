@@ -1,19 +1,21 @@
 //! The arguments served over any devices.
 ghost use Rattle.std.specs.Prelude.{◌≡◌, ◌+◌, ◌<◌, ◌^◌, ◌⊎◌, ◌≢◌, [], false, true};
 ghost use Rattle.clap.specs.Words.{fault_of};
-ghost use Rattle.ick_cli.specs.JobEnd.{input_of, source_of};
+ghost use Rattle.ick_job.specs.JobEnd.{input_of, source_of};
 ghost use Rattle.ick_cli.specs.Job.{HasJob, has_file, job_of, takes_input};
 ghost use Rattle.ick_cli.specs.Left.{IsLeft};
 ghost use Rattle.ick_cli.specs.Plan.{IsUnplanned};
-ghost use Rattle.ick_cli.specs.Serve.{FinishesDue, IsDue, IsLineDue, IsServed, IsStatus, counts};
-ghost use Rattle.ick_cli.specs.Tool.{Answer, IsToolAnswer};
-ghost use Rattle.ick_cli.specs.Usage.{AreMistakes, AreRequests, IsHelped, IsRefused};
+ghost use Rattle.ick_job.specs.Serve.{FinishesDue, IsDue, IsLineDue, IsServed, IsStatus, counts};
+ghost use Rattle.ick_job.specs.Answer.{Answer};
+ghost use Rattle.ick_cli.specs.Tool.{IsToolAnswer};
+ghost use Rattle.ick_job.specs.Usage.{AreMistakes, AreRequests, IsHelped, IsRefused};
 ghost use Rattle.ick_cli.specs.Words.{ick_app};
-ghost use Rattle.ick_cli.specs.declared.notice.Notice.{Notice};
+ghost use Rattle.ick_job.specs.declared.notice.Notice.{Notice};
 ghost use Rattle.ick_system.specs.Arguments.{after_name};
 
-use ick_cli::{Files, Status, WordsFault, refuse_words, serve};
-use ick_runs::{ByteSink, ByteSource};
+use ick_cli::serve;
+use ick_explorer::{ByteSink, ByteSource};
+use ick_job::{Files, Status, WordsFault, refuse_words};
 use ick_system::words_of;
 use std::alloc::Global;
 

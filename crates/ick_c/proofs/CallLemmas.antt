@@ -3,14 +3,14 @@ use Rattle.std.proofs.Common.{◌≡◌, inl, inr, ℕ, true, List, Some, arith,
 use Rattle.std.proofs.lemmas.List.{append-nil}
 use Rattle.clap.specs.Words.{Text}
 use Rattle.ick_explorer.specs.Written.{Written}
-use Rattle.ick_cli.specs.JobEnd.{input_of}
+use Rattle.ick_job.specs.JobEnd.{input_of}
 use Rattle.ick_cli.specs.Job.{job_of}
 use Rattle.ick_cli.specs.Laws.{OneAnswer}
-use Rattle.ick_cli.specs.Notice.{notice_text}
-use Rattle.ick_cli.specs.Serve.{Finishes, cut_by_memory, memory_failed}
-use Rattle.ick_cli.specs.Usage.{help_without_memory, refused_without_memory, words_notice, words_status}
-use Rattle.ick_cli.specs.declared.driver.WordsFault.{WordsFault}
-use Rattle.ick_cli.specs.declared.driver.WordsFault.TheVariants.{NoMemory, NotText}
+use Rattle.ick_job.specs.Notice.{notice_text}
+use Rattle.ick_job.specs.Serve.{Finishes, cut_by_memory, memory_failed}
+use Rattle.ick_job.specs.Usage.{help_without_memory, refused_without_memory, words_notice, words_status}
+use Rattle.ick_job.specs.declared.words_fault.WordsFault.{WordsFault}
+use Rattle.ick_job.specs.declared.words_fault.WordsFault.TheVariants.{NoMemory, NotText}
 use Rattle.ick_c.specs.Arguments.{Holds}
 use Rattle.ick_c.specs.Call.{OfBytes, Serves, nothing, source_in}
 use Rattle.ick_c.proofs.ArgumentLemmas.{same_held}

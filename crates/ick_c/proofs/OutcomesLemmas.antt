@@ -3,11 +3,11 @@ use Rattle.std.proofs.Common.{◌≡◌, inl, inr, ℕ, List, Option, Some, None
 use Rattle.std.specs.Prelude.{true, if◌then◌else◌, is_some, option_map}
 use Rattle.clap.specs.Words.{Text}
 use Rattle.ick_explorer.specs.Written.{Written}
-use Rattle.ick_cli.specs.JobEnd.{source_of}
-use Rattle.ick_cli.specs.Notice.{notice_text}
-use Rattle.ick_cli.specs.Serve.{Finishes, memory_failed}
-use Rattle.ick_cli.specs.Usage.{help_without_memory, refused_without_memory, words_notice}
-use Rattle.ick_cli.specs.declared.driver.WordsFault.TheVariants.{NoMemory}
+use Rattle.ick_job.specs.JobEnd.{source_of}
+use Rattle.ick_job.specs.Notice.{notice_text}
+use Rattle.ick_job.specs.Serve.{Finishes, memory_failed}
+use Rattle.ick_job.specs.Usage.{help_without_memory, refused_without_memory, words_notice}
+use Rattle.ick_job.specs.declared.words_fault.WordsFault.TheVariants.{NoMemory}
 use Rattle.ick_outcomes_cli.specs.OutcomesEnd.{listing_of}
 use Rattle.ick_outcomes_cli.specs.Job.{Wanted}
 use Rattle.ick_outcomes_cli.specs.Serve.{as_ick, without_memory}

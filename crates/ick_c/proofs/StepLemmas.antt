@@ -3,10 +3,10 @@ use Rattle.std.proofs.Common.{ℕ, List, refl}
 use Rattle.std.specs.Prelude.{true}
 use Rattle.clap.specs.Words.{Text}
 use Rattle.ick_explorer.specs.Written.{Written}
-use Rattle.ick_cli.specs.Notice.{notice_text}
-use Rattle.ick_cli.specs.Serve.{Finishes, memory_failed}
-use Rattle.ick_cli.specs.Usage.{help_without_memory, refused_without_memory, words_notice}
-use Rattle.ick_cli.specs.declared.driver.WordsFault.TheVariants.{NoMemory}
+use Rattle.ick_job.specs.Notice.{notice_text}
+use Rattle.ick_job.specs.Serve.{Finishes, memory_failed}
+use Rattle.ick_job.specs.Usage.{help_without_memory, refused_without_memory, words_notice}
+use Rattle.ick_job.specs.declared.words_fault.WordsFault.TheVariants.{NoMemory}
 use Rattle.ick_c.specs.StepCall.{ServesStep}
 
 -- what any arguments leave if memory ran out before they were read

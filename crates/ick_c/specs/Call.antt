@@ -2,14 +2,15 @@
 use Rattle.std.specs.Prelude.{◌≡◌, ◌≢◌, ◌<◌, ◌⊎◌, if◌then◌else◌, ℕ, true, List, [], Some}
 use Rattle.clap.specs.Words.{Text, fault_of}
 use Rattle.ick_explorer.specs.Written.{Written}
-use Rattle.ick_cli.specs.JobEnd.{input_of}
+use Rattle.ick_job.specs.JobEnd.{input_of}
 use Rattle.ick_cli.specs.Job.{Asked, HasJob, has_file, job_of}
-use Rattle.ick_cli.specs.Notice.{notice_text}
-use Rattle.ick_cli.specs.Serve.{Failures, Finishes, FinishesDue, IsDue, IsServed, counts}
-use Rattle.ick_cli.specs.Tool.{Answer, IsToolAnswer}
-use Rattle.ick_cli.specs.Usage.{AreMistakes, AreRequests, IsHelped, IsRefused}
+use Rattle.ick_job.specs.Notice.{notice_text}
+use Rattle.ick_job.specs.Serve.{Failures, Finishes, FinishesDue, IsDue, IsServed, counts}
+use Rattle.ick_job.specs.Answer.{Answer}
+use Rattle.ick_cli.specs.Tool.{IsToolAnswer}
+use Rattle.ick_job.specs.Usage.{AreMistakes, AreRequests, IsHelped, IsRefused}
 use Rattle.ick_cli.specs.Words.{ick_app}
-use Rattle.ick_cli.specs.declared.notice.Notice.TheVariants.{WordsNotRead}
+use Rattle.ick_job.specs.declared.notice.Notice.TheVariants.{WordsNotRead}
 use Rattle.ick_c.specs.Arguments.{Holds}
 
 -- no byte was written, and no write failed

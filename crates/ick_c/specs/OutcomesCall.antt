@@ -2,8 +2,8 @@
 use Rattle.std.specs.Prelude.{◌≡◌, ◌<◌, ◌⊎◌, if◌then◌else◌, ℕ, true, List, Option, Some, option_map}
 use Rattle.clap.specs.Words.{Text, fault_of}
 use Rattle.ick_explorer.specs.Written.{Written}
-use Rattle.ick_cli.specs.JobEnd.{input_of}
-use Rattle.ick_cli.specs.Usage.{AreMistakes, AreRequests, IsHelped, IsRefused}
+use Rattle.ick_job.specs.JobEnd.{input_of}
+use Rattle.ick_job.specs.Usage.{AreMistakes, AreRequests, IsHelped, IsRefused}
 use Rattle.ick_outcomes_cli.specs.Job.{HasJob, Wanted, has_file, job_of}
 use Rattle.ick_outcomes_cli.specs.Serve.{IsOutcomesDue, IsOutcomesServed}
 use Rattle.ick_outcomes_cli.specs.Tool.{IsOutcomesAnswer, MayStop}

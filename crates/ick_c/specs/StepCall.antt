@@ -2,8 +2,8 @@
 use Rattle.std.specs.Prelude.{◌≡◌, ℕ, true, List}
 use Rattle.clap.specs.Words.{Text, fault_of}
 use Rattle.ick_explorer.specs.Written.{Written}
-use Rattle.ick_cli.specs.Serve.{IsDue}
-use Rattle.ick_cli.specs.Usage.{AreMistakes, AreRequests, IsHelped, IsRefused}
+use Rattle.ick_job.specs.Serve.{IsDue}
+use Rattle.ick_job.specs.Usage.{AreMistakes, AreRequests, IsHelped, IsRefused}
 use Rattle.ick_step_cli.specs.Words.{step_app}
 use Rattle.ick_c.specs.Call.{OfBytes, Reports, failures_of}
 

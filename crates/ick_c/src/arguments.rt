@@ -6,7 +6,7 @@ ghost use Rattle.clap.specs.Words.{Text};
 ghost use Rattle.std.specs.Str.Iter.{LacksByte};
 ghost use Rattle.ick_c.specs.Arguments.{Holds, IsArgument};
 
-use ick_cli::WordsFault;
+use ick_job::WordsFault;
 use std::alloc::{AllocError, Global};
 use std::str;
 

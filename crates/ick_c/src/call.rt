@@ -1,13 +1,14 @@
 //! The answer to arguments, over a file and an input in memory.
 ghost use Rattle.std.specs.Prelude.{◌+◌, ◌<◌, ◌^◌};
 ghost use Rattle.clap.specs.Walk.{texts};
-ghost use Rattle.ick_cli.specs.Serve.{IsStatus};
+ghost use Rattle.ick_job.specs.Serve.{IsStatus};
 ghost use Rattle.ick_c.specs.Call.{Serves, ServesBytes};
 
 use crate::arguments::arguments_in;
 use crate::one_file::OneFile;
-use ick_cli::{Status, one_answer, refuse_words, serve};
-use ick_runs::{SliceSource, VecSink};
+use ick_cli::{one_answer, serve};
+use ick_explorer::{SliceSource, VecSink};
+use ick_job::{Status, refuse_words};
 use std::alloc::Global;
 
 /// Serves the arguments that the bytes hold, or says why they can't be read.

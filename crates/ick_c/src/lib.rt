@@ -12,7 +12,7 @@
 
 ghost use Rattle.std.specs.Prelude.{◌≡◌, length};
 ghost use Rattle.ick_explorer.specs.Written.{Written};
-ghost use Rattle.ick_cli.specs.Serve.{IsStatus};
+ghost use Rattle.ick_job.specs.Serve.{IsStatus};
 ghost use Rattle.ick_c.specs.Call.{ServesBytes, nothing};
 ghost use Rattle.ick_c.specs.OutcomesCall.{OutcomesOfBytes};
 ghost use Rattle.ick_c.specs.Room.{filled};
@@ -28,7 +28,7 @@ mod step_call;
 mod two_files;
 
 use call::answer;
-use ick_runs::VecSink;
+use ick_explorer::VecSink;
 pub use laws::one_list;
 use outcomes_call::answer_outcomes;
 use room::fill;

@@ -1,8 +1,8 @@
 //! A file in memory.
 ghost use Rattle.std.specs.Prelude.{◌≡◌, [], true};
 
-use ick_cli::Files;
-use ick_runs::{ByteSource, DeviceFault};
+use ick_explorer::{ByteSource, DeviceFault};
+use ick_job::Files;
 
 /// Files that all have the same bytes, whatever their names. This source never fails.
 #[derive(Drop)]

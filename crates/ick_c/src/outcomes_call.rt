@@ -1,14 +1,14 @@
 //! The answer of `ick-outcomes` to arguments, over a file, a listing and an input in memory.
 ghost use Rattle.std.specs.Prelude.{◌+◌, ◌<◌, ◌^◌};
 ghost use Rattle.clap.specs.Walk.{texts};
-ghost use Rattle.ick_cli.specs.Serve.{IsStatus};
+ghost use Rattle.ick_job.specs.Serve.{IsStatus};
 ghost use Rattle.ick_c.specs.OutcomesCall.{OutcomesOfBytes, ServesOutcomes};
 
 use crate::arguments::arguments_in;
 use crate::one_file::OneFile;
-use ick_cli::{Status, refuse_words};
+use ick_explorer::{SliceSource, VecSink};
+use ick_job::{Status, refuse_words};
 use ick_outcomes_cli::serve_outcomes;
-use ick_runs::{SliceSource, VecSink};
 use std::alloc::Global;
 
 /// Serves the arguments that the bytes hold, or says why they can't be read.

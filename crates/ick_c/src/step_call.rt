@@ -1,13 +1,13 @@
 //! The answer of `ick-step` to arguments, over a file, an input and commands in memory.
 ghost use Rattle.std.specs.Prelude.{◌+◌, ◌<◌, ◌^◌};
 ghost use Rattle.clap.specs.Walk.{texts};
-ghost use Rattle.ick_cli.specs.Serve.{IsStatus};
+ghost use Rattle.ick_job.specs.Serve.{IsStatus};
 ghost use Rattle.ick_c.specs.StepCall.{ServesStep, StepOfBytes};
 
 use crate::arguments::arguments_in;
 use crate::two_files::TwoFiles;
-use ick_cli::{Status, refuse_words};
-use ick_runs::{SliceSource, VecSink};
+use ick_explorer::{SliceSource, VecSink};
+use ick_job::{Status, refuse_words};
 use ick_step_cli::serve_step;
 use std::alloc::Global;
 

@@ -3,8 +3,8 @@ ghost use Rattle.std.specs.Prelude.{◌≡◌, true, if◌then◌else◌, codes}
 ghost use Rattle.std.specs.Str.{bytes_eq};
 
 use crate::one_file::OneFile;
-use ick_cli::Files;
-use ick_runs::{ByteSource, DeviceFault};
+use ick_explorer::{ByteSource, DeviceFault};
+use ick_job::Files;
 
 /// Files of which the one named `input` has bytes of its own. All others have the same bytes,
 /// whatever their names. This source never fails.

@@ -7,19 +7,21 @@ use Rattle.ick_bits.specs.declared.faults.FaultKind.{FaultKind}
 use Rattle.ick_source.specs.RefusalAnswers.{IsOnlyRefused}
 use Rattle.ick_source.specs.Refusals.{Compiles, IsRefused, longest}
 use Rattle.ick_syntax.specs.StatementTree.{StatementTree}
-use Rattle.ick_cli.specs.JobEnd.{Answers, EndsBy, Leaves, LeavesStreams, failed_files, input_of, source_of}
-use Rattle.ick_cli.specs.Input.{EndsCut, EndsUnopened}
+use Rattle.ick_job.specs.JobEnd.{Answers, EndsBy, failed_files, input_of, source_of}
+use Rattle.ick_job.specs.Input.{EndsUnopened}
 use Rattle.ick_cli.specs.Job.{Task}
-use Rattle.ick_cli.specs.Notice.{notice_text}
-use Rattle.ick_cli.specs.Tool.{Answer, IsExecuted, IsProgramAnswer, IsReadAnswer, IsSourceAnswer, IsToolAnswer}
-use Rattle.ick_cli.specs.Tool.{compiled, executed, not_read, read, refusal, refused, too_long}
-use Rattle.ick_cli.specs.declared.job_end.JobEnd.{JobEnd}
-use Rattle.ick_cli.specs.declared.job_end.JobEnd.TheVariants.{Answered, NoMemory, InputTooLong, FileNotRead, ReadFailed}
-use Rattle.ick_cli.specs.declared.job_end.JobEnd.TheVariants.{WriteFailed}
-use Rattle.ick_cli.specs.declared.notice.Notice.TheVariants as notice
+use Rattle.ick_job.specs.Notice.{notice_text}
+use Rattle.ick_job.specs.Answer.{Answer, refusal}
+use Rattle.ick_cli.specs.Tool.{IsExecuted, IsProgramAnswer, IsReadAnswer, IsSourceAnswer, IsToolAnswer, compiled}
+use Rattle.ick_cli.specs.Tool.{executed, not_read, read, refused, too_long}
+use Rattle.ick_job.specs.declared.job_end.JobEnd.{JobEnd}
+use Rattle.ick_job.specs.declared.job_end.JobEnd.TheVariants.{Answered, NoMemory, InputTooLong, FileNotRead, ReadFailed}
+use Rattle.ick_job.specs.declared.job_end.JobEnd.TheVariants.{WriteFailed}
+use Rattle.ick_job.specs.declared.notice.Notice.TheVariants as notice
 use Rattle.ick_cli.specs.declared.plan.Plan.{Plan}
 use Rattle.ick_cli.specs.declared.plan.Plan.TheVariants.{Execute}
 use Rattle.ick_cli.specs.declared.plan.Runs.{Runs}
+use Rattle.ick_job.proofs.Ends.{ends_refused}
 
 -- the answer to a source that compiles is that of its program
 pub source_program : (plan : Plan) (source input : List ℕ) (trees : List StatementTree) → Compiles source trees
@@ -47,15 +49,6 @@ refused_answer plan source input kind n is answer (refused other m h) =
     let same = is.only other m h in ap₂ (λ k i. refusal 2 (message_of k i [])) (sym same.0) (sym same.1)
 refused_answer plan source input kind n is answer (compiled trees given h program) = absurd (is.no_program trees h)
 
-ends_refused : (status : ℕ) (text : List ℕ) (job_end : JobEnd) (before : List ℕ) → EndsBy status text job_end
-    → Answers (refusal status text) job_end before before
-ends_refused status text (Answered given message) before h = (h, sym (append-nil before))
-ends_refused status text NoMemory before h = (tt, (0, sym (append-nil before)))
-ends_refused status text InputTooLong before h = absurd h
-ends_refused status text FileNotRead before h = absurd h
-ends_refused status text ReadFailed before h = absurd h
-ends_refused status text WriteFailed before h = absurd h
-
 pub answered_refusal : (plan : Plan) (source input : List ℕ) (kind : FaultKind) (n : ℕ) (job_end : JobEnd)
     (before : List ℕ) → IsOnlyRefused source kind n
     → EndsBy 2 (message_of kind n []) job_end
@@ -63,29 +56,6 @@ pub answered_refusal : (plan : Plan) (source input : List ℕ) (kind : FaultKind
 answered_refusal plan source input kind n job_end before is ends answer h =
     subst (λ (a : Answer). Answers a job_end before before) (refused_answer plan source input kind n is answer h)
     (ends_refused 2 (message_of kind n []) job_end before ends)
-
--- a job's end by a status of answers leaves the devices unfailed
-pub leaves_by : (status : ℕ) (text : List ℕ) (job_end : JobEnd) (reads reads' writes writes' : ℕ) → status ≤ 3
-    → EndsBy status text job_end → reads' ≡ reads → writes' ≡ writes
-    → LeavesStreams job_end reads reads' writes writes'
-leaves_by status text (Answered given message) reads reads' writes writes' small h calm_reads calm_writes =
-    record { proper = inl (omega (arith, h.0)); opened = refl; read = omega arith; wrote = omega arith }
-leaves_by status text NoMemory reads reads' writes writes' small h calm_reads calm_writes =
-    record { proper = tt; opened = refl; read = omega arith; wrote = omega arith }
-leaves_by status text InputTooLong reads reads' writes writes' small h calm_reads calm_writes = absurd h
-leaves_by status text FileNotRead reads reads' writes writes' small h calm_reads calm_writes = absurd h
-leaves_by status text ReadFailed reads reads' writes writes' small h calm_reads calm_writes = absurd h
-leaves_by status text WriteFailed reads reads' writes writes' small h calm_reads calm_writes = absurd h
-
--- counts of failures that rose as much have the same end
-pub leaves_as : (job_end : JobEnd) (f f' r r' w w' g g' s s' x x' : ℕ) → Leaves job_end f f' r r' w w'
-    → g' + f ≡ f' + g → s' + r ≡ r' + s → x' + w ≡ w' + x → Leaves job_end g g' s s' x x'
-leaves_as job_end f f' r r' w w' g g' s s' x x' leaves files reads writes = record {
-  proper = leaves.proper;
-  opened = let rose = leaves.opened in omega arith;
-  read = let rose = leaves.read in omega arith;
-  wrote = let rose = leaves.wrote in omega arith;
-}
 
 -- the front of a source has the answer of the whole, where it is long enough to show what is too long
 pub answer_of_front : (plan : Plan) (most : ℕ) (source input : List ℕ) → longest < most → (answer : Answer)
@@ -135,15 +105,6 @@ answers_unopened plan source input failed failed' (Answered status message) befo
 answers_unopened plan source input failed failed' InputTooLong before h count answer is = absurd h
 answers_unopened plan source input failed failed' ReadFailed before h count answer is = absurd h
 answers_unopened plan source input failed failed' WriteFailed before h count answer is = absurd h
-
-pub answers_cut : (answer : Answer) (job_end : JobEnd) (before : List ℕ) → EndsCut job_end
-    → Answers answer job_end before before
-answers_cut answer NoMemory before h = (tt, (0, sym (append-nil before)))
-answers_cut answer ReadFailed before h = (tt, (0, sym (append-nil before)))
-answers_cut answer (Answered status message) before h = absurd h
-answers_cut answer InputTooLong before h = absurd h
-answers_cut answer FileNotRead before h = absurd h
-answers_cut answer WriteFailed before h = absurd h
 
 -- the answer of a program's runs is that of the code that was compiled
 pub executed_so : (trees program : List StatementTree) (input : List ℕ) (runs : Runs) (answer : Answer)

@@ -18,18 +18,18 @@ use Rattle.ick_explorer.specs.declared.errors.RunsError.{RunsError}
 use Rattle.ick_explorer.specs.declared.errors.RunsError.TheVariants.{NoMemory as NoMemory_error, NoSuchRun, WorkFull}
 use Rattle.ick_explorer.specs.declared.errors.RunsError.TheVariants.{Failed, BadCursor, Read, Write}
 use Rattle.ick_runs.specs.declared.streamed.Streamed.{Streamed}
-use Rattle.ick_cli.specs.JobEnd.{Answers, Comes, EndsBy, LeavesStreams, WhereAnswered, refused_job_end}
-use Rattle.ick_cli.specs.Input.{EndsUnread}
+use Rattle.ick_job.specs.JobEnd.{Answers, Comes, EndsBy, LeavesStreams, WhereAnswered, refused_job_end}
+use Rattle.ick_job.specs.Input.{EndsUnread, longest_input}
 use Rattle.ick_cli.specs.Stopped.{EndsAs, kind_status, kind_text}
-use Rattle.ick_cli.specs.Tool.{Answer, IsExecuted, IsRunsAnswer, run_answer, stop_status, stop_text}
-use Rattle.ick_cli.specs.Tool.{drawn, input_too_long, listed_runs, longest_input, ran}
-use Rattle.ick_cli.specs.declared.job_end.JobEnd.{JobEnd}
-use Rattle.ick_cli.specs.declared.job_end.JobEnd.TheVariants.{Answered, NoMemory, InputTooLong, FileNotRead, ReadFailed}
-use Rattle.ick_cli.specs.declared.job_end.JobEnd.TheVariants.{WriteFailed}
+use Rattle.ick_job.specs.Answer.{Answer}
+use Rattle.ick_cli.specs.Tool.{IsExecuted, IsRunsAnswer, run_answer, stop_status, stop_text, drawn, input_too_long}
+use Rattle.ick_cli.specs.Tool.{listed_runs, ran}
+use Rattle.ick_job.specs.declared.job_end.JobEnd.{JobEnd}
+use Rattle.ick_job.specs.declared.job_end.JobEnd.TheVariants.{Answered, NoMemory, InputTooLong, FileNotRead, ReadFailed}
+use Rattle.ick_job.specs.declared.job_end.JobEnd.TheVariants.{WriteFailed}
 use Rattle.ick_cli.specs.declared.plan.Runs.TheVariants.{Given, Drawn, Listed}
-use Rattle.ick_cli.proofs.Answered.{leaves_by}
-use Rattle.ick_cli.proofs.Errors.{one_of_three}
-use Rattle.ick_cli.proofs.Left.{where_answered, where_refused}
+use Rattle.ick_job.proofs.Ends.{leaves_by, where_answered, where_refused}
+use Rattle.ick_job.proofs.Errors.{one_of_three}
 
 -- the status and the error text of a run, by how it stopped
 status_of_kind : (stop : Stop) → kind_status (stop_kind stop) ≡ stop_status stop

@@ -2,7 +2,6 @@
 use Rattle.std.proofs.Common.{◌≡◌, ◌<◌, ◌+◌, ◌⊎◌, inl, inr, ℕ, Bool, true, false, List, [], Option, Some, None, ap}
 use Rattle.std.proofs.Common.{arith, drop}
 use Rattle.std.proofs.Common.{length, refl, subst, sym, take}
-use Rattle.std.proofs.lemmas.Bool.{cases_order}
 use Rattle.std.proofs.lemmas.List.{length-take, take_all}
 use Rattle.std.specs.Prelude.{is_some, unwrap_or}
 use Rattle.ick_bits.specs.declared.faults.FaultKind.{FaultKind}
@@ -13,85 +12,23 @@ use Rattle.ick_code.specs.meaning.Move.{first_state}
 use Rattle.ick_backtrack.specs.Machine.{Program}
 use Rattle.ick_runs.specs.Draws.{IsDrawn, word_of}
 use Rattle.ick_explorer.specs.Runs.{run}
-use Rattle.ick_explorer.specs.declared.errors.RunsError.{RunsError}
-use Rattle.ick_explorer.specs.declared.errors.RunsError.TheVariants.{NoMemory, Read, Write}
-use Rattle.ick_cli.specs.JobEnd.{WhereAnswered, job_end_status, job_end_text, refused_job_end}
-use Rattle.ick_cli.specs.Input.{EndsCut, EndsUnopened, EndsUnread}
+use Rattle.ick_job.specs.JobEnd.{WhereAnswered, EndsByLine}
+use Rattle.ick_job.specs.Input.{longest_input}
 use Rattle.ick_cli.specs.Left.{IsLeftByProgram, IsLeftByRuns, IsLeftBySource, left_alone, left_by_drawn, left_by_given}
-use Rattle.ick_cli.specs.Left.{left_by_listed, left_by_runs, left_compiled, left_refused}
+use Rattle.ick_cli.specs.Left.{left_by_listed, left_by_runs, left_compiled, left_refused, IsLeft, left_unplanned}
+use Rattle.ick_cli.specs.Left.{left_without_file}
 use Rattle.ick_cli.specs.Job.{Asked}
-use Rattle.ick_cli.specs.Left.{IsLeft, left_unplanned, left_without_file}
-use Rattle.ick_cli.specs.Plan.{EndsByLine, IsPlanned, IsUnplanned, reads_input}
-use Rattle.ick_cli.specs.declared.notice.Message.TheVariants as message
-use Rattle.ick_cli.specs.Serve.{Finishes}
-use Rattle.ick_cli.specs.Tool.{longest_input}
-use Rattle.ick_cli.specs.declared.job_end.JobEnd.{JobEnd}
-use Rattle.ick_cli.specs.declared.job_end.JobEnd.TheVariants.{Answered, InputTooLong, FileNotRead, ReadFailed}
-use Rattle.ick_cli.specs.declared.job_end.JobEnd.TheVariants.{WriteFailed}
-use Rattle.ick_cli.specs.declared.job_end.JobEnd.TheVariants.{NoMemory as WithoutMemory}
+use Rattle.ick_cli.specs.Plan.{IsPlanned, IsUnplanned, reads_input}
+use Rattle.ick_job.specs.declared.notice.Message.TheVariants as message
+use Rattle.ick_job.specs.declared.job_end.JobEnd.{JobEnd}
+use Rattle.ick_job.specs.declared.job_end.JobEnd.TheVariants.{Answered, InputTooLong, FileNotRead, ReadFailed}
+use Rattle.ick_job.specs.declared.job_end.JobEnd.TheVariants.{WriteFailed}
+use Rattle.ick_job.specs.declared.job_end.JobEnd.TheVariants.{NoMemory as WithoutMemory}
 use Rattle.ick_cli.specs.declared.plan.Plan.{Plan}
 use Rattle.ick_cli.specs.declared.plan.Plan.TheVariants.{Execute}
 use Rattle.ick_cli.specs.declared.plan.Runs.{Runs}
 use Rattle.ick_cli.specs.declared.plan.Runs.TheVariants.{Given, Drawn, Listed}
-use Rattle.ick_cli.proofs.Errors.{one_of_three}
-
--- a fact holds where work ended with an answer, if it holds anyway, or another does
-pub where_answered : (job_end : JobEnd) (Fact : Type 0) → Fact → WhereAnswered job_end Fact
-where_answered (Answered status message) Fact h = h
-where_answered WithoutMemory Fact h = tt
-where_answered InputTooLong Fact h = tt
-where_answered FileNotRead Fact h = tt
-where_answered ReadFailed Fact h = tt
-where_answered WriteFailed Fact h = tt
-
-pub where_other : (job_end : JobEnd) (Fact Other : Type 0) → (Fact → Other) → WhereAnswered job_end Fact
-    → WhereAnswered job_end Other
-where_other (Answered status message) Fact Other so h = so h
-where_other WithoutMemory Fact Other so h = tt
-where_other InputTooLong Fact Other so h = tt
-where_other FileNotRead Fact Other so h = tt
-where_other ReadFailed Fact Other so h = tt
-where_other WriteFailed Fact Other so h = tt
-
--- a run that was refused, and an input that wasn't read, end without an answer
-pub where_refused : (e : RunsError) (job_end : JobEnd) (Fact : Type 0) → job_end ≡ refused_job_end e
-    → (e ≡ NoMemory) ⊎ ((e ≡ Read) ⊎ (e ≡ Write)) → WhereAnswered job_end Fact
-where_refused e job_end Fact so one =
-    subst (λ (x : JobEnd). WhereAnswered x Fact) (sym so)
-    (one_of_three (λ (x : RunsError). WhereAnswered (refused_job_end x) Fact) NoMemory Read Write e tt tt tt one)
-
-pub where_cut : (job_end : JobEnd) (Fact : Type 0) → EndsCut job_end → WhereAnswered job_end Fact
-where_cut (Answered status message) Fact h = absurd h
-where_cut WithoutMemory Fact h = tt
-where_cut InputTooLong Fact h = tt
-where_cut FileNotRead Fact h = tt
-where_cut ReadFailed Fact h = tt
-where_cut WriteFailed Fact h = tt
-
-pub where_unopened : (job_end : JobEnd) (Fact : Type 0) → EndsUnopened job_end → WhereAnswered job_end Fact
-where_unopened (Answered status message) Fact h = absurd h
-where_unopened WithoutMemory Fact h = tt
-where_unopened InputTooLong Fact h = tt
-where_unopened FileNotRead Fact h = tt
-where_unopened ReadFailed Fact h = tt
-where_unopened WriteFailed Fact h = tt
-
-pub cut_unread : (input : List ℕ) (job_end : JobEnd) → EndsCut job_end → EndsUnread input job_end
-cut_unread input (Answered status message) h = absurd h
-cut_unread input WithoutMemory h = tt
-cut_unread input InputTooLong h = absurd h
-cut_unread input FileNotRead h = absurd h
-cut_unread input ReadFailed h = tt
-cut_unread input WriteFailed h = absurd h
-
-pub where_unread : (input : List ℕ) (job_end : JobEnd) (Fact : Type 0) → EndsUnread input job_end
-    → WhereAnswered job_end Fact
-where_unread input (Answered status message) Fact h = absurd h
-where_unread input WithoutMemory Fact h = tt
-where_unread input InputTooLong Fact h = tt
-where_unread input FileNotRead Fact h = tt
-where_unread input ReadFailed Fact h = tt
-where_unread input WriteFailed Fact h = tt
+use Rattle.ick_job.proofs.Ends.{where_answered}
 
 -- what runs leave
 pub given_left : (p : Program) (input : List ℕ) (choices : Option (List Bool)) (limit : ℕ) (left : List ℕ)
@@ -154,34 +91,6 @@ left_of_front plan most source input left long (left_refused none) =
 left_of_front plan most source input left long (left_compiled trees l h is) =
     left_compiled trees l
     (subst (λ (t : List ℕ). Compiles t trees) (front_whole most source trees long h) h) is
-
--- a status that isn't 4 is that of an answer
-answered_by : (job_end : JobEnd) (Fact : Type 0) → (job_end_status job_end ≡ 4 → ⊥) → WhereAnswered job_end Fact → Fact
-answered_by (Answered status message) Fact other h = h
-answered_by WithoutMemory Fact other h = absurd (other refl)
-answered_by InputTooLong Fact other h = absurd (other refl)
-answered_by FileNotRead Fact other h = absurd (other refl)
-answered_by ReadFailed Fact other h = absurd (other refl)
-answered_by WriteFailed Fact other h = absurd (other refl)
-
-pub four_by : (told : Bool) (status : ℕ) (text : List ℕ) (e e' : ℕ) (errs errs' : List ℕ) (code : ℕ)
-    → Finishes told status text e e' errs errs' code → status ≡ 4 → code ≡ 4
-four_by told status text e e' errs errs' code done four = elim (cases_order e' e) [
-  | inl same ↦ let given = (done.whole same).0 in omega arith
-  | inr (inl less) ↦ let grows = done.grows in absurd (omega arith)
-  | inr (inr more) ↦ done.fault more
-]
-
-pub was_answered : (told : Bool) (job_end : JobEnd) (e e' : ℕ) (errs errs' : List ℕ) (code : ℕ) (Fact : Type 0)
-    → Finishes told (job_end_status job_end) (job_end_text job_end) e e' errs errs' code → (code ≡ 4 → ⊥)
-    → WhereAnswered job_end Fact → Fact
-was_answered told job_end e e' errs errs' code Fact done other h =
-    answered_by job_end Fact (λ four. other (four_by told _ _ e e' errs errs' code done four)) h
-
-pub without_memory : (told : Bool) (text : List ℕ) (e e' : ℕ) (errs errs' : List ℕ) (code : ℕ) (Fact : Type 0)
-    → Finishes told 4 text e e' errs errs' code → (code ≡ 4 → ⊥) → Fact
-without_memory told text e e' errs errs' code Fact done other =
-    absurd (other (four_by told 4 text e e' errs errs' code done refl))
 
 -- what a job leaves that has no plan, and one that names no file
 pub where_unplanned : (a : Asked) (named : List ℕ → List ℕ) (before : List ℕ) (job_end : JobEnd)

@@ -15,14 +15,15 @@ use Rattle.ick_explorer.specs.declared.errors.RunsError.{RunsError}
 use Rattle.ick_explorer.specs.declared.errors.RunsError.TheVariants.{NoMemory, NoSuchRun, WorkFull, Failed, BadCursor, Read}
 use Rattle.ick_explorer.specs.declared.errors.RunsError.TheVariants.{Write}
 use Rattle.ick_explorer.specs.declared.listing.Listed2.{Listed2}
-use Rattle.ick_cli.specs.JobEnd.{Answers, Comes, LeavesWriter, refused_job_end}
+use Rattle.ick_job.specs.JobEnd.{Answers, Comes, LeavesWriter, refused_job_end}
 use Rattle.ick_cli.specs.Placed.{IsPlaced, IsRunsAnswerAt, IsUnplaced}
-use Rattle.ick_cli.specs.Tool.{Answer, IsRunsAnswer, listed, no_such_run, refusal, shown}
-use Rattle.ick_cli.specs.Notice.{notice_text}
-use Rattle.ick_cli.specs.declared.job_end.JobEnd.{JobEnd}
-use Rattle.ick_cli.specs.declared.job_end.JobEnd.TheVariants.{Answered, NoMemory as WithoutMemory, WriteFailed}
-use Rattle.ick_cli.specs.declared.notice.Notice.TheVariants.{NoSuchRun as NoSuchRun_line}
-use Rattle.ick_cli.specs.declared.notice.Message.TheVariants.{Nothing}
+use Rattle.ick_job.specs.Answer.{Answer, refusal, shown}
+use Rattle.ick_cli.specs.Tool.{IsRunsAnswer, listed, no_such_run}
+use Rattle.ick_job.specs.Notice.{notice_text}
+use Rattle.ick_job.specs.declared.job_end.JobEnd.{JobEnd}
+use Rattle.ick_job.specs.declared.job_end.JobEnd.TheVariants.{Answered, NoMemory as WithoutMemory, WriteFailed}
+use Rattle.ick_job.specs.declared.notice.Notice.TheVariants.{NoSuchRun as NoSuchRun_line}
+use Rattle.ick_job.specs.declared.notice.Message.TheVariants.{Nothing}
 use Rattle.ick_cli.proofs.Beginnings.{IsBeginning, lines_begin, part_begins}
 
 -- the answer at the position of an explorer is a listing's

@@ -16,38 +16,28 @@ use Rattle.ick_explorer.specs.Runs.{IsEnd, IsWhole, Stop, ends, run, wants}
 use Rattle.ick_runs.proofs.DrawLaws.{one_drawn, some_drawn}
 use Rattle.ick_explorer.proofs.Existence.{listing_exists}
 use Rattle.ick_explorer.proofs.ListingLaws.{listing_unique}
-use Rattle.clap.specs.Words.{Text}
 use Rattle.ick_cli.specs.Job.{Task, to_check, to_list, to_run, to_list_runs}
-use Rattle.ick_cli.specs.Notice.{notice_text}
-use Rattle.ick_cli.specs.Plan.{AreChoices, IsPlanned, IsUnplanned, IsUnread, bad, check_planned, choices_unread}
-use Rattle.ick_cli.specs.Plan.{from_unread, list_planned, long, most_choices, run_planned, runs_planned, seed_planned}
-use Rattle.ick_cli.specs.Plan.{together}
-use Rattle.ick_cli.specs.Tool.{Answer, IsExecuted, IsPosition, IsProgramAnswer, IsReadAnswer, IsRunsAnswer, IsSourceAnswer}
+use Rattle.ick_job.specs.Notice.{notice_text}
+use Rattle.ick_job.specs.Choices.{most_choices}
+use Rattle.ick_cli.specs.Plan.{IsPlanned, IsUnplanned, check_planned, choices_unread, from_unread, list_planned}
+use Rattle.ick_cli.specs.Plan.{run_planned, runs_planned, seed_planned, together}
+use Rattle.ick_job.specs.Answer.{Answer, refusal, shown}
+use Rattle.ick_cli.specs.Tool.{IsExecuted, IsPosition, IsProgramAnswer, IsReadAnswer, IsRunsAnswer, IsSourceAnswer}
 use Rattle.ick_cli.specs.Tool.{IsToolAnswer, compiled, counted, drawn, executed, input_too_long, listed, listed_runs}
-use Rattle.ick_cli.specs.Tool.{longest_input, no_such_run, not_read, planned, ran, read, refusal, refused, run_answer}
-use Rattle.ick_cli.specs.Tool.{shown, statements_listed, too_long, unplanned}
-use Rattle.ick_cli.specs.declared.notice.Notice.{Notice}
-use Rattle.ick_cli.specs.declared.notice.Notice.TheVariants as notice
+use Rattle.ick_cli.specs.Tool.{no_such_run, not_read, planned, ran, read, refused, run_answer, statements_listed}
+use Rattle.ick_cli.specs.Tool.{too_long, unplanned}
+use Rattle.ick_job.specs.Input.{longest_input}
+use Rattle.ick_job.specs.declared.notice.Notice.{Notice}
+use Rattle.ick_job.specs.declared.notice.Notice.TheVariants as notice
 use Rattle.ick_cli.specs.declared.plan.Plan.{Plan}
 use Rattle.ick_cli.specs.declared.plan.Plan.TheVariants.{Check, List as ListStatements, Execute}
 use Rattle.ick_cli.specs.declared.plan.Runs.{Runs}
 use Rattle.ick_cli.specs.declared.plan.Runs.TheVariants.{Given, Drawn, Listed}
 use Rattle.ick_cli.proofs.FirstFault.{first_fault}
 use Rattle.ick_cli.proofs.Lines.{answer_planned, unplanned_answer}
-use Rattle.ick_cli.proofs.TextsRead.{text_decided}
+use Rattle.ick_job.proofs.OneReading.{choices_decided}
 
 -- there is a plan or a line
-choices_decided : (text : Option Text) (most : ℕ)
-    → ((c : Option (List Bool)) × AreChoices text most c) ⊎ ((line : Notice) × IsUnread most text line)
-choices_decided None most = inl (None, refl)
-choices_decided (Some text) most = elim (text_decided text) [
-  | inr none ↦ inr (notice.BadCursor, bad text none)
-  | inl found ↦ elim (cases_lt most (length found.0)) [
-    | inl above ↦ inr (notice.NoSuchRun, long text found.0 found.1 above)
-    | inr fits ↦ inl (Some found.0, (found.1, omega arith))
-  ]
-]
-
 plan_decided : (task : Task) → ((plan : Plan) × IsPlanned task plan) ⊎ ((line : Notice) × IsUnplanned task line)
 plan_decided to_check = inl (Check, check_planned)
 plan_decided to_list = inl (ListStatements, list_planned)

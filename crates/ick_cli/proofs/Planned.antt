@@ -3,40 +3,16 @@ use Rattle.std.proofs.Common.{◌≡◌, ◌∙◌, ℕ, List, Bool, Option, Som
 use Rattle.std.proofs.Common.{length}
 use Rattle.std.specs.Prelude.{option_map}
 use Rattle.clap.specs.Words.{Text}
-use Rattle.ick_explorer.proofs.GroupLaws.{reads_one}
 use Rattle.ick_cli.specs.Job.{Task, takes_input, to_check, to_list, to_run, to_list_runs}
-use Rattle.ick_cli.specs.Plan.{AreChoices, IsPlanned, IsUnplanned, IsUnread, bad, check_planned, choices_unread}
-use Rattle.ick_cli.specs.Plan.{from_unread, list_planned, long, most_choices, reads_input, run_planned, runs_planned}
-use Rattle.ick_cli.specs.Plan.{seed_planned, together}
-use Rattle.ick_cli.specs.declared.notice.Notice.{Notice}
-use Rattle.ick_cli.specs.declared.notice.Notice.TheVariants.{ChoicesAndSeed}
+use Rattle.ick_job.specs.Choices.{AreChoices, IsUnread, most_choices}
+use Rattle.ick_cli.specs.Plan.{IsPlanned, IsUnplanned, check_planned, choices_unread, from_unread, list_planned}
+use Rattle.ick_cli.specs.Plan.{reads_input, run_planned, runs_planned, seed_planned, together}
+use Rattle.ick_job.specs.declared.notice.Notice.{Notice}
+use Rattle.ick_job.specs.declared.notice.Notice.TheVariants.{ChoicesAndSeed}
 use Rattle.ick_cli.specs.declared.plan.Plan.{Plan}
 use Rattle.ick_cli.specs.declared.plan.Plan.TheVariants.{Execute}
 use Rattle.ick_cli.specs.declared.plan.Runs.TheVariants.{Given, Drawn, Listed}
-
--- a text has one list of choices or one line
-choices_unique : (text : Option Text) (most : ℕ) (c d : Option (List Bool)) → AreChoices text most c
-    → AreChoices text most d → d ≡ c
-choices_unique None most c d g h = h ∙ sym g
-choices_unique (Some text) most None d g h = absurd g
-choices_unique (Some text) most (Some c) None g h = absurd h
-choices_unique (Some text) most (Some c) (Some d) g h = ap (λ x. Some x) (reads_one text d c h.0 g.0)
-
-read_not_unread : (text : Option Text) (most : ℕ) (c : Option (List Bool)) (line : Notice) → AreChoices text most c
-    → IsUnread most text line → ⊥
-read_not_unread text most None line g (bad t none) = absurd g
-read_not_unread text most (Some c) line g (bad t none) = none c g.0
-read_not_unread text most None line g (long t d reads above) = absurd g
-read_not_unread text most (Some c) line g (long t d reads above) =
-    let same = ap (λ (x : List Bool). length x) (reads_one t c d g.0 reads) in
-    let fits = g.1 in omega arith
-
-unread_unique : (text : Option Text) (most : ℕ) (a b : Notice) → IsUnread most text a → IsUnread most text b →
-    b ≡ a
-unread_unique text most a b (bad t g) (bad u h) = refl
-unread_unique text most a b (bad t g) (long u d reads above) = absurd (g d reads)
-unread_unique text most a b (long t d reads above) (bad u h) = absurd (h d reads)
-unread_unique text most a b (long t c g above) (long u d h over) = refl
+use Rattle.ick_job.proofs.OneReading.{choices_unique, read_not_unread, unread_unique}
 
 pub plan_unique : (task : Task) (a b : Plan) → IsPlanned task a → IsPlanned task b → b ≡ a
 plan_unique to_check a b check_planned check_planned = refl
@@ -70,14 +46,6 @@ input_of_plan to_list plan list_planned = refl
 input_of_plan (to_run text seed limit) plan (run_planned t l c g) = refl
 input_of_plan (to_run text seed limit) plan (seed_planned s l) = refl
 input_of_plan (to_list_runs text count limit) plan (runs_planned t k l c g) = refl
-
--- a text that is given, or isn't
-pub given_some : {T : Type 0} (f : T → Text) (text : Option T) (t : T) → text ≡ Some t →
-    option_map f text ≡ Some (f t)
-given_some f text t is = ap (option_map f) is
-
-pub given_none : {T : Type 0} (f : T → Text) (text : Option T) → text ≡ None → option_map f text ≡ None
-given_none f text is = ap (option_map f) is
 
 -- the plans of runs, by what is given
 at_most : (text : Option Text) (choices : Option (List Bool)) → AreChoices text 1000000 choices

@@ -10,7 +10,7 @@ use Rattle.clap.specs.Words.{Text, fault_of}
 use Rattle.clap.specs.declared.error.ErrorKind.TheVariants as kind
 use Rattle.ick_cli.specs.Words.{ick_app}
 use Rattle.ick_cli.specs.Job.{Asked, HasJob, job_of, to_check, to_list, to_list_runs, to_run}
-use Rattle.ick_cli.specs.Usage.{AreRequests}
+use Rattle.ick_job.specs.Usage.{AreRequests}
 
 -- a run without options
 abbrev plain : Asked

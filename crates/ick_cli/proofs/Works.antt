@@ -18,26 +18,28 @@ use Rattle.ick_runs.specs.Streams.{Streams, source_failures}
 use Rattle.ick_explorer.specs.Writes.{write_failures}
 use Rattle.ick_explorer.specs.declared.errors.RunsError.{RunsError}
 use Rattle.ick_runs.specs.declared.streamed.Streamed.{Streamed}
-use Rattle.ick_cli.specs.JobEnd.{Answers, LeavesWriter}
+use Rattle.ick_job.specs.JobEnd.{Answers, LeavesWriter}
 use Rattle.ick_cli.specs.Left.{IsLeftByProgram, IsLeftByRuns, IsLeftBySource, left_compiled}
 use Rattle.ick_cli.specs.Plan.{reads_input}
-use Rattle.ick_cli.specs.Stopped.{EndsAs, EndsRefused}
+use Rattle.ick_cli.specs.Stopped.{EndsAs}
+use Rattle.ick_job.specs.Refusing.{EndsRefused}
 use Rattle.ick_cli.specs.Summary.{summary}
 use Rattle.ick_source.specs.Listing.{listing}
-use Rattle.ick_cli.specs.Tool.{Answer, IsExecuted, IsProgramAnswer, IsSourceAnswer, counted, shown, statements_listed}
+use Rattle.ick_job.specs.Answer.{Answer, shown}
+use Rattle.ick_cli.specs.Tool.{IsExecuted, IsProgramAnswer, IsSourceAnswer, counted, statements_listed}
 use Rattle.ick_cli.specs.Work.{Works}
-use Rattle.ick_cli.specs.declared.job_end.JobEnd.{JobEnd}
-use Rattle.ick_cli.specs.declared.job_end.JobEnd.TheVariants.{Answered, NoMemory}
-use Rattle.ick_cli.specs.declared.notice.Message.TheVariants as message
-use Rattle.ick_cli.specs.declared.notice.Notice.TheVariants as notice
+use Rattle.ick_job.specs.declared.job_end.JobEnd.{JobEnd}
+use Rattle.ick_job.specs.declared.job_end.JobEnd.TheVariants.{Answered, NoMemory}
+use Rattle.ick_job.specs.declared.notice.Message.TheVariants as message
+use Rattle.ick_job.specs.declared.notice.Notice.TheVariants as notice
 use Rattle.ick_cli.specs.declared.plan.Plan.{Plan}
 use Rattle.ick_cli.specs.declared.plan.Plan.TheVariants.{Check, List as ListStatements, Execute}
 use Rattle.ick_cli.specs.declared.plan.Runs.{Runs}
 use Rattle.ick_cli.specs.declared.plan.Runs.TheVariants.{Given, Drawn}
-use Rattle.ick_cli.proofs.Answered.{answered_refusal, executed_so, leaves_as, leaves_by, long_answer, source_program}
+use Rattle.ick_cli.proofs.Answered.{answered_refusal, executed_so, long_answer, source_program}
+use Rattle.ick_job.proofs.Ends.{leaves_as, leaves_by, where_answered, where_other}
 use Rattle.ick_cli.proofs.Executed.{IsRunError, answers_drawn, answers_given, answers_ran, leaves_ran, left_ran}
 use Rattle.ick_cli.proofs.Left.{alone_left, drawn_left, executed_left, given_left, long_left, refused_left, runs_left}
-use Rattle.ick_cli.proofs.Left.{where_answered, where_other}
 
 -- other answers and bytes of the same work: each of those answers is one of these, each of these bytes one of those
 pub works_so : {A B : Answer → Type 0} {L M : List ℕ → Type 0} {job_end : JobEnd} {rt : Bool} {r r' : ℕ} {rest : List ℕ}

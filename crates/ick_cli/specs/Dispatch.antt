@@ -1,17 +1,18 @@
 -- What the work of a job leaves, and what an answer to a source or to code leaves.
 use Rattle.std.specs.Prelude.{◌≡◌, ◌<◌, ℕ, Bool, true, false, List}
 use Rattle.ick_backtrack.specs.Machine.{Program}
-use Rattle.ick_cli.specs.JobEnd.{Answers, Leaves, WhereAnswered, input_of, source_of}
+use Rattle.ick_job.specs.JobEnd.{Answers, Leaves, WhereAnswered, input_of, source_of}
 use Rattle.ick_cli.specs.Job.{Asked, has_file, takes_input}
 use Rattle.ick_cli.specs.Left.{IsLeft, IsLeftByRuns, IsLeftBySource}
 use Rattle.ick_cli.specs.Plan.{IsUnplanned, reads_input}
-use Rattle.ick_cli.specs.Serve.{Failures}
-use Rattle.ick_cli.specs.Tool.{Answer, IsExecuted, IsSourceAnswer, IsToolAnswer}
+use Rattle.ick_job.specs.Serve.{Failures}
+use Rattle.ick_job.specs.Answer.{Answer}
+use Rattle.ick_cli.specs.Tool.{IsExecuted, IsSourceAnswer, IsToolAnswer}
 use Rattle.ick_cli.specs.Work.{Works}
-use Rattle.ick_cli.specs.declared.job_end.JobEnd.{JobEnd}
-use Rattle.ick_cli.specs.declared.job_end.JobEnd.TheVariants.{Answered}
-use Rattle.ick_cli.specs.declared.notice.Message.TheVariants as message
-use Rattle.ick_cli.specs.declared.notice.Notice.{Notice}
+use Rattle.ick_job.specs.declared.job_end.JobEnd.{JobEnd}
+use Rattle.ick_job.specs.declared.job_end.JobEnd.TheVariants.{Answered}
+use Rattle.ick_job.specs.declared.notice.Message.TheVariants as message
+use Rattle.ick_job.specs.declared.notice.Notice.{Notice}
 use Rattle.ick_cli.specs.declared.plan.Plan.{Plan}
 use Rattle.ick_cli.specs.declared.plan.Runs.{Runs}
 

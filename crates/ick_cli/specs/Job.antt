@@ -1,15 +1,14 @@
 -- The job that arguments ask for, as clap parses them.
-use Rattle.std.specs.Prelude.{◌≡◌, ◌^◌, ◌&&◌, ℕ, Bool, true, false, List, [], Option, Some, None, codes}
-use Rattle.std.specs.Prelude.{is_some, if◌then◌else◌, nat_lt, option_and_then, option_map, unwrap_or}
+use Rattle.std.specs.Prelude.{◌≡◌, ℕ, Bool, true, false, List, [], Option, None, codes}
+use Rattle.std.specs.Prelude.{is_some, if◌then◌else◌, option_map}
 use Rattle.std.specs.Option.{option_map_or}
 use Rattle.std.specs.Str.{bytes_eq}
-use Rattle.std.specs.Str.Parse.{digits_value, without_leading_plus}
-use Rattle.clap.specs.ValueTests.{is_numeral}
-use Rattle.clap.specs.Words.{Row, Text, fault_of, first_of, one_of, subcommand_of}
+use Rattle.clap.specs.Words.{Row, Text, fault_of, subcommand_of}
 use Rattle.ick_cli.specs.Words.{ick_app}
 use Rattle.ick_cli.specs.declared.words.job.Job.{Job}
 use Rattle.ick_cli.specs.declared.words.job.Subcommand.{Subcommand}
 use Rattle.ick_cli.specs.declared.words.job.Subcommand.TheVariants.{Check, List as ListStatements, Run, Runs}
+use Rattle.ick_job.specs.Values.{number_in, number_or, text_in}
 
 -- what is to be done with a program
 pub data Task : Type 0 where
@@ -43,26 +42,6 @@ task_of (Runs from count limit) = to_list_runs (option_map (λ s. s.now) from) c
 
 abbrev pub asked : Job → Asked
 asked j = record { task = task_of j.subcommand; file = option_map (λ s. s.now) j.file }
-
--- the number that a text of decimal digits writes, if it has so many bits
-abbrev pub parsed_number : ℕ → Text → Option ℕ
-parsed_number bits text =
-    let digits = without_leading_plus text in
-    if is_numeral digits && nat_lt (digits_value 10 digits) (2 ^ bits) then Some (digits_value 10 digits) else None
-
--- the value of an option among the parsed arguments of a command: a text, whether a flag is given, a number, or the
--- usual number if none is given
-abbrev pub text_in : Text → List Row → Option Text
-text_in id rows = first_of id rows
-
-abbrev pub flag_in : Text → List Row → Bool
-flag_in id rows = option_map_or (λ t. bytes_eq t (codes "true")) (text_in id rows) false
-
-abbrev pub number_in : ℕ → Text → List Row → Option ℕ
-number_in bits id rows = option_and_then (parsed_number bits) (one_of id rows)
-
-abbrev pub number_or : Text → List Row → ℕ → ℕ
-number_or id rows usual = unwrap_or (number_in 32 id rows) usual
 
 -- a run, and a listing of runs, with the usual number if none is given
 abbrev pub run_in : List Row → Task

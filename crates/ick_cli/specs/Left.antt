@@ -8,8 +8,8 @@ use Rattle.ick_runs.specs.Draws.{IsDrawn, word_of}
 use Rattle.ick_explorer.specs.Runs.{run}
 use Rattle.ick_cli.specs.Job.{Asked}
 use Rattle.ick_cli.specs.Plan.{IsPlanned, IsUnplanned, reads_input}
-use Rattle.ick_cli.specs.Tool.{longest_input}
-use Rattle.ick_cli.specs.declared.notice.Notice.{Notice}
+use Rattle.ick_job.specs.Input.{longest_input}
+use Rattle.ick_job.specs.declared.notice.Notice.{Notice}
 use Rattle.ick_cli.specs.declared.plan.Plan.{Plan}
 use Rattle.ick_cli.specs.declared.plan.Plan.TheVariants.{Execute}
 use Rattle.ick_cli.specs.declared.plan.Runs.{Runs}

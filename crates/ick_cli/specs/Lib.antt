@@ -1,17 +1,11 @@
-pub mod Built
 pub mod Dispatch
-pub mod JobEnd
-pub mod Input
 pub mod Job
 pub mod Laws
 pub mod Left
-pub mod Notice
 pub mod Placed
 pub mod Plan
-pub mod Serve
 pub mod Stopped
 pub mod Summary
 pub mod Tool
-pub mod Usage
 pub mod Words
 pub mod Work

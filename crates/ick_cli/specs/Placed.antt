@@ -6,7 +6,8 @@ use Rattle.ick_explorer.specs.Runs.{IsWhole}
 use Rattle.ick_explorer.specs.Standing.{Explored, Stands}
 use Rattle.ick_explorer.specs.declared.errors.RunsError.{RunsError}
 use Rattle.ick_explorer.specs.declared.errors.RunsError.TheVariants.{NoMemory, NoSuchRun}
-use Rattle.ick_cli.specs.Tool.{Answer, IsRunsAnswer}
+use Rattle.ick_job.specs.Answer.{Answer}
+use Rattle.ick_cli.specs.Tool.{IsRunsAnswer}
 
 -- the explorer is at a position in the runs from the machine's state, and its count is the limit at most
 pub record IsPlaced (m : Machine) (limit : ℕ) (from : Option (List Bool)) (e : Explored) : Type 0 where

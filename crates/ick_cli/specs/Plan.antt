@@ -1,36 +1,13 @@
 -- What a task comes to once its text of choices was read, before anything else is.
-use Rattle.std.specs.Prelude.{◌≡◌, ◌<◌, ◌≤◌, ℕ, Bool, true, false, List, Option, Some, None, length}
+use Rattle.std.specs.Prelude.{ℕ, Bool, true, false, List, Option, Some, None}
 use Rattle.clap.specs.Words.{Text}
-use Rattle.ick_explorer.specs.ChoiceTexts.{IsTextOf}
 use Rattle.ick_cli.specs.Job.{Task, to_check, to_list, to_run, to_list_runs}
-use Rattle.ick_cli.specs.declared.job_end.JobEnd.{JobEnd}
-use Rattle.ick_cli.specs.declared.job_end.JobEnd.TheVariants.{Answered, NoMemory}
-use Rattle.ick_cli.specs.declared.notice.Message.TheVariants.{Notice as Line}
-use Rattle.ick_cli.specs.declared.notice.Notice.{Notice}
-use Rattle.ick_cli.specs.declared.notice.Notice.TheVariants.{ChoicesAndSeed, BadCursor, NoSuchRun}
+use Rattle.ick_job.specs.declared.notice.Notice.{Notice}
+use Rattle.ick_job.specs.declared.notice.Notice.TheVariants.{ChoicesAndSeed}
 use Rattle.ick_cli.specs.declared.plan.Plan.{Plan}
 use Rattle.ick_cli.specs.declared.plan.Plan.TheVariants.{Check, List as ListStatements, Execute}
 use Rattle.ick_cli.specs.declared.plan.Runs.TheVariants.{Given, Drawn, Listed}
-
--- the choices that a text has, at most so many; no choices if there is no text
-abbrev pub AreChoices : Option Text → ℕ → Option (List Bool) → Type 0
-AreChoices None most choices = choices ≡ None
-AreChoices (Some text) most None = ⊥
-AreChoices (Some text) most (Some choices) = IsTextOf text choices × (length choices ≤ most)
-
--- it has such choices
-abbrev pub HasChoices : Option Text → ℕ → Type 0
-HasChoices text most = (choices : Option (List Bool)) × AreChoices text most choices
-
--- the line of a text that has none: it is no cursor's text, or has more choices
-pub data IsUnread (most : ℕ) : Option Text → Notice → Type 0 where
-  bad : (text : Text) → ((choices : List Bool) → ¬ IsTextOf text choices) → IsUnread most (Some text) BadCursor
-  long : (text : Text) (choices : List Bool) → IsTextOf text choices → most < length choices
-      → IsUnread most (Some text) NoSuchRun
-
--- the most choices of a run that are read
-unfoldable pub most_choices : ℕ
-most_choices = 1000000
+use Rattle.ick_job.specs.Choices.{AreChoices, IsUnread, most_choices}
 
 -- the plan of a task
 pub data IsPlanned : Task → Plan → Type 0 where
@@ -53,13 +30,6 @@ pub data IsUnplanned : Task → Notice → Type 0 where
       → IsUnplanned (to_run text None limit) line
   from_unread : (text : Option Text) (count limit : ℕ) (line : Notice) → IsUnread limit text line
       → IsUnplanned (to_list_runs text count limit) line
-
--- a job's end by one of these lines, with the status of usage, or memory ran out
-abbrev pub EndsByLine : (Notice → Type 0) → JobEnd → Type 0
-EndsByLine IsLine (Answered status (Line line)) = (status ≡ 64) × IsLine line
-EndsByLine IsLine (Answered status _) = ⊥
-EndsByLine IsLine NoMemory = Unit {0}
-EndsByLine IsLine _ = ⊥
 
 -- whether a plan takes an input
 abbrev pub reads_input : Plan → Bool

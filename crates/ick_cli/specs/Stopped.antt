@@ -1,17 +1,11 @@
--- What is said of a streamed run that stopped, and how work ends with it, or with a source that is refused.
+-- What is said of a streamed run that stopped, and how work ends with it.
 use Rattle.std.specs.Prelude.{◌≡◌, ℕ, List, [], ◌++◌, Result, Ok, Err, codes, decimal}
-use Rattle.ick_bits.specs.Faults.{message_of}
-use Rattle.ick_source.specs.declared.refusals.Refusal.{Refusal}
-use Rattle.ick_source.specs.declared.refusals.Refusal.TheVariants as refusal
 use Rattle.ick_machine.specs.declared.live_ask.EndKind.{EndKind}
 use Rattle.ick_machine.specs.declared.live_ask.EndKind.TheVariants.{GiveUp, Fault, Limit, Wants}
 use Rattle.ick_explorer.specs.declared.errors.RunsError.{RunsError}
 use Rattle.ick_runs.specs.declared.streamed.Streamed.{Streamed}
-use Rattle.ick_cli.specs.JobEnd.{EndsBy, refused_job_end}
-use Rattle.ick_cli.specs.declared.job_end.JobEnd.{JobEnd}
-use Rattle.ick_cli.specs.declared.job_end.JobEnd.TheVariants.{Answered, NoMemory}
-use Rattle.ick_cli.specs.declared.notice.Message.TheVariants.{Notice as Line}
-use Rattle.ick_cli.specs.declared.notice.Notice.TheVariants.{SourceTooLong}
+use Rattle.ick_job.specs.JobEnd.{EndsBy, refused_job_end}
+use Rattle.ick_job.specs.declared.job_end.JobEnd.{JobEnd}
 
 -- the error text and the status of an end, by the message of its fault and the steps that were made
 abbrev pub kind_text : EndKind → List ℕ → ℕ → List ℕ
@@ -30,9 +24,3 @@ kind_status Wants = 3
 abbrev pub EndsAs : Result Streamed RunsError → JobEnd → Type 0
 EndsAs (Ok s) job_end = EndsBy (kind_status s.end) (kind_text s.end s.message.items s.steps) job_end
 EndsAs (Err error) job_end = job_end ≡ refused_job_end error
-
--- how work ends with a source that is refused
-abbrev pub EndsRefused : Refusal → JobEnd → Type 0
-EndsRefused (refusal.Fault kind statement) job_end = EndsBy 2 (message_of kind statement []) job_end
-EndsRefused refusal.TooLong job_end = job_end ≡ Answered 2 (Line SourceTooLong)
-EndsRefused refusal.NoMemory job_end = job_end ≡ NoMemory

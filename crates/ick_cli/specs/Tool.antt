@@ -17,27 +17,15 @@ use Rattle.ick_runs.specs.Draws.{IsDrawn, word_of}
 use Rattle.ick_cli.specs.Job.{Task}
 use Rattle.ick_cli.specs.Plan.{IsPlanned, IsUnplanned}
 use Rattle.ick_cli.specs.Summary.{summary}
-use Rattle.ick_cli.specs.Notice.{notice_text}
-use Rattle.ick_cli.specs.declared.notice.Notice.{Notice}
-use Rattle.ick_cli.specs.declared.notice.Notice.TheVariants as notice
+use Rattle.ick_job.specs.Notice.{notice_text}
+use Rattle.ick_job.specs.declared.notice.Notice.{Notice}
+use Rattle.ick_job.specs.declared.notice.Notice.TheVariants as notice
 use Rattle.ick_cli.specs.declared.plan.Plan.{Plan}
 use Rattle.ick_cli.specs.declared.plan.Plan.TheVariants.{Check, List as ListStatements, Execute}
 use Rattle.ick_cli.specs.declared.plan.Runs.{Runs}
 use Rattle.ick_cli.specs.declared.plan.Runs.TheVariants.{Given, Drawn, Listed}
-
--- output, error text and status
-pub record Answer : Type 0 where
-  pub output : List ℕ
-  pub errors : List ℕ
-  pub status : ℕ
-
--- an answer without output
-abbrev pub refusal : ℕ → List ℕ → Answer
-refusal status errors = record { output = []; errors = errors; status = status }
-
--- an answer that ended well
-abbrev pub shown : List ℕ → Answer
-shown text = record { output = text; errors = []; status = 0 }
+use Rattle.ick_job.specs.Answer.{Answer, refusal, shown}
+use Rattle.ick_job.specs.Input.{longest_input}
 
 -- the error text and the status of a run that has stopped
 abbrev pub finish_text : Finish → ℕ → List ℕ
@@ -67,10 +55,6 @@ stop_answer output stop steps = record {
 
 abbrev pub run_answer : Execution → Answer
 run_answer x = stop_answer x.last.output x.stop x.steps
-
--- the bytes of the longest input
-unfoldable pub longest_input : ℕ
-longest_input = 1048576
 
 -- a position in the listing of runs: before them all, or a whole list
 abbrev pub IsPosition : Program → State → ℕ → Option (List Bool) → Type 0

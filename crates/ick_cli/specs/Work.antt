@@ -1,8 +1,8 @@
 -- What work over a reader and a writer leaves.
 use Rattle.std.specs.Prelude.{◌≡◌, ℕ, Bool, true, List}
-use Rattle.ick_cli.specs.JobEnd.{Answers, LeavesStreams, WhereAnswered}
-use Rattle.ick_cli.specs.Tool.{Answer}
-use Rattle.ick_cli.specs.declared.job_end.JobEnd.{JobEnd}
+use Rattle.ick_job.specs.JobEnd.{Answers, LeavesStreams, WhereAnswered}
+use Rattle.ick_job.specs.Answer.{Answer}
+use Rattle.ick_job.specs.declared.job_end.JobEnd.{JobEnd}
 
 -- The counts of failures are those of the end. If the reader does what it says, an answered work left it such bytes.
 -- If the writer does so too, each answer that the work may have is the end's, behind what was written before.

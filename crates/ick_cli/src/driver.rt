@@ -4,25 +4,20 @@ ghost use Rattle.std.specs.Prelude.{false, true};
 ghost use Rattle.clap.specs.Walk.{texts};
 ghost use Rattle.clap.specs.Words.{fault_of};
 ghost use Rattle.ick_cli.specs.Words.{ick_app};
-ghost use Rattle.ick_cli.specs.JobEnd.{input_of, source_of};
+ghost use Rattle.ick_job.specs.JobEnd.{input_of, source_of};
 ghost use Rattle.ick_cli.specs.Job.{HasJob, has_file, job_of, takes_input};
 ghost use Rattle.ick_cli.specs.Left.{IsLeft};
-ghost use Rattle.ick_cli.specs.Notice.{notice_text};
 ghost use Rattle.ick_cli.specs.Plan.{IsUnplanned};
-ghost use Rattle.ick_cli.specs.declared.notice.Notice.{Notice};
-ghost use Rattle.ick_cli.specs.Serve.{Finishes, FinishesDue, IsDue, IsLineDue, IsServed, IsStatus};
-ghost use Rattle.ick_cli.specs.Serve.{counts};
-ghost use Rattle.ick_cli.specs.Tool.{Answer, IsToolAnswer};
-ghost use Rattle.ick_cli.specs.Usage.{AreMistakes, AreRequests, IsHelped, IsRefused};
-ghost use Rattle.ick_cli.specs.Usage.{words_notice, words_status};
+ghost use Rattle.ick_job.specs.declared.notice.Notice.{Notice};
+ghost use Rattle.ick_job.specs.Serve.{FinishesDue, IsDue, IsLineDue, IsServed, IsStatus};
+ghost use Rattle.ick_job.specs.Serve.{counts};
+ghost use Rattle.ick_job.specs.Answer.{Answer};
+ghost use Rattle.ick_cli.specs.Tool.{IsToolAnswer};
+ghost use Rattle.ick_job.specs.Usage.{AreMistakes, AreRequests, IsHelped, IsRefused};
 
 use crate::dispatch::perform;
-use crate::files::Files;
-use crate::notice::Notice;
-use crate::reporting::{finish, report};
-use crate::status::Status;
-use crate::usage::answer_words;
 use crate::words::read_job;
+use ick_job::{Files, Status, answer_words, report};
 use ick_runs::{ByteSink, ByteSource};
 use std::alloc::Global;
 
@@ -121,29 +116,5 @@ pub fn serve<F: Files, R: ByteSource, W: ByteSink, E: ByteSink>(
             report(&job_end, errors)
         }
         Err(error) => answer_words(alloc, &error, writer, errors),
-    }
-}
-
-/// Why the arguments can't be read.
-#[derive(Clone, Copy, Debug)]
-pub enum WordsFault {
-    /// Memory ran out.
-    NoMemory,
-    /// An argument is no text.
-    NotText,
-}
-
-/// Answers instead of `serve` if the arguments can't be read: 4 if memory ran out, and else 64,
-/// with its line on `errors` (this profile). The count of failures of `errors` must be below its
-/// greatest value.
-pub fn refuse_words<E: ByteSink>(fault: WordsFault, errors: &mut E) -> Status
-    requires { E.failed errors.old + 1 < 2 ^ 64 }
-    ensures { Finishes E.told (words_status fault) (notice_text (words_notice fault))
-        (E.failed errors.old) (E.failed errors.new)
-        (E.written errors.old) (E.written errors.new) result }
-{
-    match fault {
-        WordsFault::NoMemory => finish(4, Notice::OutOfMemory.text(), errors),
-        WordsFault::NotText => finish(64, Notice::WordsNotRead.text(), errors),
     }
 }

@@ -1,18 +1,13 @@
 //! What a command becomes after its text of choices is read, and before anything else is.
 ghost use Rattle.std.specs.Prelude.{◌≡◌, ◌≤◌, IfErr, IfOk, Some, length, option_map};
-ghost use Rattle.ick_explorer.specs.ChoiceTexts.{IsTextOf};
 ghost use Rattle.ick_cli.specs.Job.{task_of};
-ghost use Rattle.ick_cli.specs.Plan.{AreChoices, EndsByLine, HasChoices, HasPlan, IsPlanned};
-ghost use Rattle.ick_cli.specs.Plan.{IsUnplanned, IsUnread, most_choices};
+ghost use Rattle.ick_job.specs.JobEnd.{EndsByLine};
+ghost use Rattle.ick_cli.specs.Plan.{HasPlan, IsPlanned, IsUnplanned};
 
-use crate::job_end::JobEnd;
-use crate::notice::Notice;
 use crate::words::Subcommand;
+use ick_job::{JobEnd, MOST_CHOICES, Notice, choices_of};
 use ick_runs::Cursor;
 use std::alloc::Global;
-
-/// How many choices of a run are read at most (this profile).
-pub const MOST_CHOICES: u32 = 1_000_000;
 
 /// What is done with a program.
 #[derive(Drop)]
@@ -91,22 +86,5 @@ fn plan_run(
             None => Ok(Plan::Execute(Runs::Drawn { seed, limit })),
             Some(_) => Err(JobEnd::usage(Notice::ChoicesAndSeed)),
         },
-    }
-}
-
-/// Returns the choices that a text has, at most `most`, or nothing if there is no text. Memory is
-/// said to be out only if the text has such choices.
-pub fn choices_of(alloc: Global, text: Option<&str>, most: u32) -> Result<Option<Cursor>, JobEnd>
-    ensures ok { IfOk result (AreChoices (option_map (λ s. s.now) text.entry) most) }
-    ensures err { IfErr result (EndsByLine (IsUnread most (option_map (λ s. s.now) text.entry))) }
-    ensures memory { IfErr result (λ job_end. job_end ≡ JobEnd.NoMemory
-        → HasChoices (option_map (λ s. s.now) text.entry) most) }
-{
-    let Some(text) = text else {
-        return Ok(None);
-    };
-    match Cursor::from_text(alloc, text.as_bytes(), most) {
-        Ok(cursor) => Ok(Some(cursor)),
-        Err(error) => Err(JobEnd::refused(error)),
     }
 }

@@ -10,18 +10,17 @@ use Rattle.ick_source.specs.declared.refusals.Refusal.{Refusal}
 use Rattle.ick_source.specs.declared.refusals.Refusal.TheVariants as refusal
 use Rattle.ick_code.specs.meaning.Move.{first_state}
 use Rattle.ick_backtrack.specs.Machine.{Program}
-use Rattle.ick_cli.specs.JobEnd.{Answers, EndsBy, EndsSent, Leaves, failed_files, input_of, source_of}
-use Rattle.ick_cli.specs.Input.{EndsUnopened, EndsUnread}
-use Rattle.ick_cli.specs.Notice.{notice_text}
-use Rattle.ick_cli.specs.Stopped.{EndsRefused}
-use Rattle.ick_cli.specs.Tool.{Answer, longest_input, shown}
-use Rattle.ick_cli.specs.Tool.{refusal as refused_by}
-use Rattle.ick_cli.specs.declared.job_end.JobEnd.{JobEnd}
-use Rattle.ick_cli.specs.declared.job_end.JobEnd.TheVariants.{Answered, NoMemory, InputTooLong, FileNotRead, ReadFailed}
-use Rattle.ick_cli.specs.declared.job_end.JobEnd.TheVariants.{WriteFailed}
-use Rattle.ick_cli.specs.declared.notice.Notice.{Notice}
-use Rattle.ick_cli.specs.declared.notice.Notice.TheVariants as notice
-use Rattle.ick_cli.proofs.Answered.{leaves_as, leaves_by}
+use Rattle.ick_job.specs.JobEnd.{Answers, EndsBy, EndsSent, Leaves, failed_files, input_of, source_of}
+use Rattle.ick_job.specs.Input.{EndsUnopened, EndsUnread, longest_input}
+use Rattle.ick_job.specs.Notice.{notice_text}
+use Rattle.ick_job.specs.Refusing.{EndsRefused}
+use Rattle.ick_job.specs.Answer.{Answer, shown, refusal as refused_by}
+use Rattle.ick_job.specs.declared.job_end.JobEnd.{JobEnd}
+use Rattle.ick_job.specs.declared.job_end.JobEnd.TheVariants.{Answered, NoMemory, InputTooLong, FileNotRead, ReadFailed}
+use Rattle.ick_job.specs.declared.job_end.JobEnd.TheVariants.{WriteFailed}
+use Rattle.ick_job.specs.declared.notice.Notice.{Notice}
+use Rattle.ick_job.specs.declared.notice.Notice.TheVariants as notice
+use Rattle.ick_job.proofs.Ends.{leaves_as, leaves_by}
 use Rattle.ick_outcomes_cli.specs.Asked.{IsAskedBy, foreign_text}
 use Rattle.ick_outcomes_cli.specs.OutcomesEnd.{Gives, IsRefusal, LeavesAll, listing_of}
 use Rattle.ick_outcomes_cli.specs.Job.{Wanted}

@@ -1,13 +1,12 @@
 -- From how the job ends to what the whole call leaves.
 use Rattle.std.proofs.Common.{◌≡◌, ◌∙◌, ◌++◌, inl, inr, ℕ, Bool, List, ap, refl, sym, subst, arith}
 use Rattle.std.proofs.lemmas.List.{append-nil}
-use Rattle.ick_cli.specs.Serve.{Failures, Finishes, IsStatus, counts}
-use Rattle.ick_cli.specs.Tool.{Answer}
-use Rattle.ick_cli.specs.declared.job_end.JobEnd.TheVariants.{Answered, NoMemory, InputTooLong, FileNotRead, ReadFailed}
-use Rattle.ick_cli.specs.declared.job_end.JobEnd.TheVariants.{WriteFailed}
-use Rattle.ick_cli.specs.declared.notice.Notice.TheVariants as notice
-use Rattle.ick_cli.proofs.Left.{four_by}
-use Rattle.ick_cli.proofs.Served.{due, finished_status, same_counts}
+use Rattle.ick_job.specs.Serve.{Failures, Finishes, IsStatus, counts}
+use Rattle.ick_job.specs.Answer.{Answer}
+use Rattle.ick_job.specs.declared.job_end.JobEnd.TheVariants.{Answered, NoMemory, InputTooLong, FileNotRead, ReadFailed}
+use Rattle.ick_job.specs.declared.job_end.JobEnd.TheVariants.{WriteFailed}
+use Rattle.ick_job.specs.declared.notice.Notice.TheVariants as notice
+use Rattle.ick_job.proofs.Served.{four_by, due, finished_status, same_counts}
 use Rattle.ick_outcomes_cli.specs.OutcomesEnd.{Gives, LeavesAll, outcomes_end_status, outcomes_end_text}
 use Rattle.ick_outcomes_cli.specs.Serve.{IsOutcomesDue, IsOutcomesServed, answered, as_ick, cut_by_write, long_listing}
 use Rattle.ick_outcomes_cli.specs.Serve.{many_states, too_many, unread, without_memory}

@@ -1,7 +1,7 @@
 -- The job that arguments ask for, as clap parses them.
 use Rattle.std.specs.Prelude.{◌≡◌, ℕ, Bool, List, [], Option, codes, is_some, option_map}
 use Rattle.clap.specs.Words.{Row, Text, fault_of, matches_of}
-use Rattle.ick_cli.specs.Job.{flag_in, number_or, text_in}
+use Rattle.ick_job.specs.Values.{flag_in, number_or, text_in}
 use Rattle.ick_outcomes_cli.specs.Words.{outcomes_app}
 use Rattle.ick_outcomes_cli.specs.declared.words.job.Job.{Job}
 use Rattle.ick_outcomes_cli.specs.declared.words.job.Question.{Question}

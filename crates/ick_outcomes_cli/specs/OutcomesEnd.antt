@@ -1,12 +1,12 @@
 -- What the work leaves, by how it ends.
 use Rattle.std.specs.Prelude.{◌≡◌, ◌==◌, if◌then◌else◌, ℕ, List, Option, Some, None}
-use Rattle.ick_cli.specs.JobEnd.{Answers, Leaves, job_end_status, job_end_text}
-use Rattle.ick_cli.specs.Notice.{notice_text}
-use Rattle.ick_cli.specs.Tool.{Answer, refusal}
-use Rattle.ick_cli.specs.declared.job_end.JobEnd.TheVariants.{Answered, NoMemory, InputTooLong, FileNotRead}
-use Rattle.ick_cli.specs.declared.job_end.JobEnd.TheVariants.{ReadFailed, WriteFailed}
-use Rattle.ick_cli.specs.declared.notice.Notice.{Notice}
-use Rattle.ick_cli.specs.declared.notice.Notice.TheVariants.{ListingTooLong, TooManyStates}
+use Rattle.ick_job.specs.JobEnd.{Answers, Leaves, job_end_status, job_end_text}
+use Rattle.ick_job.specs.Notice.{notice_text}
+use Rattle.ick_job.specs.Answer.{Answer, refusal}
+use Rattle.ick_job.specs.declared.job_end.JobEnd.TheVariants.{Answered, NoMemory, InputTooLong, FileNotRead}
+use Rattle.ick_job.specs.declared.job_end.JobEnd.TheVariants.{ReadFailed, WriteFailed}
+use Rattle.ick_job.specs.declared.notice.Notice.{Notice}
+use Rattle.ick_job.specs.declared.notice.Notice.TheVariants.{ListingTooLong, TooManyStates}
 use Rattle.ick_outcomes_cli.specs.declared.outcomes_end.OutcomesEnd.{OutcomesEnd}
 use Rattle.ick_outcomes_cli.specs.declared.outcomes_end.OutcomesEnd.TheVariants.{By, Refused}
 

@@ -1,10 +1,10 @@
 -- What a whole call leaves.
 use Rattle.std.specs.Prelude.{◌≡◌, ◌+◌, ◌++◌, ℕ, List, take}
-use Rattle.ick_cli.specs.Notice.{notice_text}
-use Rattle.ick_cli.specs.Serve.{Failures, IsDue}
-use Rattle.ick_cli.specs.Tool.{Answer}
-use Rattle.ick_cli.specs.declared.notice.Notice.TheVariants.{ListingTooLong, OutOfMemory, ReadFailed, TooManyStates}
-use Rattle.ick_cli.specs.declared.notice.Notice.TheVariants.{WriteFailed}
+use Rattle.ick_job.specs.Notice.{notice_text}
+use Rattle.ick_job.specs.Serve.{Failures, IsDue}
+use Rattle.ick_job.specs.Answer.{Answer}
+use Rattle.ick_job.specs.declared.notice.Notice.TheVariants.{ListingTooLong, OutOfMemory, ReadFailed, TooManyStates}
+use Rattle.ick_job.specs.declared.notice.Notice.TheVariants.{WriteFailed}
 
 -- the error text and the status that are due over any devices: those of `ick`, or a line with status 4 although nothing
 -- failed

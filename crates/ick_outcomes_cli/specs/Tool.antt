@@ -11,9 +11,10 @@ use Rattle.ick_outcomes.specs.Seen.{rows_of}
 use Rattle.ick_outcomes.specs.Summaries.{HasMoreRuns, IsSummary}
 use Rattle.ick_outcomes.specs.declared.outcome.Outcome.{Outcome}
 use Rattle.clap.specs.Words.{Text}
-use Rattle.ick_cli.specs.Notice.{notice_text}
-use Rattle.ick_cli.specs.Tool.{Answer, longest_input, refusal, shown}
-use Rattle.ick_cli.specs.declared.notice.Notice.TheVariants as notice
+use Rattle.ick_job.specs.Notice.{notice_text}
+use Rattle.ick_job.specs.Answer.{Answer, refusal, shown}
+use Rattle.ick_job.specs.Input.{longest_input}
+use Rattle.ick_job.specs.declared.notice.Notice.TheVariants as notice
 use Rattle.ick_outcomes_cli.specs.Asked.{Explains, ForeignAt, foreign_text}
 use Rattle.ick_outcomes_cli.specs.Job.{Wanted}
 use Rattle.ick_outcomes_cli.specs.declared.asked.Asked.{Asked}

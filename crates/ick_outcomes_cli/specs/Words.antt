@@ -4,7 +4,7 @@ use Rattle.clap.specs.Words.{App, Rule, new_rule}
 use Rattle.clap.specs.Simple.{new_shape}
 use Rattle.clap.specs.declared.builder.ArgAction.TheVariants.{SetTrue}
 use Rattle.clap.specs.declared.builder.value_parser.ValueParser.TheVariants.{Signed}
-use Rattle.ick_cli.specs.Words.{bug_rule, file_rule, limit_rule, option_rule}
+use Rattle.ick_job.specs.Words.{bug_rule, file_rule, limit_rule, option_rule}
 
 -- --most, whose value is a number in this range
 abbrev pub most_rule : Rule

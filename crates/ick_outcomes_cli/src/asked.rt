@@ -10,9 +10,8 @@ ghost use Rattle.ick_outcomes_cli.specs.Lines.{IsLineOf, IsRunLine};
 use crate::lines::{first_line, first_word, is_last};
 use ick_bits::NoMemory;
 use ick_code::Code;
-use ick_explorer::{one_reading, runs_are_limited};
+use ick_explorer::{Cursor, RunsError, one_reading, runs_are_limited};
 use ick_outcomes::{States, asked_text, follow, run_line};
-use ick_runs::{Cursor, RunsError};
 use ick_states::Runs;
 use std::alloc::Global;
 

@@ -3,7 +3,7 @@
 
 ghost use Rattle.std.specs.Prelude.{◌≡◌, ◌+◌, ◌<◌, ◌^◌, IfOk, None, Some, true};
 ghost use Rattle.ick_code.specs.Compiled.{code_program};
-ghost use Rattle.ick_cli.specs.JobEnd.{EndsBy, input_of, source_of};
+ghost use Rattle.ick_job.specs.JobEnd.{EndsBy, input_of, source_of};
 ghost use Rattle.ick_outcomes_cli.specs.Asked.{foreign_text};
 ghost use Rattle.ick_outcomes_cli.specs.OutcomesEnd.{Gives, LeavesAll, listing_of};
 ghost use Rattle.ick_outcomes_cli.specs.Job.{wanted};
@@ -16,11 +16,11 @@ use crate::found::{Found, find};
 use crate::outcomes_end::OutcomesEnd;
 use crate::words::{Job, Question};
 use ick_bits::{NoMemory, append_decimal};
-use ick_cli::{
+use ick_code::{Code, compile};
+use ick_explorer::{ByteSink, ByteSource, SliceSource};
+use ick_job::{
     Files, JobEnd, Message, Notice, read_file, read_front, read_input, read_named, refused, send,
 };
-use ick_code::{Code, compile};
-use ick_runs::{ByteSink, ByteSource, SliceSource};
 use ick_source::read_source;
 use std::alloc::Global;
 

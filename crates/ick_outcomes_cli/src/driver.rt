@@ -3,9 +3,9 @@
 ghost use Rattle.std.specs.Prelude.{◌≡◌, ◌≢◌, ◌+◌, ◌<◌, ◌^◌, ◌⊎◌, [], true};
 ghost use Rattle.clap.specs.Walk.{texts};
 ghost use Rattle.clap.specs.Words.{fault_of};
-ghost use Rattle.ick_cli.specs.JobEnd.{input_of, source_of};
-ghost use Rattle.ick_cli.specs.Serve.{FinishesDue, IsStatus, counts};
-ghost use Rattle.ick_cli.specs.Usage.{AreMistakes, AreRequests, IsHelped, IsRefused};
+ghost use Rattle.ick_job.specs.JobEnd.{input_of, source_of};
+ghost use Rattle.ick_job.specs.Serve.{FinishesDue, IsStatus, counts};
+ghost use Rattle.ick_job.specs.Usage.{AreMistakes, AreRequests, IsHelped, IsRefused};
 ghost use Rattle.ick_outcomes_cli.specs.OutcomesEnd.{listing_of};
 ghost use Rattle.ick_outcomes_cli.specs.Job.{HasJob, job_of};
 ghost use Rattle.ick_outcomes_cli.specs.Serve.{IsOutcomesDue, IsOutcomesServed};
@@ -14,8 +14,8 @@ ghost use Rattle.ick_outcomes_cli.specs.Words.{outcomes_app};
 
 use crate::dispatch::perform;
 use crate::words::read_job;
-use ick_cli::{Files, Status, answer_words};
-use ick_runs::{ByteSink, ByteSource};
+use ick_explorer::{ByteSink, ByteSource};
+use ick_job::{Files, Status, answer_words};
 use std::alloc::Global;
 
 /// Does the job that the arguments ask for, and returns the exit status.

@@ -1,11 +1,11 @@
 //! How the work ends, before its error text is written.
 
 ghost use Rattle.std.specs.Prelude.{◌≡◌, ◌+◌, ◌<◌, ◌^◌};
-ghost use Rattle.ick_cli.specs.Serve.{Finishes};
+ghost use Rattle.ick_job.specs.Serve.{Finishes};
 ghost use Rattle.ick_outcomes_cli.specs.OutcomesEnd.{outcomes_end_status, outcomes_end_text};
 
-use ick_cli::{JobEnd, Notice, Status, finish};
-use ick_runs::ByteSink;
+use ick_explorer::ByteSink;
+use ick_job::{JobEnd, Notice, Status, finish};
 
 /// How the work ends: by an end that `ick` has too, or by a refusal, which has a line and status 4
 /// although no device failed.

@@ -4,9 +4,9 @@ use Rattle.std.proofs.Common.{refl, ap, ap₂, sym, ◌∙◌, arith, append_ass
 use Rattle.std.specs.List.{list_all}
 use Rattle.std.proofs.lemmas.List.{append-nil, take_all}
 use Rattle.std.proofs.Math.Seq.{take-append-add}
-use Rattle.ick_cli.specs.declared.job_end.JobEnd.{JobEnd}
-use Rattle.ick_cli.specs.declared.job_end.JobEnd.TheVariants.{Answered, FileNotRead, InputTooLong, NoMemory, ReadFailed}
-use Rattle.ick_cli.specs.declared.job_end.JobEnd.TheVariants.{WriteFailed}
+use Rattle.ick_job.specs.declared.job_end.JobEnd.{JobEnd}
+use Rattle.ick_job.specs.declared.job_end.JobEnd.TheVariants.{Answered, FileNotRead, InputTooLong, NoMemory, ReadFailed}
+use Rattle.ick_job.specs.declared.job_end.JobEnd.TheVariants.{WriteFailed}
 use Rattle.ick_inspect.specs.Text.{Adds}
 use Rattle.ick_inspect.specs.declared.positions.Position.{Position}
 use Rattle.ick_inspect.specs.declared.text.Text.{Text}

@@ -1,28 +1,35 @@
 -- The job that arguments ask for, as clap parses them.
-use Rattle.std.specs.Prelude.{◌≡◌, Bool, List, [], Option, codes, option_map}
+use Rattle.std.specs.Prelude.{◌≡◌, ℕ, Bool, List, [], Option, codes, option_map}
 use Rattle.clap.specs.Words.{Row, Text, fault_of, matches_of}
-use Rattle.ick_cli.specs.Job.{Task, flag_in, run_in, text_in, to_run}
+use Rattle.ick_job.specs.Values.{flag_in, number_in, number_or, text_in}
 use Rattle.ick_step_cli.specs.Words.{step_app}
 use Rattle.ick_step_cli.specs.declared.words.job.Job.{Job}
 
 -- what a job is, whatever memory its texts are in
 pub record Wanted : Type 0 where
-  pub run : Task
+  pub choices : Option Text
+  pub seed : Option ℕ
+  pub limit : ℕ
   pub input : Option Text
   pub trace : Bool
   pub file : Option Text
 
 abbrev pub wanted : Job → Wanted
 wanted j = record {
-  run = to_run (option_map (λ s. s.now) j.choices) j.seed j.limit;
+  choices = option_map (λ s. s.now) j.choices;
+  seed = j.seed;
+  limit = j.limit;
   input = option_map (λ s. s.now) j.input;
   trace = j.trace;
   file = option_map (λ s. s.now) j.file;
 }
 
+-- what the parsed arguments ask for, with the usual limit if none is given
 abbrev pub wanted_in : List Row → Wanted
 wanted_in rows = record {
-  run = run_in rows;
+  choices = text_in (codes "choices") rows;
+  seed = number_in 64 (codes "seed") rows;
+  limit = number_or (codes "limit") rows 1000000;
   input = text_in (codes "input") rows;
   trace = flag_in (codes "trace") rows;
   file = text_in (codes "file") rows;

@@ -1,7 +1,7 @@
 -- What a session writes.
 use Rattle.std.specs.Prelude.{◌≡◌, ℕ, ◌==◌, false, List, [], ◌∷◌, ◌++◌, take, if◌then◌else◌}
-use Rattle.ick_cli.specs.declared.job_end.JobEnd.{JobEnd}
-use Rattle.ick_cli.specs.declared.job_end.JobEnd.TheVariants.{Answered}
+use Rattle.ick_job.specs.declared.job_end.JobEnd.{JobEnd}
+use Rattle.ick_job.specs.declared.job_end.JobEnd.TheVariants.{Answered}
 use Rattle.ick_inspect.specs.declared.positions.Position.{Position}
 use Rattle.ick_step.specs.Session.{Seen}
 use Rattle.ick_session.specs.Lines.{AnswersLine, Talks}

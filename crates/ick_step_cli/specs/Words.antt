@@ -3,7 +3,7 @@ use Rattle.std.specs.Prelude.{[], ◌∷◌, Some, codes, true}
 use Rattle.clap.specs.Words.{App, Rule, new_rule}
 use Rattle.clap.specs.Simple.{new_shape}
 use Rattle.clap.specs.declared.builder.ArgAction.TheVariants.{SetTrue}
-use Rattle.ick_cli.specs.Words.{bug_rule, choices_rule, file_rule, limit_rule, option_rule, seed_rule}
+use Rattle.ick_job.specs.Words.{bug_rule, choices_rule, file_rule, limit_rule, option_rule, seed_rule}
 
 -- --input
 abbrev pub input_rule : Rule

@@ -5,20 +5,21 @@ ghost use Rattle.std.specs.Prelude.{◌≡◌, ◌+◌, ◌<◌, ◌≤◌, ◌^
 ghost use Rattle.std.specs.Prelude.{IfOk, length};
 ghost use Rattle.ick_code.specs.Compiled.{code_program};
 ghost use Rattle.ick_explorer.specs.Writes.{write_failures};
-ghost use Rattle.ick_cli.specs.JobEnd.{Leaves, LeavesStreams, LeavesWriter};
+ghost use Rattle.ick_job.specs.JobEnd.{Leaves, LeavesStreams, LeavesWriter};
 ghost use Rattle.ick_step_cli.specs.Trace.{IsTraceError};
 
 use crate::session::talk;
 use crate::trace::{Stopped, trace};
 use crate::words::Job;
 use ick_bits::{NoMemory, append_message};
-use ick_cli::{
-    Files, JobEnd, LONGEST, MOST_CHOICES, Notice, choices_of, ended, read_file, read_front, refused,
-};
 use ick_code::{Code, compile};
+use ick_explorer::{ByteSink, ByteSource, RunsError, SliceSource};
 use ick_inspect::{Position, Text, positions_of};
-use ick_machine::{End, EndKind, Trailed};
-use ick_runs::{ByteSink, ByteSource, RunsError, SliceSource, Streamed};
+use ick_job::{
+    Files, JobEnd, LONGEST, MOST_CHOICES, Notice, Stop, choices_of, read_file, read_front, refused,
+    stopped_run,
+};
+use ick_machine::{End, Trailed};
 use ick_session::{Given, Pair, Stepper};
 use ick_source::read_source;
 use std::alloc::Global;
@@ -187,19 +188,21 @@ fn answer_trace<W: ByteSink>(
     requires positions { length positions.now ≡ length (code_program code.now) }
     ensures { LeavesWriter result (W.failed writer.old) (W.failed writer.new) }
 {
-    let ran = traced(alloc, code, positions, input, wanted, writer);
-    ended(alloc, ran)
+    match traced(alloc, code, positions, input, wanted, writer) {
+        Ok(stopped) => answer_stopped(alloc, &stopped),
+        Err(error) => JobEnd::refused(error),
+    }
 }
 
 /// Traces a run of code over an input. Returns how the run stopped.
-fn traced<W: ByteSink>(
+fn traced<'c, W: ByteSink>(
     alloc: Global,
-    code: &Code<'_>,
+    code: &'c Code<'_>,
     positions: &[Position],
-    input: &[u8],
+    input: &'c [u8],
     wanted: Wanted,
     writer: &mut W,
-) -> Result<Streamed, RunsError>
+) -> Result<Stopped<'c>, RunsError>
     requires sound { W.failed writer.old + 1 < 2 ^ 64 }
     requires positions { length positions.now ≡ length (code_program code.now) }
     ensures writes { W.failed writer.new ≡ W.failed writer.old + write_failures result }
@@ -215,33 +218,36 @@ fn traced<W: ByteSink>(
         trace: _,
     } = wanted;
     let mut out = Text::new(alloc);
-    let stopped = trace(
+    trace(
         &mut machines,
         positions,
         &mut given,
         limit,
         &mut out,
         writer,
-    )?;
-    Ok(streamed(alloc, stopped)?)
+    )
 }
 
-/// Returns how a traced run stopped, in the form in which `ick run` reports it.
-fn streamed(alloc: Global, stopped: Stopped<'_>) -> Result<Streamed, NoMemory> {
-    let mut message = Vec::new(alloc);
-    let end = match stopped.end {
-        None => EndKind::Wants,
-        Some(End::GiveUp) => EndKind::GiveUp,
-        Some(End::Limit) => EndKind::Limit,
+/// Returns how work ends with a traced run that has stopped.
+fn answer_stopped(alloc: Global, stopped: &Stopped<'_>) -> JobEnd
+    ensures { LeavesWriter result 0 0 }
+{
+    match stop_of(alloc, &stopped.end) {
+        Ok(stop) => stopped_run(alloc, stop, stopped.steps),
+        Err(NoMemory) => JobEnd::NoMemory,
+    }
+}
+
+/// Returns how a run stopped, in the form in which `ick run` reports it.
+fn stop_of(alloc: Global, end: &Option<End<'_>>) -> Result<Stop, NoMemory> {
+    match end {
+        None => Ok(Stop::Wants),
+        Some(End::GiveUp) => Ok(Stop::GiveUp),
+        Some(End::Limit) => Ok(Stop::Limit),
         Some(End::Fault(fault)) => {
-            append_message(&mut message, &fault)?;
-            EndKind::Fault(fault.kind, fault.statement)
+            let mut message = Vec::new(alloc);
+            append_message(&mut message, fault)?;
+            Ok(Stop::Fault(message))
         }
-    };
-    Ok(Streamed {
-        end,
-        message,
-        choices: Vec::new(alloc),
-        steps: stopped.steps,
-    })
+    }
 }

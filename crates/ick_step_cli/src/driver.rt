@@ -3,14 +3,14 @@
 ghost use Rattle.std.specs.Prelude.{◌≡◌, ◌≢◌, ◌+◌, ◌<◌, ◌^◌, []};
 ghost use Rattle.clap.specs.Walk.{texts};
 ghost use Rattle.clap.specs.Words.{fault_of};
-ghost use Rattle.ick_cli.specs.Serve.{FinishesDue, IsDue, IsStatus, counts};
-ghost use Rattle.ick_cli.specs.Usage.{AreMistakes, AreRequests, IsHelped, IsRefused};
+ghost use Rattle.ick_job.specs.Serve.{FinishesDue, IsDue, IsStatus, counts};
+ghost use Rattle.ick_job.specs.Usage.{AreMistakes, AreRequests, IsHelped, IsRefused};
 ghost use Rattle.ick_step_cli.specs.Words.{step_app};
 
 use crate::dispatch::perform;
 use crate::words::read_job;
-use ick_cli::{Files, Status, answer_words, report};
-use ick_runs::{ByteSink, ByteSource};
+use ick_explorer::{ByteSink, ByteSource};
+use ick_job::{Files, Status, answer_words, report};
 use std::alloc::Global;
 
 /// Does the job that the arguments ask for, and returns the exit status.

@@ -4,14 +4,14 @@ ghost use Rattle.std.specs.Prelude.{◌≡◌, ◌+◌, ◌<◌, ◌^◌, ◌++�
 ghost use Rattle.std.specs.Prelude.{IfErr, IfOk, OnOk, [], length};
 ghost use Rattle.std.specs.Prelude.{true, false, take};
 ghost use Rattle.ick_explorer.specs.Whole.{read_failures};
-ghost use Rattle.ick_cli.specs.JobEnd.{LeavesStreams, LeavesWriter};
+ghost use Rattle.ick_job.specs.JobEnd.{LeavesStreams, LeavesWriter};
 ghost use Rattle.ick_session.specs.Stepper.{fixed, seen};
 ghost use Rattle.ick_step_cli.specs.Talk.{IsFailure, Writes, lines_of};
 
 use ick_bits::NoMemory;
-use ick_cli::{JobEnd, Message};
+use ick_explorer::{ByteSink, ByteSource, ReadFault, write_whole};
 use ick_inspect::{Position, Text};
-use ick_runs::{ByteSink, ByteSource, ReadFault, write_whole};
+use ick_job::{JobEnd, Message};
 use ick_session::{Stepper, answer_line};
 use std::alloc::Global;
 

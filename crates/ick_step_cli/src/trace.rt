@@ -5,9 +5,9 @@ ghost use Rattle.ick_explorer.specs.Writes.{write_failures};
 ghost use Rattle.ick_machine.specs.Seen.{trailed_machine};
 ghost use Rattle.ick_step_cli.specs.Trace.{IsTraceError};
 
+use ick_explorer::{ByteSink, RunsError, write_whole};
 use ick_inspect::{Position, Text};
 use ick_machine::{Ask, Asks, End, Trailed};
-use ick_runs::{ByteSink, RunsError, write_whole};
 use ick_session::{Given, Pair, append_answered, append_here, append_place, trace_step};
 
 /// The number of bytes from which on lines are written.

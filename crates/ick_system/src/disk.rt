@@ -4,8 +4,8 @@ ghost use Rattle.std.specs.Prelude.{◌≡◌, Some, [], false};
 ghost use Rattle.std.specs.Option.{option_map_or};
 
 use crate::counted::read_from;
-use ick_cli::Files;
-use ick_runs::{ByteSource, DeviceFault};
+use ick_explorer::{ByteSource, DeviceFault};
+use ick_job::Files;
 use std::fs::{self, File};
 use std::io::{self, Read};
 use std::os::fd::AsRawFd;

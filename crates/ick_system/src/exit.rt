@@ -3,7 +3,7 @@
 ghost use Rattle.std.specs.Prelude.{◌≡◌};
 ghost use Rattle.std.specs.Process.{exit_status};
 
-use ick_cli::Status;
+use ick_job::Status;
 use std::process::ExitCode;
 
 /// Returns a status in the system's form.

@@ -1,5 +1,5 @@
-//! The arguments, files, streams and exit status of the system, as programs over `ick_cli` and
-//! `ick_runs` need them.
+//! The arguments, files, streams and exit status of the system, as programs over `ick_job` need
+//! them.
 //!
 //! - `words`: the arguments that the system hands over
 //! - `counted`: reads and writes that count their failures

@@ -3,7 +3,7 @@ ghost use Rattle.std.specs.Prelude.{◌≡◌, ◌≢◌, IfOk};
 ghost use Rattle.clap.specs.Walk.{texts};
 ghost use Rattle.ick_system.specs.Arguments.{after_name};
 
-use ick_cli::WordsFault;
+use ick_job::WordsFault;
 use std::alloc::{AllocError, Global};
 use std::env;
 use std::io::ErrorKind;

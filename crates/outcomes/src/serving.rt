@@ -1,9 +1,9 @@
 //! The arguments served over any devices.
 ghost use Rattle.std.specs.Prelude.{◌≡◌, ◌≢◌, ◌+◌, ◌<◌, ◌^◌, [], true};
 ghost use Rattle.clap.specs.Words.{fault_of};
-ghost use Rattle.ick_cli.specs.JobEnd.{input_of, source_of};
-ghost use Rattle.ick_cli.specs.Serve.{FinishesDue, IsStatus, counts};
-ghost use Rattle.ick_cli.specs.Usage.{AreMistakes, AreRequests, IsHelped, IsRefused};
+ghost use Rattle.ick_job.specs.JobEnd.{input_of, source_of};
+ghost use Rattle.ick_job.specs.Serve.{FinishesDue, IsStatus, counts};
+ghost use Rattle.ick_job.specs.Usage.{AreMistakes, AreRequests, IsHelped, IsRefused};
 ghost use Rattle.ick_outcomes_cli.specs.OutcomesEnd.{listing_of};
 ghost use Rattle.ick_outcomes_cli.specs.Job.{HasJob, job_of};
 ghost use Rattle.ick_outcomes_cli.specs.Serve.{IsOutcomesDue, IsOutcomesServed};
@@ -11,9 +11,9 @@ ghost use Rattle.ick_outcomes_cli.specs.Tool.{IsOutcomesAnswer, MayStop};
 ghost use Rattle.ick_outcomes_cli.specs.Words.{outcomes_app};
 ghost use Rattle.ick_system.specs.Arguments.{after_name};
 
-use ick_cli::{Files, Status, WordsFault, refuse_words};
+use ick_explorer::{ByteSink, ByteSource};
+use ick_job::{Files, Status, WordsFault, refuse_words};
 use ick_outcomes_cli::serve_outcomes;
-use ick_runs::{ByteSink, ByteSource};
 use ick_system::words_of;
 use std::alloc::Global;
 

@@ -5,14 +5,14 @@
 #![tactic(auto)]
 
 ghost use Rattle.std.specs.Prelude.{◌≡◌, ◌+◌, ◌<◌, ◌^◌, IfErr};
-ghost use Rattle.ick_cli.specs.Notice.{notice_text};
-ghost use Rattle.ick_cli.specs.Serve.{Finishes};
-ghost use Rattle.ick_cli.specs.Usage.{words_notice, words_status};
+ghost use Rattle.ick_job.specs.Notice.{notice_text};
+ghost use Rattle.ick_job.specs.Serve.{Finishes};
+ghost use Rattle.ick_job.specs.Usage.{words_notice, words_status};
 
 mod serving;
 
-use ick_cli::{Status, WordsFault, refuse_words};
-use ick_runs::ByteSink;
+use ick_explorer::ByteSink;
+use ick_job::{Status, WordsFault, refuse_words};
 use ick_system::{DiskFiles, InStream, OutStream, arguments, exit_code};
 use serving::serve_arguments;
 use std::io::Lock;

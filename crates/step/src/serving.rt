@@ -1,13 +1,13 @@
 //! The arguments served over any devices.
 ghost use Rattle.std.specs.Prelude.{◌≡◌, ◌≢◌, ◌+◌, ◌<◌, ◌^◌, []};
 ghost use Rattle.clap.specs.Words.{fault_of};
-ghost use Rattle.ick_cli.specs.Serve.{FinishesDue, IsDue, IsStatus, counts};
-ghost use Rattle.ick_cli.specs.Usage.{AreMistakes, AreRequests, IsHelped, IsRefused};
+ghost use Rattle.ick_job.specs.Serve.{FinishesDue, IsDue, IsStatus, counts};
+ghost use Rattle.ick_job.specs.Usage.{AreMistakes, AreRequests, IsHelped, IsRefused};
 ghost use Rattle.ick_step_cli.specs.Words.{step_app};
 ghost use Rattle.ick_system.specs.Arguments.{after_name};
 
-use ick_cli::{Files, Status, WordsFault, refuse_words};
-use ick_runs::{ByteSink, ByteSource};
+use ick_explorer::{ByteSink, ByteSource};
+use ick_job::{Files, Status, WordsFault, refuse_words};
 use ick_step_cli::serve_step;
 use ick_system::words_of;
 use std::alloc::Global;

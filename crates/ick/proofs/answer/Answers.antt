@@ -1,13 +1,13 @@
 use Rattle.std.proofs.Common.{inr, refl, subst, sym}
 use Rattle.std.specs.Prelude.{◌≡◌, IfOk, Ok, Result}
 use Rattle.clap.specs.Words.{fault_of}
-use Rattle.ick_cli.specs.Notice.{notice_text}
-use Rattle.ick_cli.specs.Serve.{IsDue, counts, memory_failed, nothing_failed}
-use Rattle.ick_cli.specs.Usage.{AreMistakes, AreRequests, words_notice, words_status}
+use Rattle.ick_job.specs.Notice.{notice_text}
+use Rattle.ick_job.specs.Serve.{IsDue, counts, memory_failed, nothing_failed}
+use Rattle.ick_job.specs.Usage.{AreMistakes, AreRequests, words_notice, words_status}
 use Rattle.ick_cli.specs.Words.{ick_app}
-use Rattle.ick_cli.specs.declared.driver.WordsFault.{WordsFault}
-use Rattle.ick_cli.specs.declared.driver.WordsFault.TheVariants.{NoMemory, NotText}
-use Rattle.ick_cli.proofs.Served.{finished_status, help_status}
+use Rattle.ick_job.specs.declared.words_fault.WordsFault.{WordsFault}
+use Rattle.ick_job.specs.declared.words_fault.WordsFault.TheVariants.{NoMemory, NotText}
+use Rattle.ick_job.proofs.Served.{finished_status, help_status}
 use Rattle.ick_system.specs.Arguments.{after_name}
 use Rattle.ick.proofs.answer.Goals as goal
 

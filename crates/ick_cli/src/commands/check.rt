@@ -1,14 +1,12 @@
 //! `ick check`: how many statements a program has.
 ghost use Rattle.std.specs.Prelude.{◌≡◌, ◌+◌, ◌<◌, ◌^◌, IfOk, true};
 ghost use Rattle.ick_syntax.specs.Programs.{trees_of};
-ghost use Rattle.ick_cli.specs.JobEnd.{Answers, LeavesWriter};
+ghost use Rattle.ick_job.specs.JobEnd.{Answers, LeavesWriter};
 ghost use Rattle.ick_cli.specs.Summary.{summary};
-ghost use Rattle.ick_cli.specs.Tool.{shown};
+ghost use Rattle.ick_job.specs.Answer.{shown};
 
-use crate::job_end::JobEnd;
-use crate::notice::Message;
-use crate::output::send;
 use ick_bits::{NoMemory, append_decimal};
+use ick_job::{JobEnd, Message, send};
 use ick_runs::ByteSink;
 use ick_syntax::Program;
 use std::alloc::Global;

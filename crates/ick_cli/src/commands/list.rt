@@ -2,13 +2,11 @@
 ghost use Rattle.std.specs.Prelude.{◌≡◌, ◌+◌, ◌<◌, ◌^◌, true};
 ghost use Rattle.ick_source.specs.Listing.{listing};
 ghost use Rattle.ick_syntax.specs.Programs.{trees_of};
-ghost use Rattle.ick_cli.specs.JobEnd.{Answers, LeavesWriter};
-ghost use Rattle.ick_cli.specs.Tool.{shown};
+ghost use Rattle.ick_job.specs.JobEnd.{Answers, LeavesWriter};
+ghost use Rattle.ick_job.specs.Answer.{shown};
 
-use crate::job_end::JobEnd;
-use crate::notice::Message;
-use crate::output::send;
 use ick_bits::NoMemory;
+use ick_job::{JobEnd, Message, send};
 use ick_runs::ByteSink;
 use ick_source::append_listing;
 use ick_syntax::Program;

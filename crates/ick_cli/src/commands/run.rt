@@ -1,11 +1,11 @@
 //! `ick run`: the choices of a run, and how the work ends with it.
-ghost use Rattle.std.specs.Prelude.{◌≡◌, IfErr, [], unwrap_or};
-ghost use Rattle.ick_cli.specs.JobEnd.{Comes, EndsBy};
+ghost use Rattle.std.specs.Prelude.{◌≡◌, IfErr, [], ℕ, unwrap_or};
+ghost use Rattle.ick_job.specs.JobEnd.{Comes};
+ghost use Rattle.ick_job.specs.Stopped.{stopped_status, stopped_text};
 ghost use Rattle.ick_cli.specs.Stopped.{EndsAs, kind_status, kind_text};
 
-use crate::job_end::JobEnd;
-use crate::stopped::{stop_message, stop_status};
-use ick_bits::NoMemory;
+use ick_job::{JobEnd, Stop, stopped_run};
+use ick_machine::EndKind;
 use ick_runs::{Cursor, RunsError, Streamed};
 use std::alloc::Global;
 
@@ -25,19 +25,23 @@ pub fn ended(alloc: Global, ran: Result<Streamed, RunsError>) -> JobEnd
     ensures { EndsAs ran result }
 {
     match ran {
-        Ok(streamed) => stopped(alloc, streamed),
+        Ok(streamed) => {
+            let stop = stop_of(streamed.end, streamed.message);
+            stopped_run(alloc, stop, streamed.steps)
+        }
         Err(error) => JobEnd::refused(error),
     }
 }
 
-/// Returns the end of a job whose run has stopped.
-fn stopped(alloc: Global, streamed: Streamed) -> JobEnd
-    ensures { EndsBy (kind_status streamed.end)
-        (kind_text streamed.end streamed.message.items streamed.steps) result }
+/// Returns how a run stopped, by its end and the message of its fault.
+fn stop_of(end: EndKind, message: Vec<u8>) -> Stop
+    ensures status { stopped_status result ≡ kind_status end }
+    ensures text { (steps : ℕ) → stopped_text result steps ≡ kind_text end message.items steps }
 {
-    let status = stop_status(streamed.end);
-    match stop_message(alloc, streamed) {
-        Ok(message) => JobEnd::Answered { status, message },
-        Err(NoMemory) => JobEnd::NoMemory,
+    match end {
+        EndKind::GiveUp => Stop::GiveUp,
+        EndKind::Fault(_, _) => Stop::Fault(message),
+        EndKind::Limit => Stop::Limit,
+        EndKind::Wants => Stop::Wants,
     }
 }

@@ -1,10 +1,14 @@
 //! The command `ick`, with its commands.
 ghost use Rattle.std.specs.Prelude.{IfOk};
-ghost use Rattle.ick_cli.specs.Built.{Reads};
+ghost use Rattle.ick_job.specs.Built.{Reads};
 ghost use Rattle.ick_cli.specs.Words.{check_app, list_app, run_app, runs_app, ick_app};
 
-use crate::words::{arguments, help};
+use crate::words::help;
 use clap::Command;
+use ick_job::{
+    bug_argument, choices_argument, count_argument, file_argument, from_argument, limit_argument,
+    seed_argument,
+};
 use std::alloc::{AllocError, Global};
 
 /// Returns the command `check`.
@@ -14,7 +18,7 @@ fn check_command<'a>(alloc: Global) -> Result<Command<'a>, AllocError>
     Command::new(alloc, "check")
         .about("Counts the statements of a program")
         .after_help(help::CHECK)
-        .arg(arguments::file_argument(alloc))
+        .arg(file_argument(alloc))
 }
 
 /// Returns the command `list`.
@@ -24,7 +28,7 @@ fn list_command<'a>(alloc: Global) -> Result<Command<'a>, AllocError>
     Command::new(alloc, "list")
         .about("Lists the statements of a program")
         .after_help(help::LIST)
-        .arg(arguments::file_argument(alloc))
+        .arg(file_argument(alloc))
 }
 
 /// Returns the command `run`.
@@ -34,11 +38,11 @@ fn run_command<'a>(alloc: Global) -> Result<Command<'a>, AllocError>
     Command::new(alloc, "run")
         .about("Runs a program")
         .after_help(help::RUN)
-        .arg(arguments::bug_argument(alloc))?
-        .arg(arguments::choices_argument(alloc))?
-        .arg(arguments::seed_argument(alloc))?
-        .arg(arguments::limit_argument(alloc))?
-        .arg(arguments::file_argument(alloc))
+        .arg(bug_argument(alloc))?
+        .arg(choices_argument(alloc))?
+        .arg(seed_argument(alloc))?
+        .arg(limit_argument(alloc))?
+        .arg(file_argument(alloc))
 }
 
 /// Returns the command `runs`.
@@ -48,11 +52,11 @@ fn runs_command<'a>(alloc: Global) -> Result<Command<'a>, AllocError>
     Command::new(alloc, "runs")
         .about("Lists the runs of a program")
         .after_help(help::RUNS)
-        .arg(arguments::bug_argument(alloc))?
-        .arg(arguments::from_argument(alloc))?
-        .arg(arguments::count_argument(alloc))?
-        .arg(arguments::limit_argument(alloc))?
-        .arg(arguments::file_argument(alloc))
+        .arg(bug_argument(alloc))?
+        .arg(from_argument(alloc))?
+        .arg(count_argument(alloc))?
+        .arg(limit_argument(alloc))?
+        .arg(file_argument(alloc))
 }
 
 /// Returns the command `ick`, whose arguments come without the program's own name.

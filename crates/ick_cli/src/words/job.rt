@@ -4,12 +4,12 @@ ghost use Rattle.clap.specs.Words.{fault_of, found_of, rows_of, subcommand_rows_
 ghost use Rattle.clap.specs.Kinds.{FailsBy};
 ghost use Rattle.clap.specs.Walk.{texts};
 ghost use Rattle.ick_cli.specs.Words.{ick_app};
-ghost use Rattle.ick_cli.specs.Job.{asked, asked_in, asked_of, job_of, run_in, runs_in};
-ghost use Rattle.ick_cli.specs.Job.{task_named, task_of};
+ghost use Rattle.ick_cli.specs.Job.{asked, asked_in, asked_of, job_of, run_in, runs_in, task_named};
+ghost use Rattle.ick_cli.specs.Job.{task_of};
 
 use crate::words::command::ick_command;
-use crate::words::values::{long_number_value, number_value, text_value};
 use clap::{ArgMatches, Error};
+use ick_job::{long_number_value, number_value, text_value};
 use std::alloc::Global;
 
 /// What is to be done with a program.

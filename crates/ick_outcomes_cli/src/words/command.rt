@@ -1,11 +1,11 @@
 //! The command `ick-outcomes`.
 ghost use Rattle.std.specs.Prelude.{IfOk};
-ghost use Rattle.ick_cli.specs.Built.{Reads};
+ghost use Rattle.ick_job.specs.Built.{Reads};
 ghost use Rattle.ick_outcomes_cli.specs.Words.{outcomes_app};
 
 use crate::words::{arguments, help};
 use clap::Command;
-use ick_cli::{bug_argument, file_argument, limit_argument};
+use ick_job::{bug_argument, file_argument, limit_argument};
 use std::alloc::{AllocError, Global};
 
 /// Returns the command, whose arguments come without the program's own name.

@@ -9,7 +9,7 @@ ghost use Rattle.ick_outcomes_cli.specs.Words.{outcomes_app};
 
 use crate::words::command::outcomes_command;
 use clap::{ArgMatches, Error};
-use ick_cli::{flag_value, number_value, text_value};
+use ick_job::{flag_value, number_value, text_value};
 use std::alloc::Global;
 
 /// What is to be found out of the outcomes of a program.

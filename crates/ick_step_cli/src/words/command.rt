@@ -1,11 +1,11 @@
 //! The command `ick-step`.
 ghost use Rattle.std.specs.Prelude.{IfOk};
-ghost use Rattle.ick_cli.specs.Built.{Reads};
+ghost use Rattle.ick_job.specs.Built.{Reads};
 ghost use Rattle.ick_step_cli.specs.Words.{step_app};
 
 use crate::words::{arguments, help};
 use clap::Command;
-use ick_cli::{bug_argument, choices_argument, file_argument, limit_argument, seed_argument};
+use ick_job::{bug_argument, choices_argument, file_argument, limit_argument, seed_argument};
 use std::alloc::{AllocError, Global};
 
 /// Returns the command, whose arguments come without the program's own name.

@@ -9,7 +9,7 @@ ghost use Rattle.ick_step_cli.specs.Words.{step_app};
 
 use crate::words::command::step_command;
 use clap::{ArgMatches, Error};
-use ick_cli::{flag_value, long_number_value, number_value, text_value};
+use ick_job::{flag_value, long_number_value, number_value, text_value};
 use std::alloc::Global;
 
 /// What the arguments ask for: a session or a trace of a run of the source. The source is in a

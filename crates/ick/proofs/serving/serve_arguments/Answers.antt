@@ -1,10 +1,9 @@
 use Rattle.std.proofs.Common.{inl, refl, sym}
 use Rattle.std.proofs.lemmas.List.{append-nil}
-use Rattle.ick_cli.specs.Serve.{counts, cut_by_memory, line_without_memory, memory_failed}
-use Rattle.ick_cli.specs.Usage.{help_without_memory, refused_without_memory}
-use Rattle.ick_cli.proofs.Left.{without_memory}
+use Rattle.ick_job.specs.Serve.{counts, cut_by_memory, line_without_memory, memory_failed}
+use Rattle.ick_job.specs.Usage.{help_without_memory, refused_without_memory}
+use Rattle.ick_job.proofs.Served.{without_memory, failed_due, finished_status}
 use Rattle.ick_cli.proofs.OneAnswer.{tool_answer}
-use Rattle.ick_cli.proofs.Served.{failed_due, finished_status}
 use Rattle.ick.proofs.serving.serve_arguments.Goals as goal
 
 pub returns-in-Err-clause-job : goal.returns-in-Err-clause-job

@@ -3,7 +3,7 @@ use Rattle.ick_source.specs.Listing.{listing}
 use Rattle.ick_syntax.specs.Programs.{trees_of}
 use Rattle.ick_code.specs.Compiled.{code_program}
 use Rattle.ick_cli.specs.Summary.{summary}
-use Rattle.ick_cli.specs.Tool.{shown}
+use Rattle.ick_job.specs.Answer.{shown}
 use Rattle.ick_cli.specs.declared.plan.Plan.TheVariants.{Check, List as ListStatements}
 use Rattle.ick_cli.proofs.Works.{check_answer, list_answer, works_compiled, works_executed, works_refused, works_shown}
 use Rattle.ick_cli.proofs.Works.{runs_read, works_without_memory}

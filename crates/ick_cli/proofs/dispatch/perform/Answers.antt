@@ -4,12 +4,14 @@ use Rattle.ick_cli.specs.Job.{asked}
 use Rattle.ick_cli.specs.Left.{IsLeft, IsLeftBySource, left_with_file}
 use Rattle.ick_cli.specs.Plan.{IsUnplanned}
 use Rattle.ick_cli.specs.Tool.{IsSourceAnswer}
-use Rattle.ick_cli.proofs.Answered.{answer_of_front, answers_cut, answers_unopened, file_named, file_unnamed, leaves_as}
-use Rattle.ick_cli.proofs.Answered.{read_source_of, source_read}
-use Rattle.ick_cli.proofs.Left.{left_of_front, no_file, some_file, where_answered, where_cut, where_other}
-use Rattle.ick_cli.proofs.Left.{where_unopened, where_unplanned, without_file}
-use Rattle.ick_cli.proofs.Lines.{answer_planned, answered_unplanned, leaves_by_line, refused_by_line}
-use Rattle.ick_cli.proofs.Planned.{given_none, given_some, input_of_plan, planned_not_unplanned}
+use Rattle.ick_cli.proofs.Answered.{answer_of_front, answers_unopened, file_named, file_unnamed, read_source_of}
+use Rattle.ick_cli.proofs.Answered.{source_read}
+use Rattle.ick_job.proofs.Ends.{answers_cut, leaves_as, where_answered, where_cut, where_other, where_unopened}
+use Rattle.ick_cli.proofs.Left.{left_of_front, no_file, some_file, where_unplanned, without_file}
+use Rattle.ick_cli.proofs.Lines.{answer_planned, answered_unplanned, refused_by_line}
+use Rattle.ick_job.proofs.Lines.{leaves_by_line}
+use Rattle.ick_job.proofs.Texts.{given_none, given_some}
+use Rattle.ick_cli.proofs.Planned.{input_of_plan, planned_not_unplanned}
 use Rattle.ick_cli.proofs.dispatch.perform.Goals as goal
 
 -- without a plan

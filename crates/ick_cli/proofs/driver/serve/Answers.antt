@@ -1,16 +1,15 @@
 use Rattle.std.proofs.Common.{◌≡◌, ◌∙◌, ap, arith, false, refl, subst, sym}
-use Rattle.ick_cli.specs.JobEnd.{input_of, source_of}
+use Rattle.ick_job.specs.JobEnd.{input_of, source_of}
 use Rattle.ick_cli.specs.Job.{Asked, asked, has_file}
 use Rattle.std.proofs.lemmas.List.{append-nil}
-use Rattle.ick_cli.specs.Serve.{counts, cut_by_memory, line_without_memory}
+use Rattle.ick_job.specs.Serve.{counts, cut_by_memory, line_without_memory}
 use Rattle.ick_cli.specs.Tool.{IsToolAnswer}
-use Rattle.ick_cli.specs.Usage.{help_without_memory}
+use Rattle.ick_job.specs.Usage.{help_without_memory}
 use Rattle.ick_cli.specs.Left.{IsLeft}
 use Rattle.ick_cli.specs.Plan.{IsUnplanned}
-use Rattle.ick_cli.proofs.ErrorKinds.{memory_ran_out, mistaken, requested}
-use Rattle.ick_cli.proofs.Left.{was_answered, without_memory}
+use Rattle.ick_job.proofs.ErrorKinds.{memory_ran_out, mistaken, requested}
+use Rattle.ick_job.proofs.Served.{was_answered, without_memory, due, failed_due, finished_status, line_finished, served}
 use Rattle.ick_cli.proofs.OneAnswer.{tool_answer}
-use Rattle.ick_cli.proofs.Served.{due, failed_due, finished_status, line_finished, served}
 use Rattle.ick_cli.proofs.driver.serve.Goals as goal
 
 -- words that ask for a job, and others

@@ -1,11 +1,11 @@
 use Rattle.std.proofs.Common.{subst, sym}
 use Rattle.ick_cli.specs.Job.{task_of}
-use Rattle.ick_cli.specs.Plan.{EndsByLine, HasPlan, IsPlanned, IsUnplanned, check_planned, from_unread, list_planned}
-use Rattle.ick_cli.specs.Plan.{runs_planned}
+use Rattle.ick_job.specs.JobEnd.{EndsByLine}
+use Rattle.ick_cli.specs.Plan.{HasPlan, IsPlanned, IsUnplanned, check_planned, from_unread, list_planned, runs_planned}
 use Rattle.ick_cli.specs.declared.plan.Plan.TheVariants.{Check, List as ListStatements, Execute}
 use Rattle.ick_cli.specs.declared.plan.Runs.TheVariants.{Listed}
 use Rattle.ick_cli.specs.declared.words.job.Subcommand.{Subcommand}
-use Rattle.ick_cli.proofs.Lines.{by_other_line}
+use Rattle.ick_job.proofs.Lines.{by_other_line}
 use Rattle.ick_cli.proofs.plan.plan_of.Goals as goal
 
 pub returns-in-Check-clause-ok : goal.returns-in-Check-clause-ok

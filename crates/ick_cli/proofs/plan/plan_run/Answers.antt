@@ -1,5 +1,6 @@
-use Rattle.ick_cli.proofs.Lines.{by_other_line, by_usage}
-use Rattle.ick_cli.proofs.Planned.{given_none, given_some, no_plan, plan_drawn, plan_given, unread_given}
+use Rattle.ick_job.proofs.Lines.{by_other_line, by_usage}
+use Rattle.ick_job.proofs.Texts.{given_none, given_some}
+use Rattle.ick_cli.proofs.Planned.{no_plan, plan_drawn, plan_given, unread_given}
 use Rattle.ick_cli.proofs.plan.plan_run.Goals as goal
 
 pub returns-in-Ok-clause-ok : goal.returns-in-Ok-clause-ok

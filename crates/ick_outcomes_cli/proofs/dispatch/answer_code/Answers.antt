@@ -1,7 +1,7 @@
 use Rattle.std.proofs.Common.{◌≤◌, ◌∙◌, ℕ, List, arith, length, subst}
 use Rattle.ick_code.specs.Compiled.{code_program}
-use Rattle.ick_cli.specs.Tool.{longest_input}
-use Rattle.ick_cli.proofs.Planned.{given_none, given_some}
+use Rattle.ick_job.specs.Input.{longest_input}
+use Rattle.ick_job.proofs.Texts.{given_none, given_some}
 use Rattle.ick_outcomes_cli.specs.Tool.{HasTooMany, IsProgramAnswer, input_too_long}
 use Rattle.ick_outcomes_cli.specs.declared.outcomes_end.OutcomesEnd.TheVariants.{By}
 use Rattle.ick_outcomes_cli.proofs.Giving.{gives_so, gives_unread, leaves_all_as, program_listing, program_outcomes}

@@ -1,5 +1,5 @@
 use Rattle.std.proofs.Common.{◌∙◌, arith}
-use Rattle.ick_cli.proofs.Planned.{given_none, given_some}
+use Rattle.ick_job.proofs.Texts.{given_none, given_some}
 use Rattle.ick_outcomes_cli.specs.Job.{wanted}
 use Rattle.ick_outcomes_cli.proofs.Giving.{gives_so, leaves_all_as, read_with_file, read_without_file}
 use Rattle.ick_outcomes_cli.proofs.Giving.{stop_with_file, stop_without_file, unread_with_file}

@@ -1,6 +1,6 @@
 use Rattle.std.proofs.Common.{refl, subst, sym}
-use Rattle.ick_cli.specs.JobEnd.{Answers}
-use Rattle.ick_cli.specs.Tool.{shown}
+use Rattle.ick_job.specs.JobEnd.{Answers}
+use Rattle.ick_job.specs.Answer.{shown}
 use Rattle.ick_outcomes_cli.specs.Tool.{IsTextFound}
 use Rattle.ick_outcomes_cli.proofs.Giving.{gives_sent}
 use Rattle.ick_outcomes_cli.proofs.dispatch.show.Goals as goal

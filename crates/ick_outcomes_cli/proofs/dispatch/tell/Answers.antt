@@ -1,6 +1,6 @@
 use Rattle.std.proofs.Common.{refl, subst, sym}
-use Rattle.ick_cli.specs.JobEnd.{Answers}
-use Rattle.ick_cli.specs.Tool.{refusal, shown}
+use Rattle.ick_job.specs.JobEnd.{Answers}
+use Rattle.ick_job.specs.Answer.{refusal, shown}
 use Rattle.ick_outcomes_cli.specs.Asked.{foreign_text}
 use Rattle.ick_outcomes_cli.specs.Tool.{IsToldOf}
 use Rattle.ick_outcomes_cli.proofs.Giving.{gives_refusal, gives_sent}

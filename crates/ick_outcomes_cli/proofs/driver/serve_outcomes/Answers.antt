@@ -1,8 +1,8 @@
 use Rattle.std.proofs.Common.{ap, subst}
-use Rattle.ick_cli.specs.JobEnd.{input_of, source_of}
-use Rattle.ick_cli.specs.Serve.{counts}
-use Rattle.ick_cli.specs.Usage.{help_without_memory}
-use Rattle.ick_cli.proofs.ErrorKinds.{memory_ran_out, mistaken, requested}
+use Rattle.ick_job.specs.JobEnd.{input_of, source_of}
+use Rattle.ick_job.specs.Serve.{counts}
+use Rattle.ick_job.specs.Usage.{help_without_memory}
+use Rattle.ick_job.proofs.ErrorKinds.{memory_ran_out, mistaken, requested}
 use Rattle.ick_outcomes_cli.specs.OutcomesEnd.{Gives, listing_of}
 use Rattle.ick_outcomes_cli.specs.Job.{Wanted}
 use Rattle.ick_outcomes_cli.specs.Serve.{as_ick, without_memory}

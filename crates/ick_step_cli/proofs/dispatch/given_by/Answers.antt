@@ -1,4 +1,4 @@
-use Rattle.ick_cli.proofs.Lines.{leaves_by_line}
+use Rattle.ick_job.proofs.Lines.{leaves_by_line}
 use Rattle.ick_step_cli.proofs.dispatch.given_by.Goals as goal
 
 pub returns-in-Err : goal.returns-in-Err

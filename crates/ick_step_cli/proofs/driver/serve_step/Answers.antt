@@ -1,7 +1,7 @@
 use Rattle.std.proofs.Common.{ap}
-use Rattle.ick_cli.specs.Usage.{help_without_memory}
-use Rattle.ick_cli.proofs.ErrorKinds.{mistaken, requested}
-use Rattle.ick_cli.proofs.Served.{due, finished_status}
+use Rattle.ick_job.specs.Usage.{help_without_memory}
+use Rattle.ick_job.proofs.ErrorKinds.{mistaken, requested}
+use Rattle.ick_job.proofs.Served.{due, finished_status}
 use Rattle.ick_step_cli.proofs.driver.serve_step.Goals as goal
 
 pub returns-in-Ok-clause-said : goal.returns-in-Ok-clause-said

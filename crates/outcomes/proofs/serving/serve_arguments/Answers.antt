@@ -1,6 +1,6 @@
 use Rattle.std.proofs.Common.{refl}
-use Rattle.ick_cli.specs.Serve.{memory_failed}
-use Rattle.ick_cli.specs.Usage.{help_without_memory, refused_without_memory}
+use Rattle.ick_job.specs.Serve.{memory_failed}
+use Rattle.ick_job.specs.Usage.{help_without_memory, refused_without_memory}
 use Rattle.ick_outcomes_cli.specs.Serve.{as_ick, without_memory}
 use Rattle.ick_outcomes_cli.proofs.Serving.{outcomes_status}
 use Rattle.outcomes.proofs.serving.serve_arguments.Goals as goal

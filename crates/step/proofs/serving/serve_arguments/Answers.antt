@@ -1,7 +1,7 @@
 use Rattle.std.proofs.Common.{refl}
-use Rattle.ick_cli.specs.Serve.{memory_failed}
-use Rattle.ick_cli.specs.Usage.{help_without_memory, refused_without_memory}
-use Rattle.ick_cli.proofs.Served.{finished_status}
+use Rattle.ick_job.specs.Serve.{memory_failed}
+use Rattle.ick_job.specs.Usage.{help_without_memory, refused_without_memory}
+use Rattle.ick_job.proofs.Served.{finished_status}
 use Rattle.step.proofs.serving.serve_arguments.Goals as goal
 
 pub returns-in-Err-clause-usage : goal.returns-in-Err-clause-usage

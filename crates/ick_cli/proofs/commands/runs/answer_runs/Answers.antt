@@ -1,8 +1,8 @@
 use Rattle.std.proofs.Common.{arith, refl}
 use Rattle.ick_code.specs.Compiled.{code_program}
-use Rattle.ick_cli.proofs.Answered.{leaves_as}
+use Rattle.ick_job.proofs.Ends.{leaves_as, where_answered, where_unread}
 use Rattle.ick_cli.proofs.Executed.{answered_unread, listed_over}
-use Rattle.ick_cli.proofs.Left.{listed_left, where_answered, where_unread}
+use Rattle.ick_cli.proofs.Left.{listed_left}
 use Rattle.ick_cli.proofs.commands.runs.answer_runs.Goals as goal
 
 pub returns-in-Ok : goal.returns-in-Ok

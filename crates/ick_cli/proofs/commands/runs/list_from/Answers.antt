@@ -1,7 +1,7 @@
 use Rattle.std.proofs.Common.{◌∙◌, Err, ap, subst, sym}
 use Rattle.ick_explorer.specs.Explorers.{explored}
-use Rattle.ick_cli.specs.JobEnd.{Answers}
-use Rattle.ick_cli.specs.declared.job_end.JobEnd.{JobEnd}
+use Rattle.ick_job.specs.JobEnd.{Answers}
+use Rattle.ick_job.specs.declared.job_end.JobEnd.{JobEnd}
 use Rattle.ick_cli.proofs.Listed.{is_listed, listing_comes, wrote_cut}
 use Rattle.ick_cli.proofs.commands.runs.list_from.Goals as goal
 

@@ -1,8 +1,8 @@
 use Rattle.std.proofs.Common.{rules, codes}
 use Rattle.std.proofs.lemmas.Result.{IfOk-weaker}
 use Rattle.clap.specs.Words.{new_app}
-use Rattle.ick_cli.specs.Built.{Reads}
-use Rattle.ick_cli.proofs.Builders.{arg_added}
+use Rattle.ick_job.specs.Built.{Reads}
+use Rattle.ick_job.proofs.Builders.{arg_added}
 use Rattle.ick_cli.proofs.words.command.runs_command.Goals as goal
 
 pub returns : goal.returns

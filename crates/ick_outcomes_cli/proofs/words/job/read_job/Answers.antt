@@ -2,7 +2,7 @@ use Rattle.std.proofs.Common.{◌≡◌, ◌∙◌, [], ap, true, refl}
 use Rattle.clap.specs.Kinds.{HasKind, Kinds}
 use Rattle.clap.specs.Words.{is_simple, is_simple_and_free}
 use Rattle.clap.proofs.OnLiterals.{clap_on_literals}
-use Rattle.ick_cli.proofs.Builders.{faulted, matched}
+use Rattle.ick_job.proofs.Builders.{faulted, matched}
 use Rattle.ick_outcomes_cli.specs.Words.{outcomes_app}
 use Rattle.ick_outcomes_cli.specs.Job.{wanted_in}
 use Rattle.ick_outcomes_cli.proofs.words.job.read_job.Goals as goal

@@ -2,8 +2,8 @@ use Rattle.std.proofs.Common.{rules, codes, true}
 use Rattle.std.proofs.lemmas.Result.{IfOk-weaker}
 use Rattle.clap.specs.Words.{new_app}
 use Rattle.clap.specs.Simple.{on_top}
-use Rattle.ick_cli.specs.Built.{Reads}
-use Rattle.ick_cli.proofs.Builders.{arg_added}
+use Rattle.ick_job.specs.Built.{Reads}
+use Rattle.ick_job.proofs.Builders.{arg_added}
 use Rattle.ick_step_cli.proofs.words.command.step_command.Goals as goal
 
 pub returns : goal.returns

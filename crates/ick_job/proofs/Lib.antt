@@ -1,0 +1,11 @@
+pub mod Builders
+pub mod Ends
+pub mod ErrorKinds
+pub mod Errors
+pub mod Lines
+pub mod Numbers
+pub mod OneReading
+pub mod Served
+pub mod Texts
+pub mod TextsRead
+pub mod Unread

@@ -1,0 +1,12 @@
+pub mod Answer
+pub mod Built
+pub mod Choices
+pub mod Input
+pub mod JobEnd
+pub mod Notice
+pub mod Refusing
+pub mod Serve
+pub mod Stopped
+pub mod Usage
+pub mod Values
+pub mod Words
