@@ -1,5 +1,5 @@
 -- What a machine asks, by the status of the statement that is met.
-use Rattle.std.proofs.Common.{◌≡◌, ℕ, ◌+◌, ◌-◌, ◌<◌, ◌≤◌, true, false, List, [], length, get_or, Option, Some, None}
+use Rattle.std.proofs.Common.{◌≡◌, ℕ, ◌+◌, ◌-◌, ◌<◌, ◌≤◌, Bool, true, false, List, [], length, get_or, Option, Some, None}
 use Rattle.std.proofs.Common.{refl, ap, arith, rules}
 use Rattle.std.specs.Prelude.{◌⊎◌, nat_lt, ◌&&◌, option_map, if◌then◌else◌, is_some}
 use Rattle.std.proofs.{lemmas.Bool.cases_lt, lemmas.Bool.Decides.nat_tests, lemmas.Option.slice_get_past}
@@ -29,6 +29,14 @@ open_free status open_ = grind (arith, nat_tests, open_)
 
 pub open_within : (status : ℕ) → is_open status ≡ true → (0 < status) × (status < 100)
 open_within status open_ = (grind (arith, nat_tests, open_), grind (arith, nat_tests, open_))
+
+-- a choice is asked only at such a status
+pub choice_open : (status chance : ℕ) → Some (choice chance) ≡ Some (asked_by status) → is_open status ≡ true
+choice_open status chance asks = cases (is_open status) refl
+  where
+    cases : (open_ : Bool) → is_open status ≡ open_ → is_open status ≡ true
+    cases true is = is
+    cases false is = absurd (cc (asks, ap (λ o. if o then choice (100 - status) else plain) is))
 
 -- whether a chance is between 0 and 100, by what it lacks
 certain_chance : (chance lack : ℕ) → lack ≡ 100 - percent_of chance → (lack ≡ 0) ⊎ (100 ≤ lack) →

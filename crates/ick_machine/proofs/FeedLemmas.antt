@@ -1,6 +1,6 @@
 -- What a feed gives is what the input begins with.
 use Rattle.std.proofs.Common.{◌≡◌, ◌≢◌, ℕ, ◌+◌, ◌==◌, Bool, true, false, List, [], ◌∷◌, ◌++◌, length, take, rules}
-use Rattle.std.proofs.Common.{drop, Some, None, Result, Ok, Err, refl, sym, ap, ◌∙◌, arith}
+use Rattle.std.proofs.Common.{drop, Some, None, Result, Ok, Err, refl, sym, ap, ◌∙◌, subst, arith}
 use Rattle.std.specs.{Prelude.slice_range, List.position_or_len}
 use Rattle.std.proofs.Math.Seq.{take-append_seam, drop-append-add, get_or-append_seam}
 use Rattle.std.proofs.lemmas.Bool.{false≢true}
@@ -14,7 +14,8 @@ use Rattle.ick_code.specs.meaning.InputOutput.{with_input, with_number, first_li
 use Rattle.ick_memory.specs.{Inputs.Input}
 use Rattle.ick_engine.specs.{declared.reader.Line.TheVariants.Nothing}
 use Rattle.ick_engine.specs.Reads.{IsNext, IsByte, line_outcome}
-use Rattle.ick_machine.specs.Feeds.{input_after, line_with, MayBeLeft}
+use Rattle.ick_backtrack.specs.declared.feed_fault.FeedFault.{FeedFault}
+use Rattle.ick_machine.specs.Feeds.{has_ended, input_after, line_with, MayBeLeft}
 
 -- a line without an end in it is the first line of itself, an end and more
 module _ (line rest : List ℕ) (one : first_line line ≡ line) where
@@ -68,6 +69,17 @@ module _ (before after : Input) (from : ℕ) where
 -- an input that a feed may have had before, where this was read and some may be left after it
 abbrev pub Before : Bool → Bool → List ℕ → List ℕ → (Input → Type 0) → Type 0
 Before told ended line left Read = (before : Input) × MayBeLeft told ended line left before × Read before
+
+-- what a read came to, that found input before it
+pub read_by : (told : Bool) (was is at : Result Bool FeedFault) (old_line line old new : List ℕ)
+    (Read : Input → Input → Type 0) → was ≡ Ok true → is ≡ at →
+    ((after : Input) → MayBeLeft told (has_ended at) line new after →
+    Before told false old_line old (λ before. Read before after)) →
+    (after : Input) → MayBeLeft told (has_ended is) line new after →
+    Before told (has_ended was) old_line old (λ before. Read before after)
+read_by told was is at old_line line old new Read begun came read after may =
+    subst (λ r. Before told (has_ended r) old_line old (λ before. Read before after)) (sym begun)
+    (read after (subst (λ r. MayBeLeft told (has_ended r) line new after) came may))
 
 -- what a feed gave that had not come to its end
 module _ (told ended : Bool) (goes_on : ended ≡ false) (old_line line old new : List ℕ) (from : ℕ) where

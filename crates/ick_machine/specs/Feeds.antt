@@ -1,5 +1,5 @@
 -- Words of the contracts of feeds.
-use Rattle.std.specs.Prelude.{ℕ, ◌≡◌, ◌<◌, Bool, true, List, [], slice_range, Option, Some, None, Result, Ok, Err}
+use Rattle.std.specs.Prelude.{ℕ, ◌≡◌, ◌<◌, Bool, true, List, [], slice_range, Some, Result, Ok, Err}
 use Rattle.std.specs.Prelude.{◌==◌, if◌then◌else◌}
 use Rattle.std.proofs.Common.{get_or}
 use Rattle.std.proofs.Common.{false, refl, sym}
@@ -27,10 +27,11 @@ abbrev pub feed_failures : {T : Type 0} → Result T FeedFault → ℕ
 feed_failures (Ok value) = 0
 feed_failures (Err fault) = failed_reads fault
 
--- how many have failed in a step that this went wrong in, if anything did
-abbrev pub reads_failed : Option FeedFault → ℕ
-reads_failed None = 0
-reads_failed (Some fault) = failed_reads fault
+-- whether the last read found that no input is left
+abbrev pub has_ended : Result Bool FeedFault → Bool
+has_ended (Ok true) = false
+has_ended (Ok false) = true
+has_ended (Err fault) = false
 
 -- a line with this answer, after which the input goes on at a position
 abbrev pub line_with : Result ℕ DigitFault → ℕ → Line

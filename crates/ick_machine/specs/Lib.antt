@@ -6,6 +6,7 @@ pub mod Copies
 pub mod Seen
 pub mod Present
 pub mod Feeds
+pub mod Stops
 pub mod LiveAsk
 pub mod Message
 pub mod Live

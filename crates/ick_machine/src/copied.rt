@@ -1,12 +1,10 @@
 //! A machine with marks that copies its state.
 
 ghost use Rattle.std.specs.Prelude.{◌≡◌, [], IfOk, vec_len};
-ghost use Rattle.ick_code.specs.meaning.Move.{first_state};
-ghost use Rattle.ick_code.specs.Compiled.{code_program};
+ghost use Rattle.ick_code.specs.{Compiled.code_program, meaning.Move.first_state};
 ghost use Rattle.ick_machine.specs.Copies.{AreCopies};
 
-use crate::present::{Inspect, Present};
-use crate::trailed::Trailed;
+use crate::{Inspect, Present, Trailed};
 use ick_backtrack::{Ask, Asks, Backtrack};
 use ick_bits::NoMemory;
 use ick_code::Code;
@@ -53,10 +51,9 @@ impl<'c, 'a> Copied<'c, 'a> {
               work = work;
             }) }
     {
-        let machine = Trailed::new(alloc, code, input, work)?;
         Ok(Copied {
             alloc,
-            machine,
+            machine: Trailed::new(alloc, code, input, work)?,
             copies: Vec::new(alloc),
         })
     }
@@ -92,11 +89,10 @@ impl<'c, 'a> Backtrack for Copied<'c, 'a> {
     }
 
     fn mark(&mut self) -> Result<(), NoMemory> {
-        let alloc = self.alloc;
         let machine = &self.machine;
         machine.law();
         let program = machine.lowered.program();
-        let saved = Saved::save(alloc, &machine.memory, program)?;
+        let saved = Saved::save(self.alloc, &machine.memory, program)?;
         // `ok` of `mark` needs that the kept state is the machine's.
         saved.law(program);
         let end = machine.end;
@@ -105,10 +101,9 @@ impl<'c, 'a> Backtrack for Copied<'c, 'a> {
     }
 
     fn back(&mut self) {
-        self.machine.law();
-        if let Some(copy) = self.copies.pop() {
-            let Copy { saved, end } = copy;
-            let machine = &mut self.machine;
+        let machine = &mut self.machine;
+        machine.law();
+        if let Some(Copy { saved, end }) = self.copies.pop() {
             machine.trail.clear();
             saved.restore(&mut machine.memory, machine.lowered.program());
             machine.end = end;

@@ -1,12 +1,12 @@
 //! A feed as the input of a step.
 
-ghost use Rattle.std.specs.Prelude.{◌≡◌, ◌+◌, ◌-◌, ◌<◌, ◌^◌, ◌∷◌, ℕ};
-ghost use Rattle.std.specs.Prelude.{List, [], true, false, Some, None, Err, IsOk, OnOk};
+ghost use Rattle.std.specs.Prelude.{◌≡◌, ◌+◌, ◌-◌, ◌<◌, ◌^◌, ◌∷◌, ℕ, List, []};
+ghost use Rattle.std.specs.Prelude.{true, false, Ok, Err, IsOk, OnOk};
 ghost use Rattle.ick_bits.specs.Digits.{line_answer};
-ghost use Rattle.ick_machine.specs.Feeds.{MayBeLeft, feed_failures, reads_failed, some_left};
+ghost use Rattle.ick_machine.specs.Feeds.{MayBeLeft, feed_failures, has_ended, some_left};
 ghost use Rattle.ick_machine.specs.Feeds.{line_with, one_if, waits_by};
 
-use crate::feed::Feed;
+use crate::{Came, Feed};
 use ick_backtrack::FeedFault;
 use ick_bits::{DigitFault, NoMemory, digits_value};
 use ick_engine::{Line, Reader};
@@ -22,33 +22,29 @@ pub struct FeedReader<'f, F: Feed> {
     pub allowed: bool,
     /// Whether a run waits before statements of input and output.
     pub waits: bool,
-    pub ended: bool,
-    pub fault: Option<FeedFault>,
-    ghost shut: { allowed ≡ false → fault ≡ None },
-    ghost room: { fault ≡ None → F.failed feed.now + 1 < 2 ^ 64 },
-    ghost over: { ended ≡ true → F.told ≡ true → F.left feed.now ≡ [] },
+    /// Whether the last read found input, or its fault. It is true before the first read.
+    pub last: Result<bool, FeedFault>,
+    ghost shut: { allowed ≡ false → last ≡ Ok true },
+    ghost room: { feed_failures last ≡ 0 → F.failed feed.now + 1 < 2 ^ 64 },
+    ghost over: { has_ended last ≡ true → F.told ≡ true → F.left feed.now ≡ [] },
 }
 
 impl<'f, F: Feed> FeedReader<'f, F> {
-    /// Returns what a step with this answer has come to. If the feed had an error, it is this
-    /// error.
-    pub fn outcome(&self, stepped: Result<(), NoMemory>) -> Result<(), FeedFault>
-        ensures ok { OnOk result (IsOk stepped) }
-        ensures count { feed_failures result ≡ reads_failed self.now.fault }
+    /// Returns what a call has come to. If the feed had an error, it is this error.
+    pub fn outcome(&self, came: Result<Came, NoMemory>) -> Result<Came, FeedFault>
+        ensures made { OnOk result (IsOk came) }
+        ensures count { feed_failures result ≡ feed_failures self.now.last }
         ensures reads { result ≡ Err FeedFault.Read → self.now.allowed ≡ true }
     {
-        match self.fault {
-            Some(fault) => Err(fault),
-            None => {
-                stepped?;
-                Ok(())
-            }
+        match self.last {
+            Ok(_) => Ok(came?),
+            Err(fault) => Err(fault),
         }
     }
 }
 
 impl<F: Feed> Reader for FeedReader<'_, F> {
-    ghost Has = { λ reader input. MayBeLeft F.told reader.ended reader.line.now.items
+    ghost Has = { λ reader input. MayBeLeft F.told (has_ended reader.last) reader.line.now.items
         (F.left reader.feed.now) input };
 
     // The names of the references, what the feed keeps, one more than the reads that had failed
@@ -56,12 +52,12 @@ impl<F: Feed> Reader for FeedReader<'_, F> {
     ghost Held = { List ℕ };
 
     ghost held = { λ reader. reader.feed.ghost_name ∷ reader.line.ghost_name ∷ F.held
-        reader.feed.now ∷ (F.failed reader.feed.now + 1 - reads_failed reader.fault) ∷
+        reader.feed.now ∷ (F.failed reader.feed.now + 1 - feed_failures reader.last) ∷
         one_if reader.allowed ∷ one_if reader.waits ∷ [] };
 
     ghost waits = { waits_by };
 
-    ghost some = { λ reader. some_left F.told reader.ended reader.line.now.items
+    ghost some = { λ reader. some_left F.told (has_ended reader.last) reader.line.now.items
         (F.left reader.feed.now) reader.over };
 
     fn is_waiting(&self) -> bool {
@@ -69,40 +65,33 @@ impl<F: Feed> Reader for FeedReader<'_, F> {
     }
 
     fn line(&mut self, from: usize) -> Result<Line, NoMemory> {
-        if self.ended {
-            return Ok(Line::Nothing);
+        match self.last {
+            Ok(true) if self.allowed => {}
+            Ok(false) => return Ok(Line::Nothing),
+            _ => return Err(NoMemory),
         }
-        if self.fault.is_some() || !self.allowed {
-            return Err(NoMemory);
-        }
-        match self.feed.line(self.line) {
+        self.last = self.feed.line(self.line);
+        match self.last {
             Ok(true) => Ok(taken(self.line, from)),
-            Ok(false) => {
-                self.ended = true;
-                Ok(Line::Nothing)
-            }
-            Err(fault) => {
-                self.fault = Some(fault);
-                Err(NoMemory)
-            }
+            Ok(false) => Ok(Line::Nothing),
+            Err(_) => Err(NoMemory),
         }
     }
 
     fn byte(&mut self, from: usize) -> Result<Option<(u8, usize)>, NoMemory> {
-        if self.ended {
-            return Ok(None);
-        }
-        if self.fault.is_some() || !self.allowed {
-            return Err(NoMemory);
+        match self.last {
+            Ok(true) if self.allowed => {}
+            Ok(false) => return Ok(None),
+            _ => return Err(NoMemory),
         }
         match self.feed.byte() {
             Ok(Some(byte)) => Ok(Some((byte, from))),
             Ok(None) => {
-                self.ended = true;
+                self.last = Ok(false);
                 Ok(None)
             }
             Err(fault) => {
-                self.fault = Some(fault);
+                self.last = Err(fault);
                 Err(NoMemory)
             }
         }

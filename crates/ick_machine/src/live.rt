@@ -5,17 +5,16 @@ ghost use Rattle.std.specs.Prelude.{◌≡◌, ◌+◌, ◌<◌, ◌≤◌, ◌^
 ghost use Rattle.std.specs.Prelude.{IfOk, OnOk, OnErr, vec_len, vec_capacity};
 ghost use Rattle.ick_machine.specs.RunIn.{CanGoOn};
 
-use crate::asking::{answer, end_of};
-use crate::feed::Feed;
+use crate::asking::answer;
 use crate::feed_reader::FeedReader;
-use crate::live_ask::LiveAsk;
-use crate::steps::{make_step, make_steps};
-use ick_backtrack::{End, FeedFault};
+use crate::steps::stopped;
+use crate::{EndKind, Feed, LiveAsk, end_of, make_steps};
+use ick_backtrack::{Ask, End, FeedFault};
 use ick_bits::{NoMemory, append_message};
 use ick_code::Code;
-use ick_engine::RawEnd;
-use ick_memory::{Memory, Nobody, fresh_memory};
+use ick_engine::{RawEnd, make_single};
 use ick_lowering::lower;
+use ick_memory::{Memory, NoTraces, Nobody, fresh_memory};
 use ick_syntax::Kind;
 use ick_traces::{Followed, add_traces};
 use std::alloc::Global;
@@ -37,12 +36,11 @@ pub struct Live<'c, 'a> {
 }
 
 impl<'c, 'a> Live<'c, 'a> {
-    ghost use Rattle.ick_code.specs.Compiled.{code_program};
-    ghost use Rattle.ick_code.specs.meaning.Move.{ask, advance, first_state};
-    ghost use Rattle.ick_backtrack.specs.Asked.{IsGoing};
-    ghost use Rattle.ick_backtrack.specs.Steps.{IsQuiet, RunsOn, Rests};
+    ghost use Rattle.ick_code.specs.{Compiled.code_program, meaning.Move.ask};
+    ghost use Rattle.ick_code.specs.meaning.Move.{advance, first_state};
+    ghost use Rattle.ick_backtrack.specs.{Asked.IsGoing, Steps.IsQuiet, Steps.RunsOn, Steps.Rests};
     ghost use Rattle.ick_machine.specs.Feeds.{feed_failures, MeetsInput, LeadsToInput};
-    ghost use Rattle.ick_machine.specs.Live.{seen, fed, cleared, live_ask, fault_message};
+    ghost use Rattle.ick_machine.specs.Live.{seen, fed, cleared, live_ask, fault_message, HasRunOn};
 
     /// Returns a machine at the start of a program (Revised Manual, 3.1, 3.3). `NoMemory` is
     /// returned if a growth was refused, or if `lower` finds the program too large.
@@ -74,7 +72,14 @@ impl<'c, 'a> Live<'c, 'a> {
         if self.failed {
             return LiveAsk::Failed;
         }
-        LiveAsk::of(answer(&self.lowered, &self.memory, self.end, &self.line))
+        match answer(&self.lowered, &self.memory, self.end, &self.line) {
+            Ask::Plain => LiveAsk::Plain,
+            Ask::Choice(chance) => LiveAsk::Choice(chance),
+            Ask::Ended(End::Fault(fault)) => {
+                LiveAsk::Ended(EndKind::Fault(fault.kind, fault.statement))
+            }
+            Ask::Ended(End::GiveUp | End::Limit) => LiveAsk::Ended(EndKind::GiveUp),
+        }
     }
 
     /// Makes one step: the statement that is met is done or passed over (Revised Manual, 4.3), or
@@ -104,26 +109,35 @@ impl<'c, 'a> Live<'c, 'a> {
         ensures reads { result ≡ Err FeedFault.Read →
             MeetsInput (seen self.old).program (seen self.old).state }
     {
-        let allowed = self.meets_input();
+        let program = self.lowered.program();
+        let code = program.code;
+        let here = self.memory.cursor.place;
+        let allowed = here > 0 && here <= code.count() && matches!(code.kind(here), Kind::WriteIn);
         self.failed = true;
         let printed = self.memory.rest.output.clone()?;
-        let mut reader = FeedReader {
+        // It has a length, so `Nobody` has room for the changes of any statement.
+        let _longest = program.longest();
+        let reader = &mut FeedReader {
             feed,
             line: &mut self.line,
             allowed,
             waits: false,
-            ended: false,
-            fault: None,
+            last: Ok(true),
         };
-        let program = self.lowered.program();
-        let stepped = make_step(program, &mut self.memory, &mut self.end, &mut reader, done);
-        let outcome = reader.outcome(stepped);
-        if outcome.is_err() {
+        let memory = &mut self.memory;
+        let end = &mut self.end;
+        let notes = &mut Nobody;
+        let answer = Some(done);
+        let came = match make_single(program, memory, reader) {
+            Some(exit) => stopped(exit, 1, end),
+            None => make_steps(program, memory, end, notes, reader, &NoTraces, 1, answer),
+        };
+        if let Err(fault) = reader.outcome(came) {
             self.memory.rest.output = printed;
-            return outcome;
+            return Err(fault);
         }
         self.failed = false;
-        outcome
+        Ok(())
     }
 
     /// Makes steps, as many as the limit allows, while the run goes on by itself: nothing is asked,
@@ -166,18 +180,6 @@ impl<'c, 'a> Live<'c, 'a> {
         Ok(made)
     }
 
-    /// Returns whether the statement that is met is a WRITE IN.
-    fn meets_input(&self) -> bool
-        ensures { result ≡ true → MeetsInput (seen self.now).program (seen self.now).state }
-    {
-        let code = self.lowered.program().code;
-        let here = self.memory.cursor.place;
-        if here == 0 || here > code.count() {
-            return false;
-        }
-        matches!(code.kind(here), Kind::WriteIn)
-    }
-
     /// Returns whether the run goes on by itself: nothing is asked, and no output is held.
     fn is_quiet(&self) -> bool
         requires sound { (seen self.now).failed ≡ false }
@@ -187,9 +189,8 @@ impl<'c, 'a> Live<'c, 'a> {
         self.memory.rest.output.is_empty() && matches!(self.asks(), LiveAsk::Plain)
     }
 
-    /// Makes steps while nothing is asked, at most as many as the limit. Returns their number. It
-    /// stops before statements of input and output, and asks the feed for nothing. After an error
-    /// the machine has failed, and holds no output.
+    /// Makes steps up to the next choice, end or statement of input or output, at most as many as
+    /// the limit. It asks the feed for nothing. After an error no output is held.
     ///
     /// It looks at the output once, after the last step. What was printed stays, so no output was
     /// held before any of the steps.
@@ -197,16 +198,8 @@ impl<'c, 'a> Live<'c, 'a> {
         requires sound { (seen self.old).failed ≡ false }
         requires quiet { IsQuiet (seen self.old).program (seen self.old).state }
         requires room { F.failed feed.old + 1 < 2 ^ 64 }
-        ensures runs { let old = seen self.old in F.told ≡ true
-            → IfOk result (λ k. RunsOn IsQuiet old.program (fed (F.left feed.old) old.state) k
-            (fed (F.left feed.new) (seen self.new).state)) }
-        ensures within { IfOk result (λ k. k ≤ limit) }
-        ensures moves { let new = seen self.new in IfOk result (λ k.
-            ¬ IsQuiet new.program new.state → 0 < k) }
-        ensures program { (seen self.new).program ≡ (seen self.old).program }
-        ensures ok { OnOk result ((seen self.new).failed ≡ false) }
-        ensures err { OnErr result ((seen self.new).failed ≡ true) }
-        ensures output { OnErr result ((seen self.new).state.output ≡ []) }
+        ensures ran { HasRunOn F.told limit (seen self.old) (F.left feed.old) (seen self.new)
+            (F.left feed.new) result }
         ensures count { F.failed feed.new ≡ F.failed feed.old }
         ensures held { F.held feed.new ≡ F.held feed.old }
     {
@@ -215,25 +208,19 @@ impl<'c, 'a> Live<'c, 'a> {
             return Ok(0);
         }
         self.failed = true;
-        let mut reader = FeedReader {
+        let reader = &mut FeedReader {
             feed,
             line: &mut self.line,
             allowed: false,
             waits: true,
-            ended: false,
-            fault: None,
+            last: Ok(true),
         };
-        let came = make_steps(
-            self.lowered.program(),
-            &mut self.memory,
-            &mut self.end,
-            &mut Nobody,
-            &mut reader,
-            &self.lowered,
-            limit,
-            None,
-        );
-        match came {
+        let program = self.lowered.program();
+        let traces = &self.lowered;
+        let memory = &mut self.memory;
+        let end = &mut self.end;
+        let notes = &mut Nobody;
+        match make_steps(program, memory, end, notes, reader, traces, limit, None) {
             Ok(came) if self.memory.rest.output.is_empty() => {
                 self.failed = false;
                 Ok(came.made)

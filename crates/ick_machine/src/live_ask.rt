@@ -1,12 +1,6 @@
 //! What a machine without marks asks: the same as one with marks, but without the subject of a
 //! fault.
 
-ghost use Rattle.std.specs.Prelude.{◌≡◌, Some};
-ghost use Rattle.ick_code.specs.meaning.Move.{Asking};
-ghost use Rattle.ick_backtrack.specs.Asked.{asked_of};
-ghost use Rattle.ick_machine.specs.LiveAsk.{live_asked};
-
-use ick_backtrack::{Ask, End};
 use ick_bits::FaultKind;
 
 /// How a run ends, or stops.
@@ -36,22 +30,4 @@ pub enum LiveAsk {
     Ended(EndKind),
     /// Nothing more: a step had an error.
     Failed,
-}
-
-impl LiveAsk {
-    /// Returns what an answer asks, without the subject of a fault.
-    pub(crate) fn of(ask: Ask<'_>) -> LiveAsk
-        ensures { (asked : Asking) → asked_of ask.entry ≡ Some asked
-            → result ≡ live_asked asked }
-    {
-        match ask {
-            Ask::Plain => LiveAsk::Plain,
-            Ask::Choice(chance) => LiveAsk::Choice(chance),
-            Ask::Ended(End::GiveUp) => LiveAsk::Ended(EndKind::GiveUp),
-            Ask::Ended(End::Fault(fault)) => {
-                LiveAsk::Ended(EndKind::Fault(fault.kind, fault.statement))
-            }
-            Ask::Ended(End::Limit) => LiveAsk::Ended(EndKind::Limit),
-        }
-    }
 }

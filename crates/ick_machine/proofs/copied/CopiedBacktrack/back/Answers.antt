@@ -12,7 +12,7 @@ restore-requires-clause-kept c =
     rw c.program.ensures (
     let m = c.args.self.now in
     ∥∥₁_elim m.copied (hlevel) (λ are.
-    (one_less m.machine.lowered.code.now m.machine.lowered.parts c.pop.new.self.items m.copies.items c.in-Some.copy
+    (one_less m.machine.lowered.code.now m.machine.lowered.parts c.pop.new.self.items m.copies.items c.in-Some.field-0
     c.in-Some.ensures.items are).1))
 
 pub invariant_of-machine : goal.invariant_of-machine
@@ -35,7 +35,7 @@ invariant_of-self c =
     record {
       unmarked = m.unmarked;
       copied = ∥∥₁_map m.copied (λ are.
-          (one_less m.machine.lowered.code.now m.machine.lowered.parts c.pop.new.self.items m.copies.items c.in-Some.copy
+          (one_less m.machine.lowered.code.now m.machine.lowered.parts c.pop.new.self.items m.copies.items c.in-Some.field-0
           c.in-Some.ensures.items are).0);
     }
 
@@ -47,7 +47,7 @@ returns-in-Some c =
     let lowered = c.program.result.now.parts in
     let input = input_of m.machine.input.now in
     let f = copied_state code lowered input in
-    let copy = c.in-Some.copy in
+    let copy = c.in-Some.field-0 in
     let s = run_state code lowered input (view_in m.machine.memory) m.machine.end in
     let older = c.pop.new.self.items in
     ap (λ marks. seen_at code s marks m.machine.work)

@@ -1,25 +1,32 @@
-use Rattle.std.proofs.Common.{Ok, sym, ap, ◌∙◌, subst}
+use Rattle.std.proofs.Common.{◌≡◌, true, false, Ok, refl, sym, ap, ◌∙◌, subst, rules}
 use Rattle.ick_bits.specs.Digits.{line_answer}
 use Rattle.ick_machine.specs.Feeds.{line_with}
-use Rattle.ick_engine.specs.Reads.{IsNext}
-use Rattle.ick_machine.proofs.FeedLemmas.{read_line, read_nothing}
+use Rattle.ick_engine.specs.{Reads.IsNext, declared.reader.Line.TheVariants.Nothing}
+use Rattle.ick_machine.proofs.FeedLemmas.{read_by, read_line, read_nothing}
 use Rattle.ick_machine.proofs.feed_reader.FeedReaderReader.line.Goals as goal
 
-pub returns-in-Ok-true-clause-next : goal.returns-in-Ok-true-clause-next
-returns-in-Ok-true-clause-next g c = λ after may.
+pub returns-in-Ok-true-last-clause-next : goal.returns-in-Ok-true-last-clause-next
+returns-in-Ok-true-last-clause-next g c =
     let r = c.args.self.now in
+    let call = c.line-self in
     let left = g.F.Feed.left in
-    let some = ap Ok c.in-Ok-true.field-0-test in
-    let read = read_line g.F.Feed.told r.ended c.if-self.false r.line.now.items c.line.new.target.items
-    (left r.feed.now) (left c.line.new.self) c.args.from (c.in-Ok-true.ensures.one some)
-    (λ tells. c.in-Ok-true.ensures.some tells some) after may in
+    let was : r.last ≡ Ok true = search rules in
+    let some : call.result ≡ Ok true = search rules in
     let is = c.taken.ensures ∙ ap (λ l. line_with (line_answer l) c.args.from) c.deref.ensures.value in
-    (read.0, read.1, subst (λ l. IsNext l c.args.from read.0 after) (sym is) read.2)
+    read_by g.F.Feed.told r.last call.result (Ok true) r.line.now.items call.new.target.items (left r.feed.now)
+    (left call.new.self) (IsNext c.taken.result c.args.from) was some (λ after may.
+    let read = read_line g.F.Feed.told false refl r.line.now.items call.new.target.items (left r.feed.now)
+    (left call.new.self) c.args.from (call.ensures.one some) (λ tells. call.ensures.some tells some) after may in
+    (read.0, read.1, subst (λ l. IsNext l c.args.from read.0 after) (sym is) read.2))
 
-pub returns-in-Ok-false-clause-next : goal.returns-in-Ok-false-clause-next
-returns-in-Ok-false-clause-next g c =
+pub returns-in-Ok-false-last-clause-next : goal.returns-in-Ok-false-last-clause-next
+returns-in-Ok-false-last-clause-next g c =
     let r = c.args.self.now in
+    let call = c.line-self in
     let left = g.F.Feed.left in
-    read_nothing g.F.Feed.told r.ended c.if-self.false r.line.now.items c.line.new.target.items
-    (left r.feed.now) (left c.line.new.self) c.args.from
-    (λ tells. c.in-Ok-false.ensures.none tells (ap Ok c.in-Ok-false.field-0-test))
+    let was : r.last ≡ Ok true = search rules in
+    let none : call.result ≡ Ok false = search rules in
+    read_by g.F.Feed.told r.last call.result (Ok false) r.line.now.items call.new.target.items (left r.feed.now)
+    (left call.new.self) (IsNext Nothing c.args.from) was none
+    (read_nothing g.F.Feed.told false refl r.line.now.items call.new.target.items (left r.feed.now)
+    (left call.new.self) c.args.from (λ tells. call.ensures.none tells none))

@@ -1,129 +1,154 @@
 use Rattle.std.proofs.Common.{◌≡◌, None, refl, ap, sym, ◌∙◌, subst, arith, rules}
-use Rattle.std.proofs.lemmas.Grind.{common_steps}
 use Rattle.ick_code.specs.{Compiled.code_program, meaning.Move.advance, meaning.State.State}
 use Rattle.ick_backtrack.specs.{Machine.Machine, Steps.IsPlain, Steps.RunsOn}
 use Rattle.ick_memory.specs.{Memory.view_in, Undo.IsRestored, View.View, Inputs.input_of}
-use Rattle.ick_machine.specs.{Marks.KeepsMarks, Run.run_state, RunIn.state_in, Seen.trailed_machine}
+use Rattle.ick_machine.specs.{Marks.IsMarked, Marks.KeepsMarks, Run.run_state, RunIn.state_in, Seen.trailed_machine}
 use Rattle.ick_machine.proofs.{Marks.run_same, WholeLemmas.by_text, WholeLemmas.going_on, WholeLemmas.keeps_marks}
-use Rattle.ick_machine.proofs.TrailMarks.{depth_restored, marked_marks, noted_marks, restored_by, undone_marks}
+use Rattle.ick_machine.proofs.WholeLemmas.{always_err}
+use Rattle.ick_instructions.specs.declared.lowered.Lowered.{Lowered}
+use Rattle.ick_machine.proofs.TrailMarks.{depth_restored, noted_marks, restored_by, undone_marks}
 use Rattle.ick_machine.proofs.trailed.Trailed.make_whole.Goals as goal
-use Rattle.ick_machine.proofs.trailed.Trailed.make_whole.Goals.{After-start, After-make_steps, After-back}
+use Rattle.ick_machine.proofs.trailed.Trailed.make_whole.Goals.{After-law, After-make_steps, After-back}
 
 -- what only the marks say of a machine, whose marked states stay
 same_but : (m : Machine) (s : State) (old : Machine) → m ≡ old →
     record m { state = s } ≡ record old { state = s }
 same_but m s old same = ap (λ (x : Machine). record x { state = s }) same
 
--- the marks stay after the mark that is made first
-marked : (c : After-start) →
-    let m = c.forget_unmarked.new.self in
-    KeepsMarks m.lowered.code.now m.lowered.parts m.trail m.memory c.start.new.trail m.memory
-marked c = search (rules, marked_marks)
+rest_of : (new old : Machine) → new ≡ old → new ≡ record old { state = new.state }
+rest_of new old same = same_but new new.state old same
 
-pub invariant_of-self : goal.invariant_of-self
-invariant_of-self c = grind (arith, common_steps, keeps_marks, marked)
+pub returns-in_err-mark : goal.returns-in_err-mark
+returns-in_err-mark c =
+    let start = c.start.ensures in
+    let e = ap (λ (x : Machine). x.state) start.same in
+    record {
+      rest = rest_of (trailed_machine c.start.new.self) (trailed_machine c.args.self.now) start.same;
+      fixed = start.fixed;
+      err = always_err c.from_residual.result _ e;
+      within = search rules;
+      going = search rules;
+      moves = search rules;
+      runs = λ none. search rules;
+      rests = λ none. search rules;
+      steps = λ done given one. search rules;
+    }
 
-pub returns-in_err-mark-clause-rest : goal.returns-in_err-mark-clause-rest
-returns-in_err-mark-clause-rest c = search (rules, keeps_marks, marked, same_but)
+-- a mark was made
+marked : (c : After-law) →
+    let m = c.start.new.self in
+    IsMarked m.trail m.trail (view_in m.memory)
+marked c = record {
+  base_same = refl;
+  changes_same = refl;
+  low_is = c.start.ensures.low_is;
+  kept_is = c.start.ensures.kept_is;
+  older = λ k m h. h;
+}
 
--- and after the steps
+-- the marks stay after the steps
 noted : (c : After-make_steps) →
-    let m = c.forget_unmarked.new.self in
+    let m = c.start.new.self in
     KeepsMarks m.lowered.code.now m.lowered.parts m.trail m.memory c.make_steps.new.notes c.make_steps.new.memory
 noted c =
-    let m = c.forget_unmarked.new.self in
+    let m = c.start.new.self in
     let made = c.make_steps in
-    noted_marks m.lowered.code.now m.lowered.parts c.law.ensures.program m.trail c.start.new.trail
-    made.new.notes m.memory made.new.memory c.law.ensures.can.base c.law.ensures.can.ready.steady.constants
-    c.start.ensures.trail made.ensures.base made.ensures.follows
-    (rw (sym c.program-program.ensures) made.ensures.steady.constants)
+    let can = c.law.ensures.can in
+    noted_marks m.lowered.code.now m.lowered.parts c.law.ensures.program m.trail m.trail made.new.notes m.memory
+    made.new.memory can.base can.ready.steady.constants (marked (goal.at.After-make_steps c).After-law)
+    made.ensures.base made.ensures.follows (rw (sym c.program-program.ensures) made.ensures.steady.constants)
 
-pub invariant_of-self-in-Ok-1 : goal.invariant_of-self-in-Ok-1
-invariant_of-self-in-Ok-1 c =
-    let m = c.forget_unmarked.new.self in
+pub invariant_of-self : goal.invariant_of-self
+invariant_of-self c =
+    let m = c.start.new.self in
     record {
       can = ∣ record {
         ready = rw (sym c.program-program.ensures) c.in-Ok.ensures.ready;
         low = c.make_steps.ensures.low;
-        base = ap (λ f. f.base) c.make_steps.ensures.base ∙ c.start.ensures.trail.base_same
-            ∙ c.law.ensures.can.base;
+        base = ap (λ f. f.base) c.make_steps.ensures.base ∙ c.law.ensures.can.base;
       } ∣₁;
       marked = (keeps_marks m c.make_steps.new.notes c.make_steps.new.memory
-          (noted (goal.at.invariant_of-self-in-Ok-1 c).After-make_steps)).0;
+          (noted (goal.at.invariant_of-self c).After-make_steps)).0;
     }
 
-pub returns-in-Ok-clause-rest : goal.returns-in-Ok-clause-rest
-returns-in-Ok-clause-rest c = search (rules, keeps_marks, noted, same_but)
-
-pub returns-in-Ok-clause-runs : goal.returns-in-Ok-clause-runs
-returns-in-Ok-clause-runs c = λ none.
-    let m = c.forget_unmarked.new.self in
-    let new = c.make_steps.new in
-    let made = c.in-Ok.came.made in
-    let input = input_of m.input.now in
-    subst (λ (x : Machine). RunsOn IsPlain x.program x.state made (state_in m.lowered input new.memory new.end))
-    c.forget_unmarked.ensures.same
-    (rw (sym c.program-program.ensures) (
-    let code = c.program-program.result.now.code.now in
-    let lowered = c.program-program.result.now.parts in
-    going_on code lowered input (view_in m.memory) m.end (c.forget_unmarked.ensures.end ∙ c.requires.going)
-    (λ (s : State). RunsOn IsPlain (code_program code) s made
-    (run_state code lowered input (view_in new.memory) new.end))
-    (by_text c.new-reader.result new.reader m.input.now (λ before after.
-    RunsOn IsPlain (code_program code) (run_state code lowered before (view_in m.memory) None) made
-    (run_state code lowered after (view_in new.memory) new.end)) c.new-reader.ensures c.make_steps.ensures.held
-    (c.in-Ok.ensures.runs none))))
-
-pub returns-in-Ok-clause-rests : goal.returns-in-Ok-clause-rests
-returns-in-Ok-clause-rests c = λ none more.
-    let m = c.forget_unmarked.new.self in
-    rw (sym c.program-program.ensures) (c.in-Ok.ensures.rests none more (input_of m.input.now))
-
-pub returns-in-Ok-clause-steps : goal.returns-in-Ok-clause-steps
-returns-in-Ok-clause-steps c = λ done given one.
-    let m = c.forget_unmarked.new.self in
+pub returns-in-Ok : goal.returns-in-Ok
+returns-in-Ok c =
+    let m = c.start.new.self in
+    let old = trailed_machine c.args.self.now in
+    let start = c.start.ensures in
     let new = c.make_steps.new in
     let input = input_of m.input.now in
-    subst (λ (x : Machine). state_in m.lowered input new.memory new.end ≡ advance x.program x.state done)
-    c.forget_unmarked.ensures.same
-    (rw (sym c.program-program.ensures) (
-    let code = c.program-program.result.now.code.now in
-    let lowered = c.program-program.result.now.parts in
-    going_on code lowered input (view_in m.memory) m.end (c.forget_unmarked.ensures.end ∙ c.requires.going)
-    (λ (s : State). run_state code lowered input (view_in new.memory) new.end ≡ advance (code_program code) s done)
-    (by_text c.new-reader.result new.reader m.input.now (λ before after.
-    run_state code lowered after (view_in new.memory) new.end
-    ≡ advance (code_program code) (run_state code lowered before (view_in m.memory) None) done)
-    c.new-reader.ensures c.make_steps.ensures.held
-    (c.in-Ok.ensures.steps done given one refl c.in_ok-mark.ensures.room))))
+    let going = start.end ∙ c.requires in
+    let stay = noted (goal.at.returns-in-Ok c).After-make_steps in
+    let longest = ap (λ (l : Lowered). l.parts.longest) c.program-program.ensures in
+    let room = c.in_ok-mark.ensures.room in
+    record {
+      rest = ap (λ marks. record (trailed_machine m) { state = state_in m.lowered input new.memory new.end; marks = marks })
+          (keeps_marks m new.notes new.memory stay).1
+          ∙ same_but (trailed_machine m) (state_in m.lowered input new.memory new.end) old start.same;
+      fixed = start.fixed;
+      err = tt;
+      within = c.in-Ok.ensures.within;
+      going = c.in-Ok.ensures.going;
+      moves = λ more. c.in-Ok.ensures.moves more refl (omega (arith, room, longest));
+      runs = λ none.
+          subst (λ (x : Machine). RunsOn IsPlain x.program x.state c.in-Ok.came.made
+          (state_in m.lowered input new.memory new.end)) start.same
+          (rw (sym c.program-program.ensures) (
+          let code = c.program-program.result.now.code.now in
+          let lowered = c.program-program.result.now.parts in
+          going_on code lowered input (view_in m.memory) m.end going
+          (λ (s : State). RunsOn IsPlain (code_program code) s c.in-Ok.came.made
+          (run_state code lowered input (view_in new.memory) new.end))
+          (by_text c.new.result new.reader m.input.now (λ before after.
+          RunsOn IsPlain (code_program code) (run_state code lowered before (view_in m.memory) None) c.in-Ok.came.made
+          (run_state code lowered after (view_in new.memory) new.end)) c.new.ensures c.make_steps.ensures.held
+          (c.in-Ok.ensures.runs none))));
+      rests = λ none more. rw (sym c.program-program.ensures) (c.in-Ok.ensures.rests none more input);
+      steps = λ done given one.
+          subst (λ (x : Machine). state_in m.lowered input new.memory new.end ≡ advance x.program x.state done)
+          start.same
+          (rw (sym c.program-program.ensures) (
+          let code = c.program-program.result.now.code.now in
+          let lowered = c.program-program.result.now.parts in
+          going_on code lowered input (view_in m.memory) m.end going
+          (λ (s : State). run_state code lowered input (view_in new.memory) new.end
+          ≡ advance (code_program code) s done)
+          (by_text c.new.result new.reader m.input.now (λ before after.
+          run_state code lowered after (view_in new.memory) new.end
+          ≡ advance (code_program code) (run_state code lowered before (view_in m.memory) None) done)
+          c.new.ensures c.make_steps.ensures.held
+          (c.in-Ok.ensures.steps done given one refl (omega (arith, room, longest))))));
+    }
 
 -- the marked state was gone back to
 restored : (c : After-back) →
-    let m = c.forget_unmarked.new.self in
+    let m = c.start.new.self in
     IsRestored m.lowered.code.now m.lowered.parts (view_in m.memory) (view_in c.back.new.memory)
 restored c =
-    let m = c.forget_unmarked.new.self in
+    let m = c.start.new.self in
     rw (sym c.program-program.ensures) (
-    restored_by c.program-program.result.now.code.now c.program-program.result.now.parts c.start.new.trail
+    restored_by c.program-program.result.now.code.now c.program-program.result.now.parts m.trail
     c.make_steps.new.notes (view_in m.memory) (view_in c.make_steps.new.memory)
     (view_in c.back.new.memory) c.in_ok-mark.mark (rw c.program-program.ensures c.law.ensures.can.ready)
-    c.start.ensures.trail.kept_is c.make_steps.ensures.follows c.in_ok-mark.ensures.mark c.back.ensures.back)
+    c.start.ensures.kept_is c.make_steps.ensures.follows c.in_ok-mark.ensures.mark c.back.ensures.back)
 
 -- and the marks stay
 undone : (c : After-back) →
-    let m = c.forget_unmarked.new.self in
+    let m = c.start.new.self in
     KeepsMarks m.lowered.code.now m.lowered.parts m.trail m.memory c.back.new.trail c.back.new.memory
 undone c =
-    let m = c.forget_unmarked.new.self in
-    undone_marks m.lowered.code.now m.lowered.parts c.law.ensures.program m.trail c.start.new.trail
-    c.make_steps.new.notes c.back.new.trail m.memory c.back.new.memory c.in_ok-mark.mark c.law.ensures.can.base
-    c.law.ensures.can.ready.steady.constants c.start.ensures.trail c.in_ok-mark.ensures.mark c.make_steps.ensures.base
-    (restored c) c.back.ensures.changes c.back.ensures.low c.back.ensures.base
+    let m = c.start.new.self in
+    let can = c.law.ensures.can in
+    undone_marks m.lowered.code.now m.lowered.parts c.law.ensures.program m.trail m.trail
+    c.make_steps.new.notes c.back.new.trail m.memory c.back.new.memory c.in_ok-mark.mark can.base
+    can.ready.steady.constants (marked (goal.at.After-back c).After-law) c.in_ok-mark.ensures.mark
+    c.make_steps.ensures.base (restored c) c.back.ensures.changes c.back.ensures.low c.back.ensures.base
 
-pub invariant_of-self-in-Err : goal.invariant_of-self-in-Err
-invariant_of-self-in-Err c =
-    let m = c.forget_unmarked.new.self in
-    let at = (goal.at.invariant_of-self-in-Err c).After-back in
+pub invariant_of-self-2 : goal.invariant_of-self-2
+invariant_of-self-2 c =
+    let m = c.start.new.self in
+    let at = (goal.at.invariant_of-self-2 c).After-back in
     let back = restored at in
     let same =
     depth_restored m.lowered.code.now m.lowered.parts (view_in m.memory) (view_in c.back.new.memory)
@@ -132,28 +157,42 @@ invariant_of-self-in-Err c =
       can = ∣ record {
         ready = back.ready;
         low = omega (arith, same, c.back.ensures.low, c.in_ok-mark.ensures.mark.depth_is);
-        base = c.back.ensures.base ∙ ap (λ f. f.base) c.make_steps.ensures.base ∙ c.start.ensures.trail.base_same
-            ∙ c.law.ensures.can.base;
+        base = c.back.ensures.base ∙ ap (λ f. f.base) c.make_steps.ensures.base ∙ c.law.ensures.can.base;
       } ∣₁;
       marked = (keeps_marks m c.back.new.trail c.back.new.memory (undone at)).0;
     }
 
 -- the state is as before
 as_before : (c : After-back) →
-    let m = c.forget_unmarked.new.self in
+    let m = c.start.new.self in
     state_in m.lowered (input_of m.input.now) c.back.new.memory None ≡ (trailed_machine m).state
 as_before c =
-    let m = c.forget_unmarked.new.self in
+    let m = c.start.new.self in
     let code = m.lowered.code.now in
     let lowered = m.lowered.parts in
     let input = input_of m.input.now in
     let w : View = view_in c.back.new.memory in
-    going_on code lowered input (view_in m.memory) m.end (c.forget_unmarked.ensures.end ∙ c.requires.going)
+    going_on code lowered input (view_in m.memory) m.end (c.start.ensures.end ∙ c.requires)
     (λ (s : State). run_state code lowered input w None ≡ s)
     (run_same code lowered input w (view_in m.memory) None ((restored c).states input))
 
-pub returns-in-Err-clause-rest : goal.returns-in-Err-clause-rest
-returns-in-Err-clause-rest c = search (rules, keeps_marks, same_but, undone)
-
-pub returns-in-Err-clause-err : goal.returns-in-Err-clause-err
-returns-in-Err-clause-err c = search (rules, as_before)
+pub returns : goal.returns
+returns c =
+    let m = c.start.new.self in
+    let old = trailed_machine c.args.self.now in
+    let start = c.start.ensures in
+    let at = (goal.at.returns c).After-back in
+    let s = state_in m.lowered (input_of m.input.now) c.back.new.memory None in
+    record {
+      rest = ap (λ marks. record (trailed_machine m) { state = s; marks = marks })
+          (keeps_marks m c.back.new.trail c.back.new.memory (undone at)).1
+          ∙ same_but (trailed_machine m) s old start.same;
+      fixed = start.fixed;
+      err = as_before at ∙ ap (λ (x : Machine). x.state) start.same;
+      within = tt;
+      going = tt;
+      moves = tt;
+      runs = λ none. tt;
+      rests = λ none. tt;
+      steps = λ done given one. tt;
+    }
