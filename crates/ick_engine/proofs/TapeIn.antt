@@ -7,9 +7,9 @@ use Rattle.std.proofs.Math.Seq.{drop-nil, map-set_same}
 use Rattle.ick_bits.specs.Tape.{tape_difference}
 use Rattle.ick_code.specs.meaning.State.{no_array, Array}
 use Rattle.ick_code.specs.meaning.Tape.{tape_numbers, last_read, with_elements}
-use Rattle.ick_memory.specs.declared.memory.Array.{Array as Kept}
-use Rattle.ick_memory.specs.Inputs.{Input}
-use Rattle.ick_memory.specs.View.{Parts, array_of, is_hidden}
+use Rattle.ick_runtime.specs.declared.memory.Array.{Array as Kept}
+use Rattle.ick_runtime.specs.Inputs.{Input}
+use Rattle.ick_runtime.specs.View.{Parts, array_of, is_hidden}
 use Rattle.ick_engine.specs.Reads.{IsByte, HasRead, number_read, last_after, position_after}
 
 -- one more byte

@@ -9,7 +9,7 @@ use Rattle.ick_bits.specs.declared.digits.DigitFault.TheVariants as digit
 use Rattle.ick_code.specs.meaning.State.{State}
 use Rattle.ick_code.specs.meaning.Completion.{Completion}
 use Rattle.ick_code.specs.meaning.InputOutput.{with_input, with_number}
-use Rattle.ick_memory.specs.Inputs.{input_of}
+use Rattle.ick_runtime.specs.Inputs.{input_of}
 use Rattle.ick_engine.specs.declared.reader.Line.TheVariants.{BadWord}
 use Rattle.ick_engine.specs.Reads.{IsNext}
 

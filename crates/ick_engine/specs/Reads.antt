@@ -6,7 +6,7 @@ use Rattle.ick_code.specs.meaning.State.{State}
 use Rattle.ick_code.specs.meaning.Completion.{Completion, faults}
 use Rattle.ick_code.specs.meaning.InputOutput.{with_input}
 use Rattle.ick_code.specs.meaning.Tape.{tape_numbers, last_read}
-use Rattle.ick_memory.specs.Inputs.{Input}
+use Rattle.ick_runtime.specs.Inputs.{Input}
 use Rattle.ick_engine.specs.declared.reader.Line.{Line}
 use Rattle.ick_engine.specs.declared.reader.Line.TheVariants.{Nothing, Number, TooLarge, BadWord}
 

@@ -4,7 +4,7 @@ ghost use Rattle.std.specs.Prelude.{◌≡◌};
 ghost use Rattle.ick_engine.specs.Exits.{exit_of};
 
 use ick_bits::FaultKind;
-use ick_memory::Halt;
+use ick_runtime::Halt;
 
 /// How a run ended. A fault has the number of its statement, and what gives its subject.
 #[derive(Clone, Copy)]

@@ -4,13 +4,13 @@ ghost use Rattle.std.specs.Prelude.{◌≡◌, ◌+◌, ◌<◌, ◌==◌, ℕ, 
 ghost use Rattle.ick_code.specs.Compiled.{code_program};
 ghost use Rattle.ick_code.specs.meaning.Abstain.{kind_number};
 ghost use Rattle.ick_engine.specs.Gerunds.{IsFlagged, flag_if};
-ghost use Rattle.ick_memory.specs.Noting.{NotesOne};
-ghost use Rattle.ick_memory.specs.View.{View};
+ghost use Rattle.ick_runtime.specs.Noting.{NotesOne};
+ghost use Rattle.ick_runtime.specs.View.{View};
 
 use crate::status::flagged;
 use ick_bits::NoMemory;
 use ick_code::{Code, Kind};
-use ick_memory::Notes;
+use ick_runtime::Notes;
 
 /// Returns whether a kind has a number.
 #[inline(always)]

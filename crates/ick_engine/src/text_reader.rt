@@ -2,7 +2,7 @@
 
 ghost use Rattle.std.specs.Prelude.{◌≡◌, ◌==◌, ◌≤◌, ℕ, false, List, length, refl};
 ghost use Rattle.std.specs.List.{position_or_len};
-ghost use Rattle.ick_memory.specs.Inputs.{input_of};
+ghost use Rattle.ick_runtime.specs.Inputs.{input_of};
 
 use crate::reader::{Line, Reader};
 use ick_bits::{DigitFault, NoMemory, digits_value};

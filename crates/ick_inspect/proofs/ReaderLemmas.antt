@@ -5,7 +5,7 @@ use Rattle.ick_syntax.specs.declared.tree.Name.{Name}
 use Rattle.ick_code.specs.meaning.State.{same_name}
 use Rattle.ick_code.proofs.SameNames.{same_name_is}
 use Rattle.ick_syntax.specs.NameKinds.{is_array}
-use Rattle.ick_memory.specs.View.{map_of, both}
+use Rattle.ick_runtime.specs.View.{map_of, both}
 
 pub map_of-absent : {A : Type 0} (names : List Name) (xs : List A) (none : A) (name : Name) →
     ((slot : ℕ) → slice_get names slot ≢ Some name) → map_of names xs none name ≡ none

@@ -8,12 +8,12 @@ ghost use Rattle.std.specs.Prelude.{◌≡◌, ◌≢◌, ◌≤◌, ℕ, drop, 
 ghost use Rattle.std.specs.Prelude.{MatchOption, Some};
 ghost use Rattle.ick_syntax.specs.NameKinds.{is_array};
 ghost use Rattle.ick_code.specs.meaning.State.{same_name};
-ghost use Rattle.ick_memory.specs.View.{array_names, array_of, scalar_names};
+ghost use Rattle.ick_runtime.specs.View.{array_names, array_of, scalar_names};
 ghost use Rattle.ick_machine.specs.Present.{present_program, present_state};
 
 use ick_code::Code;
-use ick_memory::Array;
 use ick_machine::Present;
+use ick_runtime::Array;
 use ick_syntax::{Name, NameKind};
 
 /// Returns whether two names are one.

@@ -9,9 +9,9 @@ use Rattle.ick_code.specs.meaning.State.{State, Ending, statement_at}
 use Rattle.ick_code.specs.meaning.Move.{plain, choice, ask, ask_of, ask_at, is_uncertain}
 use Rattle.ick_instructions.specs.declared.lowered.LoweredParts.{LoweredParts}
 use Rattle.ick_engine.specs.{declared.exit.RawEnd.RawEnd, Exits.end_of}
-use Rattle.ick_memory.specs.{View.View, Inputs.Input, Status.percent_of}
-use Rattle.ick_memory.specs.{Status.lack_of, Status.is_abstained, Steady.IsReady}
-use Rattle.ick_memory.proofs.Statuses.{some_and}
+use Rattle.ick_runtime.specs.{View.View, Inputs.Input, Status.percent_of}
+use Rattle.ick_runtime.specs.{Status.lack_of, Status.is_abstained, Steady.IsReady}
+use Rattle.ick_runtime.proofs.Statuses.{some_and}
 use Rattle.ick_backtrack.specs.{Asked.Finish, Asked.finished, Asked.asked_at_end, Machine.Program, Steps.IsPlain}
 use Rattle.ick_machine.specs.{Asked.is_open, Asked.asked_by, Run.ending_of, Run.run_state}
 

@@ -7,7 +7,7 @@ use Rattle.std.proofs.lemmas.List.Elements.{All-append, All-cons, All-head, All-
 use Rattle.ick_code.specs.declared.code.Code.{Code}
 use Rattle.ick_instructions.specs.{declared.lowered.LoweredParts.LoweredParts, declared.lowered.Lowered.Lowered}
 use Rattle.ick_marks.specs.{Saved.IsKept}
-use Rattle.ick_memory.specs.{Inputs.input_of}
+use Rattle.ick_runtime.specs.{Inputs.input_of}
 use Rattle.ick_backtrack.specs.Machine.{Machine}
 use Rattle.ick_machine.specs.{declared.copied.Copied.Copied, declared.copied.Copy.Copy}
 use Rattle.ick_machine.specs.{declared.trailed.Trailed.Trailed, Seen.fixed_parts}

@@ -11,7 +11,7 @@ use Rattle.ick_bits.specs.declared.faults.FaultKind.TheVariants.{NoDigit}
 use Rattle.ick_bits.specs.declared.digits.DigitFault.TheVariants.{Word, TooLarge}
 use Rattle.ick_code.specs.{meaning.State.State, meaning.Completion.Completion, meaning.Completion.faults}
 use Rattle.ick_code.specs.meaning.InputOutput.{with_input, with_number, first_line, later_lines}
-use Rattle.ick_memory.specs.{Inputs.Input}
+use Rattle.ick_runtime.specs.{Inputs.Input}
 use Rattle.ick_engine.specs.{declared.reader.Line.TheVariants.Nothing}
 use Rattle.ick_engine.specs.Reads.{IsNext, IsByte, line_outcome}
 use Rattle.ick_backtrack.specs.declared.feed_fault.FeedFault.{FeedFault}

@@ -8,7 +8,7 @@ use Rattle.ick_code.specs.meaning.Move.{Asking, ended, ask, ask_at, ask_of, adva
 use Rattle.ick_code.proofs.AskLaws.{ask_same}
 use Rattle.ick_instructions.specs.declared.lowered.LoweredParts.{LoweredParts}
 use Rattle.ick_engine.specs.{declared.exit.RawEnd.RawEnd}
-use Rattle.ick_memory.specs.{View.View, Inputs.input_of}
+use Rattle.ick_runtime.specs.{View.View, Inputs.input_of}
 use Rattle.ick_backtrack.specs.Asked.{Finish, finished, asked_at_end}
 use Rattle.ick_backtrack.specs.{Machine.Program, Steps.IsQuiet, Steps.RunsOn}
 use Rattle.ick_machine.specs.{Feeds.input_after, Live.LiveMachine, Live.fed, Message.asked_message}

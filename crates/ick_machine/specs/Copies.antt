@@ -5,7 +5,7 @@ use Rattle.ick_code.specs.declared.code.Code.{Code}
 use Rattle.ick_code.specs.meaning.State.{State}
 use Rattle.ick_instructions.specs.declared.lowered.LoweredParts.{LoweredParts}
 use Rattle.ick_marks.specs.Saved.{IsKept, saved_view}
-use Rattle.ick_memory.specs.Inputs.{Input}
+use Rattle.ick_runtime.specs.Inputs.{Input}
 use Rattle.ick_machine.specs.declared.copied.Copy.{Copy}
 use Rattle.ick_machine.specs.Run.{run_state}
 

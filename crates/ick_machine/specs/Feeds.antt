@@ -9,7 +9,7 @@ use Rattle.ick_bits.specs.declared.digits.DigitFault.TheVariants.{Word, TooLarge
 use Rattle.ick_syntax.specs.declared.kinds.Kind.TheVariants.{WriteIn}
 use Rattle.ick_code.specs.meaning.State.{State}
 use Rattle.ick_code.specs.Laws.{kind_at}
-use Rattle.ick_memory.specs.Inputs.{Input}
+use Rattle.ick_runtime.specs.Inputs.{Input}
 use Rattle.ick_engine.specs.declared.reader.Line.{Line}
 use Rattle.ick_engine.specs.declared.reader.Line.TheVariants.{Number, TooLarge, BadWord}
 use Rattle.ick_backtrack.specs.Machine.{Program}

@@ -4,14 +4,14 @@ use Rattle.ick_code.specs.declared.code.Code.{Code}
 use Rattle.ick_code.specs.meaning.State.{State}
 use Rattle.ick_instructions.specs.declared.lowered.LoweredParts.{LoweredParts}
 use Rattle.ick_marks.specs.declared.marks.Mark.{Mark}
-use Rattle.ick_memory.specs.declared.memory.Memory.{Memory}
+use Rattle.ick_runtime.specs.declared.memory.Memory.{Memory}
 use Rattle.ick_marks.specs.declared.trail.Trail.{Trail}
 use Rattle.ick_marks.specs.TrailChanges.{changes_in}
-use Rattle.ick_memory.specs.Memory.{view_in}
-use Rattle.ick_memory.specs.Steady.{IsReady}
-use Rattle.ick_memory.specs.Undo.{Change, Rewinds, rewound}
-use Rattle.ick_memory.specs.View.{View}
-use Rattle.ick_memory.specs.Inputs.{Input}
+use Rattle.ick_runtime.specs.Memory.{view_in}
+use Rattle.ick_runtime.specs.Steady.{IsReady}
+use Rattle.ick_runtime.specs.Undo.{Change, Rewinds, rewound}
+use Rattle.ick_runtime.specs.View.{View}
+use Rattle.ick_runtime.specs.Inputs.{Input}
 use Rattle.ick_machine.specs.declared.trailed.Marked.{Marked}
 use Rattle.ick_machine.specs.Run.{run_state}
 

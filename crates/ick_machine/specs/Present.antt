@@ -1,6 +1,6 @@
 -- The program and the state that the present parts of a machine represent.
 use Rattle.ick_code.specs.meaning.State.{State}
-use Rattle.ick_memory.specs.Inputs.{input_of}
+use Rattle.ick_runtime.specs.Inputs.{input_of}
 use Rattle.ick_backtrack.specs.Machine.{Program}
 use Rattle.ick_machine.specs.declared.present.Present.{Present}
 use Rattle.ick_machine.specs.RunIn.{program_of, state_in}

@@ -5,7 +5,7 @@ use Rattle.ick_bits.specs.declared.memory.NoMemory.{NoMemory}
 use Rattle.ick_code.specs.meaning.Move.{advance}
 use Rattle.ick_instructions.specs.declared.lowered.Lowered.{Lowered}
 use Rattle.ick_marks.specs.declared.marks.Mark.{Mark}
-use Rattle.ick_memory.specs.{Memory.view_in, Inputs.input_of}
+use Rattle.ick_runtime.specs.{Memory.view_in, Inputs.input_of}
 use Rattle.ick_marks.specs.{TrailChanges.changes_in}
 use Rattle.ick_backtrack.specs.{Machine.Machine, Steps.IsPlain, Steps.RunsOn, Steps.Rests}
 use Rattle.ick_machine.specs.declared.steps.Came.{Came}

@@ -2,9 +2,9 @@
 
 ghost use Rattle.std.specs.Prelude.{◌≡◌, Some, option_map};
 ghost use Rattle.ick_code.specs.{Compiled.code_program, meaning.Move.ask};
-ghost use Rattle.ick_memory.specs.Memory.{view_in};
-ghost use Rattle.ick_memory.specs.Steady.{IsReady};
-ghost use Rattle.ick_memory.specs.Inputs.{input_of};
+ghost use Rattle.ick_runtime.specs.Memory.{view_in};
+ghost use Rattle.ick_runtime.specs.Steady.{IsReady};
+ghost use Rattle.ick_runtime.specs.Inputs.{input_of};
 ghost use Rattle.ick_machine.specs.{Asked.asked_by, Run.ending_of, Run.run_state};
 ghost use Rattle.ick_backtrack.specs.Asked.{asked_of, finish_of, finished};
 
@@ -12,7 +12,7 @@ use ick_backtrack::{Ask, End};
 use ick_bits::{Fault, FaultKind};
 use ick_code::Code;
 use ick_engine::RawEnd;
-use ick_memory::Memory;
+use ick_runtime::Memory;
 use ick_traces::Followed;
 
 /// Returns how a run has ended, with the subject of its fault: the statement's text, or the word of

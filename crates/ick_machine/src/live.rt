@@ -14,7 +14,7 @@ use ick_bits::{NoMemory, append_message};
 use ick_code::Code;
 use ick_engine::{RawEnd, make_single};
 use ick_lowering::lower;
-use ick_memory::{Memory, NoTraces, Nobody, fresh_memory};
+use ick_runtime::{Memory, NoTraces, Nobody, fresh_memory};
 use ick_syntax::Kind;
 use ick_traces::{Followed, add_traces};
 use std::alloc::Global;

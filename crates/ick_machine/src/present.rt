@@ -6,7 +6,7 @@ ghost use Rattle.ick_machine.specs.RunIn.{CanGoOn};
 use ick_backtrack::Backtrack;
 use ick_engine::RawEnd;
 use ick_instructions::Lowered;
-use ick_memory::Memory;
+use ick_runtime::Memory;
 
 /// The parts that represent the present state of a machine: the memory, the end of the run, if
 /// there is one, and the whole input. Its type says that the readers of the memory may be called.

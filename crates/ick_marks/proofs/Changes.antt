@@ -6,14 +6,14 @@ use Rattle.std.proofs.lemmas.List.{length-reverse, length-take-le, take-append-l
 use Rattle.std.proofs.Math.Seq.{take-suc}
 use Rattle.ick_code.specs.meaning.State.{Array as ArrayValue}
 use Rattle.ick_instructions.specs.Extends.{Extends}
-use Rattle.ick_memory.specs.declared.change.ArrayChange.{ArrayChange}
-use Rattle.ick_memory.specs.declared.change.Entry.{Entry}
-use Rattle.ick_memory.specs.declared.change.Entry.TheVariants as entry
-use Rattle.ick_memory.specs.declared.memory.Array.{Array}
+use Rattle.ick_runtime.specs.declared.change.ArrayChange.{ArrayChange}
+use Rattle.ick_runtime.specs.declared.change.Entry.{Entry}
+use Rattle.ick_runtime.specs.declared.change.Entry.TheVariants as entry
+use Rattle.ick_runtime.specs.declared.memory.Array.{Array}
 use Rattle.ick_marks.specs.declared.trail.Trail.{Trail}
 use Rattle.ick_marks.specs.TrailChanges.{changes_by, fixed_by, changes_in, IsNoted, IsUndone}
-use Rattle.ick_memory.specs.Undo.{Change, array_was, statuses_were, no_change, change_of, changes_of, stands_apart, fixed_of}
-use Rattle.ick_memory.specs.View.{View, array_of, bytes_of}
+use Rattle.ick_runtime.specs.Undo.{Change, array_was, statuses_were, no_change, change_of, changes_of, stands_apart, fixed_of}
+use Rattle.ick_runtime.specs.View.{View, array_of, bytes_of}
 
 -- an entry with its old value is a change of its own
 pub alone : (e : Entry) (entries : List Entry) (arrays : List ArrayValue) (statuses : List (List ℕ)) →

@@ -6,8 +6,8 @@ use Rattle.ick_code.specs.declared.code.Code.{Code}
 use Rattle.ick_instructions.specs.declared.lowered.LoweredParts.{LoweredParts}
 use Rattle.ick_marks.specs.declared.saved.Saved.{Saved}
 use Rattle.ick_marks.specs.Saved.{AreSame, IsKept, saved_view}
-use Rattle.ick_memory.specs.View.{parts_of, state_of}
-use Rattle.ick_memory.specs.Inputs.{Input}
+use Rattle.ick_runtime.specs.View.{parts_of, state_of}
+use Rattle.ick_runtime.specs.Inputs.{Input}
 use Rattle.ick_marks.proofs.Saving.{same_parts_trans}
 
 -- a kept state has the same lists as another one, but for spare room of stashes

@@ -8,9 +8,9 @@ use Rattle.ick_code.specs.declared.code.Code.{Code}
 use Rattle.ick_code.specs.meaning.State.{State, Ending}
 use Rattle.ick_instructions.specs.declared.lowered.LoweredParts.{LoweredParts}
 use Rattle.ick_instructions.specs.Registers.{AllBelow, Fits}
-use Rattle.ick_memory.specs.Run.{Stands}
-use Rattle.ick_memory.specs.Steady.{AreStatuses, IsHome, IsSteady, IsReady}
-use Rattle.ick_memory.specs.View.{View}
+use Rattle.ick_runtime.specs.Run.{Stands}
+use Rattle.ick_runtime.specs.Steady.{AreStatuses, IsHome, IsSteady, IsReady}
+use Rattle.ick_runtime.specs.View.{View}
 
 apart-prop : {P Q : Type 0} → IsProp P → IsProp Q → (P → Q → ⊥) → IsProp (P ⊎ Q)
 apart-prop p q apart (inl a) (inl b) = ap inl (p a b)

@@ -9,18 +9,18 @@ use Rattle.std.proofs.Math.Seq.{take-suc}
 use Rattle.ick_code.specs.meaning.State.{same_name}
 use Rattle.ick_code.specs.declared.code.Code.{Code}
 use Rattle.ick_instructions.specs.declared.lowered.LoweredParts.{LoweredParts}
-use Rattle.ick_memory.specs.declared.memory.Rest.{Rest}
+use Rattle.ick_runtime.specs.declared.memory.Rest.{Rest}
 use Rattle.ick_marks.specs.declared.saved.Saved.{Saved}
 use Rattle.ick_marks.specs.Saved.{AreSame, IsLoaded, IsSaved, arrays_on, numbers_on, saved_view}
-use Rattle.ick_memory.specs.Steady.{IsSteady, IsReady, IsProgram}
-use Rattle.ick_memory.specs.Undo.{SameFirst, Like, HighSame, IsRestored}
-use Rattle.ick_memory.specs.View.{View, Parts, state_of, dump_of, map_of, used as used_values}
-use Rattle.ick_memory.specs.Inputs.{Input}
-use Rattle.ick_memory.specs.View.{Stash, array_of, is_hidden, parts_of, scalar_names}
-use Rattle.ick_memory.proofs.Restoring.{restored, all_same, state_by}
-use Rattle.ick_memory.proofs.Undoing.{alike}
-use Rattle.ick_memory.proofs.Steadiness.{steady_by}
-use Rattle.ick_memory.proofs.StashLemmas.{parts_same}
+use Rattle.ick_runtime.specs.Steady.{IsSteady, IsReady, IsProgram}
+use Rattle.ick_runtime.specs.Undo.{SameFirst, Like, HighSame, IsRestored}
+use Rattle.ick_runtime.specs.View.{View, Parts, state_of, dump_of, map_of, used as used_values}
+use Rattle.ick_runtime.specs.Inputs.{Input}
+use Rattle.ick_runtime.specs.View.{Stash, array_of, is_hidden, parts_of, scalar_names}
+use Rattle.ick_runtime.proofs.Restoring.{restored, all_same, state_by}
+use Rattle.ick_runtime.proofs.Undoing.{alike}
+use Rattle.ick_runtime.proofs.Steadiness.{steady_by}
+use Rattle.ick_runtime.proofs.StashLemmas.{parts_same}
 
 -- a copy that is made value by value
 pub copied_next : {A B : Type 0} (f : A → B) (xs copies copies' : List A) (at : ℕ) (x y : A) → at < length xs →

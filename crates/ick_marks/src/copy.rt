@@ -2,10 +2,10 @@
 
 ghost use Rattle.std.specs.Prelude.{◌≡◌, ◌++◌, ◌≤◌, drop, length, map, IfOk, OnOk};
 ghost use Rattle.ick_marks.specs.Saved.{arrays_on, numbers_on, AreSame};
-ghost use Rattle.ick_memory.specs.View.{array_of, is_hidden, parts_of};
+ghost use Rattle.ick_runtime.specs.View.{array_of, is_hidden, parts_of};
 
 use ick_bits::NoMemory;
-use ick_memory::{Array, Rest, Stash};
+use ick_runtime::{Array, Rest, Stash};
 use std::alloc::Global;
 
 /// Copies a list.

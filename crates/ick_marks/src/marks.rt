@@ -4,15 +4,15 @@ ghost use Rattle.std.specs.Prelude.{◌≡◌, ◌<◌, ◌≤◌, ℕ, length, 
 ghost use Rattle.std.proofs.Common.{get_or};
 ghost use Rattle.ick_code.specs.meaning.State.{no_array};
 ghost use Rattle.ick_marks.specs.TrailChanges.{changes_in, AreUndone, IsUndone};
-ghost use Rattle.ick_memory.specs.Memory.{view_in};
-ghost use Rattle.ick_memory.specs.Steady.{IsReady, IsSteady};
-ghost use Rattle.ick_memory.specs.Undo.{change_of, stands_apart, undone, undone_array};
-ghost use Rattle.ick_memory.specs.Undo.{with_number, IsRestored, Rewinds};
-ghost use Rattle.ick_memory.specs.View.{View, array_of, is_hidden, parts_of};
+ghost use Rattle.ick_runtime.specs.Memory.{view_in};
+ghost use Rattle.ick_runtime.specs.Steady.{IsReady, IsSteady};
+ghost use Rattle.ick_runtime.specs.Undo.{change_of, stands_apart, undone, undone_array};
+ghost use Rattle.ick_runtime.specs.Undo.{with_number, IsRestored, Rewinds};
+ghost use Rattle.ick_runtime.specs.View.{View, array_of, is_hidden, parts_of};
 
 use crate::trail::Trail;
 use ick_instructions::Lowered;
-use ick_memory::{
+use ick_runtime::{
     Array, ArrayChange, Entry, Memory, Rest, drop_at, put_at, set_element, set_hidden,
 };
 use std::mem::replace;

@@ -2,9 +2,9 @@
 
 ghost use Rattle.std.specs.Prelude.{◌≡◌, true, map};
 ghost use Rattle.ick_marks.specs.Saved.{arrays_on, numbers_on, AreSame};
-ghost use Rattle.ick_memory.specs.View.{array_of, is_hidden, parts_of};
+ghost use Rattle.ick_runtime.specs.View.{array_of, is_hidden, parts_of};
 
-use ick_memory::{Array, Rest, Stash};
+use ick_runtime::{Array, Rest, Stash};
 
 /// Returns whether two arrays are the same.
 fn same_array(one: &Array, other: &Array) -> bool

@@ -6,7 +6,7 @@ use crate::copy::{copy_list, copy_rest, put_first, put_list};
 use crate::same::same_rest;
 use ick_bits::NoMemory;
 use ick_instructions::Lowered;
-use ick_memory::{Array, Memory, Rest};
+use ick_runtime::{Array, Memory, Rest};
 use std::alloc::Global;
 use std::hash::{FoldHasher, Hasher};
 use std::mem::swap;
@@ -102,11 +102,11 @@ fn mix_rest(hash: u64, rest: &Rest) -> u64 {
 
 impl Saved {
     ghost use Rattle.std.specs.Prelude.{◌≡◌, ◌++◌, ◌≤◌, true, drop, length, IfOk, OnOk};
-    ghost use Rattle.ick_memory.specs.Memory.{view_in};
+    ghost use Rattle.ick_runtime.specs.Memory.{view_in};
     ghost use Rattle.ick_marks.specs.Saved.{HasLists, IsKept, IsLoaded, IsSaved, saved_view};
-    ghost use Rattle.ick_memory.specs.Steady.{IsReady, IsSteady};
-    ghost use Rattle.ick_memory.specs.View.{View, parts_of, state_of};
-    ghost use Rattle.ick_memory.specs.Inputs.{Input};
+    ghost use Rattle.ick_runtime.specs.Steady.{IsReady, IsSteady};
+    ghost use Rattle.ick_runtime.specs.View.{View, parts_of, state_of};
+    ghost use Rattle.ick_runtime.specs.Inputs.{Input};
     ghost use Rattle.ick_code.specs.declared.code.Code.{Code};
     ghost use Rattle.ick_instructions.specs.declared.lowered.LoweredParts.{LoweredParts};
 

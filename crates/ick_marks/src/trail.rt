@@ -4,7 +4,7 @@ ghost use Rattle.std.specs.Prelude.{◌≤◌, length};
 
 use crate::copy::{copy_array, copy_list};
 use ick_bits::NoMemory;
-use ick_memory::{Array, ArrayChange, Entry, Notes};
+use ick_runtime::{Array, ArrayChange, Entry, Notes};
 use std::alloc::Global;
 
 /// Changes, the newest last, the least depth of the NEXT stack since the newest mark, the first
@@ -28,8 +28,8 @@ impl Trail {
     ghost use Rattle.ick_instructions.specs.Extends.{Extends};
     ghost use Rattle.ick_marks.specs.declared.trail.Trail.{Trail};
     ghost use Rattle.ick_marks.specs.TrailChanges.{changes_in, fixed_by, IsNoted, UndoesBy};
-    ghost use Rattle.ick_memory.specs.Undo.{Rewinds};
-    ghost use Rattle.ick_memory.specs.View.{View};
+    ghost use Rattle.ick_runtime.specs.Undo.{Rewinds};
+    ghost use Rattle.ick_runtime.specs.View.{View};
 
     /// Returns a trail without changes, of a program whose first temporary register is `base`.
     pub fn new(alloc: Global, base: u32) -> Trail

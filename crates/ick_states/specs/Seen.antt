@@ -3,12 +3,12 @@ use Rattle.std.specs.Prelude.{Option}
 use Rattle.ick_code.specs.meaning.State.{State}
 use Rattle.ick_instructions.specs.declared.lowered.Lowered.{Lowered}
 use Rattle.ick_engine.specs.declared.exit.RawEnd.{RawEnd}
-use Rattle.ick_memory.specs.declared.memory.Memory.{Memory}
+use Rattle.ick_runtime.specs.declared.memory.Memory.{Memory}
 use Rattle.ick_marks.specs.declared.saved.Saved.{Saved}
-use Rattle.ick_memory.specs.Memory.{view_in}
+use Rattle.ick_runtime.specs.Memory.{view_in}
 use Rattle.ick_marks.specs.Saved.{IsKept, saved_view}
-use Rattle.ick_memory.specs.Steady.{IsSteady}
-use Rattle.ick_memory.specs.Inputs.{Input, input_of}
+use Rattle.ick_runtime.specs.Steady.{IsSteady}
+use Rattle.ick_runtime.specs.Inputs.{Input, input_of}
 use Rattle.ick_machine.specs.Run.{run_state}
 use Rattle.ick_machine.specs.RunIn.{program_of, state_in}
 use Rattle.ick_outcomes.specs.Accounts.{Configuration}

@@ -8,12 +8,12 @@ use ick_backtrack::Ask;
 use ick_bits::NoMemory;
 use ick_code::Code;
 use ick_engine::{RawEnd, TextReader};
-use ick_marks::Saved;
-use ick_memory::{Memory, NoTraces, Nobody, fresh_memory};
 use ick_instructions::Lowered;
 use ick_lowering::lower;
 use ick_machine::{asked_at, end_of, make_steps};
+use ick_marks::Saved;
 use ick_outcomes::States;
+use ick_runtime::{Memory, NoTraces, Nobody, fresh_memory};
 use std::alloc::Global;
 
 /// A state of a run that is kept apart from a memory, and how the run ended.
@@ -37,7 +37,7 @@ impl<'c, 'a> Runs<'c, 'a> {
     ghost use Rattle.ick_code.specs.meaning.Move.{ask, advance};
     ghost use Rattle.ick_backtrack.specs.Asked.{IsGoing};
     ghost use Rattle.ick_backtrack.specs.Steps.{IsPlain, RunsOn};
-    ghost use Rattle.ick_memory.specs.Inputs.{Input};
+    ghost use Rattle.ick_runtime.specs.Inputs.{Input};
     ghost use Rattle.ick_machine.specs.RunIn.{CanGoOn, program_of, state_in};
     ghost use Rattle.ick_states.specs.Seen.{CanGoOnFrom, CanServe};
     ghost use Rattle.ick_states.specs.Seen.{kept_state, present_state, seen_of};

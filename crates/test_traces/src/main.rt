@@ -3,16 +3,16 @@
 //! from there on, and prints where the run is then.
 #![tactic(auto)]
 
-ghost use Rattle.ick_memory.specs.Memory.{view_in};
-ghost use Rattle.ick_memory.specs.Steady.{IsReady};
+ghost use Rattle.ick_runtime.specs.Memory.{view_in};
+ghost use Rattle.ick_runtime.specs.Steady.{IsReady};
 ghost use Rattle.ick_traces.specs.Fixed.{AreAllowed};
 ghost use Rattle.ick_traces.specs.Traces.{AreTraces};
 
 use ick_code::{Code, compile};
 use ick_engine::{Exit, TextReader, run_steps};
-use ick_memory::{Memory, NoTraces, Nobody, Notes, fresh_memory};
 use ick_instructions::Lowered;
 use ick_lowering::lower;
+use ick_runtime::{Memory, NoTraces, Nobody, Notes, fresh_memory};
 use ick_source::read_source;
 use ick_traces::{SideExit, Traces, build_traces, fixed_statements, follow_traces};
 use std::io;
@@ -52,8 +52,13 @@ fn show_code(rt: &HostRuntime, code: &Code<'_>, steps: u32) -> io::Result<()> {
         return Err(ErrorKind::OutOfMemory.into());
     };
     memory.cursor.left = steps;
-    let Exit::Limit = run_steps(&lowered, &mut memory, &mut Nobody, &mut TextReader::new(b""), &NoTraces)
-    else {
+    let Exit::Limit = run_steps(
+        &lowered,
+        &mut memory,
+        &mut Nobody,
+        &mut TextReader::new(b""),
+        &NoTraces,
+    ) else {
         return Err(ErrorKind::InvalidData.into());
     };
     let Ok(fixed) = fixed_statements(rt.alloc(), &lowered) else {

@@ -1,5 +1,5 @@
 use Rattle.std.proofs.Common.{rules}
-use Rattle.ick_memory.proofs.DimensionLemmas.{too_many}
+use Rattle.ick_runtime.proofs.DimensionLemmas.{too_many}
 use Rattle.ick_engine.proofs.resize.count_of.Goals as goal
 
 pub returns-then-next-gt65536 : goal.returns-then-next-gt65536

@@ -1,7 +1,7 @@
 use Rattle.std.proofs.Common.{ap, ◌∙◌, rules}
 use Rattle.std.proofs.Math.Seq.{map-set_same}
-use Rattle.ick_memory.specs.View.{array_of, is_hidden}
-use Rattle.ick_memory.proofs.DimensionLemmas.{no_fault, array_sized, sized_back}
+use Rattle.ick_runtime.specs.View.{array_of, is_hidden}
+use Rattle.ick_runtime.proofs.DimensionLemmas.{no_fault, array_sized, sized_back}
 use Rattle.ick_engine.proofs.resize.resize.Goals as goal
 
 pub returns-in-Ok-set_dimensions-clause-resized : goal.returns-in-Ok-set_dimensions-clause-resized

@@ -1,6 +1,6 @@
 use Rattle.std.proofs.Common.{◌≡◌}
 use Rattle.ick_engine.specs.Reads.{HasRead}
-use Rattle.ick_memory.specs.Inputs.{Leads}
+use Rattle.ick_runtime.specs.Inputs.{Leads}
 use Rattle.ick_engine.proofs.tape.read_bytes.Given as goal
 
 abbrev pub invariant-loop-at : goal.invariant-loop-at

@@ -1,6 +1,6 @@
 use Rattle.std.proofs.Common.{◌≢◌, ℕ, ◌<◌, Some}
 use Rattle.std.specs.Prelude.{slice_get}
-use Rattle.ick_memory.specs.View.{array_names}
+use Rattle.ick_runtime.specs.View.{array_names}
 use Rattle.ick_inspect.proofs.readers.array_slot.Given as goal
 
 abbrev pub invariant-loop-slot : goal.invariant-loop-slot

@@ -1,7 +1,7 @@
 use Rattle.std.proofs.Common.{ap, map}
 use Rattle.ick_code.specs.meaning.State.{no_array}
-use Rattle.ick_memory.specs.View.{array_names, array_of}
-use Rattle.ick_memory.specs.Inputs.{input_of}
+use Rattle.ick_runtime.specs.View.{array_names, array_of}
+use Rattle.ick_runtime.specs.Inputs.{input_of}
 use Rattle.ick_machine.specs.Present.{present_state}
 use Rattle.ick_inspect.proofs.ReaderLemmas.{map_of-absent}
 use Rattle.ick_inspect.proofs.readers.elements.Goals as goal

@@ -1,5 +1,5 @@
 use Rattle.std.proofs.Common.{sym, ◌∙◌}
-use Rattle.ick_memory.specs.Inputs.{input_of}
+use Rattle.ick_runtime.specs.Inputs.{input_of}
 use Rattle.ick_machine.specs.Present.{present_state}
 use Rattle.ick_inspect.proofs.readers.input_left.Goals as goal
 

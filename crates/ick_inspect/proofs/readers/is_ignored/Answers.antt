@@ -1,7 +1,7 @@
 use Rattle.std.proofs.Common.{◌==◌, false, map, sym, ◌∙◌}
 use Rattle.std.proofs.lemmas.Option.{slice_get_within}
-use Rattle.ick_memory.specs.View.{scalar_names, array_names, map_of, dump_of, is_hidden}
-use Rattle.ick_memory.specs.Inputs.{input_of}
+use Rattle.ick_runtime.specs.View.{scalar_names, array_names, map_of, dump_of, is_hidden}
+use Rattle.ick_runtime.specs.Inputs.{input_of}
 use Rattle.ick_machine.specs.Present.{present_state}
 use Rattle.ick_inspect.proofs.ReaderLemmas.{map_of-absent, both-array, both-scalar}
 use Rattle.ick_inspect.proofs.readers.is_ignored.Goals as goal

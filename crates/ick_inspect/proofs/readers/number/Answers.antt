@@ -1,4 +1,4 @@
-use Rattle.ick_memory.specs.View.{scalar_names}
+use Rattle.ick_runtime.specs.View.{scalar_names}
 use Rattle.ick_machine.specs.Present.{present_state}
 use Rattle.ick_inspect.proofs.ReaderLemmas.{map_of-absent}
 use Rattle.ick_inspect.proofs.readers.number.Goals as goal

@@ -1,7 +1,7 @@
 use Rattle.std.proofs.Common.{[], ap, map}
 use Rattle.std.specs.Prelude.{reverse}
-use Rattle.ick_memory.specs.View.{array_names, arrays_of, used}
-use Rattle.ick_memory.specs.Inputs.{input_of}
+use Rattle.ick_runtime.specs.View.{array_names, arrays_of, used}
+use Rattle.ick_runtime.specs.Inputs.{input_of}
 use Rattle.ick_machine.specs.Present.{present_state}
 use Rattle.ick_inspect.proofs.ReaderLemmas.{map_of-absent}
 use Rattle.ick_inspect.proofs.readers.stashed_arrays.Goals as goal

@@ -1,6 +1,6 @@
 use Rattle.std.proofs.Common.{Some, sym, ◌∙◌, ap, rules}
 use Rattle.std.proofs.lemmas.Grind.{get_or_default_zero}
-use Rattle.ick_memory.specs.{Memory.view_in, Inputs.input_of}
+use Rattle.ick_runtime.specs.{Memory.view_in, Inputs.input_of}
 use Rattle.ick_backtrack.specs.Asked.{finish_of}
 use Rattle.ick_machine.specs.Run.{run_state}
 use Rattle.ick_code.specs.{Compiled.code_program, meaning.Move.ask}

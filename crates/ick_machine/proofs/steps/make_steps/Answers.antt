@@ -1,6 +1,6 @@
 use Rattle.std.proofs.Common.{◌+◌, ℕ, None, sym, ◌∙◌, subst, arith, rules}
 use Rattle.ick_backtrack.specs.Steps.{IsPlain, RunsOn, Rests}
-use Rattle.ick_memory.specs.{Memory.view_in, Inputs.Leads}
+use Rattle.ick_runtime.specs.{Memory.view_in, Inputs.Leads}
 use Rattle.ick_machine.specs.{RunIn.program_of, RunIn.state_in}
 use Rattle.ick_machine.proofs.StepLemmas.{has_made, has_rested, has_stepped, if_room, if_waits, moves_by, never_short}
 use Rattle.ick_machine.proofs.StepLemmas.{by_flag, on_the_way, ready_by, steady_by}

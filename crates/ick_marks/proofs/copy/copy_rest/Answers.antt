@@ -1,6 +1,6 @@
 use Rattle.std.proofs.Common.{refl, ap, ◌∙◌, map}
 use Rattle.ick_marks.specs.Saved.{arrays_on, numbers_on}
-use Rattle.ick_memory.specs.View.{array_of, is_hidden}
+use Rattle.ick_runtime.specs.View.{array_of, is_hidden}
 use Rattle.ick_marks.proofs.Saving.{rest_same}
 use Rattle.ick_marks.proofs.copy.copy_rest.Goals as goal
 

@@ -1,10 +1,10 @@
 use Rattle.std.proofs.Common.{sym, ◌∙◌, subst}
-use Rattle.ick_memory.specs.Memory.{view_in}
-use Rattle.ick_memory.specs.View.{View}
-use Rattle.ick_memory.specs.Undo.{HighSame}
+use Rattle.ick_runtime.specs.Memory.{view_in}
+use Rattle.ick_runtime.specs.View.{View}
+use Rattle.ick_runtime.specs.Undo.{HighSame}
 use Rattle.ick_marks.proofs.Changes.{count_history}
-use Rattle.ick_memory.proofs.Restoring.{restored}
-use Rattle.ick_memory.proofs.Undoing.{like_moved}
+use Rattle.ick_runtime.proofs.Restoring.{restored}
+use Rattle.ick_runtime.proofs.Undoing.{like_moved}
 use Rattle.ick_marks.proofs.marks.back.Goals as goal
 
 pub returns-clause-back : goal.returns-clause-back

@@ -1,7 +1,7 @@
 use Rattle.std.proofs.Common.{sym, ◌∙◌, arith}
 use Rattle.std.proofs.lemmas.Grind.{common_steps}
 use Rattle.ick_marks.proofs.Changes.{count_history}
-use Rattle.ick_memory.proofs.Undoing.{marks_here}
+use Rattle.ick_runtime.proofs.Undoing.{marks_here}
 use Rattle.ick_marks.proofs.marks.make_mark.Goals as goal
 
 pub returns-clause-count : goal.returns-clause-count

@@ -1,7 +1,7 @@
 use Rattle.std.proofs.Common.{ap, ◌∙◌, map, slice_set}
 use Rattle.std.proofs.Math.Seq.{map-set_same}
 use Rattle.std.proofs.lemmas.List.{map-set}
-use Rattle.ick_memory.specs.View.{array_of, is_hidden}
+use Rattle.ick_runtime.specs.View.{array_of, is_hidden}
 use Rattle.ick_marks.proofs.marks.replace_array.Goals as goal
 
 pub returns-clause-arrays : goal.returns-clause-arrays

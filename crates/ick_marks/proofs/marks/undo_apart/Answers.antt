@@ -1,7 +1,7 @@
 use Rattle.std.proofs.Common.{refl, ap, ◌∙◌, ◌++◌, arith, length, ◌≤◌, option_to_list}
-use Rattle.ick_memory.specs.Memory.{view_in}
-use Rattle.ick_memory.specs.Undo.{array_was, statuses_were, no_change}
-use Rattle.ick_memory.specs.View.{View, Parts, array_of}
+use Rattle.ick_runtime.specs.Memory.{view_in}
+use Rattle.ick_runtime.specs.Undo.{array_was, statuses_were, no_change}
+use Rattle.ick_runtime.specs.View.{View, Parts, array_of}
 use Rattle.ick_marks.proofs.Changes.{off_array, off_statuses, off_no_array, off_no_statuses, none_left}
 use Rattle.ick_marks.proofs.marks.undo_apart.Goals as goal
 

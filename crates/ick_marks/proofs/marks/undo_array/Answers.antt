@@ -1,6 +1,6 @@
 use Rattle.std.proofs.Common.{rules}
 use Rattle.std.proofs.lemmas.Grind.{common_steps}
-use Rattle.ick_memory.proofs.StashLemmas.{arrays_put}
+use Rattle.ick_runtime.proofs.StashLemmas.{arrays_put}
 use Rattle.ick_marks.proofs.marks.undo_array.Goals as goal
 
 pub returns-in-Taken : goal.returns-in-Taken

@@ -1,10 +1,10 @@
 use Rattle.std.proofs.Common.{◌≡◌, ◌≤◌, [], ◌∷◌, ◌++◌, sym, ap, ◌∙◌, arith, length, length-append, take, take_all, option_to_list}
 use Rattle.std.proofs.lemmas.List.{take-append-le}
-use Rattle.ick_memory.specs.Memory.{view_in}
+use Rattle.ick_runtime.specs.Memory.{view_in}
 use Rattle.ick_marks.specs.TrailChanges.{changes_in}
-use Rattle.ick_memory.specs.Undo.{Like, HighSame}
+use Rattle.ick_runtime.specs.Undo.{Like, HighSame}
 use Rattle.ick_marks.proofs.Changes.{count_history, newest_undone}
-use Rattle.ick_memory.proofs.Undoing.{all_undone, undone_one}
+use Rattle.ick_runtime.proofs.Undoing.{all_undone, undone_one}
 use Rattle.ick_marks.proofs.marks.undo_changes.Goals as goal
 
 pub returns : goal.returns

@@ -1,10 +1,10 @@
 use Rattle.std.proofs.Common.{◌≤◌, refl, sym, arith, length, take_all}
-use Rattle.ick_memory.specs.Memory.{view_in}
-use Rattle.ick_memory.specs.View.{View}
+use Rattle.ick_runtime.specs.Memory.{view_in}
+use Rattle.ick_runtime.specs.View.{View}
 use Rattle.ick_marks.specs.TrailChanges.{changes_in}
-use Rattle.ick_memory.specs.Undo.{Like, HighSame}
+use Rattle.ick_runtime.specs.Undo.{Like, HighSame}
 use Rattle.ick_marks.proofs.Changes.{count_history}
-use Rattle.ick_memory.proofs.Undoing.{all_undone, like_refl}
+use Rattle.ick_runtime.proofs.Undoing.{all_undone, like_refl}
 use Rattle.ick_marks.proofs.marks.undo_newer.Goals as goal
 
 pub returns-then-len-changes : goal.returns-then-len-changes

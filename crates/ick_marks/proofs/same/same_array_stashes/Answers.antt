@@ -1,7 +1,7 @@
 use Rattle.std.proofs.Common.{◌≡◌, refl, ap, sym, ◌∙◌, map, take}
 use Rattle.std.proofs.lemmas.List.{take-map}
 use Rattle.ick_marks.specs.Saved.{arrays_on}
-use Rattle.ick_memory.specs.View.{array_of}
+use Rattle.ick_runtime.specs.View.{array_of}
 use Rattle.ick_marks.proofs.Saving.{compared_next}
 use Rattle.ick_marks.proofs.same.same_array_stashes.Goals as goal
 

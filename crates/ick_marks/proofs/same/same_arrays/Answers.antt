@@ -1,5 +1,5 @@
 use Rattle.std.proofs.Common.{refl}
-use Rattle.ick_memory.specs.View.{array_of, is_hidden}
+use Rattle.ick_runtime.specs.View.{array_of, is_hidden}
 use Rattle.ick_marks.proofs.Saving.{compared_next}
 use Rattle.ick_marks.proofs.same.same_arrays.Goals as goal
 

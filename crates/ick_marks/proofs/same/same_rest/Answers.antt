@@ -1,5 +1,5 @@
 use Rattle.std.proofs.Common.{refl, ap, sym, ◌∙◌, map}
-use Rattle.ick_memory.specs.View.{array_of, is_hidden}
+use Rattle.ick_runtime.specs.View.{array_of, is_hidden}
 use Rattle.ick_marks.proofs.Saving.{rest_same, same_parts_sym}
 use Rattle.ick_marks.proofs.same.same_rest.Goals as goal
 

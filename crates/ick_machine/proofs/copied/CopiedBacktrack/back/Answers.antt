@@ -2,7 +2,7 @@ use Rattle.std.proofs.Common.{◌∷◌, [], ◌++◌, ap, sym, ◌∙◌, subst
 use Rattle.std.specs.Prelude.{map, reverse}
 use Rattle.std.proofs.lemmas.List.{map-append}
 use mathlib.Core.Logic.{∥∥₁_map, ∥∥₁_elim}
-use Rattle.ick_memory.specs.{Memory.view_in, Inputs.input_of}
+use Rattle.ick_runtime.specs.{Memory.view_in, Inputs.input_of}
 use Rattle.ick_machine.specs.{Copies.copied_state, Marks.AreMarksIn, Run.run_state}
 use Rattle.ick_machine.proofs.{CopyLemmas.one_less, FedLemmas.no_items, WholeLemmas.seen_at}
 use Rattle.ick_machine.proofs.copied.CopiedBacktrack.back.Goals as goal

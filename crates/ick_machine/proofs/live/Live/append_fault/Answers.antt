@@ -3,7 +3,7 @@ use Rattle.std.specs.Prelude.{vec_capacity}
 use Rattle.ick_bits.specs.Faults.{message_of}
 use Rattle.ick_code.specs.meaning.State.{gave_up, faulted}
 use Rattle.ick_backtrack.specs.Asked.{finished, finish_of}
-use Rattle.ick_memory.specs.Memory.{view_in}
+use Rattle.ick_runtime.specs.Memory.{view_in}
 use Rattle.ick_machine.specs.Live.{fault_message, seen}
 use Rattle.ick_machine.proofs.LiveLemmas.{no_message, said_at}
 use Rattle.ick_machine.proofs.live.Live.append_fault.Goals as goal

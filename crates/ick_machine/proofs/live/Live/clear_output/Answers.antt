@@ -1,4 +1,4 @@
-use Rattle.ick_memory.specs.Memory.{view_in}
+use Rattle.ick_runtime.specs.Memory.{view_in}
 use Rattle.ick_machine.proofs.Readiness.{unless_with}
 use Rattle.ick_machine.proofs.live.Live.clear_output.Goals as goal
 

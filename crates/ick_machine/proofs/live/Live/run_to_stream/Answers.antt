@@ -2,7 +2,7 @@ use Rattle.std.proofs.Common.{◌≡◌, false, [], length, None, rules, sym, re
 use Rattle.std.proofs.lemmas.Bool.Decides.{nat_tests}
 use Rattle.ick_code.specs.Compiled.{code_program}
 use Rattle.ick_backtrack.specs.Steps.{IsQuiet, RunsOn}
-use Rattle.ick_memory.specs.Memory.{view_in}
+use Rattle.ick_runtime.specs.Memory.{view_in}
 use Rattle.ick_instructions.specs.declared.lowered.Lowered.{Lowered}
 use Rattle.ick_machine.specs.{Feeds.has_ended, Feeds.input_after, Feeds.some_left, Live.seen, Run.run_state, RunIn.program_of}
 use Rattle.ick_machine.specs.RunIn.{state_in}

@@ -1,7 +1,7 @@
 use Rattle.std.proofs.Common.{◌≡◌, None, refl, ap, sym, ◌∙◌, subst, arith, rules}
 use Rattle.ick_code.specs.{Compiled.code_program, meaning.Move.advance, meaning.State.State}
 use Rattle.ick_backtrack.specs.{Machine.Machine, Steps.IsPlain, Steps.RunsOn}
-use Rattle.ick_memory.specs.{Memory.view_in, Undo.IsRestored, View.View, Inputs.input_of}
+use Rattle.ick_runtime.specs.{Memory.view_in, Undo.IsRestored, View.View, Inputs.input_of}
 use Rattle.ick_machine.specs.{Marks.IsMarked, Marks.KeepsMarks, Run.run_state, RunIn.state_in, Seen.trailed_machine}
 use Rattle.ick_machine.proofs.{Marks.run_same, WholeLemmas.by_text, WholeLemmas.going_on, WholeLemmas.keeps_marks}
 use Rattle.ick_machine.proofs.WholeLemmas.{always_err}

@@ -1,4 +1,4 @@
-use Rattle.ick_memory.specs.Inputs.{input_of}
+use Rattle.ick_runtime.specs.Inputs.{input_of}
 use Rattle.ick_machine.proofs.trailed.TrailedInspect.return_addresses.Goals as goal
 
 pub returns : goal.returns

@@ -1,8 +1,8 @@
 use Rattle.std.proofs.Common.{ap, sym, ◌∙◌, length, refl, subst}
-use Rattle.ick_memory.specs.Memory.{view_in}
+use Rattle.ick_runtime.specs.Memory.{view_in}
 use Rattle.ick_marks.specs.Saved.{AreSame, IsLoaded, IsSaved}
-use Rattle.ick_memory.specs.Steady.{IsProgram, IsReady}
-use Rattle.ick_memory.specs.View.{View, parts_of}
+use Rattle.ick_runtime.specs.Steady.{IsProgram, IsReady}
+use Rattle.ick_runtime.specs.View.{View, parts_of}
 use Rattle.ick_marks.proofs.Readiness.{ready_of, state_of_both}
 use Rattle.ick_marks.proofs.Saving.{first, kept_state, loaded, put_in, same_parts_refl, used}
 use Rattle.ick_marks.proofs.saved.Saved.exchange.Goals as goal

@@ -1,10 +1,10 @@
 use Rattle.std.proofs.Common.{refl, ◌≡◌, ◌+◌, ◌-◌, ◌<◌, ◌++◌, [], ◌∷◌, sym, ap, ◌∙◌, subst, arith, length, get_or}
-use Rattle.ick_memory.specs.declared.change.Entry.TheVariants.{Return}
-use Rattle.ick_memory.specs.Undo.{Rewinds, return_was}
+use Rattle.ick_runtime.specs.declared.change.Entry.TheVariants.{Return}
+use Rattle.ick_runtime.specs.Undo.{Rewinds, return_was}
 use Rattle.ick_instructions.proofs.Extends.{extends_trans}
 use Rattle.ick_marks.specs.TrailChanges.{changes_in}
 use Rattle.ick_marks.proofs.Changes.{newest_alone, grown}
-use Rattle.ick_memory.proofs.Undoing.{notes_return}
+use Rattle.ick_runtime.proofs.Undoing.{notes_return}
 use Rattle.ick_marks.proofs.trail.Trail.keep_returns.Goals as goal
 
 pub returns-preserved : goal.returns-preserved

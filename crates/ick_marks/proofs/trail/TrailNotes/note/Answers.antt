@@ -1,9 +1,9 @@
 use Rattle.std.proofs.Common.{refl, arith}
 use Rattle.std.proofs.lemmas.Grind.{common_steps}
 use Rattle.ick_marks.specs.TrailChanges.{changes_in}
-use Rattle.ick_memory.specs.Undo.{change_of, undone}
+use Rattle.ick_runtime.specs.Undo.{change_of, undone}
 use Rattle.ick_marks.proofs.Changes.{fixed_grown, newest_alone, grown}
-use Rattle.ick_memory.proofs.Undoing.{notes_back}
+use Rattle.ick_runtime.proofs.Undoing.{notes_back}
 use Rattle.ick_marks.proofs.trail.TrailNotes.note.Goals as goal
 
 pub returns-clause-noted : goal.returns-clause-noted

@@ -1,10 +1,10 @@
 use Rattle.std.proofs.Common.{refl, arith}
 use Rattle.std.proofs.lemmas.Grind.{common_steps}
 use Rattle.ick_marks.specs.TrailChanges.{changes_in}
-use Rattle.ick_memory.specs.Undo.{array_was, undone}
-use Rattle.ick_memory.specs.View.{array_of}
+use Rattle.ick_runtime.specs.Undo.{array_was, undone}
+use Rattle.ick_runtime.specs.View.{array_of}
 use Rattle.ick_marks.proofs.Changes.{fixed_grown, grown_one, newest_array}
-use Rattle.ick_memory.proofs.Undoing.{notes_back}
+use Rattle.ick_runtime.proofs.Undoing.{notes_back}
 use Rattle.ick_marks.proofs.trail.TrailNotes.note_array.Goals as goal
 
 pub returns-clause-noted : goal.returns-clause-noted

@@ -2,9 +2,9 @@ use Rattle.std.proofs.Common.{◌≡◌, sym, ap, ◌∙◌, arith, length, get_
 use Rattle.std.proofs.lemmas.Grind.{get_or_default_zero}
 use Rattle.std.proofs.lemmas.List.{get_or-map, length-map}
 use Rattle.ick_code.specs.meaning.State.{Array, no_array}
-use Rattle.ick_memory.specs.Undo.{with_arrays, with_number}
-use Rattle.ick_memory.specs.View.{array_of}
-use Rattle.ick_memory.proofs.Undoing.{element_back}
+use Rattle.ick_runtime.specs.Undo.{with_arrays, with_number}
+use Rattle.ick_runtime.specs.View.{array_of}
+use Rattle.ick_runtime.proofs.Undoing.{element_back}
 use Rattle.ick_marks.proofs.trail.TrailNotes.note_element.Goals as goal
 
 pub returns-clause-notes : goal.returns-clause-notes

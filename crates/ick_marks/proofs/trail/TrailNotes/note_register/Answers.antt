@@ -1,6 +1,6 @@
 use Rattle.std.proofs.Common.{sym, subst, arith, slice_set}
 use Rattle.ick_marks.specs.TrailChanges.{changes_in, UndoesBy}
-use Rattle.ick_memory.proofs.Undoing.{keeps_register, register_back}
+use Rattle.ick_runtime.proofs.Undoing.{keeps_register, register_back}
 use Rattle.ick_marks.proofs.trail.TrailNotes.note_register.Goals as goal
 
 pub returns-then-has_noted-clause-notes : goal.returns-then-has_noted-clause-notes

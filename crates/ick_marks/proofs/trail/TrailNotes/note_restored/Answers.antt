@@ -1,5 +1,5 @@
 use Rattle.std.specs.Prelude.{slice_set}
-use Rattle.ick_memory.proofs.Undoing.{alike_rewinds, restored_back, taken_back}
+use Rattle.ick_runtime.proofs.Undoing.{alike_rewinds, restored_back, taken_back}
 use Rattle.ick_marks.proofs.trail.TrailNotes.note_restored.Goals as goal
 
 pub returns-then-slot-self-clause-notes : goal.returns-then-slot-self-clause-notes

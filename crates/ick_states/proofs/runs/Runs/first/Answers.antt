@@ -1,6 +1,6 @@
 use Rattle.std.proofs.Common.{None, ap, subst, sym, ◌∙◌}
 use Rattle.ick_code.specs.meaning.State.{State}
-use Rattle.ick_memory.specs.Inputs.{input_of}
+use Rattle.ick_runtime.specs.Inputs.{input_of}
 use Rattle.ick_machine.specs.RunIn.{program_of}
 use Rattle.ick_outcomes.specs.Accounts.{Configuration}
 use Rattle.ick_states.specs.Seen.{CanGoOnFrom, seen_of}

@@ -1,5 +1,5 @@
 use Rattle.std.proofs.Common.{refl}
-use Rattle.ick_memory.specs.Memory.{view_in}
+use Rattle.ick_runtime.specs.Memory.{view_in}
 use Rattle.ick_states.proofs.Keeping.{ran_on}
 use Rattle.ick_states.proofs.runs.Runs.go_on.Goals as goal
 

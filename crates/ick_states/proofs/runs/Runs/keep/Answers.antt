@@ -1,4 +1,4 @@
-use Rattle.ick_memory.specs.Memory.{view_in}
+use Rattle.ick_runtime.specs.Memory.{view_in}
 use Rattle.ick_marks.specs.Saved.{saved_view}
 use Rattle.ick_states.proofs.Keeping.{run_same}
 use Rattle.ick_states.proofs.runs.Runs.keep.Goals as goal

@@ -1,9 +1,9 @@
 use Rattle.std.proofs.Common.{None, ap, sym, ◌∙◌}
 use Rattle.ick_code.specs.Compiled.{code_program}
 use Rattle.ick_code.specs.meaning.Move.{advance}
-use Rattle.ick_memory.specs.Memory.{view_in}
+use Rattle.ick_runtime.specs.Memory.{view_in}
 use Rattle.ick_marks.specs.Saved.{saved_view}
-use Rattle.ick_memory.specs.Inputs.{input_of}
+use Rattle.ick_runtime.specs.Inputs.{input_of}
 use Rattle.ick_machine.specs.Run.{run_state}
 use Rattle.ick_states.proofs.Keeping.{run_same, same_steps}
 use Rattle.ick_machine.proofs.WholeLemmas.{goes_on}

@@ -1,7 +1,7 @@
 use Rattle.std.proofs.Common.{◌≡◌, None, refl, rules, arith}
 use Rattle.ick_code.specs.Compiled.{code_program}
 use Rattle.ick_code.specs.meaning.Move.{advance}
-use Rattle.ick_memory.specs.Memory.{view_in}
+use Rattle.ick_runtime.specs.Memory.{view_in}
 use Rattle.ick_machine.specs.Run.{run_state}
 use Rattle.ick_states.proofs.Keeping.{if_ok, same_steps}
 use Rattle.ick_machine.proofs.WholeLemmas.{by_text}

@@ -1,7 +1,7 @@
 use Rattle.std.proofs.Common.{◌≡◌, Some, None, ap, subst, sym, ◌∙◌, get_or, length, arith}
 use Rattle.ick_backtrack.specs.Asked.{asked_of, finish_of}
 use Rattle.ick_marks.specs.Saved.{saved_view}
-use Rattle.ick_memory.specs.Inputs.{input_of}
+use Rattle.ick_runtime.specs.Inputs.{input_of}
 use Rattle.ick_code.specs.meaning.Move.{ask}
 use Rattle.ick_machine.specs.RunIn.{program_of}
 use Rattle.ick_states.specs.Seen.{CanGoOnFrom, kept_state}

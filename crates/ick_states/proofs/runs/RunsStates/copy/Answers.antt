@@ -1,5 +1,5 @@
 use Rattle.std.proofs.Common.{ap, subst, sym, ◌∙◌}
-use Rattle.ick_memory.specs.Inputs.{input_of}
+use Rattle.ick_runtime.specs.Inputs.{input_of}
 use Rattle.ick_states.specs.Seen.{CanGoOnFrom, seen_of}
 use Rattle.ick_states.specs.declared.runs.KeptRun.{KeptRun}
 use Rattle.ick_states.proofs.Keeping.{place_same}

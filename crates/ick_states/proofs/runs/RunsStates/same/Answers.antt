@@ -1,8 +1,8 @@
 use Rattle.std.proofs.Common.{ap, sym, ◌∙◌}
 use Rattle.ick_code.specs.meaning.State.{State}
 use Rattle.ick_marks.specs.Saved.{saved_view}
-use Rattle.ick_memory.specs.View.{state_of}
-use Rattle.ick_memory.specs.Inputs.{input_of}
+use Rattle.ick_runtime.specs.View.{state_of}
+use Rattle.ick_runtime.specs.Inputs.{input_of}
 use Rattle.ick_states.specs.declared.runs.KeptRun.{KeptRun}
 use Rattle.ick_states.proofs.Keeping.{place_same}
 use Rattle.ick_states.proofs.runs.RunsStates.same.Goals as goal

@@ -1,0 +1,131 @@
+-- The offset of an element, subscript by subscript.
+use Rattle.std.proofs.Common.{◌≡◌, ℕ, zero, suc, ◌+◌, ◌*◌, ◌-◌, ◌<◌, ◌≤◌, Bool, true, rules, false, ◌&&◌, List, [], ◌∷◌, length, drop}
+use Rattle.std.proofs.Common.{get_or, Option, Some, None, refl, sym, ap, ap₂, ◌∙◌, subst, arith, lt-ltb, leb-true, add-mul, mul-add}
+use Rattle.std.proofs.Common.{mul_assoc, mul-one, ◌^◌, ◌%◌, bit_and, nat_lt, nat_le, if◌then◌else◌, option_map, option_and_then}
+use Rattle.std.proofs.lemmas.Grind.{common_steps, get_or_default_zero}
+use Rattle.std.proofs.Math.ListN.{drop_of_length-le}
+use Rattle.std.proofs.lemmas.Bool.Decides.{nat_tests}
+use Rattle.std.proofs.lemmas.Nat.{and_mask}
+use Rattle.ick_syntax.specs.declared.tree.NameKind.{NameKind}
+use Rattle.ick_syntax.specs.declared.tree.NameKind.TheVariants.{Onespot, Twospot, Tail, Hybrid}
+use Rattle.ick_bits.specs.Values.{number_of}
+use Rattle.ick_bits.specs.declared.values.Value.{Value}
+use Rattle.ick_code.specs.meaning.State.{Array}
+use Rattle.ick_code.specs.meaning.Store.{bound_of}
+use Rattle.ick_code.specs.meaning.Value.{element_offset, offset_at, product, sized}
+use Rattle.ick_runtime.specs.Walk.{stride, walk}
+use Rattle.ick_runtime.proofs.Maps.{both_true}
+
+sum_of : (p d n P r : ℕ) → (p * d + n) * P + r ≡ p * (d * P) + (n * P + r)
+sum_of p d n P r = let e = add-mul (p * d) n P in let f = mul_assoc p d P in omega (arith, e, f)
+
+walk-is : (p : ℕ) (ds : List ℕ) (vs : List Value) →
+    walk p ds vs ≡ option_map (λ r. p * product ds + r) (offset_at ds vs)
+walk-is p [] [] = let one : p ≡ p * 1 + 0 = omega arith in ap Some one
+walk-is p [] (v ∷ vs) = refl
+walk-is p (d ∷ ds) [] = refl
+walk-is p (d ∷ ds) (v ∷ vs) =
+    cases (nat_le 1 (number_of v) && nat_le (number_of v) d) (walk-is (p * d + (number_of v - 1)) ds vs)
+  where
+    inner : (o : Option ℕ) →
+        option_map (λ r. (p * d + (number_of v - 1)) * product ds + r) o
+        ≡ option_map (λ r. p * (d * product ds) + r) (option_map (λ r. (number_of v - 1) * product ds + r) o)
+    inner None = refl
+    inner (Some r) = ap Some (sum_of p d (number_of v - 1) (product ds) r)
+
+    cases : (b : Bool) → walk (p * d + (number_of v - 1)) ds vs
+        ≡ option_map (λ r. (p * d + (number_of v - 1)) * product ds + r) (offset_at ds vs) →
+        option_and_then (λ next. walk next ds vs) (if b then Some (p * d + (number_of v - 1)) else None)
+        ≡ option_map (λ r. p * (d * product ds) + r)
+        (if b then option_map (λ r. (number_of v - 1) * product ds + r) (offset_at ds vs) else None)
+    cases false rest = refl
+    cases true rest = rest ∙ inner (offset_at ds vs)
+
+walk-from_none : (ds : List ℕ) (vs : List Value) → walk 0 ds vs ≡ offset_at ds vs
+walk-from_none ds vs = search (rules, walk-is)
+
+abbrev pub inside : ℕ → Option ℕ → Option ℕ
+inside count o = option_and_then (λ p. if nat_lt p count then Some p else None) o
+
+pub place_is : (a : Array) (subs : List Value) →
+    inside (length a.elements) (walk 0 a.dimensions subs) ≡ element_offset a subs
+place_is a subs = ap (inside (length a.elements)) (walk-from_none a.dimensions subs)
+
+not_below : (p count : ℕ) → count ≤ p → nat_lt p count ≡ false
+not_below p count le = grind (arith, nat_tests)
+
+pub beyond : (p : ℕ) (ds : List ℕ) (vs : List Value) (count : ℕ) → count ≤ p → None ≡ inside count (walk p ds vs)
+beyond p [] [] count le = ap (λ b. if b then Some p else None) (sym (not_below p count le))
+beyond p [] (v ∷ vs) count le = refl
+beyond p (d ∷ ds) [] count le = refl
+beyond p (d ∷ ds) (v ∷ vs) count le = cases (nat_le 1 (number_of v) && nat_le (number_of v) d) refl
+    (λ h. beyond (p * d + (number_of v - 1)) ds vs count h)
+  where
+    more : (d : ℕ) → 1 ≤ d → p ≤ p * d
+    more zero h = absurd (omega arith)
+    more (suc d) h = let one : suc d ≡ 1 + d = omega arith in
+        subst (λ m. p ≤ p * m) (sym one) (let e = mul-add p 1 d in let f = mul-one p in omega (arith, e, f))
+
+    cases : (b : Bool) → (nat_le 1 (number_of v) && nat_le (number_of v) d) ≡ b →
+        (count ≤ p * d + (number_of v - 1) → None ≡ inside count (walk (p * d + (number_of v - 1)) ds vs)) →
+        None ≡ inside count (option_and_then (λ next. walk next ds vs)
+        (if b then Some (p * d + (number_of v - 1)) else None))
+    cases false e rest = refl
+    cases true e rest =
+        let parts = both_true (nat_le 1 (number_of v)) (nat_le (number_of v) d) e in
+        let grown = more d (omega (arith, leb-true 1 (number_of v) parts.0, leb-true (number_of v) d parts.1)) in
+        rest (omega (arith, le, grown))
+
+pub none_at : (ds : List ℕ) (vs : List Value) → (length ds ≡ length vs → ⊥) → offset_at ds vs ≡ None
+none_at [] [] differ = absurd (differ refl)
+none_at [] (v ∷ vs) differ = refl
+none_at (d ∷ ds) [] differ = refl
+none_at (d ∷ ds) (v ∷ vs) differ =
+    cases (nat_le 1 (number_of v) && nat_le (number_of v) d) (none_at ds vs (λ e. differ (ap suc e)))
+  where
+    cases : (b : Bool) → offset_at ds vs ≡ None →
+        (if b then option_map (λ r. (number_of v - 1) * product ds + r) (offset_at ds vs) else None) ≡ None
+    cases true rest = ap (option_map (λ r. (number_of v - 1) * product ds + r)) rest
+    cases false rest = refl
+
+next : {A : Type 0} (xs : List A) (i : ℕ) (x : A) → i < length xs → x ≡ get_or xs i x → drop i xs ≡ x ∷ drop (i + 1) xs
+next xs i x within is = grind (arith, common_steps)
+
+pub walk_next : (ds : List ℕ) (vs : List Value) (p at d n : ℕ) (v : Value) → at < length ds → at < length vs →
+    d ≡ get_or ds at d → v ≡ get_or vs at v → n ≡ number_of v →
+    option_and_then (λ next. walk next (drop (at + 1) ds) (drop (at + 1) vs)) (stride p d n)
+    ≡ walk p (drop at ds) (drop at vs)
+walk_next ds vs p at d n v low high is_d is_v is_n = grind (arith, common_steps)
+
+pub walk_done : (ds : List ℕ) (vs : List Value) (p at : ℕ) → length ds ≤ at → length vs ≤ at →
+    Some p ≡ walk p (drop at ds) (drop at vs)
+walk_done ds vs p at low high = sym (ap₂ (walk p) (drop_of_length-le ds low) (drop_of_length-le vs high))
+
+pub is_inside : (p count : ℕ) → p < count → Some p ≡ inside count (Some p)
+is_inside p count below = ap (λ b. if b then Some p else None) (sym (lt-ltb p count below))
+
+pub is_outside : (p count : ℕ) → count ≤ p → None ≡ inside count (Some p)
+is_outside p count le = ap (λ b. if b then Some p else None) (sym (not_below p count le))
+
+-- lists of one and two
+pub only_one : {A : Type 0} (xs : List A) (x : A) → length xs ≡ 1 → x ≡ get_or xs 0 x → xs ≡ x ∷ []
+only_one = grind (arith, common_steps)
+
+pub only_two : {A : Type 0} (xs : List A) (x y : A) → length xs ≡ 2 → x ≡ get_or xs 0 x → y ≡ get_or xs 1 y →
+    xs ≡ x ∷ y ∷ []
+only_two = grind (arith, common_steps)
+
+-- the same number, whatever stands for one that isn't there
+pub same_default : (xs : List ℕ) (k : ℕ) → k < length xs → get_or xs k 0 ≡ get_or xs k (get_or xs k 0)
+same_default xs k low = sym (get_or_default_zero xs k (get_or xs k 0) low)
+
+-- a number in the bits of a kind of variable
+pub masked : (kind : NameKind) (n m : ℕ) → n < 2 ^ 32 → m + 1 ≡ bound_of kind → bit_and n m ≡ number_of (sized kind n)
+masked Onespot n m low is = let e : m ≡ 2 ^ 16 - 1 = omega (arith, is) in ap (bit_and n) e ∙ and_mask n 16
+masked Tail n m low is = let e : m ≡ 2 ^ 16 - 1 = omega (arith, is) in ap (bit_and n) e ∙ and_mask n 16
+masked Twospot n m low is =
+    let e : m ≡ 2 ^ 32 - 1 = omega (arith, is) in
+    let whole : n % 2 ^ 32 ≡ n = omega (arith, low) in ap (bit_and n) e ∙ and_mask n 32 ∙ whole
+masked Hybrid n m low is =
+    let e : m ≡ 2 ^ 32 - 1 = omega (arith, is) in
+    let whole : n % 2 ^ 32 ≡ n = omega (arith, low) in ap (bit_and n) e ∙ and_mask n 32 ∙ whole

@@ -1,0 +1,125 @@
+-- Values that are put on stashes and taken off.
+use Rattle.std.proofs.Common.{◌≡◌, ℕ, ◌+◌, ◌-◌, ◌<◌, List, refl, ap, sym, ◌∙◌, rules, length, map, get_or, arith, true}
+use Rattle.std.proofs.lemmas.Grind.{common_steps}
+use Rattle.std.specs.Prelude.{nat_lt, Result, Ok, Err, OnErr, slice_set}
+use Rattle.std.proofs.lemmas.Bool.Decides.{nat_tests}
+use Rattle.std.proofs.lemmas.List.{length-set, length-map, map-set, get_or-map, set-set, set-get_or, get_or-set_same}
+use Rattle.ick_code.specs.meaning.State.{Array, no_array}
+use Rattle.ick_runtime.specs.declared.change.ArrayChange.TheVariants as now
+use Rattle.ick_runtime.specs.declared.memory.Array.{Array as Kept}
+use Rattle.ick_runtime.specs.declared.memory.Stash.{Stash as KeptStash}
+use Rattle.ick_runtime.specs.Stashes.{IsPutOn, IsTakenOff, ChangesAt, IsRestoredTo}
+use Rattle.ick_runtime.specs.Undo.{StashLike, StashesLike, Like, put_on, taken_off, at_slot, with_array_stashes}
+use Rattle.ick_runtime.specs.Undo.{with_arrays, with_scalar_stashes, array_was, undone}
+use Rattle.ick_runtime.specs.View.{View, Stash, array_of, arrays_of, no_stash, stash_in}
+use Rattle.ick_runtime.proofs.StashLemmas.{seen}
+
+-- a value goes to spare room
+pub put_spare : {A : Type 0} (x : A) (s : Stash A) → s.depth < length s.items →
+    IsPutOn x s (record { items = slice_set s.items s.depth x; depth = s.depth + 1 })
+put_spare x s low = grind (arith, common_steps)
+
+-- the newest value is taken off
+pub take_newest : {A : Type 0} (x : A) (s : Stash A) (depth : ℕ) → depth + 1 ≡ s.depth → depth < length s.items →
+    x ≡ get_or s.items depth x → IsTakenOff x s (record { items = s.items; depth = depth })
+take_newest {A} x s depth next low is = grind (arith, common_steps)
+
+-- in exchange for another one, which is spare from then on
+pub take_replaced : {A : Type 0} (x y : A) (s : Stash A) (depth : ℕ) → depth + 1 ≡ s.depth → depth < length s.items →
+    x ≡ get_or s.items depth x → IsTakenOff x s (record { items = slice_set s.items depth y; depth = depth })
+take_replaced {A} x y s depth next low is = grind (arith, common_steps)
+
+-- one of many stashes is changed
+pub changes_at : {A B : Type 0} (g : B → Stash A) (P : Stash A → Stash A → Type 0) (xs : List B) (slot : ℕ) (old new : B) →
+    slot < length xs → old ≡ get_or xs slot old → P (g old) (g new) →
+    ChangesAt slot P (map g xs) (map g (slice_set xs slot new))
+changes_at g P xs slot old new low is h = search (rules, get_or-map, get_or-set_same, length-map, map-set)
+
+pub kept_at : {A B : Type 0} (g : B → A) (xs : List B) (slot : ℕ) (old new : B) (none : A) → slot < length xs →
+    old ≡ get_or xs slot old → g new ≡ g old → map g (slice_set xs slot new) ≡ map g xs
+kept_at g xs slot old new none low is same =
+    cc (map-set g xs slot new, same, is, get_or-map g xs slot old none low, set-get_or (map g xs) slot none)
+
+-- one of many stashes is like it was
+pub set_like : {A : Type 0} (xs : List (Stash A)) (slot : ℕ) (y : Stash A) → StashLike (get_or xs slot no_stash) y →
+    StashesLike xs (slice_set xs slot y)
+set_like xs slot y like = grind (arith, common_steps)
+
+pub saved_like : {A : Type 0} (x : A) (slot : ℕ) (held old new : List (Stash A)) → held ≡ old →
+    ChangesAt slot (IsPutOn x) old new → StashesLike held (at_slot taken_off slot new)
+saved_like x slot held old new same h = grind (arith, common_steps)
+
+pub taken_like : {A : Type 0} (x : A) (slot : ℕ) (held old new : List (Stash A)) → held ≡ old →
+    ChangesAt slot (IsTakenOff x) old new → StashesLike held (at_slot (put_on x) slot new)
+taken_like x slot held old new same h = grind (arith, common_steps)
+
+-- a view with stashes like those that it had
+pub like_scalars : (base low : ℕ) (v : View) (stashes : List (Stash ℕ)) → StashesLike v.parts.scalar_stashes stashes →
+    Like base low v (with_scalar_stashes stashes v)
+like_scalars base low v stashes like = search rules
+
+pub like_arrays : (base low : ℕ) (v : View) (stashes : List (Stash Array)) → StashesLike v.parts.array_stashes stashes →
+    Like base low v (with_array_stashes stashes v)
+like_arrays base low v stashes like = search rules
+
+-- a stash that has another value in a spare place
+pub spare_like : {A : Type 0} (x : A) (s : Stash A) → StashLike s (record { items = slice_set s.items s.depth x; depth = s.depth })
+spare_like x s = grind (arith, common_steps)
+
+pub put_grown : {A : Type 0} (x : A) (old s new : Stash A) → StashLike old s → IsPutOn x s new → IsPutOn x old new
+put_grown x old s new like put = search rules
+
+-- one stash that is like it was
+pub like_at : {A B : Type 0} (g : B → Stash A) (xs : List B) (slot : ℕ) (old new : B) → slot < length xs →
+    old ≡ get_or xs slot old → StashLike (g old) (g new) → StashesLike (map g xs) (map g (slice_set xs slot new))
+like_at g xs slot old new low is like = search (rules, get_or-map, map-set, set_like)
+
+-- a number that was taken off became the number of its scalar, or not
+pub restored_here : (slot home number : ℕ) (registers : List ℕ) (old new : List (Stash ℕ)) → home ≡ slot →
+    ChangesAt slot (IsTakenOff number) old new →
+    IsRestoredTo slot home registers (slice_set registers slot number) old new
+restored_here slot home number registers old new same taken = search rules
+
+pub restored_elsewhere : (slot home number : ℕ) (registers : List ℕ) (old new : List (Stash ℕ)) → (home ≡ slot → ⊥) →
+    ChangesAt slot (IsTakenOff number) old new → IsRestoredTo slot home registers registers old new
+restored_elsewhere slot home number registers old new other taken = search rules
+
+pub on_err : {A E : Type 0} (r : Result A E) (P : Type 0) → P → OnErr r P
+on_err (Ok x) P h = tt
+on_err (Err e) P h = h
+
+any_default : {A : Type 0} (xs : List A) (k : ℕ) (d e : A) → k < length xs → get_or xs k d ≡ get_or xs k e
+any_default = grind (arith, common_steps)
+
+-- the newest array of the stash in a slot is taken off
+pub drops_at : (xs : List (KeptStash Kept)) (slot : ℕ) (stash met new : KeptStash Kept) (e : Kept) → slot < length xs →
+    stash ≡ get_or xs slot stash → met ≡ get_or xs slot met → stash_in new ≡ taken_off (stash_in met) →
+    0 < stash.depth → e ≡ get_or stash.items.items (stash.depth - 1) e →
+    ChangesAt slot (IsTakenOff (array_of e)) (map arrays_of xs) (map arrays_of (slice_set xs slot new))
+drops_at xs slot stash met new e low is met_is new_is some e_is =
+    let x = array_of e in
+    let at = stash.depth - 1 in
+    let same : met ≡ stash = met_is ∙ any_default xs slot met stash low ∙ sym is in
+    let next : at + 1 ≡ stash.depth = omega (arith, some) in
+    let inside : at < length stash.items.items = omega (arith, stash.there, some) in
+    let inside' : at < length (map array_of stash.items.items) = omega (arith, inside, length-map stash.items.items array_of) in
+    changes_at arrays_of (IsTakenOff x) xs slot stash new low is
+    (rw (ap (seen array_of) new_is ∙ ap (λ s. taken_off (arrays_of s)) same)
+    (take_newest x (arrays_of stash) at next inside'
+    (ap array_of e_is ∙ sym (get_or-map array_of stash.items.items at e x inside))))
+
+-- an array that was exchanged for the newest one of its stash
+pub exchanged_like : (base low slot : ℕ) (v : View) (x : Array) (new : List (Stash Array)) → slot < length v.parts.arrays →
+    ChangesAt slot (IsTakenOff x) v.parts.array_stashes new →
+    Like base low v (undone (array_was now.Restored slot (get_or v.parts.arrays slot no_array))
+    (with_array_stashes new (with_arrays (slice_set v.parts.arrays slot x) v)))
+exchanged_like base low slot v x new there h =
+    let arrays = v.parts.arrays in
+    let old = get_or arrays slot no_array in
+    let changed = slice_set arrays slot x in
+    let within : nat_lt slot (length changed) ≡ true =
+    grind (arith, nat_tests, length-set arrays slot x, there) in
+    let back : slice_set changed slot old ≡ arrays = set-set arrays slot x old ∙ set-get_or arrays slot no_array in
+    let present : get_or changed slot no_array ≡ x = get_or-set_same arrays slot x no_array there in
+    rw (within, back, present)
+    (like_arrays base low v (at_slot (put_on x) slot new) (taken_like x slot v.parts.array_stashes v.parts.array_stashes new refl h))

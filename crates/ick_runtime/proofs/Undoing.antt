@@ -1,0 +1,214 @@
+-- Changes noted, and undone.
+use Rattle.std.proofs.Common.{◌≡◌, ℕ, ◌+◌, ◌<◌, ◌≤◌, List, [], ◌∷◌, ◌++◌, refl, ap, sym, ◌∙◌, subst, rules, length, take, drop, get_or, arith}
+use Rattle.std.proofs.lemmas.Grind.{common_steps}
+use Rattle.std.specs.Prelude.{reverse, slice_set}
+use Rattle.std.proofs.lemmas.List.{drop-append-le, reverse-append, set-set, set-get_or, get_or-set_same, length-take-le, take-append-drop}
+use Rattle.std.proofs.Math.ListN.{drop_of_length-le}
+use Rattle.ick_code.specs.meaning.State.{Array, no_array}
+use Rattle.ick_runtime.specs.View.{View, Parts}
+use Rattle.ick_runtime.specs.Undo.{Change, register_was, home_was, status_was, return_was, element_was, hidden_was}
+use Rattle.ick_runtime.specs.Undo.{scalar_saved, scalar_taken, scalar_restored, array_saved, array_was, statuses_were, taken_was}
+use Rattle.ick_runtime.specs.Undo.{output_was, last_was, lastin_was, no_change, undone, rewound, with_arrays, with_number, put_on, at_slot}
+use Rattle.ick_runtime.specs.Undo.{PartsLike, IsUndoable, SameFirst, Like, HighSame, Rewinds}
+use Rattle.ick_runtime.proofs.StashLemmas.{parts_refl, taken_off_like, scalars_alike, arrays_alike}
+
+-- lists of which the first numbers are the same
+first_refl : (n : ℕ) (xs : List ℕ) → SameFirst n xs xs
+first_refl n xs = record { count = refl; same = λ k low. refl }
+
+-- the next number goes back
+first_more : (at n : ℕ) (xs ys : List ℕ) → n ≡ at + 1 → at < length xs → SameFirst at xs ys →
+    SameFirst n xs (slice_set ys at (get_or xs at 0))
+first_more at n xs ys next there s = search rules
+
+-- views that are alike
+pub alike : {base deep : ℕ} {v w : View} → SameFirst base v.registers w.registers → w.home ≡ v.home →
+    w.statuses ≡ v.statuses → PartsLike v.parts w.parts → SameFirst deep v.returns w.returns → Like base deep v w
+alike registers home statuses parts returns = search rules
+
+pub like_refl : (base deep : ℕ) (v : View) → Like base deep v v
+like_refl base deep v = alike (first_refl base v.registers) refl refl (parts_refl v.parts) (first_refl deep v.returns)
+
+pub like_moved : {base deep : ℕ} {v w : View} (place depth : ℕ) → Like base deep v w →
+    Like base deep v (record w { place = place; depth = depth })
+like_moved place depth a = alike a.registers a.home a.statuses a.parts a.returns
+
+with_parts : {base deep : ℕ} {v w : View} {p q : Parts} → Like base deep v w → PartsLike p q →
+    Like base deep (record v { parts = p }) (record w { parts = q })
+with_parts l parts = alike l.registers l.home l.statuses parts l.returns
+
+-- what can be undone from a view can be undone from each one like it
+pub alike_rewinds : {base low k : ℕ} {changes : List Change} {v w m : View} → Like base low v w →
+    Rewinds base changes low k v m → Rewinds base changes low k w m
+alike_rewinds a h = search rules
+
+-- the newest change is undone first
+pub newest_first : (changes : List Change) (change : Change) (k : ℕ) → k ≤ length changes →
+    reverse (drop k (changes ++ change ∷ [])) ≡ change ∷ reverse (drop k changes)
+newest_first changes change k within =
+    ap reverse (drop-append-le k changes (change ∷ []) within) ∙ reverse-append (drop k changes) (change ∷ [])
+
+-- a return address that is pushed changes nothing below its depth
+pub pushed_like : (base low depth place : ℕ) (v : View) → low ≤ depth →
+    Like base low v (record v { returns = slice_set v.returns depth place })
+pushed_like base low depth place v above = search rules
+
+-- a change that is undone first
+noted : (base : ℕ) (changes : List Change) (low low' k : ℕ) (change : Change) (u v m : View) →
+    Rewinds base changes low k v m →
+    ((w : View) → Like base low' u w → Like base low v (undone change w) × HighSame base w (undone change w)) →
+    Rewinds base (changes ++ change ∷ []) low' k u m
+noted base changes low low' k change u v m h back = grind (arith, common_steps)
+
+-- views that are alike are so after a change of both is undone
+pub undone_like : (base low : ℕ) (change : Change) (v w : View) → IsUndoable base change v → Like base low v w →
+    Like base low (undone change v) (undone change w)
+undone_like base low (register_was at old) v w can l = grind (arith, common_steps)
+undone_like base low (home_was at old) v w can l = search rules
+undone_like base low (status_was at old) v w can l = search rules
+undone_like base low (return_was at old) v w can l = grind (arith, common_steps)
+undone_like base low (element_was slot at old) v w can l = search rules
+undone_like base low (hidden_was slot old) v w can l = search rules
+undone_like base low (scalar_saved slot) v w can l = grind (arith, common_steps, scalars_alike, taken_off_like, with_parts)
+undone_like base low (scalar_taken slot number) v w can l = grind (arith, common_steps)
+undone_like base low (scalar_restored slot number old) v w can l = grind (arith, common_steps)
+undone_like base low (array_saved slot) v w can l = grind (arith, common_steps, arrays_alike, taken_off_like, with_parts)
+undone_like base low (array_was change slot old) v w can l = grind (arith, common_steps)
+undone_like base low (statuses_were old) v w can l = alike l.registers l.home refl l.parts l.returns
+undone_like base low (taken_was old) v w can l = search rules
+undone_like base low (output_was count) v w can l = search rules
+undone_like base low (last_was old) v w can l = search rules
+undone_like base low (lastin_was old) v w can l = search rules
+undone_like base low no_change v w can l = l
+
+undone_high : (base : ℕ) (change : Change) (v w : View) → IsUndoable base change v → HighSame base w (undone change w)
+undone_high = search rules
+
+-- a change whose undoing gives a view back
+pub notes_back : (base : ℕ) (changes : List Change) (low k : ℕ) (change : Change) (u v m : View) →
+    IsUndoable base change u → undone change u ≡ v → Rewinds base changes low k v m →
+    Rewinds base (changes ++ change ∷ []) low k u m
+notes_back base changes low k change u v m can same h = noted base changes low low k change u v m h
+    (λ w like. (
+      subst (λ x. Like base low x (undone change w)) same (undone_like base low change u w can like),
+      undone_high base change u w can,
+    ))
+
+put_back : (xs : List ℕ) (at n : ℕ) → slice_set (slice_set xs at n) at (get_or xs at 0) ≡ xs
+put_back xs at n = set-set xs at n (get_or xs at 0) ∙ set-get_or xs at 0
+
+-- undoing the change of a register, of a home and of a status
+pub register_back : (at number : ℕ) (registers : List ℕ) (v : View) → v.registers ≡ registers →
+    undone (register_was at (get_or registers at 0)) (record v { registers = slice_set registers at number }) ≡ v
+register_back at number registers v same = search (rules, put_back)
+
+pub home_back : (at number : ℕ) (v : View) →
+    undone (home_was at (get_or v.home at 0)) (record v { home = slice_set v.home at number }) ≡ v
+home_back at number v = ap {A = List ℕ} (λ l. record v { home = l }) (put_back v.home at number)
+
+pub status_back : (at number : ℕ) (v : View) →
+    undone (status_was at (get_or v.statuses at 0)) (record v { statuses = slice_set v.statuses at number }) ≡ v
+status_back at number v = ap {A = List ℕ} (λ l. record v { statuses = l }) (put_back v.statuses at number)
+
+-- a number of a stash became the number of its scalar
+pub restored_back : (base low slot number n : ℕ) (registers : List ℕ) (v : View) (p : Parts) → v.registers ≡ registers →
+    PartsLike v.parts (record p { scalar_stashes = at_slot (put_on number) slot p.scalar_stashes }) →
+    Like base low v (undone (scalar_restored slot number (get_or registers slot 0))
+    (record v { registers = slice_set registers slot n; parts = p }))
+restored_back base low slot number n registers v p same parts = grind (arith, common_steps)
+
+-- the same with a register that is never restored
+pub taken_back : (base low slot number n : ℕ) (registers : List ℕ) (v : View) (p : Parts) → v.registers ≡ registers →
+    base ≤ slot →
+    PartsLike v.parts (record p { scalar_stashes = at_slot (put_on number) slot p.scalar_stashes }) →
+    Like base low v (undone (scalar_taken slot number)
+    (record v { registers = slice_set registers slot n; parts = p }))
+taken_back base low slot number n registers v p same above parts = search rules
+
+-- a register of which the newest change was noted
+pub keeps_register : (base : ℕ) (changes older : List Change) (low k at old number : ℕ) (registers : List ℕ) (v m : View) →
+    v.registers ≡ registers → at < base → changes ≡ older ++ register_was at old ∷ [] → k ≤ length older →
+    Rewinds base changes low k v m →
+    Rewinds base changes low k (record v { registers = slice_set registers at number }) m
+keeps_register base changes older low k at old number registers v m from below is few h = record {
+  within = h.within;
+  leads = λ w like. subst (Like base m.depth m) (same w) (h.leads (before w) (back w like));
+  stays = λ w like r high.
+      rw (← same w) (h.stays (before w) (back w like) r high ∙ undone_high base change after w below r high);
+}
+  where
+    change : Change
+    change = register_was at (get_or registers at 0)
+
+    after : View
+    after = record v { registers = slice_set registers at number }
+
+    before : View → View
+    before w = undone change w
+
+    back : (w : View) → Like base low after w → Like base low v (before w)
+    back w like = rw (← register_back at number registers v from) (undone_like base low change after w below like)
+
+    first : reverse (drop k changes) ≡ register_was at old ∷ reverse (drop k older)
+    first = ap (λ l. reverse (drop k l)) is ∙ newest_first older (register_was at old) k few
+
+    same : (w : View) → rewound (reverse (drop k changes)) (before w) ≡ rewound (reverse (drop k changes)) w
+    same w =
+        ap (λ es. rewound es (before w)) first
+        ∙ ap {A = List ℕ} (λ l. rewound (reverse (drop k older)) (record w { registers = l }))
+        (set-set w.registers at (get_or registers at 0) old)
+        ∙ sym (ap (λ es. rewound es w) first)
+
+-- an element
+element_same : (arrays : List Array) (slot at number : ℕ) → slot < length arrays →
+    with_number (with_number arrays slot at number) slot at (get_or (get_or arrays slot no_array).elements at 0) ≡ arrays
+element_same arrays slot at number there = search (rules, get_or-set_same, put_back, set-get_or, set-set)
+
+pub element_back : (slot at number : ℕ) (arrays : List Array) (v : View) → v.parts.arrays ≡ arrays →
+    slot < length arrays →
+    undone (element_was slot at (get_or (get_or arrays slot no_array).elements at 0))
+    (with_arrays (with_number arrays slot at number) v) ≡ v
+element_back slot at number arrays v same there = search (rules, element_same)
+
+-- the return address below the depth is noted
+pub notes_return : (base : ℕ) (changes : List Change) (low at k : ℕ) (v m : View) → low ≡ at + 1 →
+    at < length v.returns → Rewinds base changes low k v m →
+    Rewinds base (changes ++ return_was at (get_or v.returns at 0) ∷ []) at k v m
+notes_return base changes low at k v m next there h = grind (arith, common_steps, alike, first_more, noted)
+
+-- a mark
+pub marks_here : (base : ℕ) (changes : List Change) (v : View) → Rewinds base changes v.depth (length changes) v v
+marks_here base changes v = grind (arith, common_steps)
+
+-- the newest change undone, and all of them
+pub undone_one : (P : View → Type 0) (changes rest : List Change) (change : Change) (k : ℕ) (v w : View) →
+    changes ≡ rest ++ change ∷ [] → k ≤ length rest → w ≡ undone change v →
+    P (rewound (reverse (drop k changes)) v) → P (rewound (reverse (drop k rest)) w)
+undone_one P changes rest change k v w are within is h = grind (arith, common_steps)
+
+pub all_undone : (P : View → Type 0) (changes : List Change) (k : ℕ) (v : View) → length changes ≤ k →
+    P (rewound (reverse (drop k changes)) v) → P v
+all_undone P changes k v few h = subst (λ es. P (rewound (reverse es) v)) (drop_of_length-le changes few) h
+
+rewound-append : (xs ys : List Change) (v : View) → rewound (xs ++ ys) v ≡ rewound ys (rewound xs v)
+rewound-append [] ys v = refl
+rewound-append (x ∷ xs) ys v = rewound-append xs ys (undone x v)
+
+-- the newest mark is dropped: what was noted since it leads on to the older one
+pub composed : (base : ℕ) (changes : List Change) (low k j : ℕ) (v m n : View) → Rewinds base changes low k v m →
+    Rewinds base (take k changes) m.depth j m n → Rewinds base changes low j v n
+composed base changes low k j v m n h below = record {
+  within = omega (arith, below.within, length-take-le k changes h.within, h.within);
+  leads = λ w like.
+      subst (Like base n.depth n) (sym (order w)) (below.leads (rewound (reverse (drop k changes)) w) (h.leads w like));
+  stays = λ w like r high. rw (order w)
+      (below.stays (rewound (reverse (drop k changes)) w) (h.leads w like) r high ∙ h.stays w like r high);
+}
+  where
+    order : (w : View) →
+        rewound (reverse (drop j changes)) w
+        ≡ rewound (reverse (drop j (take k changes))) (rewound (reverse (drop k changes)) w)
+    order w = ap (λ es. rewound (reverse es) w)
+        (ap (drop j) (sym (take-append-drop k changes)) ∙ drop-append-le j (take k changes) (drop k changes) below.within)
+        ∙ ap (λ es. rewound es w) (reverse-append (drop j (take k changes)) (drop k changes))
+        ∙ rewound-append (reverse (drop k changes)) (reverse (drop j (take k changes))) w

@@ -1,0 +1,87 @@
+use Rattle.std.proofs.Common.{◌≡◌, ℕ, ◌+◌, ◌<◌, List, length, drop, get_or, Some, refl, ap, ◌∙◌, sym, arith, rules, option_and_then}
+use Rattle.std.proofs.lemmas.List.{length-map, get_or-map}
+use Rattle.ick_bits.specs.Values.{Wide}
+use Rattle.ick_code.specs.meaning.Value.{element_offset}
+use Rattle.ick_instructions.specs.Meaning.{reg, values_of}
+use Rattle.ick_runtime.specs.View.{array_of}
+use Rattle.ick_runtime.specs.Walk.{walk}
+use Rattle.ick_runtime.proofs.OffsetLemmas.{inside, place_is, beyond, none_at, walk_next, walk_done, is_inside, is_outside}
+use Rattle.ick_runtime.proofs.element.index_of_many.Goals.{After-loop-at}
+use Rattle.ick_runtime.proofs.element.index_of_many.Goals as goal
+
+count_is : (subscripts regs : List ℕ) → length (values_of subscripts regs) ≡ length subscripts
+count_is subscripts regs = length-map subscripts (λ r. Wide (reg regs r))
+
+value_at : (subscripts regs : List ℕ) (at : ℕ) → at < length subscripts →
+    Wide (reg regs (get_or subscripts at 0))
+    ≡ get_or (values_of subscripts regs) at (Wide (reg regs (get_or subscripts at 0)))
+value_at subscripts regs at low =
+    sym (get_or-map (λ r. Wide (reg regs r)) subscripts at 0 (Wide (reg regs (get_or subscripts at 0))) low)
+
+pub returns-then-len-subscripts-clause-index : goal.returns-then-len-subscripts-clause-index
+returns-then-len-subscripts-clause-index c = search (rules, count_is, inside, none_at)
+
+pub returns-in_default-clause-index : goal.returns-in_default-clause-index
+returns-in_default-clause-index c =
+    let a = array_of c.args.array.now in
+    let subs = values_of c.args.subscripts.now c.args.registers.now in
+    let at = c.loop-at.at in
+    let r = get_or c.args.subscripts.now c.loop-at.at 0 in
+    ap (λ o. inside (length a.elements)
+    (option_and_then (λ next. walk next (drop (at + 1) a.dimensions) (drop (at + 1) subs)) o)) (sym c.in_default.is ∙ c.step.ensures)
+    ∙ ap (inside (length a.elements))
+    (walk_next a.dimensions subs c.loop-at.offset at c.index.result.now (reg c.args.registers.now r) (Wide (reg c.args.registers.now r))
+    (omega (arith, c.loop-at-test.true, c.if-len-subscripts.false, c.len.ensures, c.args.array.now.dimensions.ok.0))
+    (omega (arith, c.loop-at-test.true, count_is c.args.subscripts.now c.args.registers.now)) c.index.ensures
+    (value_at c.args.subscripts.now c.args.registers.now at c.loop-at-test.true) refl ∙ c.loop-at.invariant.walked)
+    ∙ place_is a subs
+
+pub returns-then-offset-ge-FAR-clause-index : goal.returns-then-offset-ge-FAR-clause-index
+returns-then-offset-ge-FAR-clause-index c =
+    let a = array_of c.args.array.now in
+    let subs = values_of c.args.subscripts.now c.args.registers.now in
+    let at = c.loop-at.at in
+    beyond c.loop-at.offset (drop at a.dimensions) (drop at subs) (length a.elements)
+    (omega (arith, c.if-offset-ge-FAR.true, c.args.array.now.few))
+    ∙ ap (inside (length a.elements)) c.loop-at.invariant.walked
+    ∙ place_is a subs
+
+pub loop-at-preserved : goal.loop-at-preserved
+loop-at-preserved c =
+    let a = array_of c.args.array.now in
+    let subs = values_of c.args.subscripts.now c.args.registers.now in
+    let at = c.loop-at.at in
+    let ds = drop (at + 1) a.dimensions in
+    let r = get_or c.args.subscripts.now c.loop-at.at 0 in
+    record {
+      walked = ap (option_and_then (λ next. walk next ds (drop (at + 1) subs))) (sym c.in-Some.is ∙ c.step.ensures)
+          ∙ walk_next a.dimensions subs c.loop-at.offset at c.index.result.now (reg c.args.registers.now r) (Wide (reg c.args.registers.now r))
+          (omega (arith, c.loop-at-test.true, c.if-len-subscripts.false, c.len.ensures, c.args.array.now.dimensions.ok.0))
+          (omega (arith, c.loop-at-test.true, count_is c.args.subscripts.now c.args.registers.now)) c.index.ensures
+          (value_at c.args.subscripts.now c.args.registers.now at c.loop-at-test.true) refl
+          ∙ c.loop-at.invariant.walked;
+    }
+
+-- what the whole walk gives
+walked : (c : After-loop-at) →
+    inside (length (array_of c.args.array.now).elements) (Some c.loop-at.offset)
+    ≡ element_offset (array_of c.args.array.now) (values_of c.args.subscripts.now c.args.registers.now)
+walked c =
+    let a = array_of c.args.array.now in
+    let subs = values_of c.args.subscripts.now c.args.registers.now in
+    let high = c.loop-at-test.false in
+    ap (inside (length a.elements)) (walk_done a.dimensions subs c.loop-at.offset c.loop-at.at
+    (omega (arith, high, c.if-len-subscripts.false, c.len.ensures, c.args.array.now.dimensions.ok.0))
+    (omega (arith, high, count_is c.args.subscripts.now c.args.registers.now))
+    ∙ c.loop-at.invariant.walked)
+    ∙ place_is a subs
+
+pub returns-then-offset-count-clause-index : goal.returns-then-offset-count-clause-index
+returns-then-offset-count-clause-index c = is_inside c.loop-at.offset (length (array_of c.args.array.now).elements)
+    (omega (arith, c.if-offset-count.true, c.len-count.ensures, c.args.array.now.elements.ok.0))
+    ∙ walked (goal.at.returns-then-offset-count-clause-index c).After-loop-at
+
+pub returns-else-offset-count-clause-index : goal.returns-else-offset-count-clause-index
+returns-else-offset-count-clause-index c = is_outside c.loop-at.offset (length (array_of c.args.array.now).elements)
+    (omega (arith, c.if-offset-count.false, c.len-count.ensures, c.args.array.now.elements.ok.0))
+    ∙ walked (goal.at.returns-else-offset-count-clause-index c).After-loop-at

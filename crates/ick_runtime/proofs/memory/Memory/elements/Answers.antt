@@ -1,0 +1,11 @@
+use Rattle.std.proofs.Common.{sym, ap, ◌∙◌, arith}
+use Rattle.ick_code.specs.meaning.State.{Array, no_array}
+use Rattle.ick_runtime.specs.View.{array_names, array_of}
+use Rattle.ick_runtime.proofs.Maps.{map_of-map}
+use Rattle.ick_runtime.proofs.memory.Memory.elements.Goals as goal
+
+pub returns : goal.returns
+returns c = λ input name at. ap (λ (a : Array). a.elements)
+    (map_of-map (array_names c.args.program.now.code.now) array_of c.args.self.now.rest.arrays.items no_array c.args.slot
+    name c.index.result.now c.law.ensures.arrays_once (omega (arith, c.requires.ready.steady.arrays)) at c.index.ensures)
+    ∙ sym c.deref.ensures.value

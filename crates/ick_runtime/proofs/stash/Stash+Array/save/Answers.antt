@@ -1,0 +1,12 @@
+use Rattle.std.proofs.Common.{arith, rules}
+use Rattle.std.proofs.lemmas.Grind.{common_steps}
+use Rattle.std.proofs.lemmas.List.{map-set, length-map}
+use Rattle.ick_runtime.proofs.StashLemmas.{stash_trans}
+use Rattle.ick_runtime.proofs.StashingLemmas.{on_err, put_grown, put_spare, spare_like}
+use Rattle.ick_runtime.proofs.stash.Stash+Array.save.Goals as goal
+
+pub returns-in_err-copy_into-clause-err : goal.returns-in_err-copy_into-clause-err
+returns-in_err-copy_into-clause-err c = search (rules, map-set, on_err, spare_like, stash_trans)
+
+pub returns-clause-ok : goal.returns-clause-ok
+returns-clause-ok c = grind (arith, common_steps, length-map, map-set, put_grown, put_spare)

@@ -1,0 +1,85 @@
+use Rattle.std.proofs.Common.{◌≡◌, ◌<◌, ap, sym, ◌∙◌, map, arith, length, get_or, refl, true, false, slice_set}
+use Rattle.std.proofs.Math.Seq.{map-set_same}
+use Rattle.std.proofs.lemmas.List.{get_or-map, length-map, map-set}
+use Rattle.ick_code.specs.meaning.State.{no_array}
+use Rattle.ick_runtime.specs.declared.change.ArrayChange.TheVariants as now
+use Rattle.ick_runtime.specs.Stashes.{IsTakenOff, ChangesAt}
+use Rattle.ick_runtime.specs.Undo.{Like, array_was, undone, with_array_stashes, with_arrays}
+use Rattle.ick_runtime.specs.View.{View, array_of, arrays_of, is_hidden}
+use Rattle.ick_runtime.proofs.StashingLemmas.{changes_at, drops_at, exchanged_like, like_arrays, taken_like}
+use Rattle.ick_runtime.proofs.stash.restore_array.Goals as goal
+
+pub returns-then-index-clause-retrieved : goal.returns-then-index-clause-retrieved
+returns-then-index-clause-retrieved g c =
+    let arrays = c.args.arrays.now.items in
+    let stashes = c.args.stashes.now.items in
+    let slot = c.args.slot in
+    let hidden : get_or (map is_hidden arrays) slot false ≡ true =
+    cc (get_or-map is_hidden arrays slot c.index.result.now false c.requires.array, c.index.ensures, c.if-index.true) in
+    rw hidden (
+      (
+        array_of c.index-newest.result.now,
+        drops_at stashes slot c.index-stash.result.now c.index_mut.result.now c.drop_newest.new.self
+            c.index-newest.result.now c.requires.slot c.index-stash.ensures c.index_mut.ensures.value c.drop_newest.ensures
+            (omega arith) c.index-newest.ensures,
+      ),
+      refl,
+    )
+
+pub returns-then-index-clause-notes : goal.returns-then-index-clause-notes
+returns-then-index-clause-notes g c = λ k v m arrays same h.
+    let old = map arrays_of c.args.stashes.now.items in
+    let new = map arrays_of (slice_set c.args.stashes.now.items c.args.slot c.drop_newest.new.self) in
+    let x = array_of c.index-newest.result.now in
+    let at : ChangesAt c.args.slot (IsTakenOff x) old new =
+    drops_at c.args.stashes.now.items c.args.slot c.index-stash.result.now c.index_mut.result.now c.drop_newest.new.self
+    c.index-newest.result.now c.requires.slot c.index-stash.ensures c.index_mut.ensures.value c.drop_newest.ensures
+    (omega arith) c.index-newest.ensures in
+    rw (← arrays) (c.in_ok-note_array.ensures.notes k (with_array_stashes new v) m at.here.place
+    (c.law.ensures.alike k v _ m (like_arrays _ _ v _ (taken_like x c.args.slot _ old new same at)) h))
+
+pub returns-clause-retrieved : goal.returns-clause-retrieved
+returns-clause-retrieved g c =
+    let arrays = c.args.arrays.now.items in
+    let stashes = c.args.stashes.now.items in
+    let slot = c.args.slot in
+    let x = c.exchange.new.array in
+    let shown : get_or (map is_hidden arrays) slot false ≡ false =
+    cc (get_or-map is_hidden arrays slot c.index.result.now false c.requires.array, c.index.ensures, c.if-index.false) in
+    rw shown (record {
+      array = array_of x;
+      taken =
+          changes_at arrays_of (IsTakenOff (array_of x)) stashes slot c.index_mut-2.result.now c.exchange.new.self
+          c.requires.slot c.index_mut-2.ensures.value c.exchange.ensures.taken;
+      arrays_are = map-set array_of arrays slot x;
+    })
+
+pub returns-clause-hidden : goal.returns-clause-hidden
+returns-clause-hidden g c =
+    map-set_same is_hidden c.args.arrays.now.items c.args.slot c.exchange.new.array c.index_mut-3.result.now
+    (c.exchange.ensures.hidden ∙ ap is_hidden c.index_mut-3.ensures.value)
+
+pub returns-clause-notes : goal.returns-clause-notes
+returns-clause-notes g c = λ k v m same_arrays same h.
+    let slot = c.args.slot in
+    let arrays = c.args.arrays.now.items in
+    let x = array_of c.exchange.new.array in
+    let after = map array_of (slice_set arrays slot c.exchange.new.array) in
+    let new = map arrays_of (slice_set c.args.stashes.now.items slot c.exchange.new.self) in
+    let base = (g.N.Notes.fixed c.args.notes.now).base in
+    let low = g.N.Notes.low c.args.notes.now in
+    let at : ChangesAt slot (IsTakenOff x) v.parts.array_stashes new =
+    rw same (changes_at arrays_of (IsTakenOff x) c.args.stashes.now.items slot c.index_mut-2.result.now c.exchange.new.self
+    c.requires.slot c.index_mut-2.ensures.value c.exchange.ensures.taken) in
+    let there : slot < length v.parts.arrays =
+    omega (arith, c.requires.array, length-map arrays array_of, ap length same_arrays) in
+    let was : get_or v.parts.arrays slot no_array ≡ array_of c.index-2.result.now =
+    ap (λ l. get_or l slot no_array) same_arrays
+    ∙ get_or-map array_of arrays slot c.index-2.result.now no_array c.requires.array ∙ ap array_of (sym c.index-2.ensures) in
+    let is : slice_set v.parts.arrays slot x ≡ after =
+    ap (λ l. slice_set l slot x) same_arrays ∙ sym (map-set array_of arrays slot c.exchange.new.array) in
+    let w : View = with_array_stashes new (with_arrays after v) in
+    let like : Like base low v (undone (array_was now.Restored slot (array_of c.index-2.result.now)) w) =
+    rw (← was, ← is) (exchanged_like base low slot v x new there at) in
+    c.in_ok-note_array-2.ensures.notes k w m at.here.place
+    (c.law.ensures.alike k v (undone (array_was now.Restored slot (array_of c.index-2.result.now)) w) m like h)

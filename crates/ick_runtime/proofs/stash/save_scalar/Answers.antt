@@ -1,0 +1,27 @@
+use Rattle.std.proofs.Common.{map, rules, slice_set}
+use Rattle.ick_runtime.specs.Stashes.{IsPutOn, ChangesAt}
+use Rattle.ick_runtime.specs.Undo.{with_scalar_stashes}
+use Rattle.ick_runtime.specs.View.{numbers_of}
+use Rattle.ick_runtime.proofs.StashingLemmas.{on_err, changes_at, kept_at, like_scalars, saved_like}
+use Rattle.ick_runtime.proofs.stash.save_scalar.Goals as goal
+
+pub returns-clause-saved : goal.returns-clause-saved
+returns-clause-saved g c =
+    changes_at numbers_of (IsPutOn c.args.number) c.args.stashes.now.items c.args.slot c.index_mut.result.now c.save.new.self
+    c.requires.slot c.index_mut.ensures.value c.in_ok-save.ensures.ok
+
+pub returns-in_err-save-clause-same : goal.returns-in_err-save-clause-same
+returns-in_err-save-clause-same g c = search (rules, kept_at, on_err)
+
+pub returns-in_err-save-clause-notes : goal.returns-in_err-save-clause-notes
+returns-in_err-save-clause-notes g c = search (rules, kept_at)
+
+pub returns-clause-notes : goal.returns-clause-notes
+returns-clause-notes g c = λ k v m same h.
+    let old = map numbers_of c.args.stashes.now.items in
+    let new = map numbers_of (slice_set c.args.stashes.now.items c.args.slot c.save.new.self) in
+    let at : ChangesAt c.args.slot (IsPutOn c.args.number) old new =
+    changes_at numbers_of (IsPutOn c.args.number) c.args.stashes.now.items c.args.slot c.index_mut.result.now c.save.new.self
+    c.requires.slot c.index_mut.ensures.value c.in_ok-save.ensures.ok in
+    c.note.ensures.notes k (with_scalar_stashes new v) m tt (c.law.ensures.alike k v _ m
+    (like_scalars _ _ v _ (saved_like c.args.number c.args.slot _ old new same at)) h)

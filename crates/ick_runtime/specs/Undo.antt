@@ -1,0 +1,276 @@
+-- Changes that can be undone.
+use Rattle.std.specs.Prelude.{ℕ, ◌+◌, ◌-◌, ◌≡◌, ◌<◌, ◌≤◌, nat_lt, Bool, true, false, List, [], ◌∷◌}
+use Rattle.std.specs.Prelude.{length, drop, take, reverse, slice_set, if◌then◌else◌}
+use Rattle.std.proofs.Common.{get_or}
+use Rattle.ick_code.specs.meaning.State.{Array, no_array}
+use Rattle.ick_code.specs.declared.code.Code.{Code}
+use Rattle.ick_instructions.specs.declared.lowered.LoweredParts.{LoweredParts}
+use Rattle.ick_runtime.specs.declared.change.ArrayChange.{ArrayChange}
+use Rattle.ick_runtime.specs.declared.change.ArrayChange.TheVariants as now
+use Rattle.ick_runtime.specs.declared.change.Entry.{Entry}
+use Rattle.ick_runtime.specs.declared.change.Entry.TheVariants as entry
+use Rattle.ick_runtime.specs.Elements.{with_element}
+use Rattle.ick_runtime.specs.Steady.{IsReady}
+use Rattle.ick_runtime.specs.View.{View, Parts, Stash, no_stash, used, state_of}
+use Rattle.ick_runtime.specs.Inputs.{Input}
+
+-- arrays with a number in one element
+abbrev pub with_number : List Array → (slot at number : ℕ) → List Array
+with_number arrays slot at number =
+    slice_set arrays slot (with_element (get_or arrays slot no_array) at number)
+
+abbrev pub with_arrays : List Array → View → View
+with_arrays arrays v = record v { parts = record v.parts { arrays = arrays } }
+
+abbrev pub with_hidden : List Bool → View → View
+with_hidden hidden v = record v { parts = record v.parts { hidden = hidden } }
+
+abbrev pub with_scalar_stashes : List (Stash ℕ) → View → View
+with_scalar_stashes stashes v = record v { parts = record v.parts { scalar_stashes = stashes } }
+
+abbrev pub with_array_stashes : List (Stash Array) → View → View
+with_array_stashes stashes v = record v { parts = record v.parts { array_stashes = stashes } }
+
+-- a stash with one more value, if it has spare room, and with one less
+abbrev pub put_on : {A : Type 0} → A → Stash A → Stash A
+put_on x s = record {
+  items = slice_set s.items s.depth x;
+  depth = if nat_lt s.depth (length s.items) then s.depth + 1 else s.depth;
+}
+
+abbrev pub taken_off : {A : Type 0} → Stash A → Stash A
+taken_off s = record { items = s.items; depth = s.depth - 1 }
+
+-- stashes of which one is changed
+abbrev pub at_slot : {A : Type 0} → (Stash A → Stash A) → ℕ → List (Stash A) → List (Stash A)
+at_slot f slot stashes = slice_set stashes slot (f (get_or stashes slot no_stash))
+
+-- a change that was noted: a part, and its value before the change
+pub data Change : Type 0 where
+  register_was : (at old : ℕ) → Change
+  home_was : (at old : ℕ) → Change
+  status_was : (at old : ℕ) → Change
+  return_was : (at old : ℕ) → Change
+  element_was : (slot at old : ℕ) → Change
+  hidden_was : (slot : ℕ) (old : Bool) → Change
+  scalar_saved : (slot : ℕ) → Change
+  scalar_taken : (slot number : ℕ) → Change
+  scalar_restored : (slot number old : ℕ) → Change
+  array_saved : (slot : ℕ) → Change
+  array_was : ArrayChange → (slot : ℕ) (old : Array) → Change
+  statuses_were : (old : List ℕ) → Change
+  taken_was : (old : ℕ) → Change
+  output_was : (count : ℕ) → Change
+  last_was : (old : ℕ) → Change
+  lastin_was : (old : ℕ) → Change
+  no_change : Change
+
+-- whether the old value of an entry is kept apart from it
+abbrev pub stands_apart : Entry → Bool
+stands_apart (entry.Array change slot) = true
+stands_apart entry.Statuses = true
+stands_apart e = false
+
+-- the change that an entry notes by itself
+abbrev pub change_of : Entry → Change
+change_of (entry.Register at old) = register_was at old
+change_of (entry.Home at old) = home_was at old
+change_of (entry.Status at old) = status_was at old
+change_of (entry.Return at old) = return_was at old
+change_of (entry.Element slot at old) = element_was slot at old
+change_of (entry.Hidden slot old) = hidden_was slot old
+change_of (entry.ScalarSaved slot) = scalar_saved slot
+change_of (entry.ScalarTaken slot number) = scalar_taken slot number
+change_of (entry.ScalarRestored slot number old) = scalar_restored slot number old
+change_of (entry.ArraySaved slot) = array_saved slot
+change_of (entry.Array change slot) = no_change
+change_of entry.Statuses = no_change
+change_of (entry.Taken old) = taken_was old
+change_of (entry.Output count) = output_was count
+change_of (entry.Last old) = last_was old
+change_of (entry.LastIn old) = lastin_was old
+
+-- the changes that entries note, with the arrays and statuses that are kept apart; the newest first
+abbrev pub changes_of : List Entry → List Array → List (List ℕ) → List Change
+changes_of [] arrays statuses = []
+changes_of (entry.Array change slot ∷ entries) (array ∷ arrays) statuses =
+    array_was change slot array ∷ changes_of entries arrays statuses
+changes_of (entry.Statuses ∷ entries) arrays (old ∷ statuses) =
+    statuses_were old ∷ changes_of entries arrays statuses
+changes_of (e ∷ entries) arrays statuses = change_of e ∷ changes_of entries arrays statuses
+
+-- an array goes back to its slot, and the present one to the stash
+abbrev pub given_back : ℕ → Array → Parts → Parts
+given_back slot old p = record p {
+  arrays = slice_set p.arrays slot old;
+  array_stashes = at_slot (put_on (get_or p.arrays slot no_array)) slot p.array_stashes;
+}
+
+-- the parts before an array was changed
+abbrev pub undone_array : ArrayChange → ℕ → Array → Parts → Parts
+undone_array now.Replaced slot old p = record p { arrays = slice_set p.arrays slot old }
+undone_array now.Taken slot old p = record p { array_stashes = at_slot (put_on old) slot p.array_stashes }
+undone_array now.Restored slot old p = if nat_lt slot (length p.arrays) then given_back slot old p else p
+
+-- the view before a change
+abbrev pub undone : Change → View → View
+undone (register_was at old) v = record v { registers = slice_set v.registers at old }
+undone (home_was at old) v = record v { home = slice_set v.home at old }
+undone (status_was at old) v = record v { statuses = slice_set v.statuses at old }
+undone (return_was at old) v = record v { returns = slice_set v.returns at old }
+undone (element_was slot at old) v = with_arrays (with_number v.parts.arrays slot at old) v
+undone (hidden_was slot old) v = with_hidden (slice_set v.parts.hidden slot old) v
+undone (scalar_saved slot) v = with_scalar_stashes (at_slot taken_off slot v.parts.scalar_stashes) v
+undone (scalar_taken slot number) v =
+    with_scalar_stashes (at_slot (put_on number) slot v.parts.scalar_stashes) v
+undone (scalar_restored slot number old) v = record v {
+  registers = slice_set v.registers slot old;
+  parts = record v.parts { scalar_stashes = at_slot (put_on number) slot v.parts.scalar_stashes };
+}
+undone (array_saved slot) v = with_array_stashes (at_slot taken_off slot v.parts.array_stashes) v
+undone (array_was change slot old) v = record v { parts = undone_array change slot old v.parts }
+undone (statuses_were old) v = record v { statuses = old }
+undone (taken_was old) v = record v { parts = record v.parts { taken = old } }
+undone (output_was count) v = record v { parts = record v.parts { output = take count v.parts.output } }
+undone (last_was old) v = record v { parts = record v.parts { last = old } }
+undone (lastin_was old) v = record v { parts = record v.parts { lastin = old } }
+undone no_change v = v
+
+-- changes undone one after another
+abbrev pub rewound : List Change → View → View
+rewound [] v = v
+rewound (change ∷ changes) v = rewound changes (undone change v)
+
+-- a stash has spare room
+abbrev pub HasPlace : {A : Type 0} → List (Stash A) → ℕ → Type 0
+HasPlace stashes slot = (get_or stashes slot no_stash).depth < length (get_or stashes slot no_stash).items
+
+-- the value before a change can be put back
+abbrev pub IsUndoable : (base : ℕ) → Change → View → Type 0
+IsUndoable base (register_was at old) v = at < base
+IsUndoable base (scalar_taken slot number) v = HasPlace v.parts.scalar_stashes slot
+IsUndoable base (scalar_restored slot number old) v = (slot < base) × HasPlace v.parts.scalar_stashes slot
+IsUndoable base (array_was now.Taken slot old) v = HasPlace v.parts.array_stashes slot
+IsUndoable base (array_was now.Restored slot old) v = HasPlace v.parts.array_stashes slot
+IsUndoable base other v = Unit {0}
+
+-- stashes with the same values, and with as much room at least
+pub record StashLike {A : Type 0} (old new : Stash A) : Type 0 where
+  pub depth_same : new.depth ≡ old.depth
+  pub places : length old.items ≤ length new.items
+  pub values : used new ≡ used old
+
+pub record StashesLike {A : Type 0} (old new : List (Stash A)) : Type 0 where
+  pub count : length new ≡ length old
+  pub each : (slot : ℕ) → StashLike (get_or old slot no_stash) (get_or new slot no_stash)
+
+abbrev pub but_stashes : Parts → Parts
+but_stashes p = record p { scalar_stashes = []; array_stashes = [] }
+
+pub record PartsLike (p q : Parts) : Type 0 where
+  pub others : but_stashes q ≡ but_stashes p
+  pub scalars : StashesLike p.scalar_stashes q.scalar_stashes
+  pub arrays : StashesLike p.array_stashes q.array_stashes
+
+-- lists of one length, of which the first numbers are the same
+pub record SameFirst (n : ℕ) (xs ys : List ℕ) : Type 0 where
+  pub count : length ys ≡ length xs
+  pub same : (k : ℕ) → k < n → get_or ys k 0 ≡ get_or xs k 0
+
+-- views that differ in their place, their depth, the registers from a number on, the return addresses from a depth
+-- on, and in what is spare behind stashed values alone
+pub record Like (base deep : ℕ) (v w : View) : Type 0 where
+  pub registers : SameFirst base v.registers w.registers
+  pub home : w.home ≡ v.home
+  pub statuses : w.statuses ≡ v.statuses
+  pub parts : PartsLike v.parts w.parts
+  pub returns : SameFirst deep v.returns w.returns
+
+-- registers from a number on are the same
+abbrev pub HighSame : ℕ → View → View → Type 0
+HighSame base v w = (r : ℕ) → base ≤ r → get_or w.registers r 0 ≡ get_or v.registers r 0
+
+-- undoing all changes but the first k, the newest first, leads from a view, and from each one like it, to a view like m
+pub record Rewinds (base : ℕ) (changes : List Change) (low k : ℕ) (v m : View) : Type 0 where
+  pub within : k ≤ length changes
+  pub leads : (w : View) → Like base low v w → Like base m.depth m (rewound (reverse (drop k changes)) w)
+  pub stays : (w : View) → Like base low v w → HighSame base w (rewound (reverse (drop k changes)) w)
+
+-- what no note changes: the first register that is never restored, and the changes that belong to older marks
+pub record Fixed : Type 0 where
+  pub base : ℕ
+  pub kept : List Change
+
+abbrev pub fixed_of : ℕ → List Change → Fixed
+fixed_of base kept = record { base = base; kept = kept }
+
+-- undoing all changes but the first k does so, and undoes all changes since the newest mark
+abbrev pub RewindsMarked : Fixed → List Change → (low k : ℕ) → View → View → Type 0
+RewindsMarked fixed changes low k v m = (k ≤ length fixed.kept) × Rewinds fixed.base changes low k v m
+
+-- what undoing is, for notes of these changes: if somebody is told of changes, they can be rewound
+pub record Means {N : Type 0} (Undoes : N → ℕ → View → View → Type 0) (tells : Bool) (notes : N)
+    (changes : List Change) (fixed : Fixed) (low : ℕ) : Type 0 where
+  pub rewinds : tells ≡ true → (k : ℕ) (v m : View) → Undoes notes k v m
+      → Rewinds fixed.base changes low k v m
+  pub undoes : (k : ℕ) (v m : View) → (tells ≡ true → RewindsMarked fixed changes low k v m)
+      → Undoes notes k v m
+
+-- what can be undone from a view can be undone from each one like it
+abbrev pub AlikeUndo : {N : Type 0} → (N → ℕ → View → View → Type 0) → N → (base low : ℕ) → Type 0
+AlikeUndo Undoes notes base low =
+    (k : ℕ) (v w m : View) → Like base low v w → Undoes notes k v m → Undoes notes k w m
+
+-- what can be undone before a change can be undone after it
+abbrev pub NotesRegister : {N : Type 0} → (N → ℕ → View → View → Type 0) → N → N →
+    ℕ → List ℕ → Type 0
+NotesRegister Undoes old new at registers =
+    (k number : ℕ) (v m : View) → v.registers ≡ registers → Undoes old k v m →
+    Undoes new k (record v { registers = slice_set registers at number }) m
+
+abbrev pub NotesElement : {N : Type 0} → (N → ℕ → View → View → Type 0) → N → N →
+    (slot at : ℕ) → List Array → Type 0
+NotesElement Undoes old new slot at arrays =
+    (k number : ℕ) (v m : View) → v.parts.arrays ≡ arrays → Undoes old k v m →
+    Undoes new k (with_arrays (with_number arrays slot at number) v) m
+
+abbrev pub NotesReturns : {N : Type 0} → (N → ℕ → View → View → Type 0) → N → N → List ℕ → Type 0
+NotesReturns Undoes old new returns =
+    (k : ℕ) (v m : View) → v.returns ≡ returns → Undoes old k v m → Undoes new k v m
+
+abbrev pub NotesChange : {N : Type 0} → (N → ℕ → View → View → Type 0) → N → N →
+    (base : ℕ) → Change → Type 0
+NotesChange Undoes old new base change =
+    (k : ℕ) (v m : View) → IsUndoable base change v → Undoes old k (undone change v) m → Undoes new k v m
+
+-- a number of a stash becomes the number of its scalar
+abbrev pub NotesRestored : {N : Type 0} → (N → ℕ → View → View → Type 0) → N → N →
+    (slot number : ℕ) → List ℕ → Type 0
+NotesRestored Undoes old new slot number registers =
+    (k n : ℕ) (v m : View) (p : Parts) →
+    v.registers ≡ registers →
+    HasPlace p.scalar_stashes slot →
+    PartsLike v.parts (record p { scalar_stashes = at_slot (put_on number) slot p.scalar_stashes }) →
+    Undoes old k v m →
+    Undoes new k (record v { registers = slice_set registers slot n; parts = p }) m
+
+-- what could be undone before can be undone after
+abbrev pub KeepsUndoing : {N : Type 0} → (N → ℕ → View → View → Type 0) → N → N → Type 0
+KeepsUndoing Undoes old new = (k : ℕ) (v m : View) → Undoes old k v m → Undoes new k v m
+
+-- a run can go on from a view, which is like another, in the state of the other
+pub record IsRestored (code : Code) (lowered : LoweredParts) (m v : View) : Type 0 where
+  pub alike : Like lowered.layout.base m.depth m v
+  pub ready : IsReady code lowered v
+  pub states : (input : Input) → state_of code lowered input v ≡ state_of code lowered input m
+
+-- the lists of a view, at no place
+abbrev pub lists_of : View → View
+lists_of v = record v { place = 0; depth = 0 }
+
+-- the changes from one view to another were noted: what could be undone before them can be undone after them
+pub record AreNoted {N : Type 0} (Undoes : N → ℕ → View → View → Type 0) (low : N → ℕ) (fixed : N → Fixed)
+    (old new : N) (v w : View) : Type 0 where
+  pub low_within : low new ≤ w.depth
+  pub base_same : fixed new ≡ fixed old
+  pub follows : (k : ℕ) (m : View) → Undoes old k (lists_of v) m → Undoes new k (lists_of w) m

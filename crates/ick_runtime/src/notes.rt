@@ -1,0 +1,201 @@
+//! Who notes changes.
+
+ghost use Rattle.std.specs.Bool.{MatchBool};
+ghost use Rattle.std.specs.Prelude.{◌≡◌, ◌+◌, ◌<◌, ◌≤◌, ◌^◌, ℕ, Bool, true, false, List, []};
+ghost use Rattle.std.specs.Prelude.{length, map, OnErr, OnOk};
+ghost use Rattle.std.proofs.Common.{get_or};
+ghost use Rattle.ick_code.specs.meaning.State.{no_array};
+ghost use Rattle.ick_instructions.specs.Extends.{Extends};
+ghost use Rattle.ick_runtime.specs.Noting.{NotesOne};
+ghost use Rattle.ick_runtime.specs.Undo.{array_was, change_of, stands_apart, statuses_were};
+ghost use Rattle.ick_runtime.specs.Undo.{AlikeUndo, Change, Fixed, KeepsUndoing, Means};
+ghost use Rattle.ick_runtime.specs.Undo.{NotesChange, NotesElement, NotesRegister, NotesRestored};
+ghost use Rattle.ick_runtime.specs.Undo.{NotesReturns};
+ghost use Rattle.ick_runtime.specs.View.{View, array_of};
+
+use crate::change::{ArrayChange, Entry};
+use crate::memory::Array;
+use ick_bits::NoMemory;
+
+/// Notes changes before they are made, so that they can be undone.
+pub trait Notes: Drop {
+    /// How many changes can still be noted.
+    ghost room: { Self → ℕ };
+
+    /// The return addresses below this depth are those of the newest mark.
+    ghost low: { Self → ℕ };
+
+    /// The first register that is never restored, and the changes that belong to older marks. No
+    /// call here changes either.
+    ghost fixed: { Self → Fixed };
+
+    /// Whether changes are noted at all.
+    ghost tells: { Bool };
+
+    /// The changes that were noted, the newest last.
+    ghost changes: { Self → List Change };
+
+    /// Undoing all changes but the first ones leads from a view to one like another.
+    ghost Undoes: { Self → ℕ → View → View → Type 0 };
+
+    /// Returns how many changes were noted.
+    fn count(&self) -> usize
+        ensures { result ≡ length (changes self.now) };
+
+    /// Returns whether changes are noted at all.
+    fn notes_changes(&self) -> bool
+        ensures { result ≡ tells };
+
+    /// Returns whether so many changes can still be noted, and all return addresses.
+    fn has_room(&self, more: usize) -> bool
+        ensures { MatchBool result (more + 79 ≤ room self.now) (room self.now < more + 79) };
+
+    /// States what undoing is, and that nothing else than what can be noted matters.
+    fn law(&self)
+        ensures alike { AlikeUndo Undoes self.now (fixed self.now).base (low self.now) }
+        ensures means { Means Undoes tells self.now (changes self.now) (fixed self.now)
+            (low self.now) };
+
+    /// Notes that a register will change.
+    fn note_register(&mut self, registers: &[u32], at: u32)
+        requires room { 0 < room self.old }
+        requires there { at < length registers.now }
+        ensures noted { NotesOne room low fixed changes self.old self.new }
+        ensures notes { NotesRegister Undoes self.old self.new at registers.now };
+
+    /// Notes that an element will have another number.
+    fn note_element(&mut self, arrays: &[Array], slot: u32, at: u32)
+        requires room { 0 < room self.old }
+        requires slot { slot < length arrays.now }
+        requires at { at < length (get_or (map array_of arrays.now) slot no_array).elements }
+        ensures noted { NotesOne room low fixed changes self.old self.new }
+        ensures notes { NotesElement Undoes self.old self.new slot at (map array_of arrays.now) };
+
+    /// Notes that the return addresses from a depth on will be dropped.
+    fn note_dropped(&mut self, returns: &[u32], depth: usize)
+        requires room { 79 ≤ room self.old }
+        requires stack { length returns.now ≡ 79 }
+        requires there { low self.old ≤ 79 }
+        ensures room { room self.old ≤ room self.new + 79 }
+        ensures low { low self.new ≤ depth }
+        ensures lower { low self.new ≤ low self.old }
+        ensures base { fixed self.new ≡ fixed self.old }
+        ensures changes { Extends (changes self.old) (changes self.new) }
+        ensures notes { NotesReturns Undoes self.old self.new returns.now };
+
+    /// Notes a change whose old value is in its entry. It may have been made already.
+    fn note(&mut self, entry: Entry)
+        requires room { 0 < room self.old }
+        requires alone { stands_apart entry ≡ false }
+        ensures noted { NotesOne room low fixed changes self.old self.new }
+        ensures notes { NotesChange Undoes self.old self.new (fixed self.old).base
+            (change_of entry) };
+
+    /// Notes that the number of the scalar in a slot will change to one that was taken off its
+    /// stash.
+    fn note_restored(&mut self, registers: &[u32], slot: u32, number: u32)
+        requires room { 0 < room self.old }
+        requires there { slot < length registers.now }
+        ensures noted { NotesOne room low fixed changes self.old self.new }
+        ensures notes { NotesRestored Undoes self.old self.new slot number registers.now };
+
+    /// Makes room for so many changes and all return addresses. If memory runs out, nothing else
+    /// changes.
+    fn make_room(&mut self, more: usize) -> Result<(), NoMemory>
+        ensures room { OnOk result (more + 79 ≤ room self.new) }
+        ensures low { low self.new ≡ low self.old }
+        ensures base { fixed self.new ≡ fixed self.old }
+        ensures changes { changes self.new ≡ changes self.old }
+        ensures keeps { KeepsUndoing Undoes self.old self.new };
+
+    /// Notes how an array changes, with a copy of the old one. If memory runs out, nothing is
+    /// noted.
+    fn note_array(&mut self, change: ArrayChange, slot: u32, array: &Array) -> Result<(), NoMemory>
+        requires room { 0 < room self.old }
+        ensures noted { NotesOne room low fixed changes self.old self.new }
+        ensures notes { OnOk result (NotesChange Undoes self.old self.new (fixed self.old).base
+            (array_was change slot (array_of array.now))) }
+        ensures same { OnErr result (changes self.new ≡ changes self.old) }
+        ensures keeps { OnErr result (KeepsUndoing Undoes self.old self.new) };
+
+    /// Notes that statuses will change, with a copy of them all. If memory runs out, nothing is
+    /// noted.
+    fn note_statuses(&mut self, statuses: &[u8]) -> Result<(), NoMemory>
+        requires room { 0 < room self.old }
+        ensures noted { NotesOne room low fixed changes self.old self.new }
+        ensures notes { OnOk result (NotesChange Undoes self.old self.new (fixed self.old).base
+            (statuses_were statuses.now)) }
+        ensures same { OnErr result (changes self.new ≡ changes self.old) }
+        ensures keeps { OnErr result (KeepsUndoing Undoes self.old self.new) };
+}
+
+/// Notes nothing.
+#[derive(Drop)]
+pub struct Nobody;
+
+impl Notes for Nobody {
+    ghost room = { λ _. 2 ^ 65 };
+
+    ghost low = { λ _. 0 };
+
+    ghost fixed = { λ _. record { base = 0; kept = [] } };
+
+    ghost tells = { false };
+
+    ghost changes = { λ _. [] };
+
+    ghost Undoes = { λ _ _ _ _. Unit {0} };
+
+    #[inline(always)]
+    fn count(&self) -> usize {
+        0
+    }
+
+    #[inline(always)]
+    fn notes_changes(&self) -> bool {
+        false
+    }
+
+    #[inline(always)]
+    fn has_room(&self, more: usize) -> bool {
+        true
+    }
+
+    #[inline(always)]
+    fn law(&self) {}
+
+    #[inline(always)]
+    fn note_register(&mut self, registers: &[u32], at: u32) {}
+
+    #[inline(always)]
+    fn note_element(&mut self, arrays: &[Array], slot: u32, at: u32) {}
+
+    #[inline(always)]
+    fn note_dropped(&mut self, returns: &[u32], depth: usize) {}
+
+    #[inline(always)]
+    fn note(&mut self, entry: Entry) {}
+
+    #[inline(always)]
+    fn note_restored(&mut self, registers: &[u32], slot: u32, number: u32) {}
+
+    #[inline(always)]
+    fn make_room(&mut self, more: usize) -> Result<(), NoMemory> {
+        Ok(())
+    }
+
+    #[inline(always)]
+    fn note_array(
+        &mut self,
+        change: ArrayChange,
+        slot: u32,
+        array: &Array,
+    ) -> Result<(), NoMemory> {
+        Ok(())
+    }
+
+    #[inline(always)]
+    fn note_statuses(&mut self, statuses: &[u8]) -> Result<(), NoMemory> {
+        Ok(())
+    }
+}
