@@ -2,8 +2,7 @@
 
 ghost use Rattle.std.specs.Prelude.{◌≡◌, Bool, IfOk};
 ghost use Rattle.ick_engine.specs.Reads.{IsNext, IsByte};
-ghost use Rattle.ick_runtime.specs.Inputs.{Leads};
-ghost use Rattle.ick_runtime.specs.Inputs.{Input};
+ghost use Rattle.ick_runtime.specs.Inputs.{Leads, Input};
 
 use ick_bits::NoMemory;
 

@@ -15,10 +15,9 @@ use Rattle.ick_instructions.specs.declared.lowered.LoweredParts.{LoweredParts}
 use Rattle.ick_engine.specs.declared.exit.RawEnd.{RawEnd}
 use Rattle.ick_marks.specs.declared.saved.Saved.{Saved}
 use Rattle.ick_engine.specs.declared.text_reader.TextReader.{TextReader}
-use Rattle.ick_runtime.specs.Inputs.{Leads}
+use Rattle.ick_runtime.specs.Inputs.{Leads, Input, input_of}
 use Rattle.ick_marks.specs.Saved.{IsKept, IsSaved, saved_view}
 use Rattle.ick_runtime.specs.View.{View, state_of}
-use Rattle.ick_runtime.specs.Inputs.{Input, input_of}
 use Rattle.ick_engine.specs.Exits.{end_of}
 use Rattle.ick_machine.specs.Asked.{asked_by}
 use Rattle.ick_machine.specs.Run.{ending_of, run_state}
