@@ -10,6 +10,5 @@ mod Stack
 pub mod WholeLemmas
 mod PassedOver
 mod CopyLemmas
-mod FeedLemmas
 mod FedLemmas
 mod LiveLemmas

@@ -11,7 +11,8 @@ use Rattle.ick_engine.specs.{declared.exit.RawEnd.RawEnd}
 use Rattle.ick_runtime.specs.{View.View, Inputs.input_of}
 use Rattle.ick_backtrack.specs.Asked.{Finish, finished, asked_at_end}
 use Rattle.ick_backtrack.specs.{Machine.Program, Steps.IsQuiet, Steps.RunsOn}
-use Rattle.ick_machine.specs.{Feeds.input_after, Live.LiveMachine, Live.fed, Message.asked_message}
+use Rattle.ick_engine.specs.{Feeds.input_after}
+use Rattle.ick_machine.specs.{Live.LiveMachine, Live.fed, Message.asked_message}
 use Rattle.ick_machine.specs.{Message.end_message, Run.ending_of, Run.run_state}
 use Rattle.ick_machine.proofs.{FedLemmas.same_end, StepsLemmas.no_step, StepsLemmas.one_more, StepsLemmas.steps_on}
 

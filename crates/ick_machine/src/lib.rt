@@ -8,16 +8,12 @@
 //! | `trailed` | a machine with marks that notes each change |
 //! | `copied` | a machine with marks that copies its state |
 //! | `present` | the present state of a machine with marks, to be read |
-//! | `feed` | where the input of a run comes from that is read while it runs |
-//! | `feed_reader` | a feed as the input of a step |
 //! | `live_ask` | what a machine without marks asks |
 //! | `live` | a machine without marks, which takes its input from a feed |
 #![tactic(auto)]
 
 mod asking;
 mod copied;
-mod feed;
-mod feed_reader;
 mod live;
 mod live_ask;
 mod present;
@@ -26,8 +22,8 @@ mod trailed;
 
 pub use asking::{asked_at, end_of};
 pub use copied::Copied;
-pub use feed::Feed;
 pub use ick_backtrack::{Ask, Asks, Backtrack, End, FeedFault};
+pub use ick_engine::Feed;
 pub use live::Live;
 pub use live_ask::{EndKind, LiveAsk};
 pub use present::{Inspect, Present};

@@ -6,13 +6,12 @@ ghost use Rattle.std.specs.Prelude.{IfOk, OnOk, OnErr, vec_len, vec_capacity};
 ghost use Rattle.ick_machine.specs.RunIn.{CanGoOn};
 
 use crate::asking::answer;
-use crate::feed_reader::FeedReader;
 use crate::steps::stopped;
-use crate::{EndKind, Feed, LiveAsk, end_of, make_steps};
+use crate::{EndKind, LiveAsk, end_of, make_steps};
 use ick_backtrack::{Ask, End, FeedFault};
 use ick_bits::{NoMemory, append_message};
 use ick_code::Code;
-use ick_engine::{RawEnd, make_single};
+use ick_engine::{Feed, FeedReader, RawEnd, make_single};
 use ick_lowering::lower;
 use ick_runtime::{Memory, NoTraces, Nobody, fresh_memory};
 use ick_syntax::Kind;
@@ -39,7 +38,8 @@ impl<'c, 'a> Live<'c, 'a> {
     ghost use Rattle.ick_code.specs.{Compiled.code_program, meaning.Move.ask};
     ghost use Rattle.ick_code.specs.meaning.Move.{advance, first_state};
     ghost use Rattle.ick_backtrack.specs.{Asked.IsGoing, Steps.IsQuiet, Steps.RunsOn, Steps.Rests};
-    ghost use Rattle.ick_machine.specs.Feeds.{feed_failures, MeetsInput, LeadsToInput};
+    ghost use Rattle.ick_engine.specs.Feeds.{feed_failures};
+    ghost use Rattle.ick_machine.specs.Feeds.{MeetsInput, LeadsToInput};
     ghost use Rattle.ick_machine.specs.Live.{seen, fed, cleared, live_ask, fault_message, HasRunOn};
 
     /// Returns a machine at the start of a program (Revised Manual, 3.1, 3.3). `NoMemory` is

@@ -4,7 +4,8 @@ use Rattle.ick_code.specs.Compiled.{code_program}
 use Rattle.ick_backtrack.specs.Steps.{IsQuiet, RunsOn}
 use Rattle.ick_runtime.specs.Memory.{view_in}
 use Rattle.ick_instructions.specs.declared.lowered.Lowered.{Lowered}
-use Rattle.ick_machine.specs.{Feeds.has_ended, Feeds.input_after, Feeds.some_left, Live.seen, Run.run_state, RunIn.program_of}
+use Rattle.ick_engine.specs.{Feeds.has_ended, Feeds.input_after, Feeds.some_left}
+use Rattle.ick_machine.specs.{Live.seen, Run.run_state, RunIn.program_of}
 use Rattle.ick_machine.specs.RunIn.{state_in}
 use Rattle.ick_machine.proofs.{AnswerLemmas.place_low, Readiness.ready_unless, StepLemmas.plain_any}
 use Rattle.ick_machine.proofs.FedLemmas.{told_before, no_items, quiet_goes, quiet_run, has_moved}

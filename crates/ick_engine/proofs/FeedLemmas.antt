@@ -15,7 +15,7 @@ use Rattle.ick_runtime.specs.{Inputs.Input}
 use Rattle.ick_engine.specs.{declared.reader.Line.TheVariants.Nothing}
 use Rattle.ick_engine.specs.Reads.{IsNext, IsByte, line_outcome}
 use Rattle.ick_backtrack.specs.declared.feed_fault.FeedFault.{FeedFault}
-use Rattle.ick_machine.specs.Feeds.{has_ended, input_after, line_with, MayBeLeft}
+use Rattle.ick_engine.specs.Feeds.{has_ended, input_after, line_with, MayBeLeft}
 
 -- a line without an end in it is the first line of itself, an end and more
 module _ (line rest : List ℕ) (one : first_line line ≡ line) where

@@ -3,7 +3,7 @@
 ghost use Rattle.std.specs.Prelude.{◌≡◌, ◌≢◌, ◌+◌, ◌<◌, ◌^◌, ◌∷◌};
 ghost use Rattle.std.specs.Prelude.{ℕ, List, Bool, [], true, false, Ok, Some, None, IfErr};
 ghost use Rattle.ick_code.specs.meaning.InputOutput.{first_line, later_lines};
-ghost use Rattle.ick_machine.specs.Feeds.{feed_failures};
+ghost use Rattle.ick_engine.specs.Feeds.{feed_failures};
 ghost use Rattle.ick_backtrack.specs.declared.feed_fault.FeedFault.TheVariants.{Read as ReadFailed};
 
 use ick_backtrack::FeedFault;

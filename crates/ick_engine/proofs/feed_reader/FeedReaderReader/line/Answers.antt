@@ -1,9 +1,9 @@
 use Rattle.std.proofs.Common.{◌≡◌, true, false, Ok, refl, sym, ap, ◌∙◌, subst, rules}
 use Rattle.ick_bits.specs.Digits.{line_answer}
-use Rattle.ick_machine.specs.Feeds.{line_with}
+use Rattle.ick_engine.specs.Feeds.{line_with}
 use Rattle.ick_engine.specs.{Reads.IsNext, declared.reader.Line.TheVariants.Nothing}
-use Rattle.ick_machine.proofs.FeedLemmas.{read_by, read_line, read_nothing}
-use Rattle.ick_machine.proofs.feed_reader.FeedReaderReader.line.Goals as goal
+use Rattle.ick_engine.proofs.FeedLemmas.{read_by, read_line, read_nothing}
+use Rattle.ick_engine.proofs.feed_reader.FeedReaderReader.line.Goals as goal
 
 pub returns-in-Ok-true-last-clause-next : goal.returns-in-Ok-true-last-clause-next
 returns-in-Ok-true-last-clause-next g c =

@@ -1,7 +1,7 @@
 use Rattle.std.proofs.Common.{◌≡◌, true, false, Ok, Some, None, refl, ap, rules}
 use Rattle.ick_engine.specs.Reads.{IsByte}
-use Rattle.ick_machine.proofs.FeedLemmas.{read_by, read_byte, read_no_byte}
-use Rattle.ick_machine.proofs.feed_reader.FeedReaderReader.byte.Goals as goal
+use Rattle.ick_engine.proofs.FeedLemmas.{read_by, read_byte, read_no_byte}
+use Rattle.ick_engine.proofs.feed_reader.FeedReaderReader.byte.Goals as goal
 
 pub returns-in-Ok-Some-clause-next : goal.returns-in-Ok-Some-clause-next
 returns-in-Ok-Some-clause-next g c =

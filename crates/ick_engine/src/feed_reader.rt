@@ -3,13 +3,13 @@
 ghost use Rattle.std.specs.Prelude.{◌≡◌, ◌+◌, ◌-◌, ◌<◌, ◌^◌, ◌∷◌, ℕ, List, []};
 ghost use Rattle.std.specs.Prelude.{true, false, Ok, Err, IsOk, OnOk};
 ghost use Rattle.ick_bits.specs.Digits.{line_answer};
-ghost use Rattle.ick_machine.specs.Feeds.{MayBeLeft, feed_failures, has_ended, some_left};
-ghost use Rattle.ick_machine.specs.Feeds.{line_with, one_if, waits_by};
+ghost use Rattle.ick_engine.specs.Feeds.{MayBeLeft, feed_failures, has_ended, some_left};
+ghost use Rattle.ick_engine.specs.Feeds.{line_with, one_if, waits_by};
 
-use crate::{Came, Feed};
+use crate::feed::Feed;
+use crate::reader::{Line, Reader};
 use ick_backtrack::FeedFault;
 use ick_bits::{DigitFault, NoMemory, digits_value};
-use ick_engine::{Line, Reader};
 
 /// Reads the input of a step from a feed. Once no input was left, or a read has failed, the feed
 /// isn't asked again. It is never asked unless the step meets a WRITE IN.
@@ -31,7 +31,7 @@ pub struct FeedReader<'f, F: Feed> {
 
 impl<'f, F: Feed> FeedReader<'f, F> {
     /// Returns what a call has come to. If the feed had an error, it is this error.
-    pub fn outcome(&self, came: Result<Came, NoMemory>) -> Result<Came, FeedFault>
+    pub fn outcome<T: Drop>(&self, came: Result<T, NoMemory>) -> Result<T, FeedFault>
         ensures made { OnOk result (IsOk came) }
         ensures count { feed_failures result ≡ feed_failures self.now.last }
         ensures reads { result ≡ Err FeedFault.Read → self.now.allowed ≡ true }

@@ -1,0 +1,72 @@
+-- Words of the contracts of feeds.
+use Rattle.std.specs.Prelude.{ℕ, ◌≡◌, ◌==◌, Bool, true, List, [], slice_range, if◌then◌else◌, Result, Ok, Err}
+use Rattle.std.proofs.Common.{get_or}
+use Rattle.std.proofs.Common.{false, refl, sym}
+use Rattle.std.proofs.lemmas.Bool.{false≢true}
+use Rattle.ick_bits.specs.declared.digits.DigitFault.{DigitFault}
+use Rattle.ick_bits.specs.declared.digits.DigitFault.TheVariants.{Word, TooLarge as TooLargeNumber}
+use Rattle.ick_runtime.specs.Inputs.{Input}
+use Rattle.ick_engine.specs.declared.reader.Line.{Line}
+use Rattle.ick_engine.specs.declared.reader.Line.TheVariants.{Number, TooLarge, BadWord}
+use Rattle.ick_backtrack.specs.declared.feed_fault.FeedFault.{FeedFault}
+use Rattle.ick_backtrack.specs.declared.feed_fault.FeedFault.TheVariants.{NoMemory, Read}
+
+-- how many reads of a feed have failed where this went wrong
+abbrev pub failed_reads : FeedFault → ℕ
+failed_reads NoMemory = 0
+failed_reads Read = 1
+
+-- and in a call with this answer
+abbrev pub feed_failures : {T : Type 0} → Result T FeedFault → ℕ
+feed_failures (Ok value) = 0
+feed_failures (Err fault) = failed_reads fault
+
+-- whether the last read found that no input is left
+abbrev pub has_ended : Result Bool FeedFault → Bool
+has_ended (Ok true) = false
+has_ended (Ok false) = true
+has_ended (Err fault) = false
+
+-- a line with this answer, after which the input goes on at a position
+abbrev pub line_with : Result ℕ DigitFault → ℕ → Line
+line_with (Ok number) to = Number number to
+line_with (Err (Word from end)) to = BadWord from end to
+line_with (Err TooLargeNumber) to = TooLarge to
+
+-- the input that a feed has left after its last line, wherever it is asked for
+abbrev pub input_after : List ℕ → List ℕ → Input
+input_after line left = record { left = λ _. left; word = slice_range line }
+
+-- an input that may be left after a line: what is told, and nothing where the end was met
+pub record MayBeLeft (told ended : Bool) (line left : List ℕ) (input : Input) : Type 0 where
+  pub word : (from to : ℕ) → input.word from to ≡ slice_range line from to
+  pub told_left : told ≡ true → (place : ℕ) → input.left place ≡ left
+  pub none_left : ended ≡ true → (place : ℕ) → input.left place ≡ []
+
+-- some input may always be left
+pub some_left : (told ended : Bool) (line left : List ℕ) → (ended ≡ true → told ≡ true → left ≡ []) →
+    (input : Input) × MayBeLeft told ended line left input
+some_left told true line left over = (
+  input_after line [],
+  record {
+    word = λ from to. refl;
+    told_left = λ is place. sym (over refl is);
+    none_left = λ ended place. refl;
+  },
+)
+some_left told false line left over = (
+  input_after line left,
+  record {
+    word = λ from to. refl;
+    told_left = λ is place. refl;
+    none_left = λ ended place. absurd (false≢true ended);
+  },
+)
+
+-- 1 for true, 0 for false
+abbrev pub one_if : Bool → ℕ
+one_if flag = if flag then 1 else 0
+
+-- whether a run waits, by what a reader of a feed keeps
+abbrev pub waits_by : List ℕ → Bool
+waits_by held = get_or held 5 0 == 1
