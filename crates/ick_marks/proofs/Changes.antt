@@ -1,19 +1,15 @@
 -- The changes that a trail has.
-use Rattle.std.proofs.Common.{arith, ◌≤◌, ◌≡◌, ℕ, suc, false, List, [], ◌∷◌, ◌++◌, refl, ap, get_or, length, map, reverse, take, take_all, rules}
-use Rattle.std.proofs.lemmas.Grind.{common_steps}
-use Rattle.std.specs.Global.{Vec}
-use Rattle.std.proofs.lemmas.List.{length-reverse, length-take-le, take-append-le}
-use Rattle.std.proofs.Math.Seq.{take-suc}
-use Rattle.ick_code.specs.meaning.State.{Array as ArrayValue}
-use Rattle.ick_instructions.specs.Extends.{Extends}
-use Rattle.ick_runtime.specs.declared.change.ArrayChange.{ArrayChange}
-use Rattle.ick_runtime.specs.declared.change.Entry.{Entry}
+use Rattle.std.proofs.Common.{arith, false, get_or, length, List, refl, reverse, rules, take, take_all, ◌++◌, ◌≡◌, ◌≤◌}
+use Rattle.std.proofs.Common.{[], ap, map, suc, sym, ℕ, ◌∷◌}
+use Rattle.ick_marks.proofs.Names.{all_undone, changes_in, common_steps, length-take-le, statuses_were, take-append-le}
+use Rattle.ick_marks.proofs.Names.{array_of, array_was, ArrayValue, change_of, Extends, HighSame, no_change, undone}
+use Rattle.ick_marks.proofs.Names.{Like, Trail, View}
+use Rattle.std.{proofs.lemmas.List.length-reverse, proofs.Math.Seq.take-suc, specs.Global.Vec}
+use Rattle.ick_runtime.specs.declared.{change.ArrayChange.ArrayChange, change.Entry.Entry, memory.Array.Array}
+use Rattle.ick_runtime.proofs.Undoing.{like_refl, marks_here}
+use Rattle.ick_marks.specs.TrailChanges.{AreUndone, changes_by, fixed_by, IsNoted, IsUndone}
+use Rattle.ick_runtime.specs.{Undo.Change, Undo.changes_of, Undo.fixed_of, Undo.stands_apart, View.bytes_of}
 use Rattle.ick_runtime.specs.declared.change.Entry.TheVariants as entry
-use Rattle.ick_runtime.specs.declared.memory.Array.{Array}
-use Rattle.ick_marks.specs.declared.trail.Trail.{Trail}
-use Rattle.ick_marks.specs.TrailChanges.{changes_by, fixed_by, changes_in, IsNoted, IsUndone}
-use Rattle.ick_runtime.specs.Undo.{Change, array_was, statuses_were, no_change, change_of, changes_of, stands_apart, fixed_of}
-use Rattle.ick_runtime.specs.View.{View, array_of, bytes_of}
 
 -- an entry with its old value is a change of its own
 pub alone : (e : Entry) (entries : List Entry) (arrays : List ArrayValue) (statuses : List (List ℕ)) →
@@ -25,24 +21,11 @@ alone = search rules
 count_changes : (entries : List Entry) (arrays : List ArrayValue) (statuses : List (List ℕ)) →
     length (changes_of entries arrays statuses) ≡ length entries
 count_changes [] arrays statuses = refl
-count_changes (entry.Register at old ∷ es) arrays statuses = ap suc (count_changes es arrays statuses)
-count_changes (entry.Home at old ∷ es) arrays statuses = ap suc (count_changes es arrays statuses)
-count_changes (entry.Status at old ∷ es) arrays statuses = ap suc (count_changes es arrays statuses)
-count_changes (entry.Return at old ∷ es) arrays statuses = ap suc (count_changes es arrays statuses)
-count_changes (entry.Element slot at old ∷ es) arrays statuses = ap suc (count_changes es arrays statuses)
-count_changes (entry.Hidden slot old ∷ es) arrays statuses = ap suc (count_changes es arrays statuses)
-count_changes (entry.ScalarSaved slot ∷ es) arrays statuses = ap suc (count_changes es arrays statuses)
-count_changes (entry.ScalarTaken slot number ∷ es) arrays statuses = ap suc (count_changes es arrays statuses)
-count_changes (entry.ScalarRestored slot number old ∷ es) arrays statuses = ap suc (count_changes es arrays statuses)
-count_changes (entry.ArraySaved slot ∷ es) arrays statuses = ap suc (count_changes es arrays statuses)
 count_changes (entry.Array change slot ∷ es) [] statuses = ap suc (count_changes es [] statuses)
 count_changes (entry.Array change slot ∷ es) (a ∷ arrays) statuses = ap suc (count_changes es arrays statuses)
 count_changes (entry.Statuses ∷ es) arrays [] = ap suc (count_changes es arrays [])
 count_changes (entry.Statuses ∷ es) arrays (old ∷ statuses) = ap suc (count_changes es arrays statuses)
-count_changes (entry.Taken old ∷ es) arrays statuses = ap suc (count_changes es arrays statuses)
-count_changes (entry.Output count ∷ es) arrays statuses = ap suc (count_changes es arrays statuses)
-count_changes (entry.Last old ∷ es) arrays statuses = ap suc (count_changes es arrays statuses)
-count_changes (entry.LastIn old ∷ es) arrays statuses = ap suc (count_changes es arrays statuses)
+count_changes (e ∷ es) arrays statuses = ap suc (count_changes es arrays statuses)
 
 pub count_history : (t : Trail) → length (changes_in t) ≡ length t.entries.items
 count_history t = search (rules, count_changes, length-reverse)
@@ -112,34 +95,44 @@ pub newest_undone : (all : List Entry) (mid new : Trail) (e : Entry) (v w : View
     reverse (changes_by mid (reverse all)) ≡ changes_in new ++ u.change ∷ []
 newest_undone all mid new e v w u is same = grind (arith, common_steps)
 
--- an entry and what stands apart from it, taken off
-pub off_array : (t : Trail) (e : Entry) (arrays : List Array) (old : Array) (change : ArrayChange) (slot : ℕ)
-    (older : List Entry) → e ≡ entry.Array change slot → t.arrays.items ≡ arrays ++ old ∷ [] →
-    changes_by t (e ∷ older)
-    ≡ array_was change slot (array_of old)
-    ∷ changes_of older (reverse (map array_of arrays)) (reverse (map bytes_of t.statuses.items))
-off_array t e arrays old change slot older is popped = grind (arith, common_steps)
-
-pub off_statuses : (t : Trail) (e : Entry) (statuses : List (Vec ℕ)) (old : Vec ℕ) (older : List Entry) →
-    e ≡ entry.Statuses → t.statuses.items ≡ statuses ++ old ∷ [] →
-    changes_by t (e ∷ older)
-    ≡ statuses_were old.items
-    ∷ changes_of older (reverse (map array_of t.arrays.items)) (reverse (map bytes_of statuses))
-off_statuses t e statuses old older is popped = grind (arith, common_steps)
-
--- an entry from which nothing stands apart
-pub off_no_array : (t : Trail) (e : Entry) (arrays : List Array) (change : ArrayChange) (slot : ℕ) (older : List Entry) →
-    e ≡ entry.Array change slot → t.arrays.items ≡ [] → arrays ≡ [] →
-    changes_by t (e ∷ older)
-    ≡ no_change ∷ changes_of older (reverse (map array_of arrays)) (reverse (map bytes_of t.statuses.items))
-off_no_array t e arrays change slot older is none new = search rules
-
-pub off_no_statuses : (t : Trail) (e : Entry) (statuses : List (Vec ℕ)) (older : List Entry) →
-    e ≡ entry.Statuses → t.statuses.items ≡ [] → statuses ≡ [] →
-    changes_by t (e ∷ older)
-    ≡ no_change ∷ changes_of older (reverse (map array_of t.arrays.items)) (reverse (map bytes_of statuses))
-off_no_statuses t e statuses older is none new = search rules
-
-pub none_left : {A : Type 0} (xs : List A) → length xs ≤ 0 → xs ≡ []
+none_left : {A : Type 0} (xs : List A) → length xs ≤ 0 → xs ≡ []
 none_left [] h = refl
 none_left (x ∷ xs) h = absurd (omega (arith, h))
+
+-- an entry that was undone and taken off, with what stands apart from it, if there is anything
+module _ {t new : Trail} {e : Entry} {v w : View} where
+  pub array_undone : (old : Array) {change : ArrayChange} {slot : ℕ} → e ≡ entry.Array change slot →
+      t.arrays.items ≡ new.arrays.items ++ old ∷ [] → new.statuses ≡ t.statuses →
+      w ≡ undone (array_was change slot (array_of old)) v → IsUndone e t new v w
+  array_undone old {change} {slot} is popped same view =
+      record { change = array_was change slot (array_of old); off = λ older. grind (arith, common_steps); view_is = view }
+
+  pub statuses_undone : (old : Vec ℕ) → e ≡ entry.Statuses → t.statuses.items ≡ new.statuses.items ++ old ∷ [] →
+      new.arrays ≡ t.arrays → w ≡ undone (statuses_were old.items) v → IsUndone e t new v w
+  statuses_undone old is popped same view =
+      record { change = statuses_were old.items; off = λ older. grind (arith, common_steps); view_is = view }
+
+  pub no_array_undone : {change : ArrayChange} {slot : ℕ} → e ≡ entry.Array change slot → length t.arrays.items ≤ 0 →
+      length new.arrays.items ≤ 0 → new.statuses ≡ t.statuses → w ≡ v → IsUndone e t new v w
+  no_array_undone is none none' same view =
+      record { change = no_change; off = λ older. grind (arith, none_left {A = Array}); view_is = view }
+
+  pub no_statuses_undone : e ≡ entry.Statuses → length t.statuses.items ≤ 0 → length new.statuses.items ≤ 0 →
+      new.arrays ≡ t.arrays → w ≡ v → IsUndone e t new v w
+  no_statuses_undone is none none' same view =
+      record { change = no_change; off = λ older. grind (arith, none_left {A = Vec ℕ}); view_is = view }
+
+-- no change is newer
+pub nothing_newer : (t : Trail) (changes : ℕ) (v : View) → length (changes_in t) ≤ changes → AreUndone t t changes v v
+nothing_newer t changes v few = record {
+  kept = sym (take_all changes (changes_in t) few);
+  base_same = refl;
+  leads = λ m h.
+      all_undone (Like t.base m.depth m) (changes_in t) changes v few (h.leads v (like_refl t.base t.low v));
+  stays = λ m h. all_undone (HighSame t.base v) (changes_in t) changes v few (h.stays v (like_refl t.base t.low v));
+}
+
+-- for marks, and for notes
+pub ruleset marked = (common_steps, count_history, marks_here)
+
+pub ruleset noting = (common_steps, fixed_grown, grown, grown_one, newest_array, newest_statuses)

@@ -1,14 +1,9 @@
 -- States that are kept, and their copies.
-use Rattle.std.proofs.Common.{◌≡◌, ◌∙◌, rules}
-use Rattle.std.proofs.Props.{props}
-use mathlib.Core.Logic.{∥∥₁_elim}
-use Rattle.ick_code.specs.declared.code.Code.{Code}
-use Rattle.ick_instructions.specs.declared.lowered.LoweredParts.{LoweredParts}
-use Rattle.ick_marks.specs.declared.saved.Saved.{Saved}
-use Rattle.ick_marks.specs.Saved.{AreSame, IsKept, saved_view}
-use Rattle.ick_runtime.specs.View.{parts_of, state_of}
-use Rattle.ick_runtime.specs.Inputs.{Input}
-use Rattle.ick_marks.proofs.Saving.{same_parts_trans}
+use Rattle.std.proofs.Common.{ap, drop, length, rules, sym, ◌++◌, ◌∙◌, ◌≡◌}
+use Rattle.ick_marks.proofs.Names.{AreSame, IsLoaded, IsProgram, LoweredParts, parts_of, saved_view, state_of, ∥∥₁_elim}
+use Rattle.ick_marks.proofs.Names.{Code, Input, IsReady, IsSaved, IsSteady, props, Saved, View}
+use Rattle.ick_marks.{proofs.Readiness.ready_of, proofs.Readiness.state_of_both, specs.Saved.IsKept}
+use Rattle.ick_marks.proofs.Saving.{kept_state, loaded, same_parts_trans}
 
 -- a kept state has the same lists as another one, but for spare room of stashes
 pub record IsCopy (one copy : Saved) : Type 0 where
@@ -38,3 +33,22 @@ copy_kept code lowered one copy is kept = ∥∥₁_elim kept (hlevel props) (λ
 pub copy_state : (code : Code) (lowered : LoweredParts) (one copy : Saved) → IsCopy one copy → (input : Input) →
     state_of code lowered input (saved_view copy) ≡ state_of code lowered input (saved_view one)
 copy_state code lowered one copy is input = search rules
+
+-- a kept state that was put into a memory
+pub kept_loaded : (code : Code) (lowered : LoweredParts) (saved : Saved) (old new : View) → IsProgram code lowered →
+    IsKept code lowered saved → IsSteady code lowered old →
+    new.registers ≡ saved.numbers.items ++ drop (length saved.numbers.items) old.registers →
+    new.returns ≡ saved.returns.items ++ drop (length saved.returns.items) old.returns → new.home ≡ saved.home.items →
+    new.statuses ≡ saved.statuses.items → new.place ≡ saved.place → new.depth ≡ length saved.returns.items →
+    AreSame (parts_of saved.rest) new.parts → IsLoaded code lowered (saved_view saved) new
+kept_loaded code lowered saved old new is kept steady registers returns home statuses place depth parts = record {
+  ready = ready_of code lowered new kept (λ h. (by h).ready);
+  states = λ input. state_of_both _ _ kept
+      (λ h. (by h).states input ∙ sym (kept_state code lowered saved h.0 is.lowered_is.base h.2 input));
+}
+  where
+    by : (h : (m : View) × IsReady code lowered m × IsSaved lowered saved m) → IsLoaded code lowered h.0 new
+    by h = let was = h.2 in
+        loaded code lowered is old h.0 steady h.1 new (parts_of saved.rest) (rw was.numbers_kept at registers)
+        (rw was.returns_kept at returns) (home ∙ was.home_kept) (statuses ∙ was.statuses_kept) (place ∙ was.place_kept)
+        (depth ∙ ap length was.returns_kept) was.parts_kept parts

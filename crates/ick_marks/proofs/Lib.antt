@@ -1,4 +1,5 @@
+pub mod Names
 pub mod Changes
+pub mod Readiness
 pub mod Saving
 pub mod Copying
-pub mod Readiness

@@ -1,16 +1,8 @@
 -- That a run can go on is a proposition, and states are a set: what is known of either comes out of a truncation.
-use Rattle.std.proofs.Common.{◌≡◌, ℕ, ◌<◌, List, [], ◌∷◌, inl, inr, ap, arith, ◌⊎◌}
-use Rattle.std.proofs.Props.{props}
-use mathlib.Core.Logic.{∥∥₁_elim}
-use mathlib.Core.Path.{fun_ext}
-use Rattle.ick_syntax.specs.declared.tree.Name.{Name}
-use Rattle.ick_code.specs.declared.code.Code.{Code}
-use Rattle.ick_code.specs.meaning.State.{State, Ending}
-use Rattle.ick_instructions.specs.declared.lowered.LoweredParts.{LoweredParts}
-use Rattle.ick_instructions.specs.Registers.{AllBelow, Fits}
-use Rattle.ick_runtime.specs.Run.{Stands}
-use Rattle.ick_runtime.specs.Steady.{AreStatuses, IsHome, IsSteady, IsReady}
-use Rattle.ick_runtime.specs.View.{View}
+use Rattle.std.proofs.Common.{[], ap, arith, inl, inr, List, ℕ, ◌<◌, ◌∷◌, ◌≡◌, ◌⊎◌}
+use Rattle.ick_marks.proofs.Names.{Code, fun_ext, IsReady, IsSteady, LoweredParts, props, State, View, ∥∥₁_elim}
+use Rattle.ick_instructions.specs.Registers.{AllBelow}
+use Rattle.ick_runtime.specs.{Run.Stands, Steady.IsHome}
 
 apart-prop : {P Q : Type 0} → IsProp P → IsProp Q → (P → Q → ⊥) → IsProp (P ⊎ Q)
 apart-prop p q apart (inl a) (inl b) = ap inl (p a b)
@@ -27,17 +19,11 @@ below-prop : (bound : ℕ) (ns : List ℕ) → IsProp (AllBelow bound ns)
 below-prop bound [] = hlevel props
 below-prop bound (n ∷ ns) = let rest = below-prop bound ns in hlevel (props, rest)
 
-fits-prop : (name : Name) (s : State) → IsProp (Fits name s)
-fits-prop name s = hlevel (props, below-prop)
-
 stands-prop : (code : Code) (lowered : LoweredParts) (regs : List ℕ) (s : State) → IsProp (Stands code lowered regs s)
-stands-prop code lowered regs s = hlevel (props, fits-prop)
-
-statuses-prop : (code : Code) (lowered : LoweredParts) (statuses : List ℕ) → IsProp (AreStatuses code lowered statuses)
-statuses-prop code lowered statuses = hlevel props
+stands-prop code lowered regs s = hlevel (props, below-prop)
 
 steady-prop : (code : Code) (lowered : LoweredParts) (v : View) → IsProp (IsSteady code lowered v)
-steady-prop code lowered v = hlevel (props, homes-prop, statuses-prop)
+steady-prop code lowered v = hlevel (props, homes-prop)
 
 pub ready-prop : (code : Code) (lowered : LoweredParts) (v : View) → IsProp (IsReady code lowered v)
 ready-prop code lowered v = hlevel (props, steady-prop, stands-prop)
@@ -46,11 +32,8 @@ pub ready_of : (code : Code) (lowered : LoweredParts) (v : View) {A : Type 0} �
     IsReady code lowered v
 ready_of code lowered v h f = ∥∥₁_elim h (ready-prop code lowered v) f
 
-ending_set : IsSet Ending
-ending_set = hlevel props
-
 state_set : IsSet State
-state_set = hlevel (props, ending_set)
+state_set = hlevel props
 
 pub state_of_both : (s t : State) {A : Type 0} → ∥ A ∥₁ → (A → s ≡ t) → s ≡ t
 state_of_both s t h f = ∥∥₁_elim h (state_set s t) f

@@ -1,53 +1,37 @@
 -- Lists that are copied and compared, and states that are kept.
-use Rattle.std.proofs.Common.{◌≡◌, ℕ, zero, suc, ◌+◌, ◌<◌, ◌≤◌, List, [], ◌∷◌, ◌++◌, refl, ap, sym, ◌∙◌, subst, rules}
-use Rattle.std.proofs.lemmas.Grind.{common_steps}
-use Rattle.std.proofs.Common.{length, take, drop, get_or, map, arith, if◌then◌else◌}
-use Rattle.ick_syntax.specs.declared.tree.Name.{Name}
-use Rattle.std.proofs.lemmas.List.{length-append, length-drop, map-append, length-take-le, get_or-map, length-map}
-use Rattle.std.proofs.lemmas.Simd.{map-map}
-use Rattle.std.proofs.Math.Seq.{take-suc}
-use Rattle.ick_code.specs.meaning.State.{same_name}
-use Rattle.ick_code.specs.declared.code.Code.{Code}
-use Rattle.ick_instructions.specs.declared.lowered.LoweredParts.{LoweredParts}
-use Rattle.ick_runtime.specs.declared.memory.Rest.{Rest}
-use Rattle.ick_marks.specs.declared.saved.Saved.{Saved}
-use Rattle.ick_marks.specs.Saved.{AreSame, IsLoaded, IsSaved, arrays_on, numbers_on, saved_view}
-use Rattle.ick_runtime.specs.Steady.{IsSteady, IsReady, IsProgram}
-use Rattle.ick_runtime.specs.Undo.{SameFirst, Like, HighSame, IsRestored}
-use Rattle.ick_runtime.specs.View.{View, Parts, state_of, dump_of, map_of, used as used_values}
-use Rattle.ick_runtime.specs.Inputs.{Input}
-use Rattle.ick_runtime.specs.View.{Stash, array_of, is_hidden, parts_of, scalar_names}
-use Rattle.ick_runtime.proofs.Restoring.{restored, all_same, state_by}
-use Rattle.ick_runtime.proofs.Undoing.{alike}
-use Rattle.ick_runtime.proofs.Steadiness.{steady_by}
+use Rattle.std.proofs.Common.{arith, drop, get_or, length, List, map, refl, rules, subst, suc, sym, take, zero, ℕ, ◌++◌}
+use Rattle.std.proofs.Common.{[], ap, ◌+◌, ◌<◌, ◌∙◌, ◌∷◌, ◌≡◌, ◌≤◌}
+use Rattle.ick_marks.proofs.Names.{common_steps, get_or-map, length-map, length-take-le, LoweredParts, map-set_same}
+use Rattle.ick_marks.proofs.Names.{arrays_on, HighSame, Input, is_hidden, IsProgram, numbers_on, saved_view, take-take}
+use Rattle.ick_marks.proofs.Names.{AreSame, array_of, IsLoaded, IsSteady, Parts, parts_of, restored, state_of, take-map}
+use Rattle.ick_marks.proofs.Names.{Code, IsReady, IsSaved, Like, map-map, Name, Saved, View}
+use Rattle.std.proofs.lemmas.List.{length-append, length-drop, map-append, map-set, take_more}
+use Rattle.ick_runtime.specs.{declared.memory.Rest.Rest, Undo.IsRestored, Undo.SameFirst}
+use Rattle.ick_runtime.specs.View.{dump_of, map_of, scalar_names, Stash, used as used_values}
+use Rattle.ick_runtime.proofs.{Restoring.all_same, Restoring.state_by, Steadiness.steady_by, Undoing.alike}
 use Rattle.ick_runtime.proofs.StashLemmas.{parts_same}
+
+-- one value more of the first ones
+one_more : {A B : Type 0} (f : A → B) (xs : List A) (at : ℕ) (x : A) → at < length xs → x ≡ get_or xs at x →
+    take (at + 1) (map f xs) ≡ take at (map f xs) ++ f x ∷ []
+one_more f xs at x within read =
+    let there : get_or (map f xs) at (f x) ≡ f x = get_or-map f xs at x (f x) within ∙ ap f (sym read) in
+    let inside : at < length (map f xs) = subst (λ n. at < n) (sym (length-map xs f)) within in
+    cc (there, take_more (map f xs) at (f x) inside)
 
 -- a copy that is made value by value
 pub copied_next : {A B : Type 0} (f : A → B) (xs copies copies' : List A) (at : ℕ) (x y : A) → at < length xs →
     y ≡ get_or xs at y → copies' ≡ copies ++ x ∷ [] → f x ≡ f y → map f copies ≡ take at (map f xs) →
     map f copies' ≡ take (at + 1) (map f xs)
 copied_next f xs copies copies' at x y within read pushed same done =
-    let there : get_or (map f xs) at (f y) ≡ f y = get_or-map f xs at y (f y) within ∙ ap f (sym read) in
-    let inside : at < length (map f xs) = subst (λ n. at < n) (sym (length-map xs f)) within in
-    let one : suc at ≡ at + 1 = omega arith in
-    cc (pushed, map-append f copies (x ∷ []), done, same, there, take-suc (map f xs) at (f y) inside, one)
+    cc (pushed, map-append f copies (x ∷ []), done, same, one_more f xs at y within read)
 
 -- lists that are compared value by value
 pub compared_next : {A B : Type 0} (f : A → B) (xs ys : List A) (at : ℕ) (x y : A) → at < length xs →
     length xs ≡ length ys → x ≡ get_or xs at x → y ≡ get_or ys at y → f x ≡ f y →
     take at (map f xs) ≡ take at (map f ys) → take (at + 1) (map f xs) ≡ take (at + 1) (map f ys)
 compared_next f xs ys at x y within count read read' same done =
-    let within' : at < length ys = omega (arith, within, count) in
-    let here : get_or (map f xs) at (f x) ≡ f x = get_or-map f xs at x (f x) within ∙ ap f (sym read) in
-    let there : get_or (map f ys) at (f x) ≡ f x =
-    get_or-map f ys at y (f x) within' ∙ ap f (sym read') ∙ sym same in
-    let one : suc at ≡ at + 1 = omega arith in
-    ap (λ n. take n (map f xs)) (sym one)
-    ∙ take-suc (map f xs) at (f x) (subst (λ n. at < n) (sym (length-map xs f)) within)
-    ∙ ap (λ l. l ++ get_or (map f xs) at (f x) ∷ []) done
-    ∙ ap (λ z. take at (map f ys) ++ z ∷ []) (here ∙ sym there)
-    ∙ sym (take-suc (map f ys) at (f x) (subst (λ n. at < n) (sym (length-map ys f)) within'))
-    ∙ ap (λ n. take n (map f ys)) one
+    let other = one_more f ys at y (omega (arith, within, count)) read' in cc (one_more f xs at x within read, other, same, done)
 
 -- numbers that were put in place of the first ones
 put_high : (xs ys : List ℕ) (r : ℕ) → length xs ≤ length ys → length xs ≤ r →
@@ -60,10 +44,6 @@ put_count xs ys count = omega (arith, length-append xs (drop (length xs) ys), le
 first_put : (n : ℕ) (xs old new : List ℕ) → new ≡ take n xs ++ drop (length (take n xs)) old →
     length (take n xs ++ drop (length (take n xs)) old) ≡ length xs → length (take n xs) ≡ n → SameFirst n xs new
 first_put n xs old new is count long = grind (arith, common_steps)
-
-pub put_in : (new given kept now old : List ℕ) → new ≡ given ++ drop (length given) now → given ≡ kept → now ≡ old →
-    new ≡ kept ++ drop (length kept) old
-put_in new given kept now old is same whole = search rules
 
 -- parts that differ in spare places alone
 pub same_parts_sym : {p q : Parts} → AreSame p q → AreSame q p
@@ -91,8 +71,7 @@ map_first : {A : Type 0} (names : List Name) (n : ℕ) (xs : List A) (none : A) 
 map_first [] n xs none name few = refl
 map_first (y ∷ names) zero xs none name few = absurd (omega (arith, few))
 map_first (y ∷ names) (suc n) [] none name few = refl
-map_first (y ∷ names) (suc n) (x ∷ xs) none name few =
-    ap (λ z. if same_name y name then x else z) (map_first names n xs none name (omega (arith, few)))
+map_first (y ∷ names) (suc n) (x ∷ xs) none name few = grind (arith, map_first names n xs none name, few)
 
 -- the state that is kept
 pub kept_state : (code : Code) (lowered : LoweredParts) (saved : Saved) (v : View) →
@@ -165,3 +144,11 @@ module _ (code : Code) (lowered : LoweredParts) (is : IsProgram code lowered) wh
         whole =
             restored code lowered is old m' new was.constants (ready_with m new.parts parts marked) like high place
             (depth ∙ used_count)
+
+-- for lists that are copied or compared value by value
+pub ruleset value_by_value = (copied_next, compared_next, take-map, take-take)
+
+-- for parts that are compared, and an array that is replaced
+pub ruleset parts_compared = (rest_same, same_parts_sym)
+
+pub ruleset arrays_set = (map-set, map-set_same)

@@ -30,6 +30,7 @@ pub fn copy_array(alloc: Global, array: &Array) -> Result<Array, NoMemory>
 }
 
 /// Copies arrays.
+#[tactic(auto, using(crate::proofs::Saving::value_by_value))]
 pub fn copy_arrays(alloc: Global, arrays: &[Array]) -> Result<Vec<Array>, NoMemory>
     ensures arrays { IfOk result (λ copies. map array_of copies.items
         ≡ map array_of arrays.now) }
@@ -44,6 +45,7 @@ pub fn copy_arrays(alloc: Global, arrays: &[Array]) -> Result<Vec<Array>, NoMemo
 }
 
 /// Copies the numbers on stashes. The copies have no spare room.
+#[tactic(auto, using(crate::proofs::Saving::value_by_value))]
 fn copy_number_stashes(alloc: Global, stashes: &[Stash<u32>]) -> Result<Vec<Stash<u32>>, NoMemory>
     ensures { IfOk result (λ copies. map numbers_on copies.items ≡ map numbers_on stashes.now) }
 {
@@ -58,6 +60,7 @@ fn copy_number_stashes(alloc: Global, stashes: &[Stash<u32>]) -> Result<Vec<Stas
 }
 
 /// Copies the arrays on stashes. The copies have no spare room.
+#[tactic(auto, using(crate::proofs::Saving::value_by_value))]
 fn copy_array_stashes(
     alloc: Global,
     stashes: &[Stash<Array>],

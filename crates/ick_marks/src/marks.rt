@@ -27,6 +27,7 @@ pub struct Mark {
 
 /// Marks the state of a run. What could be undone up to an older mark can still be undone. All
 /// changes noted so far belong to older marks.
+#[tactic(auto, using(crate::proofs::Changes::marked))]
 pub fn make_mark(trail: &mut Trail, memory: &Memory) -> Mark
     requires { trail.old.low ≤ memory.now.cursor.depth }
     ensures place { result.place ≡ memory.now.cursor.place }
@@ -89,6 +90,7 @@ fn put_hidden(arrays: &mut Vec<Array>, slot: u32, old: bool)
 }
 
 /// Undoes a change whose old value is in its entry.
+#[tactic(auto, using(ick_runtime::proofs::StashLemmas::arrays_dropped))]
 fn undo(memory: &mut Memory, entry: Entry)
     ensures { view_in memory.new ≡ undone (change_of entry) (view_in memory.old) }
 {
@@ -116,6 +118,7 @@ fn undo(memory: &mut Memory, entry: Entry)
 }
 
 /// Puts an array back, if there is such a slot. The present one is returned.
+#[tactic(auto, using(crate::proofs::Saving::arrays_set))]
 fn replace_array(arrays: &mut Vec<Array>, slot: u32, old: Array) -> Array
     requires { slot < length arrays.old.items }
     ensures arrays { map array_of arrays.new.items
@@ -216,6 +219,7 @@ fn undo_newer(trail: &mut Trail, changes: usize, memory: &mut Memory)
 
 /// Goes back to a mark: undoes all changes noted since, and takes them off the trail. The mark
 /// stays, and newer marks are gone. The number of steps left stays.
+#[tactic(auto, using(crate::proofs::Changes::count_history))]
 #[inline(always)]
 pub fn back(trail: &mut Trail, mark: Mark, memory: &mut Memory, program: &Lowered<'_, '_>)
     requires base { trail.old.base ≡ program.now.parts.layout.base }

@@ -17,6 +17,7 @@ fn same_array(one: &Array, other: &Array) -> bool
 }
 
 /// Returns whether two lists have the same arrays.
+#[tactic(auto, using(crate::proofs::Saving::value_by_value))]
 fn same_arrays(one: &[Array], other: &[Array]) -> bool
     ensures arrays { result ≡ true → map array_of one.now ≡ map array_of other.now }
     ensures hidden { result ≡ true → map is_hidden one.now ≡ map is_hidden other.now }
@@ -49,6 +50,7 @@ fn same_number_stashes(one: &[Stash<u32>], other: &[Stash<u32>]) -> bool
 }
 
 /// Returns whether the same arrays are on the stashes of two lists.
+#[tactic(auto, using(crate::proofs::Saving::value_by_value))]
 fn same_array_stashes(one: &[Stash<Array>], other: &[Stash<Array>]) -> bool
     ensures { result ≡ true → map arrays_on one.now ≡ map arrays_on other.now }
 {
@@ -79,6 +81,7 @@ fn same_tape(one: &Rest, other: &Rest) -> bool
 
 /// Returns whether the parts that few instructions change are the same. Spare room of stashes
 /// doesn't matter.
+#[tactic(auto, using(crate::proofs::Saving::parts_compared))]
 pub fn same_rest(one: &Rest, other: &Rest) -> bool
     ensures { result ≡ true → AreSame (parts_of one.now) (parts_of other.now) }
 {

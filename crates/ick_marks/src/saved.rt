@@ -211,6 +211,7 @@ impl Saved {
     }
 
     /// States which state is kept: that of the memory which was saved.
+    #[tactic(auto, using(crate::proofs::Saving::kept_state))]
     pub fn law(&self, program: &Lowered<'_, '_>)
         ensures { (m : View) → IsSaved program.now.parts self.now m → (input : Input) →
             state_of program.now.code.now program.now.parts input (saved_view self.now)

@@ -79,6 +79,7 @@ impl Trail {
 
     /// Returns whether the newest change is one of a register, and newer than the newest mark.
     /// Undoing it restores the register, so a further change needs no entry.
+    #[tactic(auto, using(crate::proofs::Changes::newest_register))]
     #[inline(always)]
     fn has_noted(&self, at: u32) -> bool
         ensures { result ≡ true → IsNoted self.now at }
@@ -136,6 +137,7 @@ impl Notes for Trail {
 
     ghost Undoes = { UndoesBy };
 
+    #[tactic(auto, using(crate::proofs::Changes::count_history))]
     #[inline(always)]
     fn count(&self) -> usize {
         self.entries.len()
@@ -172,6 +174,7 @@ impl Notes for Trail {
         self.note(Entry::Element(slot, at, old));
     }
 
+    #[tactic(auto, using(crate::proofs::Changes::fixed_moved))]
     #[inline(always)]
     fn note_dropped(&mut self, returns: &[u32], depth: usize) {
         if depth < self.low {
@@ -179,6 +182,7 @@ impl Notes for Trail {
         }
     }
 
+    #[tactic(auto, using(crate::proofs::Changes::noting))]
     #[inline(always)]
     fn note(&mut self, entry: Entry) {
         self.entries.push_reserved(entry);
@@ -200,6 +204,7 @@ impl Notes for Trail {
         self.reserve(places)
     }
 
+    #[tactic(auto, using(crate::proofs::Changes::noting))]
     fn note_array(
         &mut self,
         change: ArrayChange,
@@ -212,6 +217,7 @@ impl Notes for Trail {
         Ok(())
     }
 
+    #[tactic(auto, using(crate::proofs::Changes::noting))]
     fn note_statuses(&mut self, statuses: &[u8]) -> Result<(), NoMemory> {
         let alloc = *self.entries.allocator();
         self.statuses.push(copy_list(alloc, statuses)?)?;

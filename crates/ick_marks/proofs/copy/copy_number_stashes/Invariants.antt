@@ -1,5 +1,5 @@
-use Rattle.std.proofs.Common.{◌≡◌, map, take}
-use Rattle.ick_marks.specs.Saved.{numbers_on}
+use Rattle.std.proofs.Common.{map, take, ◌≡◌}
+use Rattle.ick_marks.proofs.Names.{numbers_on}
 use Rattle.ick_marks.proofs.copy.copy_number_stashes.Given as goal
 
 abbrev pub invariant-loop-stash : goal.invariant-loop-stash

@@ -1,7 +1,5 @@
-use Rattle.std.proofs.Common.{refl, ap, ◌∙◌, map}
-use Rattle.ick_marks.specs.Saved.{arrays_on, numbers_on}
-use Rattle.ick_runtime.specs.View.{array_of, is_hidden}
-use Rattle.ick_marks.proofs.Saving.{rest_same}
+use Rattle.std.proofs.Common.{ap, map, refl, ◌∙◌}
+use Rattle.ick_marks.proofs.{Names.array_of, Names.arrays_on, Names.is_hidden, Names.numbers_on, Saving.rest_same}
 use Rattle.ick_marks.proofs.copy.copy_rest.Goals as goal
 
 pub returns : goal.returns

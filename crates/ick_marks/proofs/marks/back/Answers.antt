@@ -1,9 +1,5 @@
-use Rattle.std.proofs.Common.{sym, ◌∙◌, subst}
-use Rattle.ick_runtime.specs.Memory.{view_in}
-use Rattle.ick_runtime.specs.View.{View}
-use Rattle.ick_runtime.specs.Undo.{HighSame}
-use Rattle.ick_marks.proofs.Changes.{count_history}
-use Rattle.ick_runtime.proofs.Restoring.{restored}
+use Rattle.std.proofs.Common.{subst, sym}
+use Rattle.ick_marks.proofs.{Names.HighSame, Names.restored, Names.View, Names.view_in}
 use Rattle.ick_runtime.proofs.Undoing.{like_moved}
 use Rattle.ick_marks.proofs.marks.back.Goals as goal
 
@@ -17,7 +13,3 @@ returns-clause-back c = λ m place depth marked h.
     c.requires.steady.constants marked
     (rw (← c.requires.base) (like_moved c.args.mark.place c.args.mark.depth (undone.leads m h)))
     (subst (λ b. HighSame b (view_in c.args.memory.now) v) c.requires.base (undone.stays m h)) (sym place) (sym depth)
-
-pub returns-clause-kept : goal.returns-clause-kept
-returns-clause-kept c =
-    c.len-trail.ensures ∙ c.undo_newer.new.trail.entries.ok.0 ∙ sym (count_history c.undo_newer.new.trail)

@@ -1,5 +1,5 @@
 use Rattle.std.proofs.Common.{rules}
-use Rattle.std.proofs.lemmas.Grind.{common_steps}
+use Rattle.ick_marks.proofs.Names.{common_steps}
 use Rattle.ick_runtime.proofs.StashLemmas.{arrays_put}
 use Rattle.ick_marks.proofs.marks.undo_array.Goals as goal
 

@@ -1,10 +1,8 @@
-use Rattle.std.proofs.Common.{◌≡◌, ◌≤◌, [], ◌∷◌, ◌++◌, sym, ap, ◌∙◌, arith, length, length-append, take, take_all, option_to_list}
-use Rattle.std.proofs.lemmas.List.{take-append-le}
-use Rattle.ick_runtime.specs.Memory.{view_in}
-use Rattle.ick_marks.specs.TrailChanges.{changes_in}
-use Rattle.ick_runtime.specs.Undo.{Like, HighSame}
+use Rattle.std.proofs.Common.{arith, length, length-append, option_to_list, sym, take, take_all, ◌++◌, ◌∷◌, ◌≡◌, ◌≤◌}
+use Rattle.std.proofs.Common.{[], ap, ◌∙◌}
+use Rattle.ick_marks.proofs.Names.{all_undone, changes_in, HighSame, Like, take-append-le, view_in}
 use Rattle.ick_marks.proofs.Changes.{count_history, newest_undone}
-use Rattle.ick_runtime.proofs.Undoing.{all_undone, undone_one}
+use Rattle.ick_runtime.proofs.Undoing.{undone_one}
 use Rattle.ick_marks.proofs.marks.undo_changes.Goals as goal
 
 pub returns : goal.returns

@@ -1,8 +1,6 @@
-use Rattle.std.proofs.Common.{◌≡◌, drop, take, reverse, vec_len}
-use Rattle.ick_marks.specs.TrailChanges.{changes_in}
-use Rattle.ick_runtime.specs.Memory.{view_in}
-use Rattle.ick_runtime.specs.Undo.{HighSame, Like, Rewinds, rewound}
-use Rattle.ick_runtime.specs.View.{View}
+use Rattle.std.proofs.Common.{drop, reverse, take, vec_len, ◌≡◌}
+use Rattle.ick_marks.proofs.Names.{changes_in, HighSame, Like, Rewinds, View, view_in}
+use Rattle.ick_runtime.specs.Undo.{rewound}
 use Rattle.ick_marks.proofs.marks.undo_changes.Given as goal
 
 abbrev pub invariant-changes : goal.invariant-changes

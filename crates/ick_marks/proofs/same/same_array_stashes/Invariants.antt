@@ -1,5 +1,5 @@
-use Rattle.std.proofs.Common.{◌≡◌, map, take}
-use Rattle.ick_marks.specs.Saved.{arrays_on}
+use Rattle.std.proofs.Common.{map, take, ◌≡◌}
+use Rattle.ick_marks.proofs.Names.{arrays_on}
 use Rattle.ick_marks.proofs.same.same_array_stashes.Given as goal
 
 abbrev pub invariant-loop-at : goal.invariant-loop-at

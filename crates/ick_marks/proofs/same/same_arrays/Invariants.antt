@@ -1,5 +1,5 @@
-use Rattle.std.proofs.Common.{◌≡◌, map, take}
-use Rattle.ick_runtime.specs.View.{array_of, is_hidden}
+use Rattle.std.proofs.Common.{map, take, ◌≡◌}
+use Rattle.ick_marks.proofs.Names.{array_of, is_hidden}
 use Rattle.ick_marks.proofs.same.same_arrays.Given as goal
 
 abbrev pub invariant-loop-at : goal.invariant-loop-at

@@ -1,5 +1,5 @@
-use Rattle.std.proofs.Common.{◌≡◌, map, take}
-use Rattle.ick_marks.specs.Saved.{numbers_on}
+use Rattle.std.proofs.Common.{map, take, ◌≡◌}
+use Rattle.ick_marks.proofs.Names.{numbers_on}
 use Rattle.ick_marks.proofs.same.same_number_stashes.Given as goal
 
 abbrev pub invariant-loop-at : goal.invariant-loop-at

@@ -1,5 +1,5 @@
-use Rattle.std.proofs.Common.{refl, ◌∙◌}
-use Rattle.ick_marks.proofs.Copying.{IsCopy, copy_kept, copy_state}
+use Rattle.std.proofs.Common.{rules}
+use Rattle.ick_marks.proofs.Copying.{copy_kept, copy_state, IsCopy}
 use Rattle.ick_marks.proofs.saved.Saved.copy.Goals as goal
 
 is_copy : (c : goal.In_ok-copy_rest) → IsCopy c.args.self.now (record {
@@ -10,14 +10,7 @@ is_copy : (c : goal.In_ok-copy_rest) → IsCopy c.args.self.now (record {
   returns = c.in_ok-copy_list-4.field-0;
   rest = c.in_ok-copy_rest.field-0;
 })
-is_copy c = record {
-  place_same = refl;
-  numbers_same = c.in_ok-copy_list.ensures ∙ c.deref.ensures.value;
-  home_same = c.in_ok-copy_list-2.ensures ∙ c.deref-2.ensures.value;
-  statuses_same = c.in_ok-copy_list-3.ensures ∙ c.deref-3.ensures.value;
-  returns_same = c.in_ok-copy_list-4.ensures ∙ c.deref-4.ensures.value;
-  parts_same = c.in_ok-copy_rest.ensures;
-}
+is_copy c = search rules
 
 pub returns-clause-kept : goal.returns-clause-kept
 returns-clause-kept c = λ code lowered. copy_kept code lowered c.args.self.now _ (is_copy c)

@@ -1,35 +1,11 @@
-use Rattle.std.proofs.Common.{ap, sym, ◌∙◌, length, refl, subst}
-use Rattle.ick_runtime.specs.Memory.{view_in}
-use Rattle.ick_marks.specs.Saved.{AreSame, IsLoaded, IsSaved}
-use Rattle.ick_runtime.specs.Steady.{IsProgram, IsReady}
-use Rattle.ick_runtime.specs.View.{View, parts_of}
-use Rattle.ick_marks.proofs.Readiness.{ready_of, state_of_both}
-use Rattle.ick_marks.proofs.Saving.{first, kept_state, loaded, put_in, same_parts_refl, used}
+use Rattle.std.proofs.Common.{subst, sym}
+use Rattle.ick_marks.proofs.{Copying.kept_loaded, Names.AreSame, Names.parts_of, Names.view_in, Saving.same_parts_refl}
 use Rattle.ick_marks.proofs.saved.Saved.exchange.Goals as goal
 
 pub returns-clause-loaded : goal.returns-clause-loaded
 returns-clause-loaded c =
-    let code = c.args.program.now.code.now in
-    let parts = c.args.program.now.parts in
-    let memory = c.args.memory.now in
-    let old = view_in memory in
-    let saved = c.args.self.now in
-    let kept = c.requires.kept in
-    let steady = c.requires.steady in
-    let is : IsProgram code parts = record { compiled = c.law-2.ensures; lowered_is = c.law.ensures } in
     let put = c.put_lists.ensures in
-    let new = view_in (record c.put_lists.new.memory { rest = c.swap.new.x }) in
-    let taken : AreSame (parts_of saved.rest) (parts_of c.swap.new.x) =
-    subst (λ r. AreSame (parts_of saved.rest) (parts_of r)) (sym c.swap.ensures.x_after) (same_parts_refl _) in
-    let by : (h : (m : View) × IsReady code parts m × IsSaved parts saved m) → IsLoaded code parts h.0 new =
-    λ h.
-    loaded code parts is old h.0 steady h.1 new (parts_of saved.rest)
-    (put_in _ _ (first code parts is old h.0 steady h.1) _ memory.registers.items put.registers h.2.numbers_kept refl)
-    (put_in _ _ (used code parts is old h.0 steady h.1) _ memory.returns.items put.returns h.2.returns_kept refl)
-    (put.home ∙ h.2.home_kept) (put.statuses ∙ h.2.statuses_kept) (put.place ∙ h.2.place_kept)
-    (put.depth ∙ ap length h.2.returns_kept) h.2.parts_kept taken in
-    record {
-      ready = ready_of code parts new kept (λ h. (by h).ready);
-      states = λ input. state_of_both _ _ kept
-          (λ h. (by h).states input ∙ sym (kept_state code parts saved h.0 is.lowered_is.base h.2 input));
-    }
+    kept_loaded c.args.program.now.code.now c.args.program.now.parts c.args.self.now (view_in c.args.memory.now) _
+    (record { compiled = c.law-2.ensures; lowered_is = c.law.ensures }) c.requires.kept c.requires.steady put.registers
+    put.returns put.home put.statuses put.place put.depth
+    (subst (λ r. AreSame (parts_of c.args.self.now.rest) (parts_of r)) (sym c.swap.ensures.x_after) (same_parts_refl _))

@@ -1,9 +1,7 @@
-use Rattle.std.proofs.Common.{refl, ◌≡◌, ◌+◌, ◌-◌, ◌<◌, ◌++◌, [], ◌∷◌, sym, ap, ◌∙◌, subst, arith, length, get_or}
-use Rattle.ick_runtime.specs.declared.change.Entry.TheVariants.{Return}
-use Rattle.ick_runtime.specs.Undo.{Rewinds, return_was}
+use Rattle.std.proofs.Common.{[], ap, arith, get_or, length, refl, subst, sym, ◌++◌, ◌+◌, ◌-◌, ◌<◌, ◌∙◌, ◌∷◌, ◌≡◌}
+use Rattle.ick_runtime.specs.{declared.change.Entry.TheVariants.Return, Undo.return_was}
+use Rattle.ick_marks.proofs.{Changes.grown, Changes.newest_alone, Names.changes_in, Names.Rewinds}
 use Rattle.ick_instructions.proofs.Extends.{extends_trans}
-use Rattle.ick_marks.specs.TrailChanges.{changes_in}
-use Rattle.ick_marks.proofs.Changes.{newest_alone, grown}
 use Rattle.ick_runtime.proofs.Undoing.{notes_return}
 use Rattle.ick_marks.proofs.trail.Trail.keep_returns.Goals as goal
 
@@ -13,6 +11,7 @@ returns-preserved c =
     let pushed = c.push_reserved.ensures in
     let t = c.returns.self in
     let base = c.args.self.now.base in
+    let entry = Return (t.low - 1) (get_or c.args.returns.now (t.low - 1) 0) in
     let next : t.low ≡ t.low - 1 + 1 = omega arith in
     let there : t.low - 1 < length c.args.returns.now = omega (arith, old.lower, c.requires.there, c.requires.stack) in
     record {
@@ -21,13 +20,10 @@ returns-preserved c =
       lower = omega (arith, old.lower);
       base = old.base;
       kept = old.kept;
-      changes = extends_trans old.changes
-          (grown t c.push_reserved.new.self.items t.entries.items (Return (t.low - 1) (get_or c.args.returns.now (t.low - 1) 0))
-          refl pushed.items);
+      changes = extends_trans old.changes (grown t c.push_reserved.new.self.items t.entries.items entry refl pushed.items);
       notes = λ k v m same h.
           rw (← ap (λ n. changes_in t ++ return_was (t.low - 1) n ∷ []) (ap (λ l. get_or l (t.low - 1) 0) same)
-          ∙ sym (newest_alone t c.push_reserved.new.self.items t.entries.items
-          (Return (t.low - 1) (get_or c.args.returns.now (t.low - 1) 0)) refl pushed.items)) (notes_return base (changes_in t) t.low (t.low - 1) k v m next
+          ∙ sym (newest_alone t c.push_reserved.new.self.items t.entries.items entry refl pushed.items)) (notes_return base (changes_in t) t.low (t.low - 1) k v m next
           (omega (arith, there, ap length same)) (old.notes k v m same h));
     }
 

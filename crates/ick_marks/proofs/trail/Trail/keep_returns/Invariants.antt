@@ -1,8 +1,5 @@
-use Rattle.std.proofs.Common.{◌≡◌, ◌+◌, ◌-◌, ◌≤◌, ℕ, vec_len, vec_capacity}
-use Rattle.ick_instructions.specs.Extends.{Extends}
-use Rattle.ick_marks.specs.TrailChanges.{changes_in}
-use Rattle.ick_runtime.specs.Undo.{Rewinds}
-use Rattle.ick_runtime.specs.View.{View}
+use Rattle.std.proofs.Common.{vec_capacity, vec_len, ℕ, ◌+◌, ◌-◌, ◌≡◌, ◌≤◌}
+use Rattle.ick_marks.proofs.Names.{changes_in, Extends, Rewinds, View}
 use Rattle.ick_marks.proofs.trail.Trail.keep_returns.Given as goal
 
 abbrev pub invariant-returns : goal.invariant-returns

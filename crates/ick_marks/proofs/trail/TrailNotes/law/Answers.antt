@@ -1,4 +1,4 @@
-use Rattle.ick_runtime.proofs.Undoing.{alike_rewinds}
+use Rattle.ick_marks.proofs.Names.{alike_rewinds}
 use Rattle.ick_marks.proofs.trail.TrailNotes.law.Goals as goal
 
 pub returns-clause-alike : goal.returns-clause-alike

@@ -1,13 +1,6 @@
-use Rattle.std.proofs.Common.{refl, arith}
-use Rattle.std.proofs.lemmas.Grind.{common_steps}
-use Rattle.ick_marks.specs.TrailChanges.{changes_in}
-use Rattle.ick_runtime.specs.Undo.{change_of, undone}
-use Rattle.ick_marks.proofs.Changes.{fixed_grown, newest_alone, grown}
-use Rattle.ick_runtime.proofs.Undoing.{notes_back}
+use Rattle.std.proofs.Common.{refl}
+use Rattle.ick_marks.proofs.{Changes.newest_alone, Names.change_of, Names.changes_in, Names.notes_back, Names.undone}
 use Rattle.ick_marks.proofs.trail.TrailNotes.note.Goals as goal
-
-pub returns-clause-noted : goal.returns-clause-noted
-returns-clause-noted c = grind (arith, common_steps, fixed_grown, grown)
 
 pub returns-clause-notes : goal.returns-clause-notes
 returns-clause-notes c = λ k v m can h.

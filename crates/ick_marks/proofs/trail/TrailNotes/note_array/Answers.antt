@@ -1,14 +1,7 @@
-use Rattle.std.proofs.Common.{refl, arith}
-use Rattle.std.proofs.lemmas.Grind.{common_steps}
-use Rattle.ick_marks.specs.TrailChanges.{changes_in}
-use Rattle.ick_runtime.specs.Undo.{array_was, undone}
-use Rattle.ick_runtime.specs.View.{array_of}
-use Rattle.ick_marks.proofs.Changes.{fixed_grown, grown_one, newest_array}
-use Rattle.ick_runtime.proofs.Undoing.{notes_back}
+use Rattle.std.proofs.Common.{refl}
+use Rattle.ick_marks.proofs.Names.{array_of, array_was, changes_in, notes_back, undone}
+use Rattle.ick_marks.proofs.Changes.{newest_array}
 use Rattle.ick_marks.proofs.trail.TrailNotes.note_array.Goals as goal
-
-pub returns-clause-noted : goal.returns-clause-noted
-returns-clause-noted c = grind (arith, common_steps, fixed_grown, grown_one, newest_array)
 
 pub returns-clause-notes : goal.returns-clause-notes
 returns-clause-notes c = λ k v m can h.

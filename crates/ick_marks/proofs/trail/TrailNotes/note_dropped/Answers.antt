@@ -1,13 +1,7 @@
 use Rattle.std.proofs.Common.{arith}
-use Rattle.ick_marks.proofs.Changes.{fixed_moved}
 use Rattle.ick_marks.proofs.trail.TrailNotes.note_dropped.Goals as goal
 
 pub returns-then-depth-self-clause-notes : goal.returns-then-depth-self-clause-notes
 returns-then-depth-self-clause-notes c = λ k v m same h.
     let kept = c.keep_returns.ensures in
     (omega (arith, kept.kept, h.0), kept.notes k v m same h.1)
-
-pub returns-then-depth-self-clause-base : goal.returns-then-depth-self-clause-base
-returns-then-depth-self-clause-base c =
-    let kept = c.keep_returns.ensures in
-    fixed_moved c.args.self.now c.keep_returns.new.self kept.base kept.kept kept.changes

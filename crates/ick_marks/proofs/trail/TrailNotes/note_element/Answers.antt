@@ -1,10 +1,8 @@
-use Rattle.std.proofs.Common.{◌≡◌, sym, ap, ◌∙◌, arith, length, get_or, map}
+use Rattle.std.proofs.Common.{ap, arith, get_or, length, map, sym, ◌∙◌, ◌≡◌}
 use Rattle.std.proofs.lemmas.Grind.{get_or_default_zero}
-use Rattle.std.proofs.lemmas.List.{get_or-map, length-map}
+use Rattle.ick_marks.proofs.Names.{array_of, get_or-map, length-map}
 use Rattle.ick_code.specs.meaning.State.{Array, no_array}
-use Rattle.ick_runtime.specs.Undo.{with_arrays, with_number}
-use Rattle.ick_runtime.specs.View.{array_of}
-use Rattle.ick_runtime.proofs.Undoing.{element_back}
+use Rattle.ick_runtime.{proofs.Undoing.element_back, specs.Undo.with_arrays, specs.Undo.with_number}
 use Rattle.ick_marks.proofs.trail.TrailNotes.note_element.Goals as goal
 
 pub returns-clause-notes : goal.returns-clause-notes

@@ -1,5 +1,5 @@
-use Rattle.std.proofs.Common.{sym, subst, arith, slice_set}
-use Rattle.ick_marks.specs.TrailChanges.{changes_in, UndoesBy}
+use Rattle.std.proofs.Common.{arith, slice_set, subst, sym}
+use Rattle.ick_marks.{proofs.Names.changes_in, specs.TrailChanges.UndoesBy}
 use Rattle.ick_runtime.proofs.Undoing.{keeps_register, register_back}
 use Rattle.ick_marks.proofs.trail.TrailNotes.note_register.Goals as goal
 
