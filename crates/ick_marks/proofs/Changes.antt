@@ -105,22 +105,22 @@ module _ {t new : Trail} {e : Entry} {v w : View} where
       t.arrays.items ≡ new.arrays.items ++ old ∷ [] → new.statuses ≡ t.statuses →
       w ≡ undone (array_was change slot (array_of old)) v → IsUndone e t new v w
   array_undone old {change} {slot} is popped same view =
-      record { change = array_was change slot (array_of old); off = λ older. grind (arith, common_steps); view_is = view }
+      record { change = array_was change slot (array_of old); off = λ es. grind (arith, common_steps); view_is = view }
 
   pub statuses_undone : (old : Vec ℕ) → e ≡ entry.Statuses → t.statuses.items ≡ new.statuses.items ++ old ∷ [] →
       new.arrays ≡ t.arrays → w ≡ undone (statuses_were old.items) v → IsUndone e t new v w
   statuses_undone old is popped same view =
-      record { change = statuses_were old.items; off = λ older. grind (arith, common_steps); view_is = view }
+      record { change = statuses_were old.items; off = λ es. grind (arith, common_steps); view_is = view }
 
   pub no_array_undone : {change : ArrayChange} {slot : ℕ} → e ≡ entry.Array change slot → length t.arrays.items ≤ 0 →
       length new.arrays.items ≤ 0 → new.statuses ≡ t.statuses → w ≡ v → IsUndone e t new v w
   no_array_undone is none none' same view =
-      record { change = no_change; off = λ older. grind (arith, none_left {A = Array}); view_is = view }
+      record { change = no_change; off = λ es. grind (arith, none_left {A = Array}); view_is = view }
 
   pub no_statuses_undone : e ≡ entry.Statuses → length t.statuses.items ≤ 0 → length new.statuses.items ≤ 0 →
       new.arrays ≡ t.arrays → w ≡ v → IsUndone e t new v w
   no_statuses_undone is none none' same view =
-      record { change = no_change; off = λ older. grind (arith, none_left {A = Vec ℕ}); view_is = view }
+      record { change = no_change; off = λ es. grind (arith, none_left {A = Vec ℕ}); view_is = view }
 
 -- no change is newer
 pub nothing_newer : (t : Trail) (changes : ℕ) (v : View) → length (changes_in t) ≤ changes → AreUndone t t changes v v

@@ -31,7 +31,8 @@ pub compared_next : {A B : Type 0} (f : A → B) (xs ys : List A) (at : ℕ) (x 
     length xs ≡ length ys → x ≡ get_or xs at x → y ≡ get_or ys at y → f x ≡ f y →
     take at (map f xs) ≡ take at (map f ys) → take (at + 1) (map f xs) ≡ take (at + 1) (map f ys)
 compared_next f xs ys at x y within count read read' same done =
-    let other = one_more f ys at y (omega (arith, within, count)) read' in cc (one_more f xs at x within read, other, same, done)
+    let other = one_more f ys at y (omega (arith, within, count)) read' in
+    cc (one_more f xs at x within read, other, same, done)
 
 -- numbers that were put in place of the first ones
 put_high : (xs ys : List ℕ) (r : ℕ) → length xs ≤ length ys → length xs ≤ r →

@@ -1,5 +1,5 @@
 use Rattle.std.proofs.Common.{subst, sym}
-use Rattle.ick_marks.proofs.{Names.HighSame, Names.restored, Names.View, Names.view_in}
+use Rattle.ick_marks.proofs.Names.{HighSame, restored, View, view_in}
 use Rattle.ick_runtime.proofs.Undoing.{like_moved}
 use Rattle.ick_marks.proofs.marks.back.Goals as goal
 

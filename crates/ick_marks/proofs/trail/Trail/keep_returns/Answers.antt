@@ -20,11 +20,13 @@ returns-preserved c =
       lower = omega (arith, old.lower);
       base = old.base;
       kept = old.kept;
-      changes = extends_trans old.changes (grown t c.push_reserved.new.self.items t.entries.items entry refl pushed.items);
+      changes = extends_trans old.changes
+          (grown t c.push_reserved.new.self.items t.entries.items entry refl pushed.items);
       notes = λ k v m same h.
           rw (← ap (λ n. changes_in t ++ return_was (t.low - 1) n ∷ []) (ap (λ l. get_or l (t.low - 1) 0) same)
-          ∙ sym (newest_alone t c.push_reserved.new.self.items t.entries.items entry refl pushed.items)) (notes_return base (changes_in t) t.low (t.low - 1) k v m next
-          (omega (arith, there, ap length same)) (old.notes k v m same h));
+          ∙ sym (newest_alone t c.push_reserved.new.self.items t.entries.items entry refl pushed.items))
+          (notes_return base (changes_in t) t.low (t.low - 1) k v m next (omega (arith, there, ap length same))
+          (old.notes k v m same h));
     }
 
 pub returns-clause-notes : goal.returns-clause-notes
