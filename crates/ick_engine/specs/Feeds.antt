@@ -1,6 +1,5 @@
 -- Words of the contracts of feeds.
-use Rattle.std.specs.Prelude.{ℕ, ◌≡◌, ◌==◌, Bool, true, List, [], slice_range, if◌then◌else◌, Result, Ok, Err}
-use Rattle.std.proofs.Common.{get_or}
+use Rattle.std.specs.Prelude.{ℕ, ◌≡◌, Bool, true, List, [], slice_range, if◌then◌else◌, Result, Ok, Err}
 use Rattle.std.proofs.Common.{false, refl, sym}
 use Rattle.std.proofs.lemmas.Bool.{false≢true}
 use Rattle.ick_bits.specs.declared.digits.DigitFault.{DigitFault}
@@ -66,7 +65,3 @@ some_left told false line left over = (
 -- 1 for true, 0 for false
 abbrev pub one_if : Bool → ℕ
 one_if flag = if flag then 1 else 0
-
--- whether a run waits, by what a reader of a feed keeps
-abbrev pub waits_by : List ℕ → Bool
-waits_by held = get_or held 5 0 == 1

@@ -28,8 +28,8 @@ pub enum Exit {
     Room,
     /// A choice is asked: whether the statement is done.
     Asked,
-    /// The reader waits, and a statement of input or output is met that is certain to be done. The
-    /// run goes on from here.
+    /// The reader waits: a WRITE IN is met that is certain to be done, or output has left that the
+    /// memory still holds. The run goes on from here.
     Waits,
     /// Memory has run out within a statement. What was noted can be undone.
     NoMemory,

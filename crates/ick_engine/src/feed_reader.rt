@@ -4,7 +4,7 @@ ghost use Rattle.std.specs.Prelude.{◌≡◌, ◌+◌, ◌-◌, ◌<◌, ◌^�
 ghost use Rattle.std.specs.Prelude.{true, false, Ok, Err, IsOk, OnOk};
 ghost use Rattle.ick_bits.specs.Digits.{line_answer};
 ghost use Rattle.ick_engine.specs.Feeds.{MayBeLeft, feed_failures, has_ended, some_left};
-ghost use Rattle.ick_engine.specs.Feeds.{line_with, one_if, waits_by};
+ghost use Rattle.ick_engine.specs.Feeds.{line_with, one_if};
 
 use crate::feed::Feed;
 use crate::reader::{Line, Reader};
@@ -20,8 +20,6 @@ pub struct FeedReader<'f, F: Feed> {
     pub line: &'f mut Vec<u8>,
     /// Whether the step meets a WRITE IN.
     pub allowed: bool,
-    /// Whether a run waits before statements of input and output.
-    pub waits: bool,
     /// Whether the last read found input, or its fault. It is true before the first read.
     pub last: Result<bool, FeedFault>,
     ghost shut: { allowed ≡ false → last ≡ Ok true },
@@ -48,20 +46,26 @@ impl<F: Feed> Reader for FeedReader<'_, F> {
         (F.left reader.feed.now) input };
 
     // The names of the references, what the feed keeps, one more than the reads that had failed
-    // before the step, whether the feed may be asked, and whether a run waits.
+    // before the step, and whether the feed may be asked.
     ghost Held = { List ℕ };
 
     ghost held = { λ reader. reader.feed.ghost_name ∷ reader.line.ghost_name ∷ F.held
         reader.feed.now ∷ (F.failed reader.feed.now + 1 - feed_failures reader.last) ∷
-        one_if reader.allowed ∷ one_if reader.waits ∷ [] };
+        one_if reader.allowed ∷ [] };
 
-    ghost waits = { waits_by };
+    ghost waits = { λ _. false };
+
+    ghost Prints = { λ _ _. Unit {0} };
 
     ghost some = { λ reader. some_left F.told (has_ended reader.last) reader.line.now.items
         (F.left reader.feed.now) reader.over };
 
     fn is_waiting(&self) -> bool {
-        self.waits
+        false
+    }
+
+    fn leave(&mut self, output: &[u8]) -> Result<bool, NoMemory> {
+        Ok(false)
     }
 
     fn line(&mut self, from: usize) -> Result<Line, NoMemory> {

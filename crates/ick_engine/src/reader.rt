@@ -1,6 +1,6 @@
-//! Readers of a run's input, line by line or byte by byte.
+//! Readers of a run's input, line by line or byte by byte, which also let its output leave.
 
-ghost use Rattle.std.specs.Prelude.{◌≡◌, Bool, IfOk};
+ghost use Rattle.std.specs.Prelude.{◌≡◌, ℕ, List, Bool, true, Ok, IfOk};
 ghost use Rattle.ick_engine.specs.Reads.{IsNext, IsByte};
 ghost use Rattle.ick_runtime.specs.Inputs.{Leads, Input};
 
@@ -20,8 +20,8 @@ pub enum Line {
 }
 
 /// Reads the input of a run. If the source is a text, only one input may be left. Otherwise any
-/// input may be left that agrees with what was read. A read that fails returns `NoMemory` too, and
-/// the reader keeps the reason.
+/// input may be left that agrees with what was read. A call that fails for another reason returns
+/// `NoMemory` too, and the reader keeps the reason.
 pub trait Reader: Drop {
     /// Whether this may be the input that is left.
     ghost Has: { Self → Input → Type 0 };
@@ -32,17 +32,27 @@ pub trait Reader: Drop {
     /// What every call keeps: the text that is read, or the name of a reference to the source.
     ghost held: { Self → Self.Held };
 
-    /// Whether the loop waits before a statement of input or output that is certain to be done, by
-    /// what every call keeps.
+    /// Whether the loop waits before a WRITE IN that is certain to be done, by what every call
+    /// keeps.
     ghost waits: { Self.Held → Bool };
+
+    /// Whether this may be all output of the run so far, by what every call keeps.
+    ghost Prints: { Self.Held → List ℕ → Type 0 };
 
     /// Some input may be left.
     ghost some: { (reader : Self) → (input : Input) × Has reader input };
 
-    /// Returns whether the loop waits before a statement of input or output that is certain to be
-    /// done.
+    /// Returns whether the loop waits before a WRITE IN that is certain to be done.
     fn is_waiting(&self) -> bool
         ensures { result ≡ waits (held self.now) };
+
+    /// Lets the output leave that the memory holds, but not what has left before. Returns whether
+    /// the loop stops, so that the memory can be cleared.
+    fn leave(&mut self, output: &[u8]) -> Result<bool, NoMemory>
+        requires { Prints (held self.old) output.now }
+        ensures input { Leads Has self.old self.new (λ before after. before ≡ after) }
+        ensures held { held self.new ≡ held self.old }
+        ensures stops { result ≡ Ok true → waits (held self.old) ≡ true };
 
     /// Reads the line that begins at a position.
     fn line(&mut self, from: usize) -> Result<Line, NoMemory>

@@ -31,10 +31,16 @@ impl<'c> Reader for TextReader<'c> {
 
     ghost waits = { λ _. false };
 
+    ghost Prints = { λ _ _. Unit {0} };
+
     ghost some = { λ reader. (input_of reader.text.now, refl) };
 
     fn is_waiting(&self) -> bool {
         false
+    }
+
+    fn leave(&mut self, output: &[u8]) -> Result<bool, NoMemory> {
+        Ok(false)
     }
 
     fn line(&mut self, from: usize) -> Result<Line, NoMemory> {

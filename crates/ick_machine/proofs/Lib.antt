@@ -12,3 +12,4 @@ mod PassedOver
 mod CopyLemmas
 mod FedLemmas
 mod LiveLemmas
+mod PrinterLemmas

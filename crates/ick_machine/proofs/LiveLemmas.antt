@@ -1,20 +1,19 @@
 -- What a machine shows that takes its input from a feed.
-use Rattle.std.proofs.Common.{◌≡◌, ℕ, ◌+◌, false, List, [], Option, Some, None, refl, ap, ◌∙◌, subst, rules}
+use Rattle.std.proofs.Common.{◌≡◌, ℕ, List, [], Option, Some, None, refl, ap, ◌∙◌, rules}
 use Rattle.std.specs.Prelude.{option_map}
 use Rattle.ick_syntax.specs.StatementTree.{StatementTree}
 use Rattle.ick_code.specs.{declared.code.Code.Code, Compiled.code_program}
 use Rattle.ick_code.specs.meaning.State.{State, Ending, statement_at}
-use Rattle.ick_code.specs.meaning.Move.{Asking, ended, ask, ask_at, ask_of, advance}
+use Rattle.ick_code.specs.meaning.Move.{Asking, ended, ask, ask_at, ask_of}
 use Rattle.ick_code.proofs.AskLaws.{ask_same}
 use Rattle.ick_instructions.specs.declared.lowered.LoweredParts.{LoweredParts}
 use Rattle.ick_engine.specs.{declared.exit.RawEnd.RawEnd}
 use Rattle.ick_runtime.specs.{View.View, Inputs.input_of}
 use Rattle.ick_backtrack.specs.Asked.{Finish, finished, asked_at_end}
-use Rattle.ick_backtrack.specs.{Machine.Program, Steps.IsQuiet, Steps.RunsOn}
 use Rattle.ick_engine.specs.{Feeds.input_after}
-use Rattle.ick_machine.specs.{Live.LiveMachine, Live.fed, Message.asked_message}
+use Rattle.ick_machine.specs.{Message.asked_message}
 use Rattle.ick_machine.specs.{Message.end_message, Run.ending_of, Run.run_state}
-use Rattle.ick_machine.proofs.{FedLemmas.same_end, StepsLemmas.no_step, StepsLemmas.one_more, StepsLemmas.steps_on}
+use Rattle.ick_machine.proofs.{FedLemmas.same_end}
 
 -- the message of an end
 message_at : (end : Ending) (asked : Asking) → Some (ended end) ≡ Some asked → asked_message asked ≡ end_message end
@@ -50,21 +49,3 @@ pub no_message : (program : List StatementTree) (s : State) → s.end ≡ None �
 unfolding ask
 no_message program s going =
     ap (λ e. asked_message (ask_of e program s)) going ∙ none_at (statement_at program s.place) s
-
--- a run goes on by itself whatever input is left
-pub quiet_fed : (program : Program) (s : State) (left : List ℕ) → IsQuiet program s → IsQuiet program (fed left s)
-quiet_fed program s left quiet = (ask_same program s (fed left s) refl refl refl ∙ quiet.0, quiet.1)
-
--- a machine has made steps while it went on by itself
-abbrev pub HasFed : (old : LiveMachine) → List ℕ → ℕ → (new : LiveMachine) → List ℕ → Type 0
-HasFed old left k new rest = RunsOn IsQuiet old.program (fed left old.state) k (fed rest new.state)
-
-pub fed_further : (old mid new : LiveMachine) (left rest last : List ℕ) (j k : ℕ) → mid.program ≡ old.program →
-    HasFed old left j mid rest → HasFed mid rest k new last → HasFed old left (j + k) new last
-fed_further old mid new left rest last j k same first next =
-    steps_on IsQuiet old.program (fed left old.state) (fed rest mid.state) (fed last new.state) j k first
-    (subst (λ p. RunsOn IsQuiet p (fed rest mid.state) k (fed last new.state)) same next)
-
-pub fed_once : (old new : LiveMachine) (left rest : List ℕ) → IsQuiet old.program old.state →
-    fed rest new.state ≡ advance old.program (fed left old.state) false → HasFed old left 1 new rest
-fed_once old new left rest quiet is = search (rules, no_step, one_more, quiet_fed)

@@ -10,3 +10,4 @@ pub mod Stops
 pub mod LiveAsk
 pub mod Message
 pub mod Live
+pub mod Printing

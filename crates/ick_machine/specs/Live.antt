@@ -1,7 +1,6 @@
 -- What contracts see of a machine that takes its input from a feed.
-use Rattle.std.specs.Prelude.{ℕ, ◌≡◌, ◌<◌, ◌≤◌, Bool, true, false, List, [], Result, IfOk, OnOk, OnErr}
+use Rattle.std.specs.Prelude.{ℕ, Bool, List, []}
 use Rattle.std.specs.Prelude.{if◌then◌else◌}
-use Rattle.ick_bits.specs.declared.memory.NoMemory.{NoMemory}
 use Rattle.ick_code.specs.meaning.State.{State}
 use Rattle.ick_code.specs.meaning.Move.{ask}
 use Rattle.ick_machine.specs.declared.live.Live.{Live}
@@ -10,7 +9,6 @@ use Rattle.ick_machine.specs.declared.live_ask.LiveAsk.TheVariants.{Failed}
 use Rattle.ick_machine.specs.LiveAsk.{live_asked}
 use Rattle.ick_machine.specs.RunIn.{fed_state, program_of}
 use Rattle.ick_backtrack.specs.Machine.{Program}
-use Rattle.ick_backtrack.specs.Steps.{IsQuiet, RunsOn}
 use Rattle.ick_machine.specs.Message.{asked_message}
 
 -- the state is without its input, which the feed has; its output is what was written since it was last cleared
@@ -41,14 +39,3 @@ live_ask live = if live.failed then Failed else live_asked (ask live.program liv
 -- the message of the fault that a run has ended by, or nothing
 abbrev pub fault_message : LiveMachine → List ℕ
 fault_message live = asked_message (ask live.program live.state)
-
--- a call has made steps, before each of which a run went on by itself. After an error no output is held
-pub record HasRunOn (told : Bool) (limit : ℕ) (old : LiveMachine) (left : List ℕ) (new : LiveMachine) (rest : List ℕ)
-    (result : Result ℕ NoMemory) : Type 0 where
-  pub runs : told ≡ true → IfOk result (λ k. RunsOn IsQuiet old.program (fed left old.state) k (fed rest new.state))
-  pub within : IfOk result (λ k. k ≤ limit)
-  pub moves : IfOk result (λ k. ¬ IsQuiet new.program new.state → 0 < k)
-  pub program : new.program ≡ old.program
-  pub ok : OnOk result (new.failed ≡ false)
-  pub err : OnErr result (new.failed ≡ true)
-  pub output : OnErr result (new.state.output ≡ [])

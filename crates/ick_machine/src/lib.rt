@@ -10,13 +10,17 @@
 //! | `present` | the present state of a machine with marks, to be read |
 //! | `live_ask` | what a machine without marks asks |
 //! | `live` | a machine without marks, which takes its input from a feed |
+//! | `outlet` | where the output of such a machine goes while the run goes on |
+//! | `printer` | the reader by which it leaves |
 #![tactic(auto)]
 
 mod asking;
 mod copied;
 mod live;
 mod live_ask;
+mod outlet;
 mod present;
+mod printer;
 mod steps;
 mod trailed;
 
@@ -26,6 +30,7 @@ pub use ick_backtrack::{Ask, Asks, Backtrack, End, FeedFault};
 pub use ick_engine::Feed;
 pub use live::Live;
 pub use live_ask::{EndKind, LiveAsk};
+pub use outlet::{Outlet, OutletFault, RunFault};
 pub use present::{Inspect, Present};
 pub use steps::{Came, make_steps};
 pub use trailed::Trailed;

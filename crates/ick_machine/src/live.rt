@@ -1,13 +1,14 @@
 //! A machine without marks, which takes its input from a feed.
 #![tactic(auto, unfolding(crate::specs::Live::seen))]
 
-ghost use Rattle.std.specs.Prelude.{◌≡◌, ◌+◌, ◌<◌, ◌≤◌, ◌^◌, ◌++◌, [], true, false, length, Err};
+ghost use Rattle.std.specs.Prelude.{◌≡◌, ◌+◌, ◌<◌, ◌≤◌, ◌^◌, ◌++◌, [], true, false, length, Err, None};
 ghost use Rattle.std.specs.Prelude.{IfOk, OnOk, OnErr, vec_len, vec_capacity};
 ghost use Rattle.ick_machine.specs.RunIn.{CanGoOn};
 
 use crate::asking::answer;
+use crate::printer::Printer;
 use crate::steps::stopped;
-use crate::{EndKind, LiveAsk, end_of, make_steps};
+use crate::{EndKind, LiveAsk, Outlet, RunFault, end_of, make_steps};
 use ick_backtrack::{Ask, End, FeedFault};
 use ick_bits::{NoMemory, append_message};
 use ick_code::Code;
@@ -17,6 +18,7 @@ use ick_runtime::{Memory, NoTraces, Nobody, fresh_memory};
 use ick_syntax::Kind;
 use ick_traces::{Followed, add_traces};
 use std::alloc::Global;
+use std::snapshot::Snapshot;
 
 /// Runs a program step by step, and reads its input from a feed when it needs it. Nothing is kept
 /// that a run could go back to.
@@ -37,10 +39,11 @@ pub struct Live<'c, 'a> {
 impl<'c, 'a> Live<'c, 'a> {
     ghost use Rattle.ick_code.specs.{Compiled.code_program, meaning.Move.ask};
     ghost use Rattle.ick_code.specs.meaning.Move.{advance, first_state};
-    ghost use Rattle.ick_backtrack.specs.{Asked.IsGoing, Steps.IsQuiet, Steps.RunsOn, Steps.Rests};
+    ghost use Rattle.ick_backtrack.specs.{Asked.IsGoing};
     ghost use Rattle.ick_engine.specs.Feeds.{feed_failures};
-    ghost use Rattle.ick_machine.specs.Feeds.{MeetsInput, LeadsToInput};
-    ghost use Rattle.ick_machine.specs.Live.{seen, fed, cleared, live_ask, fault_message, HasRunOn};
+    ghost use Rattle.ick_machine.specs.Feeds.{MeetsInput};
+    ghost use Rattle.ick_machine.specs.Live.{seen, fed, cleared, live_ask, fault_message};
+    ghost use Rattle.ick_machine.specs.Printing.{Prints, run_failures};
 
     /// Returns a machine at the start of a program (Revised Manual, 3.1, 3.3). `NoMemory` is
     /// returned if a growth was refused, or if `lower` finds the program too large.
@@ -121,7 +124,6 @@ impl<'c, 'a> Live<'c, 'a> {
             feed,
             line: &mut self.line,
             allowed,
-            waits: false,
             last: Ok(true),
         };
         let memory = &mut self.memory;
@@ -140,96 +142,94 @@ impl<'c, 'a> Live<'c, 'a> {
         Ok(())
     }
 
-    /// Makes steps, as many as the limit allows, while the run goes on by itself: nothing is asked,
-    /// and no output is held, so that it can leave before more input is taken. Answers their
-    /// number. Each takes off the feed what a single step takes.
+    /// Makes steps, as many as the limit allows, while the run goes on by itself: up to a choice, a
+    /// WRITE IN or the end. It may stop before that. The output of each READ OUT leaves by the
+    /// outlet as soon as the statement is done. Returns the number of steps, and gives the outlet
+    /// back.
     ///
-    /// The machine must not have failed, and the feed's count of failures must be below its
-    /// greatest value. After an error it has failed, and holds no output. `Read` raises the feed's
-    /// count of failures by one, and every other answer leaves it. A run answers `Read`
-    /// only if it comes to a WRITE IN.
-    pub fn run<F: Feed>(&mut self, limit: u32, feed: &mut F) -> Result<u32, FeedFault>
+    /// The machine must neither have failed nor hold output, and the outlet's count of failures
+    /// must be below its greatest value. No output is held then. After an error the machine has
+    /// failed, and what was written is a prefix of the run's output. `Write` raises the outlet's
+    /// count of failures by one, and every other answer leaves it. No input is taken: the feed is
+    /// there for contracts alone.
+    pub fn run<F: Feed, O: Outlet>(
+        &mut self,
+        limit: u32,
+        feed: &F,
+        outlet: O,
+    ) -> (Result<u32, RunFault>, O)
         requires sound { (seen self.old).failed ≡ false }
-        requires room { F.failed feed.old + 1 < 2 ^ 64 }
-        ensures runs { let old = seen self.old in F.told ≡ true
-            → IfOk result (λ k. RunsOn IsQuiet old.program (fed (F.left feed.old) old.state) k
-            (fed (F.left feed.new) (seen self.new).state)) }
-        ensures within { IfOk result (λ k. k ≤ limit) }
-        ensures moves { let old = seen self.old in IfOk result (λ k. IsQuiet
-            old.program old.state → 0 < limit → 0 < k) }
-        ensures rests { let new = seen self.new in IfOk result (λ k. Rests IsQuiet
-            new.program limit k new.state) }
+        requires empty { (seen self.old).state.output ≡ [] }
+        requires room { O.failed outlet + 1 < 2 ^ 64 }
+        ensures prints { let old = seen self.old in F.told ≡ true → Prints O.told old.program
+            (fed (F.left feed.now) old.state) limit (fed (F.left feed.now) (seen self.new).state)
+            (O.written outlet) (O.written result.1) result.0 }
+        ensures within { IfOk result.0 (λ k. k ≤ limit) }
         ensures program { (seen self.new).program ≡ (seen self.old).program }
+        ensures empty { (seen self.new).state.output ≡ [] }
+        ensures ok { OnOk result.0 ((seen self.new).failed ≡ false) }
+        ensures err { OnErr result.0 ((seen self.new).failed ≡ true) }
+        ensures count { O.failed result.1 ≡ O.failed outlet + run_failures result.0 }
+        ensures held { O.held result.1 ≡ O.held outlet }
+    {
+        if self.end.is_some() {
+            return (Ok(0), outlet);
+        }
+        let mut printer = Printer {
+            machine: Snapshot::of(&*self),
+            feed: Snapshot::of(feed),
+            limit: Snapshot::of(&limit),
+            first: Snapshot::of(&outlet),
+            outlet,
+            shown: 0,
+            broken: false,
+        };
+        let ran = self.run_by(limit, &mut printer);
+        let Printer { outlet, .. } = printer;
+        (ran, outlet)
+    }
+
+    /// Makes steps as `run` does, and lets the output leave by a printer.
+    fn run_by<F: Feed, O: Outlet>(
+        &mut self,
+        limit: u32,
+        printer: &mut Printer<'_, '_, F, O>,
+    ) -> Result<u32, RunFault>
+        requires sound { (seen self.old).failed ≡ false }
+        requires going { self.old.end ≡ None }
+        requires machine { printer.old.machine.value ≡ self.old }
+        requires limit { printer.old.limit.value ≡ limit }
+        ensures prints { let old = seen self.old in let left = F.left printer.old.feed.value in
+            F.told ≡ true → Prints O.told old.program (fed left old.state) limit
+            (fed left (seen self.new).state) (O.written printer.old.first.value)
+            (O.written printer.new.outlet) result }
+        ensures within { IfOk result (λ k. k ≤ limit) }
+        ensures program { (seen self.new).program ≡ (seen self.old).program }
+        ensures empty { (seen self.new).state.output ≡ [] }
         ensures ok { OnOk result ((seen self.new).failed ≡ false) }
         ensures err { OnErr result ((seen self.new).failed ≡ true) }
-        ensures output { OnErr result ((seen self.new).state.output ≡ []) }
-        ensures count { F.failed feed.new ≡ F.failed feed.old + feed_failures result }
-        ensures held { F.held feed.new ≡ F.held feed.old }
-        ensures reads { let old = seen self.old in F.told ≡ true → result ≡ Err FeedFault.Read
-            → LeadsToInput old.program (fed (F.left feed.old) old.state) limit }
+        ensures count { O.failed printer.new.outlet ≡ O.failed printer.old.first.value
+            + run_failures result }
+        ensures held { O.held printer.new.outlet ≡ O.held printer.old.outlet }
     {
-        let mut made = 0;
-        'steps: while made < limit && self.is_quiet() {
-            made += self.run_to_stream(limit - made, feed)?;
-            if made == limit || !self.is_quiet() {
-                return Ok(made);
-            }
-            self.step(false, feed)?;
-            made += 1;
-        }
-        Ok(made)
-    }
-
-    /// Returns whether the run goes on by itself: nothing is asked, and no output is held.
-    fn is_quiet(&self) -> bool
-        requires sound { (seen self.now).failed ≡ false }
-        ensures quiet { result ≡ true → IsQuiet (seen self.now).program (seen self.now).state }
-        ensures rests { result ≡ false → ¬ IsQuiet (seen self.now).program (seen self.now).state }
-    {
-        self.memory.rest.output.is_empty() && matches!(self.asks(), LiveAsk::Plain)
-    }
-
-    /// Makes steps up to the next choice, end or statement of input or output, at most as many as
-    /// the limit. It asks the feed for nothing. After an error no output is held.
-    ///
-    /// It looks at the output once, after the last step. What was printed stays, so no output was
-    /// held before any of the steps.
-    fn run_to_stream<F: Feed>(&mut self, limit: u32, feed: &mut F) -> Result<u32, NoMemory>
-        requires sound { (seen self.old).failed ≡ false }
-        requires quiet { IsQuiet (seen self.old).program (seen self.old).state }
-        requires room { F.failed feed.old + 1 < 2 ^ 64 }
-        ensures ran { HasRunOn F.told limit (seen self.old) (F.left feed.old) (seen self.new)
-            (F.left feed.new) result }
-        ensures count { F.failed feed.new ≡ F.failed feed.old }
-        ensures held { F.held feed.new ≡ F.held feed.old }
-    {
-        // The status is that of a statement of input or output that is certain to be done.
-        if self.memory.statuses[self.memory.cursor.place as usize] == 101 {
-            return Ok(0);
-        }
         self.failed = true;
-        let reader = &mut FeedReader {
-            feed,
-            line: &mut self.line,
-            allowed: false,
-            waits: true,
-            last: Ok(true),
-        };
         let program = self.lowered.program();
         let traces = &self.lowered;
         let memory = &mut self.memory;
         let end = &mut self.end;
         let notes = &mut Nobody;
-        match make_steps(program, memory, end, notes, reader, traces, limit, None) {
-            Ok(came) if self.memory.rest.output.is_empty() => {
-                self.failed = false;
-                Ok(came.made)
-            }
-            _ => {
-                self.memory.rest.output.clear();
-                Err(NoMemory)
-            }
+        let came = make_steps(program, memory, end, notes, printer, traces, limit, None);
+        let Ok(came) = came else {
+            self.memory.rest.output.clear();
+            return Err(printer.fault());
+        };
+        let has_left = printer.print(self.output());
+        self.memory.rest.output.clear();
+        if !has_left {
+            return Err(printer.fault());
         }
+        self.failed = false;
+        Ok(came.made)
     }
 
     /// Returns what was written since the output was last cleared.

@@ -2,10 +2,12 @@
 use Rattle.std.proofs.Common.{◌≡◌, ℕ, zero, suc, ◌+◌, ◌-◌, ◌<◌, ◌≤◌, le_refl, Bool, true}
 use Rattle.std.proofs.Common.{false, List, [], ◌∷◌, ◌++◌, length}
 use Rattle.std.proofs.Common.{take, drop, refl, ap, sym, ◌∙◌, subst, arith, append_assoc}
-use Rattle.std.specs.Prelude.{Result, Ok, Err, IsErr, OnOk, Some, if◌then◌else◌}
+use Rattle.std.specs.Prelude.{Result, Ok, Err, OnOk, Some, if◌then◌else◌}
 use Rattle.std.proofs.lemmas.Bool.{false≢true}
 use Rattle.std.proofs.Math.Seq.{take-append-add}
-use Rattle.std.proofs.lemmas.List.{append-nil, take-append-drop, take-append-le}
+use Rattle.std.proofs.lemmas.List.{append-nil, length-append, length-take, take_min, take-append-drop, take-append-le}
+use Rattle.std.proofs.Props.{props}
+use mathlib.Core.Logic.{∥∥₁_elim}
 use Rattle.ick_code.specs.meaning.State.{State, Ending}
 use Rattle.ick_code.specs.meaning.Move.{Asking, plain, choice, ended, ask, advance}
 use Rattle.ick_code.specs.Laws.{after_output}
@@ -13,10 +15,11 @@ use Rattle.ick_code.proofs.AskLaws.{ask_same}
 use Rattle.ick_code.proofs.Frames.{advance_frame}
 use Rattle.ick_backtrack.specs.Machine.{Program, Machine}
 use Rattle.ick_backtrack.specs.Asked.{Finish, finished, at_limit, IsGoing}
-use Rattle.ick_backtrack.specs.Steps.{after_steps, IsQuiet, RunsOn}
+use Rattle.ick_backtrack.specs.Steps.{after_steps, IsPlain, RunsOn}
 use Rattle.ick_machine.specs.LiveAsk.{end_kind_of, live_asked}
-use Rattle.ick_machine.specs.Feeds.{MeetsInput, LeadsToInput}
+use Rattle.ick_machine.specs.Feeds.{MeetsInput}
 use Rattle.ick_machine.specs.Live.{LiveMachine, fed, cleared, live_ask, fault_message}
+use Rattle.ick_machine.specs.Printing.{Prints}
 use Rattle.ick_machine.specs.Message.{asked_message}
 use Rattle.ick_machine.specs.declared.live_ask.LiveAsk.{LiveAsk}
 use Rattle.ick_machine.specs.declared.live_ask.LiveAsk.TheVariants.{Choice, Ended, Failed}
@@ -27,7 +30,7 @@ use Rattle.ick_explorer.specs.Paths.{Leads}
 use Rattle.ick_explorer.specs.Walks.{EndsHere}
 use Rattle.ick_runs.specs.Chosen.{Chosen, IsChosen, answer_of}
 use Rattle.ick_runs.specs.Streams.{finish_kind, finish_message, stop_kind, stop_message, HasStreamed, StopsAtInput}
-use Rattle.ick_runs.specs.Streaming.{Turns, Strides, IsAlong, AreTaken, HasStopped, IsCutOff}
+use Rattle.ick_runs.specs.Streaming.{Turns, IsAlong, AreTaken, HasStopped, IsCutOff}
 use Rattle.ick_runs.specs.declared.streamed.Streamed.{Streamed}
 use Rattle.ick_explorer.specs.declared.errors.RunsError.{RunsError}
 use Rattle.ick_explorer.proofs.RunLaws.{Leads-start, Leads-plain, Leads-choice, Leads-wants, Leads-ends}
@@ -107,12 +110,15 @@ pub asks_chance : (m : LiveMachine) (r : LiveAsk) (chance : ℕ) → m.failed �
     r ≡ Choice chance → ask m.program m.state ≡ choice chance
 asks_chance m r chance sound e f = same_choice _ chance (asked_by m r e sound ∙ f)
 
--- where nothing is asked and no output is held, a run goes on by itself
-pub goes_by_itself : (m : LiveMachine) (r : LiveAsk) → m.failed ≡ false → r ≡ live_ask m →
-    ((k : ℕ) → r ≡ Choice k → ⊥) → ((kind : EndKind) → r ≡ Ended kind → ⊥) →
-    m.state.output ≡ [] →
-    IsQuiet m.program m.state
-goes_by_itself m r sound e i j empty = (same_plain (ask m.program m.state) r (asked_by m r e sound) i j, empty)
+-- where no choice is asked and the run hasn't ended, nothing is asked
+pub asks_nothing : (m : LiveMachine) (r : LiveAsk) → m.failed ≡ false → r ≡ live_ask m →
+    ((k : ℕ) → r ≡ Choice k → ⊥) → ((kind : EndKind) → r ≡ Ended kind → ⊥) → ask m.program m.state ≡ plain
+asks_nothing m r sound e i j = same_plain (ask m.program m.state) r (asked_by m r e sound) i j
+
+-- a run that may make a step
+pub may_go_on : (m : LiveMachine) (r : LiveAsk) → m.failed ≡ false → r ≡ live_ask m →
+    ((kind : EndKind) → r ≡ Ended kind → ⊥) → IsGoing (ask m.program m.state)
+may_go_on m r sound e j = still_going (ask m.program m.state) r (asked_by m r e sound) j
 
 -- if the sink tells what is written, a part of an output is written
 written_part : (told : Bool) (output written written' : List ℕ) →
@@ -136,28 +142,17 @@ output_left told u mid now left written written' (Err error) is clears all part 
     subst (λ (s : State). (k : ℕ) × (k ≤ length s.output) × (told ≡ true → written' ≡ written ++ take k s.output)) is
     (written_part told mid.state.output written written' part)
 
--- as many steps were made, and of their output k bytes left
-pub stride_refused : (told : Bool) (p : Program) (s now : State) (l steps : ℕ) (u : State)
-    (written written' : List ℕ) (error : RunsError) → steps ≤ l → RunsOn IsQuiet p s steps u →
-    (told ≡ true → (k : ℕ) × (k ≤ length u.output) × (written' ≡ written ++ take k u.output)) →
-    Strides told p s l now written written' (Err error)
-stride_refused told p s now l steps u written written' error within runs wrote = record {
-  steps = steps;
-  made = tt;
-  within = within;
-  state = u;
-  runs = runs;
-  turns = written_part told u.output written written' wrote;
-}
+text_set : IsSet (List ℕ)
+text_set = hlevel props
 
--- and where none of its steps was made
-pub no_stride : (told : Bool) (p : Program) (s now : State) (l : ℕ) (written : List ℕ) (answer : Result ℕ RunsError) →
-    IsErr answer → Strides told p s l now written written answer
-no_stride told p s now l written (Ok n) is = absurd (false≢true is)
-no_stride told p s now l written (Err error) is =
-    let none : RunsOn IsQuiet p s 0 s = record { leads = refl; on = λ i lt. absurd (omega (arith, lt)) } in
-    stride_refused told p s now l 0 s written written error (omega arith) none
-    (λ tells. (0, omega arith, sym (append-nil written)))
+-- how long the front is that was written
+cut_by : (before after output : List ℕ) (k : ℕ) → after ≡ before ++ take k output →
+    after ≡ before ++ take (length after - length before) output
+cut_by before after output k is =
+    let whole = ap (λ o. length o) is ∙ length-append before (take k output) in
+    let count : length after - length before ≡ length (take k output) = omega (arith, whole) in
+    is ∙ ap (λ o. before ++ o)
+    (sym (ap (λ n. take n output) (count ∙ length-take k output) ∙ take_min k output))
 
 -- the answer of a run that has stopped, and its refusal
 pub stopped_streams : (told : Bool) (x : Execution) (c taken : List Bool) (message w w' left : List ℕ)
@@ -196,7 +191,7 @@ module _ (p : Program) (s : State) (l : ℕ) where
 
   -- and many, where the run goes on by itself
   leads_on : (c : List Bool) (now u : State) (sent : List ℕ) (n k : ℕ) →
-      Leads p s l c (after_output sent now) n → RunsOn IsQuiet p now k u → n + k ≤ l →
+      Leads p s l c (after_output sent now) n → RunsOn IsPlain p now k u → n + k ≤ l →
       Leads p s l c (after_output sent u) (n + k)
   leads_on c now u sent n k h runs within =
       subst (λ x. Leads p s l c (after_output sent x) (n + k)) (sym runs.leads) (leads_up_to k (le_refl k))
@@ -208,7 +203,7 @@ module _ (p : Program) (s : State) (l : ℕ) where
           let next : n + i + 1 ≡ n + suc i = omega arith in
           let lt : i < k = omega (arith, le) in
           subst (Leads p s l c (after_output sent (after_steps p now (suc i)))) next
-          (leads_plain c (after_steps p now i) sent (n + i) (leads_up_to i (omega (arith, le))) (runs.on i lt).0
+          (leads_plain c (after_steps p now i) sent (n + i) (leads_up_to i (omega (arith, le))) (runs.on i lt)
           (omega (arith, within, lt)))
 
 pub same_error : {A : Type 0} (r : Result A RunsError) (e f : RunsError) → r ≡ Err e → r ≡ Err f → e ≡ f
@@ -401,82 +396,85 @@ module _ (told : Bool) (p : Program) (s : State) (l : ℕ) where
           taken_on p s l chosen c taken taken' machine_here.state n chance b is (h.along.leads l h.along.within)
           (ask_after p (fed left m.state) h.along.sent ∙ asks_choice) lt f answer x
 
-      leads_by_choice : (taken' : List Bool) (b : Bool) → taken' ≡ taken ++ b ∷ [] → (bound : ℕ) → n + 1 ≤ bound →
+      pub leads_by_choice : {taken' : List Bool} (b : Bool) → taken' ≡ taken ++ b ∷ [] → (bound : ℕ) → n + 1 ≤ bound →
           Leads p s bound taken' (after_output h.along.sent (advance m.program (fed left m.state) b)) (n + 1)
-      leads_by_choice taken' b x bound le =
+      leads_by_choice {taken'} b x bound le =
           let state : Program → State = λ q. after_output h.along.sent (advance q (fed left m.state) b) in
           subst (λ y. Leads p s bound y (state m.program) (n + 1)) (sym x)
           (subst (λ q. Leads p s bound (taken ++ b ∷ []) (state q) (n + 1)) (sym h.program)
           (leads_choice p s bound taken (fed left m.state) h.along.sent n chance b
           (h.along.leads bound (omega (arith, le))) asks_choice (omega (arith, le))))
 
-      pub choice_turned : (taken' : List Bool) (b : Bool) (now' : State) (after : List ℕ) (unit : Unit {0}) →
-          taken' ≡ taken ++ b ∷ [] →
+    -- where nothing is asked
+    pub leads_by_itself : ask m.program m.state ≡ plain → (bound : ℕ) → n + 1 ≤ bound →
+        Leads p s bound taken (after_output h.along.sent (advance m.program (fed left m.state) false)) (n + 1)
+    leads_by_itself asks bound le =
+        let state : Program → State = λ q. after_output h.along.sent (advance q (fed left m.state) false) in
+        subst (λ q. Leads p s bound taken (state q) (n + 1)) (sym h.program)
+        (leads_plain p s bound taken (fed left m.state) h.along.sent n (h.along.leads bound (omega (arith, le)))
+        (asks_fed ∙ asks) (omega (arith, le)))
+
+    -- one step further
+    module _ (lt : n < l) {taken' : List Bool} (b : Bool) (leads : (bound : ℕ) → n + 1 ≤ bound →
+        Leads p s bound taken' (after_output h.along.sent (advance m.program (fed left m.state) b)) (n + 1)) where
+      pub step_turned : (now' : State) (after : List ℕ) (unit : Unit {0}) →
           Turns told (advance m.program (fed left m.state) b) now' mid after (Ok unit) →
           IsAlong told p s l taken' now' before after (n + 1)
-      choice_turned taken' b now' after unit x turns =
+      step_turned now' after unit turns =
           turned taken' (advance m.program (fed left m.state) b) now' h.along.sent before mid after (n + 1)
-          (omega (arith, lt)) (leads_by_choice taken' b x) h.along.text turns.0 turns.1
+          (omega (arith, lt)) leads h.along.text turns.0 turns.1
 
-      pub choice_refused : (c taken' : List Bool) (b : Bool) (now' : State) (after : List ℕ) (error : RunsError) →
-          AreTaken c taken' → taken' ≡ taken ++ b ∷ [] →
+      pub step_refused : (c : List Bool) (now' : State) (after : List ℕ) (error : RunsError) → AreTaken c taken' →
           Turns {T = Unit {0}} told (advance m.program (fed left m.state) b) now' mid after (Err error) →
           IsCutOff told (run p s l c) before after
-      choice_refused c taken' b now' after error f x (k, le, wrote) =
+      step_refused c now' after error f (k, le, wrote) =
           refused c taken' (advance m.program (fed left m.state) b) h.along.sent before mid after (n + 1) k
-          f (leads_by_choice taken' b x l (omega (arith, lt))) h.along.text le wrote
+          f (leads l (omega (arith, lt))) h.along.text le wrote
 
-      pub choice_at_input : (c taken' : List Bool) (b : Bool) (after : List ℕ) → AreTaken c taken →
-          AreTaken c taken' → taken' ≡ taken ++ b ∷ [] → MeetsInput m.program m.state → after ≡ mid →
-          StopsAtInput told p s l c before after
-      choice_at_input c taken' b after f f' x meets same =
+      pub step_at_input : (c : List Bool) (after : List ℕ) → AreTaken c taken → AreTaken c taken' →
+          MeetsInput m.program m.state → after ≡ mid → StopsAtInput told p s l c before after
+      step_at_input c after f f' meets same =
           stopped_at_input c taken (after_output h.along.sent (fed left m.state)) before after n f h.along.leads
           (steps_past p s l c taken' (after_output h.along.sent (advance m.program (fed left m.state) b)) n f'
-          (leads_by_choice taken' b x l (omega (arith, lt))))
+          (leads l (omega (arith, lt))))
           (subst (λ q. MeetsInput q m.state) h.program meets)
           (λ t. same ∙ (h.along.text t ∙ ap (λ o. before ++ o) (sym (last_of h.along.sent (fed left m.state) h.empty))))
 
-    -- and where nothing is asked
-    module _ {r : LiveAsk} (e : r ≡ live_ask m) (i : (k : ℕ) → r ≡ Choice k → ⊥)
-        (j : (kind : EndKind) → r ≡ Ended kind → ⊥) (lt : n < l) where
-      leads_by_steps : (k : ℕ) (u : State) → RunsOn IsQuiet m.program (fed left m.state) k u → (bound : ℕ) →
-          n + k ≤ bound → Leads p s bound taken (after_output h.along.sent u) (n + k)
-      leads_by_steps k u runs bound le =
-          leads_on p s bound taken (fed left m.state) u h.along.sent n k (h.along.leads bound (omega (arith, le)))
-          (subst (λ q. RunsOn IsQuiet q (fed left m.state) k u) h.program runs) le
+    -- many, where the run goes on by itself
+    leads_by_steps : (k : ℕ) (u : State) → RunsOn IsPlain m.program (fed left m.state) k u → (bound : ℕ) →
+        n + k ≤ bound → Leads p s bound taken (after_output h.along.sent u) (n + k)
+    leads_by_steps k u runs bound le =
+        leads_on p s bound taken (fed left m.state) u h.along.sent n k (h.along.leads bound (omega (arith, le)))
+        (subst (λ q. RunsOn IsPlain q (fed left m.state) k u) h.program runs) le
 
-      pub plain_turned : (k : ℕ) (now' : State) (after : List ℕ) →
-          Strides told m.program (fed left m.state) (l - n) now' mid after (Ok k) →
-          IsAlong told p s l taken now' before after (n + k)
-      plain_turned k now' after strides =
-          let within = strides.within in
-          subst (λ steps. IsAlong told p s l taken now' before after (n + steps)) (sym strides.made)
-          (turned taken strides.state now' h.along.sent before mid after (n + strides.steps)
-          (omega (arith, within, lt)) (leads_by_steps strides.steps strides.state strides.runs)
-          h.along.text strides.turns.0 strides.turns.1)
+    pub strode : (k : ℕ) (m' : LiveMachine) (after : List ℕ) → m'.program ≡ m.program → m'.failed ≡ false →
+        m'.state.output ≡ [] →
+        Prints {E = RunsError} told m.program (fed left m.state) (l - n) (fed left m'.state) mid after (Ok k) →
+        Here taken m' left before after (n + k)
+    strode k m' after program sound empty (u, within, runs, now, wrote) =
+        let low = h.along.within in
+        record {
+          along = turned taken u (fed left m'.state) h.along.sent before mid after (n + k) (omega (arith, within, low))
+              (leads_by_steps k u runs) h.along.text now wrote;
+          program = program ∙ h.program;
+          sound = sound;
+          empty = empty;
+        }
 
-      pub plain_refused : (c : List Bool) (now' : State) (after : List ℕ) (error : RunsError) →
-          AreTaken c taken → Strides told m.program (fed left m.state) (l - n) now' mid after (Err error) →
-          IsCutOff told (run p s l c) before after
-      plain_refused c now' after error f strides =
-          let (k, le, wrote) = strides.turns in
-          let within = strides.within in
-          refused c taken strides.state h.along.sent before mid after (n + strides.steps) k
-          f (leads_by_steps strides.steps strides.state strides.runs l (omega (arith, within, lt))) h.along.text le wrote
-
-      pub plain_at_input : (c : List Bool) (after : List ℕ) → AreTaken c taken →
-          LeadsToInput m.program (fed left m.state) (l - n) → after ≡ mid → StopsAtInput told p s l c before after
-      plain_at_input c after f to same =
-          let sent = h.along.sent in
-          let k = to.steps in
-          let u = to.state in
-          let within = to.within in
-          let leads = leads_by_steps k u to.runs in
-          let asks : ask p u ≡ plain = subst (λ q. ask q u ≡ plain) h.program to.quiet.0 in
-          let next : Leads p s l taken (after_output sent (advance p u false)) (n + k + 1) =
-          leads_plain p s l taken u sent (n + k) (leads l (omega (arith, within, lt))) asks
-          (omega (arith, within, lt)) in
-          stopped_at_input c taken (after_output sent u) before after (n + k) f leads
-          (steps_past p s l c taken (after_output sent (advance p u false)) (n + k) f next)
-          (subst (λ q. MeetsInput q u) h.program to.meets)
-          (λ t. same ∙ (h.along.text t ∙ ap (λ o. before ++ o) (sym (last_of sent u to.quiet.1))))
+    -- and where they were cut short
+    pub stride_cut : (c : List Bool) → AreTaken c taken → (now' : State) (after : List ℕ) (error : RunsError) →
+        Prints told m.program (fed left m.state) (l - n) now' mid after (Err error) → IsCutOff told (run p s l c) before after
+    stride_cut c f now' after error prints =
+        let low = h.along.within in
+        let whole = run p s l c in (
+          length after - length before,
+          λ t. ∥∥₁_elim (prints t)
+              (text_set after (before ++ take (length after - length before) whole.last.output))
+              (λ found.
+              let left' = found.1 in
+              let within = left'.reaches.within in
+              let cut = refused c taken left'.state h.along.sent before mid after (n + left'.reaches.steps) found.0 f
+              (leads_by_steps left'.reaches.steps left'.state left'.reaches.runs l (omega (arith, within, low)))
+              h.along.text left'.within (λ _. left'.text) in
+              cut_by before after whole.last.output cut.0 (cut.1 t)),
+        )

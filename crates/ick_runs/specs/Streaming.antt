@@ -1,11 +1,10 @@
 -- Describes the progress of a streamed run, for private contracts.
 use Rattle.std.specs.Prelude.{◌≡◌, ◌==◌, ℕ, ◌<◌, ◌≤◌, Bool, true, false, List, ◌++◌, length}
-use Rattle.std.specs.Prelude.{take, get_or, Result, Ok, Err, IfOk}
+use Rattle.std.specs.Prelude.{take, get_or, Result, Ok, Err}
 use Rattle.ick_code.specs.meaning.State.{State}
 use Rattle.ick_code.specs.Laws.{after_output}
 use Rattle.ick_backtrack.specs.Machine.{Program}
 use Rattle.ick_machine.specs.Live.{cleared}
-use Rattle.ick_backtrack.specs.Steps.{IsQuiet, RunsOn}
 use Rattle.ick_machine.specs.declared.live_ask.EndKind.{EndKind}
 use Rattle.ick_explorer.specs.Paths.{Leads}
 use Rattle.ick_explorer.specs.Runs.{Execution}
@@ -22,16 +21,6 @@ Turns told u now written written' (Ok done) =
     (now ≡ cleared u) × (told ≡ true → written' ≡ written ++ u.output)
 Turns told u now written written' (Err error) =
     (n : ℕ) × (n ≤ length u.output) × (told ≡ true → written' ≡ written ++ take n u.output)
-
--- the run made the answered number of steps from s without a choice, and then wrote its output, as Turns says
-pub record Strides (told : Bool) (p : Program) (s : State) (limit : ℕ) (now : State)
-    (written written' : List ℕ) (answer : Result ℕ RunsError) : Type 0 where
-  pub steps : ℕ
-  pub made : IfOk answer (λ k. k ≡ steps)
-  pub within : steps ≤ limit
-  pub state : State
-  pub runs : RunsOn IsQuiet p s steps state
-  pub turns : Turns told state now written written' answer
 
 -- n steps of the run of c are made, and all its output is written but the output that the machine holds
 pub record IsAlong (told : Bool) (p : Program) (s : State) (limit : ℕ) (c : List Bool) (now : State)

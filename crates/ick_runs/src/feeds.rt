@@ -1,9 +1,9 @@
-//! Feeds a machine's input from a source of bytes.
+//! Feeds a machine's input from a source of bytes, and lets its output leave by a sink.
 
 ghost use Rattle.std.specs.Prelude.{◌≡◌};
 
-use ick_explorer::ByteSource;
-use ick_machine::{Feed, FeedFault};
+use ick_explorer::{ByteSink, ByteSource, write_whole};
+use ick_machine::{Feed, FeedFault, Outlet, OutletFault};
 
 /// How many bytes of a line are read at once.
 const BLOCK: usize = 64;
@@ -61,6 +61,40 @@ impl<R: ByteSource> Feed for SourceFeed<'_, R> {
             Err(_) => Err(FeedFault::Read),
             Ok(0) => Ok(None),
             Ok(_) => Ok(Some(byte[0])),
+        }
+    }
+}
+
+/// Writes a run's output to a sink.
+#[derive(Drop)]
+pub(crate) struct SinkOutlet<'w, W: ByteSink> {
+    sink: &'w mut W,
+}
+
+impl<'w, W: ByteSink> SinkOutlet<'w, W> {
+    /// Returns an outlet that writes to `sink`.
+    pub(crate) fn new(sink: &'w mut W) -> SinkOutlet<'w, W>
+        ensures held { result.sink.ghost_name ≡ sink.entry.ghost_name }
+        ensures now { result.sink.now ≡ sink.old }
+    {
+        SinkOutlet { sink }
+    }
+}
+
+impl<W: ByteSink> Outlet for SinkOutlet<'_, W> {
+    ghost told = { W.told };
+
+    ghost written = { λ outlet. W.written outlet.sink.now };
+
+    ghost failed = { λ outlet. W.failed outlet.sink.now };
+
+    ghost held = { λ outlet. outlet.sink.ghost_name };
+
+    #[inline(always)]
+    fn write(&mut self, text: &[u8]) -> Result<(), OutletFault> {
+        match write_whole(self.sink, text) {
+            Ok(()) => Ok(()),
+            Err(_) => Err(OutletFault),
         }
     }
 }

@@ -99,6 +99,8 @@ fn run_on<R: ByteSource, W: ByteSink>(
 {
     let mut steps = 0;
     'along: loop {
+        let made = stride(machine, reader, writer, limit - steps)?;
+        steps += made;
         let asked = machine.asks();
         if let LiveAsk::Ended(end) = asked {
             return Ok((end, steps));
@@ -115,8 +117,9 @@ fn run_on<R: ByteSource, W: ByteSink>(
             steps += 1;
             continue;
         }
-        let made = stride(machine, reader, writer, limit - steps)?;
-        steps += made;
+        // A WRITE IN is met, or the machine has stopped to clear its output.
+        turn(machine, reader, writer, false)?;
+        steps += 1;
     }
 }
 

@@ -5,16 +5,16 @@ ghost use Rattle.std.specs.Prelude.{◌++◌, ℕ, [], true, false};
 ghost use Rattle.std.specs.Prelude.{Err, IfOk, IfErr, OnOk, length, take};
 ghost use Rattle.ick_code.specs.meaning.Move.{ask, advance};
 ghost use Rattle.ick_backtrack.specs.Asked.{IsGoing};
-ghost use Rattle.ick_backtrack.specs.Steps.{IsQuiet, RunsOn};
-ghost use Rattle.ick_machine.specs.Feeds.{MeetsInput, LeadsToInput};
+ghost use Rattle.ick_machine.specs.Feeds.{MeetsInput};
 ghost use Rattle.ick_machine.specs.Live.{seen, fed, cleared};
 ghost use Rattle.ick_runs.specs.Streams.{source_failures};
-ghost use Rattle.ick_runs.specs.Streaming.{Turns, Strides};
+ghost use Rattle.ick_machine.specs.Printing.{Prints};
+ghost use Rattle.ick_runs.specs.Streaming.{Turns};
 ghost use Rattle.ick_explorer.specs.Writes.{write_failures};
 
-use crate::feeds::SourceFeed;
+use crate::feeds::{SinkOutlet, SourceFeed};
 use ick_explorer::{ByteSink, ByteSource, RunsError, write_whole};
-use ick_machine::Live;
+use ick_machine::{Live, RunFault};
 
 /// Writes and clears the output that the machine holds. If the writer fails, the answer is `Write`,
 /// and a prefix of the output is written.
@@ -73,9 +73,9 @@ pub(crate) fn turn<R: ByteSource, W: ByteSink>(
     leave(machine, writer)
 }
 
-/// Makes at most `limit` steps, writes their output and returns their number. Before each step the
-/// run asks no choice. `limit` must be above 0, the first step must ask no choice, and the machine
-/// must hold no output. The answer is `NoMemory`, `Read` or `Write` if that part fails.
+/// Makes at most `limit` steps while the run goes on by itself, and returns their number. The output
+/// of each READ OUT is written as soon as the statement is done. The machine must hold no output.
+/// The answer is `NoMemory` or `Write` if that part fails.
 pub(crate) fn stride<R: ByteSource, W: ByteSink>(
     machine: &mut Live<'_, '_>,
     reader: &mut R,
@@ -83,30 +83,25 @@ pub(crate) fn stride<R: ByteSource, W: ByteSink>(
     limit: u32,
 ) -> Result<u32, RunsError>
     requires sound { (seen machine.old).failed ≡ false }
-    requires some { 0 < limit }
-    requires quiet { IsQuiet (seen machine.old).program (seen machine.old).state }
-    requires reads { R.failed reader.old + 1 < 2 ^ 64 }
+    requires empty { (seen machine.old).state.output ≡ [] }
     requires writes { W.failed writer.old + 1 < 2 ^ 64 }
-    ensures moved { let old = seen machine.old in R.told ≡ true → Strides W.told
+    ensures moved { let old = seen machine.old in R.told ≡ true → Prints W.told
         old.program (fed (R.left reader.old) old.state) limit
-        (fed (R.left reader.new) (seen machine.new).state)
+        (fed (R.left reader.old) (seen machine.new).state)
         (W.written writer.old) (W.written writer.new) result }
-    ensures some { IfOk result (λ k. 0 < k) }
     ensures within { IfOk result (λ k. k ≤ limit) }
     ensures program { (seen machine.new).program ≡ (seen machine.old).program }
     ensures sound { OnOk result ((seen machine.new).failed ≡ false) }
-    ensures empty { OnOk result ((seen machine.new).state.output ≡ []) }
-    ensures input { let old = seen machine.old in R.told ≡ true → result ≡ Err RunsError.Read
-        → LeadsToInput old.program (fed (R.left reader.old) old.state) limit }
-    ensures unwritten { result ≡ Err RunsError.Read
-        → W.written writer.new ≡ W.written writer.old }
-    ensures reads { R.failed reader.new ≡ R.failed reader.old + source_failures result }
+    ensures empty { (seen machine.new).state.output ≡ [] }
+    ensures reader { reader.new ≡ reader.old }
     ensures writes { W.failed writer.new ≡ W.failed writer.old + write_failures result }
-    ensures errors { IfErr result (λ e. (e ≡ RunsError.NoMemory)
-        ⊎ ((e ≡ RunsError.Read) ⊎ (e ≡ RunsError.Write))) }
+    ensures errors { IfErr result (λ e. (e ≡ RunsError.NoMemory) ⊎ (e ≡ RunsError.Write)) }
 {
-    let mut feed = SourceFeed::new(reader);
-    let made = machine.run(limit, &mut feed)?;
-    leave(machine, writer)?;
-    Ok(made)
+    let feed = SourceFeed::new(reader);
+    let (made, _) = machine.run(limit, &feed, SinkOutlet::new(writer));
+    match made {
+        Ok(made) => Ok(made),
+        Err(RunFault::NoMemory) => Err(RunsError::NoMemory),
+        Err(RunFault::Write) => Err(RunsError::Write),
+    }
 }

@@ -43,9 +43,9 @@ pub struct Memory {
     /// The register that each register leads to: itself, or the last one if its scalar is ignored.
     pub home: Vec<u32>,
     /// By the number of a statement: 0 if it is certain to be done, from 1 to 99 if a choice is
-    /// asked, and 100 or at least 128 if it is passed over. A statement of input or output that is
-    /// certain to be done has 101. One that is certain to be done may have 126, which says that a
-    /// trace begins with it. Past the end it is 127.
+    /// asked, and 100 or at least 128 if it is passed over. A WRITE IN that is certain to be done
+    /// has 101. A statement that is certain to be done may have 126, which says that a trace begins
+    /// with it. Past the end it is 127.
     pub statuses: Vec<u8>,
     /// The NEXT stack: 79 elements, of which `cursor.depth` are used.
     pub returns: Vec<u32>,

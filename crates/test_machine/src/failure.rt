@@ -11,7 +11,6 @@ pub enum Failure {
     NoMemory,
     AfterEnd,
     GoesOnAlone,
-    HasFailed,
     NoEnd,
     NoMark,
     NoNumber,
@@ -25,7 +24,6 @@ pub enum Failure {
     OtherWork,
     ReadFailed,
     RefusedSource,
-    Stopped,
     TooManySteps,
 }
 
@@ -36,7 +34,6 @@ impl Failure {
             Failure::NoMemory => b"no memory",
             Failure::AfterEnd => b"a step after the end",
             Failure::GoesOnAlone => b"a machine that goes on alone",
-            Failure::HasFailed => b"a machine that has failed",
             Failure::NoEnd => b"runs that have no end",
             Failure::NoMark => b"no mark to go back to",
             Failure::NoNumber => b"a field that is no number",
@@ -50,7 +47,6 @@ impl Failure {
             Failure::OtherWork => b"machines of other steps or marks",
             Failure::ReadFailed => b"a read failed",
             Failure::RefusedSource => b"the source is refused",
-            Failure::Stopped => b"a machine that asks nothing more",
             Failure::TooManySteps => b"more steps than are counted",
         }
     }

@@ -123,16 +123,4 @@ impl<'c, 'a, 't> Fed<'c, 'a, 't> {
         }
         Ok(true)
     }
-
-    /// Makes steps in one call, and returns their number. No read must have failed.
-    pub fn run(&mut self, limit: u32) -> Result<u32, Failure> {
-        if self.feed.failures > 0 {
-            return Err(Failure::HasFailed);
-        }
-        match self.live.asks() {
-            LiveAsk::Plain => Ok(self.live.run(limit, &mut self.feed)?),
-            LiveAsk::Choice(_) => Ok(self.live.run(limit, &mut self.feed)?),
-            _ => Err(Failure::Stopped),
-        }
-    }
 }

@@ -1,6 +1,9 @@
 //! The machine that reads its input from a feed. After a refused `step` or `run` it has failed for
 //! good, and has the output that it had before.
 
+ghost use Rattle.std.specs.Prelude.{[], false};
+
+use crate::buffer::Buffer;
 use crate::context::Context;
 use crate::ends::say_kind;
 use crate::failure::{Call, Failure, Wrong};
@@ -8,7 +11,7 @@ use crate::feeds::TextFeed;
 use crate::fields::code_of;
 use crate::texts::{Piece, append};
 use ick_code::Code;
-use ick_machine::{Live, LiveAsk};
+use ick_machine::{Live, LiveAsk, Outlet, OutletFault};
 use test_rows::Row;
 
 /// More calls than a row makes.
@@ -66,6 +69,27 @@ fn steps(
     Ok(())
 }
 
+/// Adds the output of a run to an answer.
+#[derive(Drop)]
+struct Said<'b> {
+    answer: &'b mut Buffer,
+}
+
+impl Outlet for Said<'_> {
+    ghost told = { false };
+
+    ghost written = { λ _. [] };
+
+    ghost failed = { λ _. 0 };
+
+    ghost held = { λ _. 0 };
+
+    fn write(&mut self, text: &[u8]) -> Result<(), OutletFault> {
+        self.answer.say(text);
+        Ok(())
+    }
+}
+
 /// Makes many steps at a time to the end of the run, and adds its output. Each choice is to do.
 fn runs(
     context: &mut Context<'_>,
@@ -74,16 +98,27 @@ fn runs(
 ) -> Result<(), Failure> {
     for _ in 0..MOST {
         context.other.clear();
-        let (is_refused, call) = match live.asks() {
-            LiveAsk::Plain => (live.run(100, feed).is_err(), Call::RunOfLive),
-            LiveAsk::Choice(_) => (live.step(true, feed).is_err(), Call::StepOfLive),
+        live.clear_output();
+        let said = Said {
+            answer: &mut context.answer,
+        };
+        let (ran, _) = match live.asks() {
+            LiveAsk::Plain => live.run(100, feed, said),
+            LiveAsk::Choice(_) => live.run(100, feed, said),
             _ => break,
         };
-        if is_refused {
-            return Err(failed(context, live, call));
+        if ran.is_err() {
+            return Err(failed(context, live, Call::RunOfLive));
+        }
+        let stepped = match live.asks() {
+            LiveAsk::Plain => live.step(false, feed),
+            LiveAsk::Choice(_) => live.step(true, feed),
+            _ => break,
+        };
+        if stepped.is_err() {
+            return Err(failed(context, live, Call::StepOfLive));
         }
         context.answer.say(live.output());
-        live.clear_output();
     }
     Ok(())
 }

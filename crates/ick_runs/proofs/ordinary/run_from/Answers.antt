@@ -1,5 +1,5 @@
-use Rattle.std.proofs.Common.{◌≡◌, ◌≤◌, length, take, ap, sym, ◌∙◌, subst, arith}
-use Rattle.std.specs.Prelude.{None, IfSome, IfNone}
+use Rattle.std.proofs.Common.{◌≡◌, length, take, ap, sym, ◌∙◌, subst, arith}
+use Rattle.std.specs.Prelude.{IfSome, IfNone}
 use Rattle.std.proofs.lemmas.Grind.{common_steps}
 use Rattle.ick_backtrack.specs.Asked.{finish_of}
 use Rattle.ick_explorer.specs.Paths.{RunsTo}

@@ -1,25 +1,30 @@
-use Rattle.std.proofs.Common.{rules, ◌≡◌}
-use Rattle.std.specs.Prelude.{Err}
-use Rattle.ick_machine.specs.Live.{seen, fed}
-use Rattle.ick_runs.proofs.StreamLaws.{no_stride, stride_refused}
+use Rattle.std.proofs.Common.{ℕ, List, rules, subst, Err}
+use Rattle.ick_machine.specs.Live.{fed, seen}
+use Rattle.ick_machine.specs.Printing.{Prints}
 use Rattle.ick_runs.proofs.turn.stride.Goals as goal
 
-pub returns-in_err-made-clause-moved : goal.returns-in_err-made-clause-moved
-returns-in_err-made-clause-moved g c = λ tells.
-    let first = seen c.args.machine.now in
-    let begin = fed (g.R.ByteSource.left c.args.reader.now) first.state in
-    no_stride g.W.ByteSink.told first.program begin _ c.args.limit (g.W.ByteSink.written c.args.writer.now)
-    c.from_residual.result c.from_residual.ensures.0
-
-pub returns-in_err-leave-clause-moved : goal.returns-in_err-leave-clause-moved
-returns-in_err-leave-clause-moved g c = λ tells.
-    let left = g.R.ByteSource.left in
+pub returns-in-Err-NoMemory-clause-moved : goal.returns-in-Err-NoMemory-clause-moved
+returns-in-Err-NoMemory-clause-moved g c = λ t.
+    let old = seen c.args.machine.now in
+    let call = c.run-made in
+    let new = seen call.new.self in
     let written = g.W.ByteSink.written in
-    let first = seen c.args.machine.now in
-    let begin = fed (left c.args.reader.now) first.state in
-    let reached = fed (left c.run.new.feed.source.now) (seen c.run.new.self).state in
-    let e : c.from_residual-in_err-leave.result ≡ Err c.in_err-leave.field-0.0 = search rules in
-    let runs = rw c.new-feed.ensures.now at (c.in_ok-made.ensures.runs tells) in
-    rw e (stride_refused g.W.ByteSink.told first.program begin _ c.args.limit c.in_ok-made.made reached
-    (written c.args.writer.now) (written c.leave.new.writer) c.in_err-leave.field-0.0 c.in_ok-made.ensures.within
-    runs c.leave.ensures.beginning)
+    let ran = subst (λ r. Prints g.W.ByteSink.told old.program (fed (g.R.ByteSource.left c.new-feed.result.source.now) old.state)
+    c.args.limit (fed (g.R.ByteSource.left c.new-feed.result.source.now) new.state) (written c.new.result.sink.now)
+    (written call.result.1.sink.now) r) c.in-Err-NoMemory.is (call.ensures.prints t) in
+    let began = rw (c.new-feed.ensures.now, c.new.ensures.now) at ran in
+    subst (λ (w : List ℕ). Prints g.W.ByteSink.told old.program (fed (g.R.ByteSource.left c.args.reader.now) old.state) c.args.limit
+    new.state (written c.args.writer.now) w (Err c.in-Err-NoMemory.field-0)) (search rules) began
+
+pub returns-in-Err-Write-clause-moved : goal.returns-in-Err-Write-clause-moved
+returns-in-Err-Write-clause-moved g c = λ t.
+    let old = seen c.args.machine.now in
+    let call = c.run-made in
+    let new = seen call.new.self in
+    let written = g.W.ByteSink.written in
+    let ran = subst (λ r. Prints g.W.ByteSink.told old.program (fed (g.R.ByteSource.left c.new-feed.result.source.now) old.state)
+    c.args.limit (fed (g.R.ByteSource.left c.new-feed.result.source.now) new.state) (written c.new.result.sink.now)
+    (written call.result.1.sink.now) r) c.in-Err-Write.is (call.ensures.prints t) in
+    let began = rw (c.new-feed.ensures.now, c.new.ensures.now) at ran in
+    subst (λ (w : List ℕ). Prints g.W.ByteSink.told old.program (fed (g.R.ByteSource.left c.args.reader.now) old.state) c.args.limit
+    new.state (written c.args.writer.now) w (Err c.in-Err-Write.field-0)) (search rules) began

@@ -1,0 +1,130 @@
+//! A reader that takes no input, and lets the output of a run leave.
+
+ghost use Rattle.std.specs.Prelude.{◌≡◌, ◌+◌, ◌<◌, ◌^◌, ◌++◌, ℕ, true, false};
+ghost use Rattle.std.proofs.lemmas.Bool.{false≢true};
+ghost use Rattle.ick_engine.specs.Feeds.{MayBeLeft, one_if, some_left};
+ghost use Rattle.ick_machine.specs.Live.{fed, seen};
+ghost use Rattle.ick_machine.specs.Printing.{Begun, HasLeft, MayLeave, begun, failed_writes};
+
+use crate::live::Live;
+use crate::outlet::{Outlet, RunFault};
+use ick_bits::NoMemory;
+use ick_engine::{Feed, Line, Reader};
+use std::snapshot::Snapshot;
+
+/// How many bytes of output a memory holds at most before it is cleared, but for those of one
+/// statement.
+const MOST: usize = 4096;
+
+/// Lets the output of a machine leave while its run goes on. The run takes no input, and waits
+/// before each WRITE IN.
+///
+/// For contracts alone, it keeps the machine, its feed, the limit on steps and the outlet as they
+/// were when the run began.
+#[derive(Drop)]
+pub(crate) struct Printer<'c, 'a, F: Feed, O: Outlet> {
+    pub(crate) outlet: O,
+    /// How many bytes of the machine's output have left.
+    pub(crate) shown: usize,
+    /// Whether a write has failed.
+    pub(crate) broken: bool,
+    pub(crate) machine: Snapshot<Live<'c, 'a>>,
+    pub(crate) feed: Snapshot<F>,
+    pub(crate) limit: Snapshot<u32>,
+    pub(crate) first: Snapshot<O>,
+    ghost room: { O.failed first.value + 1 < 2 ^ 64 },
+    ghost count: { O.failed outlet ≡ O.failed first.value + one_if broken },
+    ghost left: { ∥ (F.told ≡ true → O.told ≡ true → (n : ℕ) × (broken ≡ false → n ≡ shown)
+        × HasLeft (seen machine.value).program (fed (F.left feed.value) (seen machine.value).state)
+        limit.value (O.written first.value) (O.written outlet) n) ∥₁ },
+}
+
+impl<F: Feed, O: Outlet> Printer<'_, '_, F, O> {
+    /// Lets the output leave that hasn't left yet. Returns whether all of it has left.
+    pub(crate) fn print(&mut self, output: &[u8]) -> bool
+        requires { F.told ≡ true → MayLeave (begun (seen self.old.machine.value)
+            self.old.machine.value.line.items (F.left self.old.feed.value) self.old.limit.value
+            (O.written self.old.first.value) (O.failed self.old.first.value)) output.now }
+        ensures sound { result ≡ true → self.new.broken ≡ false }
+        ensures all { F.told ≡ true → O.told ≡ true → result ≡ true →
+            O.written self.new.outlet ≡ O.written self.old.first.value ++ output.now }
+        ensures held { O.held self.new.outlet ≡ O.held self.old.outlet }
+        ensures begun { begun (seen self.new.machine.value)
+            self.new.machine.value.line.items (F.left self.new.feed.value) self.new.limit.value
+            (O.written self.new.first.value) (O.failed self.new.first.value)
+            ≡ begun (seen self.old.machine.value)
+            self.old.machine.value.line.items (F.left self.old.feed.value) self.old.limit.value
+            (O.written self.old.first.value) (O.failed self.old.first.value) }
+    {
+        if self.broken || self.shown > output.len() {
+            return false;
+        }
+        if self.shown == output.len() {
+            return true;
+        }
+        match self.outlet.write(&output[self.shown..]) {
+            Ok(()) => {
+                self.shown = output.len();
+                true
+            }
+            Err(_) => {
+                self.broken = true;
+                false
+            }
+        }
+    }
+
+    /// Returns why a run stopped short.
+    pub(crate) fn fault(&self) -> RunFault
+        ensures { failed_writes result ≡ one_if self.now.broken }
+    {
+        if self.broken {
+            RunFault::Write
+        } else {
+            RunFault::NoMemory
+        }
+    }
+}
+
+impl<F: Feed, O: Outlet> Reader for Printer<'_, '_, F, O> {
+    ghost Has = { λ printer. MayBeLeft F.told false printer.machine.value.line.items
+        (F.left printer.feed.value) };
+
+    // What the outlet keeps, and how the run began.
+    ghost Held = { ℕ × Begun };
+
+    ghost held = { λ printer. (
+      O.held printer.outlet,
+      begun (seen printer.machine.value)
+          printer.machine.value.line.items (F.left printer.feed.value) printer.limit.value
+          (O.written printer.first.value) (O.failed printer.first.value),
+    ) };
+
+    ghost waits = { λ _. true };
+
+    ghost Prints = { λ held output. F.told ≡ true → MayLeave held.1 output };
+
+    ghost some = { λ printer. some_left F.told false printer.machine.value.line.items
+        (F.left printer.feed.value) (λ e. absurd (false≢true e)) };
+
+    fn is_waiting(&self) -> bool {
+        true
+    }
+
+    #[inline(always)]
+    fn leave(&mut self, output: &[u8]) -> Result<bool, NoMemory> {
+        if self.print(output) {
+            Ok(self.shown > MOST)
+        } else {
+            Err(NoMemory)
+        }
+    }
+
+    fn line(&mut self, from: usize) -> Result<Line, NoMemory> {
+        Err(NoMemory)
+    }
+
+    fn byte(&mut self, from: usize) -> Result<Option<(u8, usize)>, NoMemory> {
+        Err(NoMemory)
+    }
+}
