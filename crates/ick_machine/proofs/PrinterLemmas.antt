@@ -108,7 +108,7 @@ list_set : IsSet (List ℕ)
 list_set = hlevel props
 
 -- what is left of a text
-pub rest_of : (shown : ℕ) (output : List ℕ) → take (length output - shown) (drop shown output) ≡ drop shown output
+rest_of : (shown : ℕ) (output : List ℕ) → take (length output - shown) (drop shown output) ≡ drop shown output
 rest_of shown output =
     let long = length-drop shown output in
     take_all (length output - shown) (drop shown output) (omega (arith, long))
@@ -122,39 +122,41 @@ module _ (told tells : Bool) (begun : Begun) where
   pub kept_first : Kept begun.written 0 false
   kept_first = ∣ (λ t t'. (0, λ is. refl, none_left begun.program begun.state begun.limit begun.written)) ∣₁
 
-  module _ (output : List ℕ) (may : told ≡ true → MayLeave begun output) (before : List ℕ) (shown : ℕ)
-      (kept : Kept before shown false) where
+  module _ {output before : List ℕ} {shown : ℕ} {broken : Bool} (may : told ≡ true → MayLeave begun output)
+      (whole : broken ≡ false) (kept : Kept before shown broken) where
     -- all is written that has left
     pub kept_all : shown ≡ length output → told ≡ true → tells ≡ true → before ≡ begun.written ++ output
     kept_all is t t' = ∥∥₁_elim kept (list_set before (begun.written ++ output)) (λ f.
         let x = f t t' in
         let u = may t in
         all_written begun.program begun.state begun.limit begun.written before output u.state
-        (subst (HasLeft begun.program begun.state begun.limit begun.written before) (x.1 refl ∙ is) x.2) u.reaches
+        (subst (HasLeft begun.program begun.state begun.limit begun.written before) (x.1 whole ∙ is) x.2) u.reaches
         u.output_is)
 
-    module _ (few : shown ≤ length output) (after rest : List ℕ) (rest_is : rest ≡ drop shown output) where
-      pub kept_more : (tells ≡ true → after ≡ before ++ rest) → Kept after (length output) false
+    module _ (few : shown ≤ length output) {after : List ℕ} where
+      pub kept_more : (tells ≡ true → after ≡ before ++ take (length output - shown) (drop shown output)) →
+          Kept after (length output) broken
       kept_more wrote = ∥∥₁_map kept (λ f t t'.
           let x = f t t' in
           let u = may t in (
             length output,
             λ is. refl,
             rest_left begun.program begun.state begun.limit begun.written before after output shown u.state
-                (subst (HasLeft begun.program begun.state begun.limit begun.written before) (x.1 refl) x.2) u.reaches
-                u.output_is few (wrote t' ∙ ap (λ o. before ++ o) rest_is),
+                (subst (HasLeft begun.program begun.state begun.limit begun.written before) (x.1 whole) x.2) u.reaches
+                u.output_is few (wrote t' ∙ ap (λ o. before ++ o) (rest_of shown output)),
           ))
 
       -- a write failed
-      pub kept_part : (later : ℕ) → (tells ≡ true → (n : ℕ) × (n ≤ length rest) × (after ≡ before ++ take n rest)) →
-          Kept after later true
-      kept_part later wrote = ∥∥₁_map kept (λ f t t'.
+      pub kept_part : {later : ℕ} → (tells ≡ true → (n : ℕ) × (n ≤ length (take (length output - shown) (drop shown output)))
+          × (after ≡ before ++ take n (take (length output - shown) (drop shown output)))) → Kept after later true
+      kept_part wrote = ∥∥₁_map kept (λ f t t'.
           let x = f t t' in
           let u = may t in
-          let part = subst (λ r. (n : ℕ) × (n ≤ length r) × (after ≡ before ++ take n r)) rest_is (wrote t') in (
+          let part = subst (λ r. (n : ℕ) × (n ≤ length r) × (after ≡ before ++ take n r)) (rest_of shown output)
+          (wrote t') in (
             shown + part.0,
             λ is. absurd (false≢true (sym is)),
             more_left begun.program begun.state begun.limit begun.written before after output shown part.0 u.state
-                (subst (HasLeft begun.program begun.state begun.limit begun.written before) (x.1 refl) x.2) u.reaches
+                (subst (HasLeft begun.program begun.state begun.limit begun.written before) (x.1 whole) x.2) u.reaches
                 u.output_is few part.1 part.2,
           ))
