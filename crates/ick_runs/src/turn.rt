@@ -42,6 +42,7 @@ fn leave<W: ByteSink>(machine: &mut Live<'_, '_>, writer: &mut W) -> Result<(), 
 
 /// Makes a step and writes its output. So the output is written before the next line is read. The
 /// answer is `NoMemory`, `Read` or `Write` if that part fails.
+#[inline(always)]
 pub(crate) fn turn<R: ByteSource, W: ByteSink>(
     machine: &mut Live<'_, '_>,
     reader: &mut R,
