@@ -7,8 +7,9 @@ from tally import SECONDS, Tally
 
 
 class Checking:
-    def __init__(self, command, folder, number, random):
+    def __init__(self, command, folder, number, random, other=None):
         self.command, self.folder, self.number, self.random = command, folder, number, random
+        self.other = other
         self.tally, self.last = Tally(quiet=True), []
 
     def write(self, name, text):
@@ -35,13 +36,22 @@ class Checking:
                               close_fds=False, **streams)
         return done.returncode, done.stdout, done.stderr
 
-    def answer(self, command, options, file="FILE", entered=None):
-        """Returns the status, the output and the error text. The input is the program's own, if no other is given."""
-        words = self.words(command, options, file)
-        if entered is not None:
-            return self.called(words, input=entered)
+    def entered(self, words, text):
+        """Calls a program on a text as its input, or on the program's own input if there is none."""
+        if text is not None:
+            return self.called(words, input=text)
         with open(os.path.join(self.folder, "input"), "rb") as file:
             return self.called(words, stdin=file)
+
+    def answer(self, command, options, file="FILE", entered=None):
+        """Returns the status, the output and the error text. The input is the program's own, if no other is given. If
+        there is another build, checks that it answers the same.
+        """
+        words = self.words(command, options, file)
+        found = self.entered(words, entered)
+        if self.other:
+            self.hold("the answer of both builds", found, self.entered([self.other] + words[1:], entered))
+        return found
 
     def run_by_file(self, choices):
         """Returns the answer of a run and what is left of its input, which is a file."""

@@ -19,9 +19,9 @@ def steps_in(errors):
 class Fuzzed(Checking):
     """One program, its input and its limit, and the checks of it."""
 
-    def __init__(self, command, folder, seed, number):
+    def __init__(self, command, folder, seed, number, other=None):
         chance = random.Random(f"{seed} {number}")
-        super().__init__(command, folder, number, chance)
+        super().__init__(command, folder, number, chance, other)
         self.made = Maker(chance).program()
         self.source, self.input = source_of(self.made), input_for(chance)
         self.texts = [text_of(*pair) for pair in zip(*self.made)]
@@ -166,7 +166,14 @@ class Fuzzed(Checking):
                     break
             self.hold(f"each choice {digit}", found, wanted)
 
+    def longer(self):
+        """Holds longer runs, whose choices a seed draws, against those of another build."""
+        for limit in (200, 4000):
+            self.answer("run", [("seed", self.random.randrange(2 ** 64)), ("limit", self.random.randint(80, limit))])
+
     def all(self):
+        if self.other:
+            self.longer()
         self.statements()
         lines, done = self.listed(self.limit)
         if not lines:
