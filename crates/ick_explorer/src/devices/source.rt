@@ -3,6 +3,8 @@ ghost use Rattle.std.specs.Prelude.{◌≡◌, ◌+◌, ◌-◌, ◌≤◌, ◌<
 ghost use Rattle.std.specs.Prelude.{if◌then◌else◌, ℕ, List, Bool, [], true, IfOk, OnErr};
 ghost use Rattle.std.specs.Prelude.{◌≢◌, is_ok, length, slice_index, take};
 
+use memchr::memchr;
+
 /// Tells that a call of a device failed.
 #[derive(Clone, Copy, Debug)]
 pub struct DeviceFault;
@@ -68,10 +70,8 @@ pub fn line_length(text: &[u8]) -> usize
     ensures line { (k : ℕ) → k + 1 < result → slice_index text.now k ≢ 10 }
     ensures whole { result < length text.now → slice_index text.now (result - 1) ≡ 10 }
 {
-    for (index, byte) in text.iter().enumerate() {
-        if *byte == b'\n' {
-            return index + 1;
-        }
+    match memchr(b'\n', text) {
+        Some(index) => index + 1,
+        None => text.len(),
     }
-    text.len()
 }
