@@ -1,8 +1,6 @@
 -- Arrays that are ignored.
-use Rattle.std.proofs.Common.{◌≡◌, ℕ, Bool, false, List, get_or, rules, slice_set}
-use Rattle.std.proofs.lemmas.List.{set-set, set-get_or}
-use Rattle.ick_runtime.specs.Undo.{with_hidden}
-use Rattle.ick_runtime.specs.View.{View}
+use Rattle.std.proofs.Common.{Bool, false, get_or, List, rules, slice_set, ℕ, ◌≡◌}
+use Rattle.ick_runtime.proofs.Names.{set-get_or, set-set, View, with_hidden}
 
 -- what was hidden before
 pub hidden_back : (v : View) (hidden : List Bool) (slot : ℕ) (on : Bool) → v.parts.hidden ≡ hidden →

@@ -1,3 +1,4 @@
+pub mod Names
 pub mod Known
 pub mod Loop
 pub mod Maps

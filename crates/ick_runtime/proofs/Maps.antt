@@ -1,19 +1,13 @@
 -- A map from names, kept by slots.
-use Rattle.std.proofs.Common.{◌≡◌, ℕ, zero, suc, ◌<◌, ◌≤◌, Bool, true, false, ◌&&◌, List, [], rules}
-use Rattle.std.proofs.Common.{◌∷◌, length, map, get_or, Some, refl, sym, ap, ◌∙◌, arith, slice_get, slice_set, if◌then◌else◌}
-use Rattle.std.proofs.lemmas.List.{get_or-map, length-map}
-use Rattle.std.specs.List.{IsDistinct}
-use Rattle.std.proofs.lemmas.Option.{slice_get_within}
-use mathlib.Core.Path.{fun_ext}
-use Rattle.ick_syntax.specs.declared.tree.Name.{Name}
-use Rattle.ick_syntax.specs.NameKinds.{is_array}
-use Rattle.ick_code.specs.meaning.State.{same_name, with_entry}
-use Rattle.ick_code.specs.Names.{is_scalar_name, is_array_name}
+use Rattle.std.proofs.Common.{[], ap, arith, Bool, false, get_or, if◌then◌else◌, length, List, map, refl, rules, slice_get, slice_set, Some, suc, sym, true}
+use Rattle.std.proofs.Common.{zero, ℕ, ◌&&◌, ◌<◌, ◌∙◌, ◌∷◌, ◌≡◌, ◌≤◌}
+use Rattle.ick_runtime.proofs.Names.{array_names, both, Code, code_program, fun_ext, get_or-map, length-map, map_of, Name, same_name, scalar_names}
+use Rattle.ick_runtime.proofs.Names.{slice_get_within, with_entry}
 use Rattle.ick_code.proofs.SameNames.{same_name_is}
-use Rattle.ick_code.specs.declared.code.Code.{Code}
-use Rattle.ick_code.specs.Compiled.{code_program, IsCompiled}
-use Rattle.ick_runtime.specs.View.{map_of, both, scalar_names, array_names}
+use Rattle.ick_code.specs.{Compiled.IsCompiled, Names.is_array_name, Names.is_scalar_name}
 use Rattle.ick_instructions.proofs.NameTests.{all_at, not_true, passes}
+use Rattle.ick_syntax.specs.NameKinds.{is_array}
+use Rattle.std.specs.List.{IsDistinct}
 
 pub both_true : (a b : Bool) → (a && b) ≡ true → (a ≡ true) × (b ≡ true)
 both_true true b e = (refl, e)

@@ -1,20 +1,15 @@
 -- The offset of an element, subscript by subscript.
-use Rattle.std.proofs.Common.{◌≡◌, ℕ, zero, suc, ◌+◌, ◌*◌, ◌-◌, ◌<◌, ◌≤◌, Bool, true, rules, false, ◌&&◌, List, [], ◌∷◌, length, drop}
-use Rattle.std.proofs.Common.{get_or, Option, Some, None, refl, sym, ap, ap₂, ◌∙◌, subst, arith, lt-ltb, leb-true, add-mul, mul-add}
-use Rattle.std.proofs.Common.{mul_assoc, mul-one, ◌^◌, ◌%◌, bit_and, nat_lt, nat_le, if◌then◌else◌, option_map, option_and_then}
-use Rattle.std.proofs.lemmas.Grind.{common_steps, get_or_default_zero}
-use Rattle.std.proofs.Math.ListN.{drop_of_length-le}
-use Rattle.std.proofs.lemmas.Bool.Decides.{nat_tests}
-use Rattle.std.proofs.lemmas.Nat.{and_mask}
-use Rattle.ick_syntax.specs.declared.tree.NameKind.{NameKind}
-use Rattle.ick_syntax.specs.declared.tree.NameKind.TheVariants.{Onespot, Twospot, Tail, Hybrid}
-use Rattle.ick_bits.specs.Values.{number_of}
-use Rattle.ick_bits.specs.declared.values.Value.{Value}
-use Rattle.ick_code.specs.meaning.State.{Array}
-use Rattle.ick_code.specs.meaning.Store.{bound_of}
-use Rattle.ick_code.specs.meaning.Value.{element_offset, offset_at, product, sized}
-use Rattle.ick_runtime.specs.Walk.{stride, walk}
+use Rattle.std.proofs.Common.{[], add-mul, ap, ap₂, arith, bit_and, Bool, drop, false, get_or, if◌then◌else◌, leb-true, length, List, lt-ltb, mul-add, mul-one}
+use Rattle.std.proofs.Common.{mul_assoc, nat_le, nat_lt, None, Option, option_and_then, option_map, refl, rules, Some, subst, suc, sym, true, zero, ℕ, ◌%◌}
+use Rattle.std.proofs.Common.{◌&&◌, ◌*◌, ◌+◌, ◌-◌, ◌<◌, ◌^◌, ◌∙◌, ◌∷◌, ◌≡◌, ◌≤◌}
+use Rattle.ick_runtime.proofs.Names.{Array, bound_of, common_steps, drop_of_length-le, element_offset, get_or_default_zero, nat_tests, number_of, product}
+use Rattle.ick_runtime.proofs.Names.{sized, Value, walk}
+use Rattle.ick_code.specs.meaning.Value.{offset_at}
 use Rattle.ick_runtime.proofs.Maps.{both_true}
+use Rattle.ick_runtime.specs.Walk.{stride}
+use Rattle.ick_syntax.specs.declared.tree.NameKind.TheVariants.{Hybrid, Onespot, Tail, Twospot}
+use Rattle.ick_syntax.specs.declared.tree.NameKind.{NameKind}
+use Rattle.std.proofs.lemmas.Nat.{and_mask}
 
 sum_of : (p d n P r : ℕ) → (p * d + n) * P + r ≡ p * (d * P) + (n * P + r)
 sum_of p d n P r = let e = add-mul (p * d) n P in let f = mul_assoc p d P in omega (arith, e, f)

@@ -1,14 +1,9 @@
 -- Stashes that are alike, and changes of one of them.
-use Rattle.std.proofs.Common.{◌≡◌, ℕ, zero, suc, ◌-◌, ◌<◌, ◌≤◌, List, [], ◌∷◌, refl, ap, sym, ◌∙◌, subst, length, take, map, get_or, arith, rules}
-use Rattle.std.proofs.lemmas.Grind.{common_steps}
-use Rattle.std.specs.Prelude.{replicate, slice_set}
-use Rattle.std.proofs.lemmas.List.{take-take, length-map, map-set, get_or-map}
+use Rattle.std.proofs.Common.{[], ap, arith, get_or, length, List, map, refl, rules, subst, suc, sym, take, zero, ℕ, ◌-◌, ◌<◌, ◌∙◌, ◌∷◌, ◌≡◌, ◌≤◌}
+use Rattle.ick_runtime.proofs.Names.{Array, array_of, arrays_of, at_slot, common_steps, get_or-map, Kept, KeptStash, length-map, map-set, no_stash, Parts}
+use Rattle.ick_runtime.proofs.Names.{PartsLike, put_on, slice_set, Stash, stash_in, StashLike, take-take, taken_off, used}
 use Rattle.std.proofs.lemmas.Simd.{map-map}
-use Rattle.ick_code.specs.meaning.State.{Array}
-use Rattle.ick_runtime.specs.declared.memory.Array.{Array as Kept}
-use Rattle.ick_runtime.specs.declared.memory.Stash.{Stash as KeptStash}
-use Rattle.ick_runtime.specs.View.{Parts, Stash, array_of, arrays_of, no_stash, stash_in, used}
-use Rattle.ick_runtime.specs.Undo.{StashLike, PartsLike, put_on, taken_off, at_slot}
+use Rattle.std.specs.Prelude.{replicate}
 
 pub stash_trans : {A : Type 0} {a b c : Stash A} → StashLike a b → StashLike b c → StashLike a c
 stash_trans p q = search rules

@@ -1,18 +1,13 @@
 -- Values that are put on stashes and taken off.
-use Rattle.std.proofs.Common.{◌≡◌, ℕ, ◌+◌, ◌-◌, ◌<◌, List, refl, ap, sym, ◌∙◌, rules, length, map, get_or, arith, true}
-use Rattle.std.proofs.lemmas.Grind.{common_steps}
-use Rattle.std.specs.Prelude.{nat_lt, Result, Ok, Err, OnErr, slice_set}
-use Rattle.std.proofs.lemmas.Bool.Decides.{nat_tests}
-use Rattle.std.proofs.lemmas.List.{length-set, length-map, map-set, get_or-map, set-set, set-get_or, get_or-set_same}
-use Rattle.ick_code.specs.meaning.State.{Array, no_array}
-use Rattle.ick_runtime.specs.declared.change.ArrayChange.TheVariants as now
-use Rattle.ick_runtime.specs.declared.memory.Array.{Array as Kept}
-use Rattle.ick_runtime.specs.declared.memory.Stash.{Stash as KeptStash}
-use Rattle.ick_runtime.specs.Stashes.{IsPutOn, IsTakenOff, ChangesAt, IsRestoredTo}
-use Rattle.ick_runtime.specs.Undo.{StashLike, StashesLike, Like, put_on, taken_off, at_slot, with_array_stashes}
-use Rattle.ick_runtime.specs.Undo.{with_arrays, with_scalar_stashes, array_was, undone}
-use Rattle.ick_runtime.specs.View.{View, Stash, array_of, arrays_of, no_stash, stash_in}
+use Rattle.std.proofs.Common.{ap, arith, get_or, length, List, map, refl, rules, sym, true, ℕ, ◌+◌, ◌-◌, ◌<◌, ◌∙◌, ◌≡◌}
+use Rattle.ick_runtime.proofs.Names.{Array, array_of, array_was, arrays_of, at_slot, ChangesAt, common_steps, Err, get_or-map, get_or-set_same, IsPutOn}
+use Rattle.ick_runtime.proofs.Names.{IsRestoredTo, IsTakenOff, Kept, KeptStash, length-map, length-set, Like, map-set, nat_lt, nat_tests, no_array, no_stash}
+use Rattle.ick_runtime.proofs.Names.{Ok, put_on, Result, set-get_or, set-set, slice_set, Stash, stash_in, StashLike, taken_off, undone, View}
+use Rattle.ick_runtime.proofs.Names.{with_array_stashes, with_arrays, with_scalar_stashes}
 use Rattle.ick_runtime.proofs.StashLemmas.{seen}
+use Rattle.ick_runtime.specs.Undo.{StashesLike}
+use Rattle.std.specs.Prelude.{OnErr}
+use Rattle.ick_runtime.specs.declared.change.ArrayChange.TheVariants as now
 
 -- a value goes to spare room
 pub put_spare : {A : Type 0} (x : A) (s : Stash A) → s.depth < length s.items →

@@ -1,16 +1,14 @@
 -- Changes noted, and undone.
-use Rattle.std.proofs.Common.{◌≡◌, ℕ, ◌+◌, ◌<◌, ◌≤◌, List, [], ◌∷◌, ◌++◌, refl, ap, sym, ◌∙◌, subst, rules, length, take, drop, get_or, arith}
-use Rattle.std.proofs.lemmas.Grind.{common_steps}
-use Rattle.std.specs.Prelude.{reverse, slice_set}
-use Rattle.std.proofs.lemmas.List.{drop-append-le, reverse-append, set-set, set-get_or, get_or-set_same, length-take-le, take-append-drop}
-use Rattle.std.proofs.Math.ListN.{drop_of_length-le}
-use Rattle.ick_code.specs.meaning.State.{Array, no_array}
-use Rattle.ick_runtime.specs.View.{View, Parts}
-use Rattle.ick_runtime.specs.Undo.{Change, register_was, home_was, status_was, return_was, element_was, hidden_was}
-use Rattle.ick_runtime.specs.Undo.{scalar_saved, scalar_taken, scalar_restored, array_saved, array_was, statuses_were, taken_was}
-use Rattle.ick_runtime.specs.Undo.{output_was, last_was, lastin_was, no_change, undone, rewound, with_arrays, with_number, put_on, at_slot}
-use Rattle.ick_runtime.specs.Undo.{PartsLike, IsUndoable, SameFirst, Like, HighSame, Rewinds}
-use Rattle.ick_runtime.proofs.StashLemmas.{parts_refl, taken_off_like, scalars_alike, arrays_alike}
+use Rattle.std.proofs.Common.{[], ap, arith, drop, get_or, length, List, refl, rules, subst, sym, take, ℕ, ◌++◌, ◌+◌, ◌<◌, ◌∙◌, ◌∷◌, ◌≡◌, ◌≤◌}
+use Rattle.ick_runtime.proofs.Names.{Array, array_was, at_slot, Change, common_steps, drop_of_length-le, get_or-set_same, HighSame, length-take-le, Like}
+use Rattle.ick_runtime.proofs.Names.{no_array, Parts, PartsLike, put_on, reverse-append, set-get_or, set-set, slice_set, take-append-drop, undone, View}
+use Rattle.ick_runtime.proofs.Names.{with_arrays}
+use Rattle.ick_runtime.proofs.StashLemmas.{arrays_alike, parts_refl, scalars_alike, taken_off_like}
+use Rattle.ick_runtime.specs.Undo.{array_saved, element_was, hidden_was, home_was, IsUndoable, last_was, lastin_was, no_change, output_was, register_was}
+use Rattle.ick_runtime.specs.Undo.{return_was, Rewinds, rewound, SameFirst, scalar_restored, scalar_saved, scalar_taken, status_was, statuses_were, taken_was}
+use Rattle.ick_runtime.specs.Undo.{with_number}
+use Rattle.std.proofs.lemmas.List.{drop-append-le}
+use Rattle.std.specs.Prelude.{reverse}
 
 -- lists of which the first numbers are the same
 first_refl : (n : ℕ) (xs : List ℕ) → SameFirst n xs xs

@@ -1,11 +1,6 @@
-use Rattle.std.proofs.Common.{◌≡◌, ℕ, ◌+◌, ◌<◌, List, length, drop, get_or, Some, refl, ap, ◌∙◌, sym, arith, rules, option_and_then}
-use Rattle.std.proofs.lemmas.List.{length-map, get_or-map}
-use Rattle.ick_bits.specs.Values.{Wide}
-use Rattle.ick_code.specs.meaning.Value.{element_offset}
-use Rattle.ick_instructions.specs.Meaning.{reg, values_of}
-use Rattle.ick_runtime.specs.View.{array_of}
-use Rattle.ick_runtime.specs.Walk.{walk}
-use Rattle.ick_runtime.proofs.OffsetLemmas.{inside, place_is, beyond, none_at, walk_next, walk_done, is_inside, is_outside}
+use Rattle.std.proofs.Common.{ap, arith, drop, get_or, length, List, option_and_then, refl, rules, Some, sym, ℕ, ◌+◌, ◌<◌, ◌∙◌, ◌≡◌}
+use Rattle.ick_runtime.proofs.Names.{array_of, element_offset, get_or-map, length-map, reg, values_of, walk, Wide}
+use Rattle.ick_runtime.proofs.OffsetLemmas.{beyond, inside, is_inside, is_outside, none_at, place_is, walk_done, walk_next}
 use Rattle.ick_runtime.proofs.element.index_of_many.Goals.{After-loop-at}
 use Rattle.ick_runtime.proofs.element.index_of_many.Goals as goal
 

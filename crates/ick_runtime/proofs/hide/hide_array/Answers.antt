@@ -1,7 +1,5 @@
-use Rattle.std.proofs.Common.{◌≡◌, ap, sym, ◌∙◌, subst, map, get_or, false, slice_set}
-use Rattle.std.proofs.lemmas.List.{get_or-map}
-use Rattle.ick_runtime.specs.Undo.{with_hidden}
-use Rattle.ick_runtime.specs.View.{is_hidden}
+use Rattle.std.proofs.Common.{ap, false, get_or, map, slice_set, subst, sym, ◌∙◌, ◌≡◌}
+use Rattle.ick_runtime.proofs.Names.{get_or-map, is_hidden, with_hidden}
 use Rattle.ick_runtime.proofs.Hiding.{hidden_back}
 use Rattle.ick_runtime.proofs.hide.hide_array.Goals as goal
 

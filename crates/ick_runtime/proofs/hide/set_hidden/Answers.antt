@@ -1,7 +1,5 @@
-use Rattle.std.proofs.Common.{◌≡◌, ap, sym, ◌∙◌, map, slice_set}
-use Rattle.std.proofs.lemmas.List.{map-set, get_or-map, set-get_or}
-use Rattle.ick_code.specs.meaning.State.{no_array}
-use Rattle.ick_runtime.specs.View.{array_of, is_hidden}
+use Rattle.std.proofs.Common.{ap, map, slice_set, sym, ◌∙◌, ◌≡◌}
+use Rattle.ick_runtime.proofs.Names.{array_of, get_or-map, is_hidden, map-set, no_array, set-get_or}
 use Rattle.ick_runtime.proofs.hide.set_hidden.Goals as goal
 
 pub returns-clause-arrays : goal.returns-clause-arrays

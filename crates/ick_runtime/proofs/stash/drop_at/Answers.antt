@@ -1,6 +1,5 @@
 use Rattle.std.proofs.Common.{arith}
-use Rattle.ick_runtime.specs.Undo.{taken_off}
-use Rattle.ick_runtime.specs.View.{stash_in}
+use Rattle.ick_runtime.proofs.Names.{stash_in, taken_off}
 use Rattle.ick_runtime.proofs.StashLemmas.{set_at}
 use Rattle.ick_runtime.proofs.stash.drop_at.Goals as goal
 

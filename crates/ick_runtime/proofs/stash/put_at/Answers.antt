@@ -1,6 +1,5 @@
 use Rattle.std.proofs.Common.{arith}
-use Rattle.ick_runtime.specs.Undo.{put_on}
-use Rattle.ick_runtime.specs.View.{stash_in}
+use Rattle.ick_runtime.proofs.Names.{put_on, stash_in}
 use Rattle.ick_runtime.proofs.StashLemmas.{set_at}
 use Rattle.ick_runtime.proofs.stash.put_at.Goals as goal
 

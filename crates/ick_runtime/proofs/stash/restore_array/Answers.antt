@@ -1,12 +1,8 @@
-use Rattle.std.proofs.Common.{◌≡◌, ◌<◌, ap, sym, ◌∙◌, map, arith, length, get_or, refl, true, false, slice_set}
-use Rattle.std.proofs.Math.Seq.{map-set_same}
-use Rattle.std.proofs.lemmas.List.{get_or-map, length-map, map-set}
-use Rattle.ick_code.specs.meaning.State.{no_array}
-use Rattle.ick_runtime.specs.declared.change.ArrayChange.TheVariants as now
-use Rattle.ick_runtime.specs.Stashes.{IsTakenOff, ChangesAt}
-use Rattle.ick_runtime.specs.Undo.{Like, array_was, undone, with_array_stashes, with_arrays}
-use Rattle.ick_runtime.specs.View.{View, array_of, arrays_of, is_hidden}
+use Rattle.std.proofs.Common.{ap, arith, false, get_or, length, map, refl, slice_set, sym, true, ◌<◌, ◌∙◌, ◌≡◌}
+use Rattle.ick_runtime.proofs.Names.{array_of, array_was, arrays_of, ChangesAt, get_or-map, is_hidden, IsTakenOff, length-map, Like, map-set, map-set_same}
+use Rattle.ick_runtime.proofs.Names.{no_array, undone, View, with_array_stashes, with_arrays}
 use Rattle.ick_runtime.proofs.StashingLemmas.{changes_at, drops_at, exchanged_like, like_arrays, taken_like}
+use Rattle.ick_runtime.specs.declared.change.ArrayChange.TheVariants as now
 use Rattle.ick_runtime.proofs.stash.restore_array.Goals as goal
 
 pub returns-then-index-clause-retrieved : goal.returns-then-index-clause-retrieved

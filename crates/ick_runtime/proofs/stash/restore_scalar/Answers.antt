@@ -1,10 +1,7 @@
-use Rattle.std.proofs.Common.{map, get_or, rules, slice_set}
-use Rattle.ick_runtime.specs.Stashes.{IsTakenOff, ChangesAt}
-use Rattle.ick_runtime.specs.Undo.{with_scalar_stashes}
-use Rattle.ick_runtime.specs.View.{Parts, no_stash, numbers_of}
+use Rattle.std.proofs.Common.{get_or, map, rules, slice_set}
+use Rattle.ick_runtime.proofs.Names.{ChangesAt, IsTakenOff, no_stash, numbers_of, Parts, with_scalar_stashes}
 use Rattle.ick_runtime.proofs.StashingLemmas.{changes_at, kept_at, like_scalars, restored_elsewhere, restored_here, taken_like}
-use Rattle.ick_runtime.proofs.stash.restore_scalar.Given.{Over}
-use Rattle.ick_runtime.proofs.stash.restore_scalar.Goals.{In-Some}
+use Rattle.ick_runtime.proofs.{stash.restore_scalar.Given.Over, stash.restore_scalar.Goals.In-Some}
 use Rattle.ick_runtime.proofs.stash.restore_scalar.Goals as goal
 
 -- the number is off its stash

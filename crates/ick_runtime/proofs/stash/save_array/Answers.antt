@@ -1,9 +1,5 @@
-use Rattle.std.proofs.Common.{◌≡◌, map, get_or, rules, slice_set}
-use Rattle.std.proofs.lemmas.List.{get_or-map}
-use Rattle.ick_code.specs.meaning.State.{no_array}
-use Rattle.ick_runtime.specs.Stashes.{IsPutOn, ChangesAt}
-use Rattle.ick_runtime.specs.Undo.{with_array_stashes}
-use Rattle.ick_runtime.specs.View.{array_of, arrays_of}
+use Rattle.std.proofs.Common.{get_or, map, rules, slice_set, ◌≡◌}
+use Rattle.ick_runtime.proofs.Names.{array_of, arrays_of, ChangesAt, get_or-map, IsPutOn, no_array, with_array_stashes}
 use Rattle.ick_runtime.proofs.StashingLemmas.{changes_at, like_arrays, like_at, on_err, saved_like}
 use Rattle.ick_runtime.proofs.stash.save_array.Goals as goal
 

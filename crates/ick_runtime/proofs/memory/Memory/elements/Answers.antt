@@ -1,6 +1,5 @@
-use Rattle.std.proofs.Common.{sym, ap, ◌∙◌, arith}
-use Rattle.ick_code.specs.meaning.State.{Array, no_array}
-use Rattle.ick_runtime.specs.View.{array_names, array_of}
+use Rattle.std.proofs.Common.{ap, arith, sym, ◌∙◌}
+use Rattle.ick_runtime.proofs.Names.{Array, array_names, array_of, no_array}
 use Rattle.ick_runtime.proofs.Maps.{map_of-map}
 use Rattle.ick_runtime.proofs.memory.Memory.elements.Goals as goal
 

@@ -1,6 +1,6 @@
-use Rattle.std.proofs.Common.{◌==◌, false, ap, ◌∙◌, map, arith, if◌then◌else◌}
-use Rattle.ick_runtime.specs.View.{array_names, scalar_names, is_hidden, map_of, dump_of}
-use Rattle.ick_runtime.proofs.Maps.{map_of-map, array_kind}
+use Rattle.std.proofs.Common.{ap, arith, false, if◌then◌else◌, map, ◌==◌, ◌∙◌}
+use Rattle.ick_runtime.proofs.Names.{array_names, dump_of, is_hidden, map_of, scalar_names}
+use Rattle.ick_runtime.proofs.Maps.{array_kind, map_of-map}
 use Rattle.ick_runtime.proofs.memory.Memory.is_array_ignored.Goals as goal
 
 pub returns : goal.returns

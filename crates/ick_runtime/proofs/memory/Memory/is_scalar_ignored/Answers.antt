@@ -1,8 +1,7 @@
-use Rattle.std.proofs.Common.{◌≡◌, ◌-◌, ◌<◌, ◌==◌, sym, ap, ◌∙◌, length, get_or, arith}
-use Rattle.std.proofs.lemmas.Grind.{get_or_default_zero}
-use Rattle.ick_runtime.specs.Memory.{view_in}
-use Rattle.ick_runtime.specs.View.{dump_of}
+use Rattle.std.proofs.Common.{ap, arith, get_or, length, sym, ◌-◌, ◌<◌, ◌==◌, ◌∙◌, ◌≡◌}
+use Rattle.ick_runtime.proofs.Names.{dump_of, get_or_default_zero}
 use Rattle.ick_runtime.proofs.Puts.{ignored_is}
+use Rattle.ick_runtime.specs.Memory.{view_in}
 use Rattle.ick_runtime.proofs.memory.Memory.is_scalar_ignored.Goals as goal
 
 pub returns : goal.returns

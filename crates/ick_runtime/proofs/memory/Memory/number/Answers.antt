@@ -1,5 +1,5 @@
-use Rattle.std.proofs.Common.{sym, ◌∙◌, arith}
-use Rattle.ick_runtime.specs.View.{scalar_names}
+use Rattle.std.proofs.Common.{arith, sym, ◌∙◌}
+use Rattle.ick_runtime.proofs.Names.{scalar_names}
 use Rattle.ick_runtime.proofs.Maps.{map_of-get}
 use Rattle.ick_runtime.proofs.memory.Memory.number.Goals as goal
 

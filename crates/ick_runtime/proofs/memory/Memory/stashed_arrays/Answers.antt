@@ -1,7 +1,7 @@
-use Rattle.std.proofs.Common.{◌<◌, ap, sym, ◌∙◌, map, reverse, take, length, arith}
-use Rattle.std.proofs.lemmas.List.{get_or-map, length-map, take-map}
-use Rattle.ick_runtime.specs.View.{array_names, array_of, arrays_of, no_stash, used}
+use Rattle.std.proofs.Common.{ap, arith, length, map, reverse, sym, take, ◌<◌, ◌∙◌}
+use Rattle.ick_runtime.proofs.Names.{array_names, array_of, arrays_of, get_or-map, length-map, no_stash, used}
 use Rattle.ick_runtime.proofs.StashMaps.{stack_of}
+use Rattle.std.proofs.lemmas.List.{take-map}
 use Rattle.ick_runtime.proofs.memory.Memory.stashed_arrays.Goals as goal
 
 pub returns : goal.returns

@@ -1,6 +1,5 @@
-use Rattle.std.proofs.Common.{◌<◌, ap, sym, ◌∙◌, map, reverse, take, length, arith}
-use Rattle.std.proofs.lemmas.List.{get_or-map, length-map}
-use Rattle.ick_runtime.specs.View.{no_stash, numbers_of, scalar_names, used}
+use Rattle.std.proofs.Common.{ap, arith, length, map, reverse, sym, take, ◌<◌, ◌∙◌}
+use Rattle.ick_runtime.proofs.Names.{get_or-map, length-map, no_stash, numbers_of, scalar_names, used}
 use Rattle.ick_runtime.proofs.StashMaps.{stack_of}
 use Rattle.ick_runtime.proofs.memory.Memory.stashed_numbers.Goals as goal
 

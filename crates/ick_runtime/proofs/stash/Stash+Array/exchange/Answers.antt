@@ -1,6 +1,5 @@
-use Rattle.std.proofs.Common.{◌≡◌, ◌+◌, ◌-◌, ◌<◌, ap, map, arith, length, get_or}
-use Rattle.std.proofs.lemmas.List.{get_or-map, length-map, map-set}
-use Rattle.ick_runtime.specs.View.{array_of, arrays_of}
+use Rattle.std.proofs.Common.{ap, arith, get_or, length, map, ◌+◌, ◌-◌, ◌<◌, ◌≡◌}
+use Rattle.ick_runtime.proofs.Names.{array_of, arrays_of, get_or-map, length-map, map-set}
 use Rattle.ick_runtime.proofs.StashingLemmas.{take_replaced}
 use Rattle.ick_runtime.proofs.stash.Stash+Array.exchange.Goals as goal
 

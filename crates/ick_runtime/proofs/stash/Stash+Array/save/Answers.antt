@@ -1,8 +1,7 @@
 use Rattle.std.proofs.Common.{arith, rules}
-use Rattle.std.proofs.lemmas.Grind.{common_steps}
-use Rattle.std.proofs.lemmas.List.{map-set, length-map}
-use Rattle.ick_runtime.proofs.StashLemmas.{stash_trans}
+use Rattle.ick_runtime.proofs.Names.{common_steps, length-map, map-set}
 use Rattle.ick_runtime.proofs.StashingLemmas.{on_err, put_grown, put_spare, spare_like}
+use Rattle.ick_runtime.proofs.StashLemmas.{stash_trans}
 use Rattle.ick_runtime.proofs.stash.Stash+Array.save.Goals as goal
 
 pub returns-in_err-copy_into-clause-err : goal.returns-in_err-copy_into-clause-err
