@@ -1,9 +1,7 @@
 -- The changes that a trail has.
-use Rattle.std.proofs.Common.{arith, false, get_or, length, List, refl, reverse, rules, take, take_all, ◌++◌, ◌≡◌, ◌≤◌}
-use Rattle.std.proofs.Common.{[], ap, map, suc, sym, ℕ, ◌∷◌}
-use Rattle.ick_marks.proofs.Names.{all_undone, changes_in, common_steps, length-take-le, statuses_were, take-append-le}
-use Rattle.ick_marks.proofs.Names.{array_of, array_was, ArrayValue, change_of, Extends, HighSame, no_change, undone}
-use Rattle.ick_marks.proofs.Names.{Like, Trail, View}
+use Rattle.std.proofs.Common.{arith, false, get_or, length, List, refl, reverse, rules, take, take_all, ◌++◌, ◌≡◌, ◌≤◌, [], ap, map, suc, sym, ℕ, ◌∷◌}
+use Rattle.ick_marks.proofs.Names.{all_undone, changes_in, common_steps, length-take-le, statuses_were, take-append-le, array_of, array_was, ArrayValue}
+use Rattle.ick_marks.proofs.Names.{change_of, Extends, HighSame, no_change, undone, Like, Trail, View}
 use Rattle.std.{proofs.lemmas.List.length-reverse, proofs.Math.Seq.take-suc, specs.Global.Vec}
 use Rattle.ick_runtime.specs.declared.{change.ArrayChange.ArrayChange, change.Entry.Entry, memory.Array.Array}
 use Rattle.ick_runtime.proofs.Undoing.{like_refl, marks_here}

@@ -1,7 +1,7 @@
 -- States that are kept, and their copies.
 use Rattle.std.proofs.Common.{ap, drop, length, rules, sym, ◌++◌, ◌∙◌, ◌≡◌}
-use Rattle.ick_marks.proofs.Names.{AreSame, IsLoaded, IsProgram, LoweredParts, parts_of, saved_view, state_of, ∥∥₁_elim}
-use Rattle.ick_marks.proofs.Names.{Code, Input, IsReady, IsSaved, IsSteady, props, Saved, View}
+use Rattle.ick_marks.proofs.Names.{AreSame, IsLoaded, IsProgram, LoweredParts, parts_of, saved_view, state_of, ∥∥₁_elim, Code, Input, IsReady, IsSaved}
+use Rattle.ick_marks.proofs.Names.{IsSteady, props, Saved, View}
 use Rattle.ick_marks.{proofs.Readiness.ready_of, proofs.Readiness.state_of_both, specs.Saved.IsKept}
 use Rattle.ick_marks.proofs.Saving.{kept_state, loaded, same_parts_trans}
 

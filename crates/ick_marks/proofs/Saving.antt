@@ -1,10 +1,8 @@
 -- Lists that are copied and compared, and states that are kept.
-use Rattle.std.proofs.Common.{arith, drop, get_or, length, List, map, refl, rules, subst, suc, sym, take, zero, ℕ, ◌++◌}
-use Rattle.std.proofs.Common.{[], ap, ◌+◌, ◌<◌, ◌∙◌, ◌∷◌, ◌≡◌, ◌≤◌}
-use Rattle.ick_marks.proofs.Names.{common_steps, get_or-map, length-map, length-take-le, LoweredParts, map-set_same}
-use Rattle.ick_marks.proofs.Names.{arrays_on, HighSame, Input, is_hidden, IsProgram, numbers_on, saved_view, take-take}
-use Rattle.ick_marks.proofs.Names.{AreSame, array_of, IsLoaded, IsSteady, Parts, parts_of, restored, state_of, take-map}
-use Rattle.ick_marks.proofs.Names.{Code, IsReady, IsSaved, Like, map-map, Name, Saved, View}
+use Rattle.std.proofs.Common.{arith, drop, get_or, length, List, map, refl, rules, subst, suc, sym, take, zero, ℕ, ◌++◌, [], ap, ◌+◌, ◌<◌, ◌∙◌, ◌∷◌, ◌≡◌, ◌≤◌}
+use Rattle.ick_marks.proofs.Names.{common_steps, get_or-map, length-map, length-take-le, LoweredParts, map-set_same, arrays_on, HighSame, Input, is_hidden}
+use Rattle.ick_marks.proofs.Names.{IsProgram, numbers_on, saved_view, take-take, AreSame, array_of, IsLoaded, IsSteady, Parts, parts_of, restored, state_of}
+use Rattle.ick_marks.proofs.Names.{take-map, Code, IsReady, IsSaved, Like, map-map, Name, Saved, View}
 use Rattle.std.proofs.lemmas.List.{length-append, length-drop, map-append, map-set, take_more}
 use Rattle.ick_runtime.specs.{declared.memory.Rest.Rest, Undo.IsRestored, Undo.SameFirst}
 use Rattle.ick_runtime.specs.View.{dump_of, map_of, scalar_names, Stash, used as used_values}

@@ -1,5 +1,4 @@
-use Rattle.std.proofs.Common.{arith, length, length-append, option_to_list, sym, take, take_all, ◌++◌, ◌∷◌, ◌≡◌, ◌≤◌}
-use Rattle.std.proofs.Common.{[], ap, ◌∙◌}
+use Rattle.std.proofs.Common.{arith, length, length-append, option_to_list, sym, take, take_all, ◌++◌, ◌∷◌, ◌≡◌, ◌≤◌, [], ap, ◌∙◌}
 use Rattle.ick_marks.proofs.Names.{all_undone, changes_in, HighSame, Like, take-append-le, view_in}
 use Rattle.ick_marks.proofs.Changes.{count_history, newest_undone}
 use Rattle.ick_runtime.proofs.Undoing.{undone_one}
