@@ -5,9 +5,6 @@ use Rattle.ick_runtime.proofs.Names.{PartsLike, put_on, slice_set, Stash, stash_
 use Rattle.std.proofs.lemmas.Simd.{map-map}
 use Rattle.std.specs.Prelude.{replicate}
 
-pub stash_trans : {A : Type 0} {a b c : Stash A} → StashLike a b → StashLike b c → StashLike a c
-stash_trans p q = search rules
-
 pub parts_refl : (p : Parts) → PartsLike p p
 parts_refl p = search rules
 

@@ -1,18 +1,13 @@
 -- Values that are put on stashes and taken off.
 use Rattle.std.proofs.Common.{ap, arith, get_or, length, List, map, refl, rules, sym, true, ℕ, ◌+◌, ◌-◌, ◌<◌, ◌∙◌, ◌≡◌}
 use Rattle.ick_runtime.proofs.Names.{Array, array_of, array_was, arrays_of, at_slot, ChangesAt, common_steps, Err, get_or-map, get_or-set_same, IsPutOn}
-use Rattle.ick_runtime.proofs.Names.{IsRestoredTo, IsTakenOff, Kept, KeptStash, length-map, length-set, Like, map-set, nat_lt, nat_tests, no_array, no_stash}
-use Rattle.ick_runtime.proofs.Names.{Ok, put_on, Result, set-get_or, set-set, slice_set, Stash, stash_in, StashLike, taken_off, undone, View}
-use Rattle.ick_runtime.proofs.Names.{with_array_stashes, with_arrays, with_scalar_stashes}
+use Rattle.ick_runtime.proofs.Names.{IsRestoredTo, IsTakenOff, Kept, KeptStash, length-map, length-set, Like, map-set, nat_lt, nat_tests, no_array, Ok, put_on}
+use Rattle.ick_runtime.proofs.Names.{Result, set-get_or, set-set, slice_set, Stash, stash_in, StashLike, taken_off, undone, View, with_array_stashes}
+use Rattle.ick_runtime.proofs.Names.{with_arrays, with_scalar_stashes}
 use Rattle.ick_runtime.proofs.StashLemmas.{seen}
 use Rattle.ick_runtime.specs.Undo.{StashesLike}
 use Rattle.std.specs.Prelude.{OnErr}
 use Rattle.ick_runtime.specs.declared.change.ArrayChange.TheVariants as now
-
--- a value goes to spare room
-pub put_spare : {A : Type 0} (x : A) (s : Stash A) → s.depth < length s.items →
-    IsPutOn x s (record { items = slice_set s.items s.depth x; depth = s.depth + 1 })
-put_spare x s low = grind (arith, common_steps)
 
 -- the newest value is taken off
 pub take_newest : {A : Type 0} (x : A) (s : Stash A) (depth : ℕ) → depth + 1 ≡ s.depth → depth < length s.items →
@@ -35,11 +30,6 @@ pub kept_at : {A B : Type 0} (g : B → A) (xs : List B) (slot : ℕ) (old new :
 kept_at g xs slot old new none low is same =
     cc (map-set g xs slot new, same, is, get_or-map g xs slot old none low, set-get_or (map g xs) slot none)
 
--- one of many stashes is like it was
-pub set_like : {A : Type 0} (xs : List (Stash A)) (slot : ℕ) (y : Stash A) → StashLike (get_or xs slot no_stash) y →
-    StashesLike xs (slice_set xs slot y)
-set_like xs slot y like = grind (arith, common_steps)
-
 pub saved_like : {A : Type 0} (x : A) (slot : ℕ) (held old new : List (Stash A)) → held ≡ old →
     ChangesAt slot (IsPutOn x) old new → StashesLike held (at_slot taken_off slot new)
 saved_like x slot held old new same h = grind (arith, common_steps)
@@ -57,17 +47,10 @@ pub like_arrays : (base low : ℕ) (v : View) (stashes : List (Stash Array)) →
     Like base low v (with_array_stashes stashes v)
 like_arrays base low v stashes like = search rules
 
--- a stash that has another value in a spare place
-pub spare_like : {A : Type 0} (x : A) (s : Stash A) → StashLike s (record { items = slice_set s.items s.depth x; depth = s.depth })
-spare_like x s = grind (arith, common_steps)
-
-pub put_grown : {A : Type 0} (x : A) (old s new : Stash A) → StashLike old s → IsPutOn x s new → IsPutOn x old new
-put_grown x old s new like put = search rules
-
 -- one stash that is like it was
 pub like_at : {A B : Type 0} (g : B → Stash A) (xs : List B) (slot : ℕ) (old new : B) → slot < length xs →
     old ≡ get_or xs slot old → StashLike (g old) (g new) → StashesLike (map g xs) (map g (slice_set xs slot new))
-like_at g xs slot old new low is like = search (rules, get_or-map, map-set, set_like)
+like_at g xs slot old new low is like = search (rules, get_or-map, map-set, common_steps)
 
 -- a number that was taken off became the number of its scalar, or not
 pub restored_here : (slot home number : ℕ) (registers : List ℕ) (old new : List (Stash ℕ)) → home ≡ slot →
