@@ -1,7 +1,7 @@
 -- A map from names, kept by slots.
 use Rattle.std.proofs.Common.{[], ap, arith, Bool, false, get_or, if◌then◌else◌, length, List, map, refl, rules, slice_get, slice_set, Some, suc, sym, true}
 use Rattle.std.proofs.Common.{zero, ℕ, ◌&&◌, ◌<◌, ◌∙◌, ◌∷◌, ◌≡◌, ◌≤◌}
-use Rattle.ick_runtime.proofs.Names.{array_names, both, Code, code_program, fun_ext, get_or-map, length-map, map_of, Name, same_name, scalar_names}
+use Rattle.ick_runtime.proofs.Names.{array_names, both, Code, code_program, common_steps, fun_ext, get_or-map, length-map, map_of, Name, same_name, scalar_names}
 use Rattle.ick_runtime.proofs.Names.{slice_get_within, with_entry}
 use Rattle.ick_code.proofs.SameNames.{same_name_is}
 use Rattle.ick_code.specs.{Compiled.IsCompiled, Names.is_array_name, Names.is_scalar_name}
@@ -107,3 +107,6 @@ scalar_slot code slot name is at = record {
 pub array_kind : (code : Code) (slot : ℕ) (name : Name) → IsCompiled (code_program code) code →
     slice_get (array_names code) slot ≡ Some name → is_array name.kind ≡ true
 array_kind code slot name is at = passes is_array_name (array_names code) slot name is.arrays_named at
+
+-- for the parts of a state that a slot gives
+pub ruleset by_slots = (common_steps, map_of-get, map_of-map, array_kind)

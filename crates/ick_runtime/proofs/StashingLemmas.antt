@@ -92,12 +92,4 @@ pub exchanged_like : (base low slot : ℕ) (v : View) (x : Array) (new : List (S
     Like base low v (undone (array_was now.Restored slot (get_or v.parts.arrays slot no_array))
     (with_array_stashes new (with_arrays (slice_set v.parts.arrays slot x) v)))
 exchanged_like base low slot v x new there h =
-    let arrays = v.parts.arrays in
-    let old = get_or arrays slot no_array in
-    let changed = slice_set arrays slot x in
-    let within : nat_lt slot (length changed) ≡ true =
-    grind (arith, nat_tests, length-set arrays slot x, there) in
-    let back : slice_set changed slot old ≡ arrays = set-set arrays slot x old ∙ set-get_or arrays slot no_array in
-    let present : get_or changed slot no_array ≡ x = get_or-set_same arrays slot x no_array there in
-    rw (within, back, present)
-    (like_arrays base low v (at_slot (put_on x) slot new) (taken_like x slot v.parts.array_stashes v.parts.array_stashes new refl h))
+    grind (arith, common_steps, length-set, set-set, set-get_or, get_or-set_same, like_arrays, taken_like)

@@ -13,6 +13,7 @@ impl Memory {
     ghost use Rattle.ick_runtime.specs.Inputs.{Input};
 
     /// Returns the number of the scalar in a slot.
+    #[tactic(auto, using(crate::proofs::Maps::by_slots))]
     pub fn number(&self, program: &Lowered<'_, '_>, slot: u32) -> u32
         requires slot { slot < length (scalar_names program.now.code.now) }
         requires ready { IsReady program.now.code.now program.now.parts (view_in self.now) }
@@ -73,6 +74,7 @@ impl Memory {
     }
 
     /// Returns the dimensions of the array in a slot, none if it has none yet.
+    #[tactic(auto, using(crate::proofs::Maps::by_slots))]
     pub fn dimensions(&self, program: &Lowered<'_, '_>, slot: u32) -> &[u32]
         requires slot { slot < length (array_names program.now.code.now) }
         requires ready { IsReady program.now.code.now program.now.parts (view_in self.now) }
@@ -87,6 +89,7 @@ impl Memory {
     }
 
     /// Returns the numbers of all elements of the array in a slot, row by row.
+    #[tactic(auto, using(crate::proofs::Maps::by_slots))]
     pub fn elements(&self, program: &Lowered<'_, '_>, slot: u32) -> &[u32]
         requires slot { slot < length (array_names program.now.code.now) }
         requires ready { IsReady program.now.code.now program.now.parts (view_in self.now) }
@@ -101,6 +104,7 @@ impl Memory {
     }
 
     /// Returns whether the array in a slot is ignored.
+    #[tactic(auto, using(crate::proofs::Maps::by_slots))]
     pub fn is_array_ignored(&self, program: &Lowered<'_, '_>, slot: u32) -> bool
         requires slot { slot < length (array_names program.now.code.now) }
         requires ready { IsReady program.now.code.now program.now.parts (view_in self.now) }

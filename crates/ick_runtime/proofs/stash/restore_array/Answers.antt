@@ -1,4 +1,4 @@
-use Rattle.std.proofs.Common.{ap, arith, false, get_or, length, map, refl, slice_set, sym, true, ◌<◌, ◌∙◌, ◌≡◌}
+use Rattle.std.proofs.Common.{ap, arith, false, get_or, length, map, refl, slice_set, sym, true, ◌<◌, ◌∙◌, ◌≡◌, rules}
 use Rattle.ick_runtime.proofs.Names.{array_of, array_was, arrays_of, ChangesAt, get_or-map, is_hidden, IsTakenOff, length-map, Like, map-set, map-set_same}
 use Rattle.ick_runtime.proofs.Names.{no_array, undone, View, with_array_stashes, with_arrays}
 use Rattle.ick_runtime.proofs.StashingLemmas.{changes_at, drops_at, exchanged_like, like_arrays, taken_like}
@@ -51,9 +51,7 @@ returns-clause-retrieved g c =
     })
 
 pub returns-clause-hidden : goal.returns-clause-hidden
-returns-clause-hidden g c =
-    map-set_same is_hidden c.args.arrays.now.items c.args.slot c.exchange.new.array c.index_mut-3.result.now
-    (c.exchange.ensures.hidden ∙ ap is_hidden c.index_mut-3.ensures.value)
+returns-clause-hidden g c = search (rules, map-set_same)
 
 pub returns-clause-notes : goal.returns-clause-notes
 returns-clause-notes g c = λ k v m same_arrays same h.

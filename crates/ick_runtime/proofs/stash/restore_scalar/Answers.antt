@@ -13,9 +13,7 @@ taken g c =
     c.take_newest.new.self c.requires.slot c.index_mut.ensures.value c.in-Some.ensures.some
 
 pub returns-in_default-clause-stashes : goal.returns-in_default-clause-stashes
-returns-in_default-clause-stashes g c =
-    kept_at numbers_of c.args.stashes.now.items c.args.slot c.index_mut.result.now c.take_newest.new.self no_stash
-    c.requires.slot c.index_mut.ensures.value c.in_default.ensures.same
+returns-in_default-clause-stashes g c = search (rules, kept_at)
 
 pub returns-in_default-clause-notes : goal.returns-in_default-clause-notes
 returns-in_default-clause-notes g c = search (rules, kept_at)
