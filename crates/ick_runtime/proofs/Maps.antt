@@ -1,8 +1,8 @@
 -- A map from names, kept by slots.
 use Rattle.std.proofs.Common.{[], ap, arith, Bool, false, get_or, if◌then◌else◌, length, List, map, refl, rules, slice_get, slice_set, Some, suc, sym, true}
 use Rattle.std.proofs.Common.{zero, ℕ, ◌&&◌, ◌<◌, ◌∙◌, ◌∷◌, ◌≡◌, ◌≤◌}
-use Rattle.ick_runtime.proofs.Names.{array_names, both, Code, code_program, common_steps, fun_ext, get_or-map, length-map, map_of, Name, same_name, scalar_names}
-use Rattle.ick_runtime.proofs.Names.{slice_get_within, with_entry}
+use Rattle.ick_runtime.proofs.Names.{array_names, both, Code, code_program, common_steps, fun_ext, get_or-map, length-map, map_of, Name, same_name}
+use Rattle.ick_runtime.proofs.Names.{scalar_names, slice_get_within, with_entry}
 use Rattle.ick_code.proofs.SameNames.{same_name_is}
 use Rattle.ick_code.specs.{Compiled.IsCompiled, Names.is_array_name, Names.is_scalar_name}
 use Rattle.ick_instructions.proofs.NameTests.{all_at, not_true, passes}

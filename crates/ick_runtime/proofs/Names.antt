@@ -1,7 +1,7 @@
 -- The names that most proofs cite, passed on together. Declares nothing.
 pub use Rattle.ick_bits.specs.declared.faults.FaultKind.TheVariants.{Hyperspace, NextDepth, TooWide}
-pub use Rattle.ick_bits.specs.{declared.faults.FaultKind.FaultKind, declared.values.Value.Value, declared.values.Width.TheVariants.Sixteen}
-pub use Rattle.ick_bits.specs.{declared.values.Width.TheVariants.ThirtyTwo, Values.number_of, Values.Wide}
+pub use Rattle.ick_bits.specs.{declared.faults.FaultKind.FaultKind, declared.values.Value.Value, declared.values.Width.TheVariants.Sixteen, Values.number_of}
+pub use Rattle.ick_bits.specs.{Values.Wide}
 pub use Rattle.ick_code.specs.Compiled.{code_program, code_slots, code_statement}
 pub use Rattle.ick_code.specs.meaning.Completion.{Completion, done, faults}
 pub use Rattle.ick_code.specs.meaning.Move.{ask_at, ask_of, choice, is_done, is_uncertain, meet, plain}
@@ -14,7 +14,6 @@ pub use Rattle.ick_instructions.specs.Meaning.{values_of}
 pub use Rattle.ick_instructions.specs.{Bounds.bounds_of, Bounds.IsBounded, declared.instruction.Instruction.Instruction}
 pub use Rattle.ick_instructions.specs.{declared.instruction.Operation.Operation, declared.lowered.LoweredParts.LoweredParts, Lowered.lowered_setting}
 pub use Rattle.ick_instructions.specs.{Lowered.Represented, Operations.is_calculation, Registers.HasConstants}
-pub use Rattle.ick_runtime.specs.Elements.{IsFetched, IsStored, with_element}
 pub use Rattle.ick_runtime.specs.Run.{FlowLeads, GoesOn, Stands, Stopped, StopsIn, with_end}
 pub use Rattle.ick_runtime.specs.Stashes.{ChangesAt, IsPutOn, IsRestoredTo, IsTakenOff}
 pub use Rattle.ick_runtime.specs.Status.{flag_at, IsAnswered, lack_of, met_as, percent_of}
@@ -23,8 +22,8 @@ pub use Rattle.ick_runtime.specs.Undo.{array_was, at_slot, Change, Fixed, HighSa
 pub use Rattle.ick_runtime.specs.Undo.{with_arrays, with_hidden, with_scalar_stashes}
 pub use Rattle.ick_runtime.specs.View.{array_names, array_of, arrays_of, both, dump_of, file_of, is_hidden, map_of, no_stash, numbers_of, Parts, scalar_names}
 pub use Rattle.ick_runtime.specs.View.{Stash, stash_in, state_of, text_of, used, View, view}
-pub use Rattle.ick_runtime.specs.{Calculations.ReadsWithin, declared.memory.Array.Array as Kept, declared.memory.Stash.Stash as KeptStash, Halts.Comes}
-pub use Rattle.ick_runtime.specs.{Inputs.Input, Inputs.Leads, Returns.rupture_of, Sizes.sizes_fault, Traced.Proceeds, Walk.walk}
+pub use Rattle.ick_runtime.specs.{Calculations.ReadsWithin, declared.memory.Array.Array as Kept, declared.memory.Stash.Stash as KeptStash, Elements.IsFetched}
+pub use Rattle.ick_runtime.specs.{Elements.IsStored, Halts.Comes, Inputs.Input, Inputs.Leads, Returns.rupture_of, Sizes.sizes_fault, Traced.Proceeds, Walk.walk}
 pub use Rattle.ick_syntax.specs.{declared.tree.Name.Name, declared.tree.UnaryOp.UnaryOp, StatementTree.StatementTree}
 pub use Rattle.std.proofs.lemmas.List.{get_or-map, get_or-set_other, get_or-set_same, get_or-take, length-drop, length-map, length-replicate, length-set}
 pub use Rattle.std.proofs.lemmas.List.{length-take-le, map-set, reverse-append, set-get_or, set-set, take-append-drop, take-take}

@@ -3,10 +3,9 @@ use Rattle.std.specs.Prelude.{ℕ, ◌≡◌, ◌<◌, ◌==◌, Bool, true, fal
 use Rattle.std.proofs.Common.{get_or}
 use Rattle.ick_bits.specs.declared.faults.FaultKind.TheVariants.{NothingStashed}
 use Rattle.ick_code.specs.meaning.State.{Array}
-use Rattle.ick_runtime.specs.declared.halt.Halt.{Halt}
-use Rattle.ick_runtime.specs.declared.halt.Halt.TheVariants.{Fault, Word, NoMemory}
-use Rattle.ick_runtime.specs.Undo.{StashLike, put_on, taken_off}
-use Rattle.ick_runtime.specs.View.{Stash, no_stash, used}
+use Rattle.ick_runtime.specs.{declared.halt.Halt.Halt, declared.halt.Halt.TheVariants.Fault, declared.halt.Halt.TheVariants.Word}
+use Rattle.ick_runtime.specs.{declared.halt.Halt.TheVariants.NoMemory, Undo.StashLike, Undo.put_on, Undo.taken_off, View.Stash, View.no_stash}
+use Rattle.ick_runtime.specs.{View.used}
 
 -- a value was put on a stash, and can be taken off again
 pub record IsPutOn {A : Type 0} (x : A) (old new : Stash A) : Type 0 where

@@ -1,18 +1,13 @@
 -- Changes that can be undone.
-use Rattle.std.specs.Prelude.{ℕ, ◌+◌, ◌-◌, ◌≡◌, ◌<◌, ◌≤◌, nat_lt, Bool, true, false, List, [], ◌∷◌}
-use Rattle.std.specs.Prelude.{length, drop, take, reverse, slice_set, if◌then◌else◌}
+use Rattle.std.specs.Prelude.{ℕ, ◌+◌, ◌-◌, ◌≡◌, ◌<◌, ◌≤◌, nat_lt, Bool, true, false, List, [], ◌∷◌, length, drop, take, reverse, slice_set}
+use Rattle.std.specs.Prelude.{if◌then◌else◌}
 use Rattle.std.proofs.Common.{get_or}
-use Rattle.ick_code.specs.meaning.State.{Array, no_array}
-use Rattle.ick_code.specs.declared.code.Code.{Code}
+use Rattle.ick_code.specs.{meaning.State.Array, meaning.State.no_array, declared.code.Code.Code}
 use Rattle.ick_instructions.specs.declared.lowered.LoweredParts.{LoweredParts}
-use Rattle.ick_runtime.specs.declared.change.ArrayChange.{ArrayChange}
+use Rattle.ick_runtime.specs.{declared.change.ArrayChange.ArrayChange, declared.change.Entry.Entry, Elements.with_element, Steady.IsReady, View.View}
+use Rattle.ick_runtime.specs.{View.Parts, View.Stash, View.no_stash, View.used, View.state_of, Inputs.Input}
 use Rattle.ick_runtime.specs.declared.change.ArrayChange.TheVariants as now
-use Rattle.ick_runtime.specs.declared.change.Entry.{Entry}
 use Rattle.ick_runtime.specs.declared.change.Entry.TheVariants as entry
-use Rattle.ick_runtime.specs.Elements.{with_element}
-use Rattle.ick_runtime.specs.Steady.{IsReady}
-use Rattle.ick_runtime.specs.View.{View, Parts, Stash, no_stash, used, state_of}
-use Rattle.ick_runtime.specs.Inputs.{Input}
 
 -- arrays with a number in one element
 abbrev pub with_number : List Array → (slot at number : ℕ) → List Array
@@ -99,18 +94,16 @@ changes_of (entry.Statuses ∷ entries) arrays (old ∷ statuses) =
     statuses_were old ∷ changes_of entries arrays statuses
 changes_of (e ∷ entries) arrays statuses = change_of e ∷ changes_of entries arrays statuses
 
--- an array goes back to its slot, and the present one to the stash
-abbrev pub given_back : ℕ → Array → Parts → Parts
-given_back slot old p = record p {
-  arrays = slice_set p.arrays slot old;
-  array_stashes = at_slot (put_on (get_or p.arrays slot no_array)) slot p.array_stashes;
-}
-
--- the parts before an array was changed
+-- the parts before an array was changed. One that was retrieved goes back to the stash, if there is such a slot
 abbrev pub undone_array : ArrayChange → ℕ → Array → Parts → Parts
 undone_array now.Replaced slot old p = record p { arrays = slice_set p.arrays slot old }
 undone_array now.Taken slot old p = record p { array_stashes = at_slot (put_on old) slot p.array_stashes }
-undone_array now.Restored slot old p = if nat_lt slot (length p.arrays) then given_back slot old p else p
+undone_array now.Restored slot old p =
+    if nat_lt slot (length p.arrays)
+    then record p {
+      arrays = slice_set p.arrays slot old;
+      array_stashes = at_slot (put_on (get_or p.arrays slot no_array)) slot p.array_stashes;
+    } else p
 
 -- the view before a change
 abbrev pub undone : Change → View → View
@@ -123,10 +116,8 @@ undone (hidden_was slot old) v = with_hidden (slice_set v.parts.hidden slot old)
 undone (scalar_saved slot) v = with_scalar_stashes (at_slot taken_off slot v.parts.scalar_stashes) v
 undone (scalar_taken slot number) v =
     with_scalar_stashes (at_slot (put_on number) slot v.parts.scalar_stashes) v
-undone (scalar_restored slot number old) v = record v {
-  registers = slice_set v.registers slot old;
-  parts = record v.parts { scalar_stashes = at_slot (put_on number) slot v.parts.scalar_stashes };
-}
+undone (scalar_restored slot number old) v = with_scalar_stashes
+    (at_slot (put_on number) slot v.parts.scalar_stashes) (record v { registers = slice_set v.registers slot old })
 undone (array_saved slot) v = with_array_stashes (at_slot taken_off slot v.parts.array_stashes) v
 undone (array_was change slot old) v = record v { parts = undone_array change slot old v.parts }
 undone (statuses_were old) v = record v { statuses = old }
@@ -204,55 +195,26 @@ pub record Fixed : Type 0 where
 abbrev pub fixed_of : ℕ → List Change → Fixed
 fixed_of base kept = record { base = base; kept = kept }
 
--- undoing all changes but the first k does so, and undoes all changes since the newest mark
-abbrev pub RewindsMarked : Fixed → List Change → (low k : ℕ) → View → View → Type 0
-RewindsMarked fixed changes low k v m = (k ≤ length fixed.kept) × Rewinds fixed.base changes low k v m
-
--- what undoing is, for notes of these changes: if somebody is told of changes, they can be rewound
+-- what undoing is, for notes of these changes: if somebody is told of changes, they can be rewound. Undoing goes back
+-- to the newest mark at least
 pub record Means {N : Type 0} (Undoes : N → ℕ → View → View → Type 0) (tells : Bool) (notes : N)
     (changes : List Change) (fixed : Fixed) (low : ℕ) : Type 0 where
   pub rewinds : tells ≡ true → (k : ℕ) (v m : View) → Undoes notes k v m
       → Rewinds fixed.base changes low k v m
-  pub undoes : (k : ℕ) (v m : View) → (tells ≡ true → RewindsMarked fixed changes low k v m)
+  pub undoes : (k : ℕ) (v m : View) → (tells ≡ true → (k ≤ length fixed.kept) × Rewinds fixed.base changes low k v m)
       → Undoes notes k v m
 
--- what can be undone from a view can be undone from each one like it
-abbrev pub AlikeUndo : {N : Type 0} → (N → ℕ → View → View → Type 0) → N → (base low : ℕ) → Type 0
-AlikeUndo Undoes notes base low =
-    (k : ℕ) (v w m : View) → Like base low v w → Undoes notes k v m → Undoes notes k w m
-
 -- what can be undone before a change can be undone after it
-abbrev pub NotesRegister : {N : Type 0} → (N → ℕ → View → View → Type 0) → N → N →
-    ℕ → List ℕ → Type 0
-NotesRegister Undoes old new at registers =
-    (k number : ℕ) (v m : View) → v.registers ≡ registers → Undoes old k v m →
-    Undoes new k (record v { registers = slice_set registers at number }) m
-
 abbrev pub NotesElement : {N : Type 0} → (N → ℕ → View → View → Type 0) → N → N →
     (slot at : ℕ) → List Array → Type 0
 NotesElement Undoes old new slot at arrays =
     (k number : ℕ) (v m : View) → v.parts.arrays ≡ arrays → Undoes old k v m →
     Undoes new k (with_arrays (with_number arrays slot at number) v) m
 
-abbrev pub NotesReturns : {N : Type 0} → (N → ℕ → View → View → Type 0) → N → N → List ℕ → Type 0
-NotesReturns Undoes old new returns =
-    (k : ℕ) (v m : View) → v.returns ≡ returns → Undoes old k v m → Undoes new k v m
-
 abbrev pub NotesChange : {N : Type 0} → (N → ℕ → View → View → Type 0) → N → N →
     (base : ℕ) → Change → Type 0
 NotesChange Undoes old new base change =
     (k : ℕ) (v m : View) → IsUndoable base change v → Undoes old k (undone change v) m → Undoes new k v m
-
--- a number of a stash becomes the number of its scalar
-abbrev pub NotesRestored : {N : Type 0} → (N → ℕ → View → View → Type 0) → N → N →
-    (slot number : ℕ) → List ℕ → Type 0
-NotesRestored Undoes old new slot number registers =
-    (k n : ℕ) (v m : View) (p : Parts) →
-    v.registers ≡ registers →
-    HasPlace p.scalar_stashes slot →
-    PartsLike v.parts (record p { scalar_stashes = at_slot (put_on number) slot p.scalar_stashes }) →
-    Undoes old k v m →
-    Undoes new k (record v { registers = slice_set registers slot n; parts = p }) m
 
 -- what could be undone before can be undone after
 abbrev pub KeepsUndoing : {N : Type 0} → (N → ℕ → View → View → Type 0) → N → N → Type 0

@@ -2,16 +2,14 @@
 
 ghost use Rattle.std.specs.Bool.{MatchBool};
 ghost use Rattle.std.specs.Prelude.{◌≡◌, ◌+◌, ◌<◌, ◌≤◌, ◌^◌, ℕ, Bool, true, false, List, []};
-ghost use Rattle.std.specs.Prelude.{length, map, OnErr, OnOk};
+ghost use Rattle.std.specs.Prelude.{length, map, slice_set, OnErr, OnOk};
 ghost use Rattle.std.proofs.Common.{get_or};
 ghost use Rattle.ick_code.specs.meaning.State.{no_array};
 ghost use Rattle.ick_instructions.specs.Extends.{Extends};
-ghost use Rattle.ick_runtime.specs.Noting.{NotesOne};
-ghost use Rattle.ick_runtime.specs.Undo.{array_was, change_of, stands_apart, statuses_were};
-ghost use Rattle.ick_runtime.specs.Undo.{AlikeUndo, Change, Fixed, KeepsUndoing, Means};
-ghost use Rattle.ick_runtime.specs.Undo.{NotesChange, NotesElement, NotesRegister, NotesRestored};
-ghost use Rattle.ick_runtime.specs.Undo.{NotesReturns};
-ghost use Rattle.ick_runtime.specs.View.{View, array_of};
+ghost use Rattle.ick_runtime.specs.Undo.{array_was, at_slot, change_of, put_on, stands_apart};
+ghost use Rattle.ick_runtime.specs.Undo.{statuses_were, Change, Fixed, HasPlace, KeepsUndoing};
+ghost use Rattle.ick_runtime.specs.Undo.{Like, Means, NotesChange, NotesElement, PartsLike};
+ghost use Rattle.ick_runtime.specs.{Noting.NotesOne, View.array_of, View.Parts, View.View};
 
 use crate::change::{ArrayChange, Entry};
 use crate::memory::Array;
@@ -52,7 +50,8 @@ pub trait Notes: Drop {
 
     /// States what undoing is, and that nothing else than what can be noted matters.
     fn law(&self)
-        ensures alike { AlikeUndo Undoes self.now (fixed self.now).base (low self.now) }
+        ensures alike { (k : ℕ) (v w m : View) → Like (fixed self.now).base (low self.now) v w →
+            Undoes self.now k v m → Undoes self.now k w m }
         ensures means { Means Undoes tells self.now (changes self.now) (fixed self.now)
             (low self.now) };
 
@@ -61,7 +60,9 @@ pub trait Notes: Drop {
         requires room { 0 < room self.old }
         requires there { at < length registers.now }
         ensures noted { NotesOne room low fixed changes self.old self.new }
-        ensures notes { NotesRegister Undoes self.old self.new at registers.now };
+        ensures notes { (k number : ℕ) (v m : View) → v.registers ≡ registers.now →
+            Undoes self.old k v m →
+            Undoes self.new k (record v { registers = slice_set registers.now at number }) m };
 
     /// Notes that an element will have another number.
     fn note_element(&mut self, arrays: &[Array], slot: u32, at: u32)
@@ -81,7 +82,8 @@ pub trait Notes: Drop {
         ensures lower { low self.new ≤ low self.old }
         ensures base { fixed self.new ≡ fixed self.old }
         ensures changes { Extends (changes self.old) (changes self.new) }
-        ensures notes { NotesReturns Undoes self.old self.new returns.now };
+        ensures notes { (k : ℕ) (v m : View) → v.returns ≡ returns.now → Undoes self.old k v m →
+            Undoes self.new k v m };
 
     /// Notes a change whose old value is in its entry. It may have been made already.
     fn note(&mut self, entry: Entry)
@@ -97,7 +99,16 @@ pub trait Notes: Drop {
         requires room { 0 < room self.old }
         requires there { slot < length registers.now }
         ensures noted { NotesOne room low fixed changes self.old self.new }
-        ensures notes { NotesRestored Undoes self.old self.new slot number registers.now };
+        ensures notes { (k n : ℕ) (v m : View) (p : Parts) → v.registers ≡ registers.now →
+            HasPlace p.scalar_stashes slot →
+            PartsLike v.parts (record p {
+              scalar_stashes =
+                  at_slot (put_on number) slot p.scalar_stashes;
+            }) → Undoes self.old k v m →
+            Undoes self.new k (record v {
+              registers = slice_set registers.now slot n;
+              parts = p;
+            }) m };
 
     /// Makes room for so many changes and all return addresses. If memory runs out, nothing else
     /// changes.

@@ -7,10 +7,8 @@ impl Memory {
     ghost use Rattle.std.specs.Prelude.{◌≡◌, ◌<◌, ◌≤◌, length, map, reverse, slice_get, Some};
     ghost use Rattle.ick_code.specs.Compiled.{code_program};
     ghost use Rattle.ick_syntax.specs.declared.tree.Name.{Name};
-    ghost use Rattle.ick_runtime.specs.Memory.{view_in};
-    ghost use Rattle.ick_runtime.specs.Steady.{IsReady};
     ghost use Rattle.ick_runtime.specs.View.{array_names, array_of, scalar_names, state_of};
-    ghost use Rattle.ick_runtime.specs.Inputs.{Input};
+    ghost use Rattle.ick_runtime.specs.{Memory.view_in, Steady.IsReady, Inputs.Input};
 
     /// Returns the number of the scalar in a slot.
     #[tactic(auto, using(crate::proofs::Maps::by_slots))]

@@ -1,18 +1,16 @@
 //! Stashes of scalars and arrays.
 
-ghost use Rattle.std.specs.Prelude.{◌≡◌, ◌+◌, ◌<◌, ◌≤◌, ℕ, [], false, length, map};
-ghost use Rattle.std.specs.Prelude.{IfNone, IfSome, OnErr, OnOk};
+ghost use Rattle.std.specs.Prelude.{◌≡◌, ◌+◌, ◌<◌, ◌≤◌, ℕ, [], false, length, map, IfNone, IfSome};
+ghost use Rattle.std.specs.Prelude.{OnErr, OnOk};
 ghost use Rattle.std.specs.Bool.{OnFalse, OnTrue};
 ghost use Rattle.std.proofs.Common.{get_or};
-ghost use Rattle.ick_runtime.specs.Noting.{NotesOne};
-ghost use Rattle.ick_runtime.specs.Stashes.{ChangesAt, IsPutOn, IsRestoredTo, IsRetrieved};
-ghost use Rattle.ick_runtime.specs.Stashes.{IsTakenOff};
-ghost use Rattle.ick_code.specs.meaning.State.{no_array};
 ghost use Rattle.ick_runtime.specs.Undo.{at_slot, put_on, taken_off, with_array_stashes};
-ghost use Rattle.ick_runtime.specs.Undo.{with_arrays, with_scalar_stashes};
-ghost use Rattle.ick_runtime.specs.Undo.{StashLike, StashesLike};
+ghost use Rattle.ick_runtime.specs.Undo.{with_arrays, with_scalar_stashes, StashLike, StashesLike};
 ghost use Rattle.ick_runtime.specs.View.{View, array_of, arrays_of, is_hidden, no_stash};
 ghost use Rattle.ick_runtime.specs.View.{numbers_of, stash_in, used};
+ghost use Rattle.ick_runtime.specs.{Noting.NotesOne, Stashes.ChangesAt, Stashes.IsPutOn};
+ghost use Rattle.ick_runtime.specs.{Stashes.IsRestoredTo, Stashes.IsRetrieved, Stashes.IsTakenOff};
+ghost use Rattle.ick_code.specs.meaning.State.{no_array};
 
 use crate::change::{ArrayChange, Entry};
 use crate::halt::Halt;
