@@ -54,9 +54,6 @@ same_parts_refl p = record { others = refl; scalars = refl; arrays = refl }
 pub same_parts_trans : {p q r : Parts} → AreSame p q → AreSame q r → AreSame p r
 same_parts_trans a b = search rules
 
-as_many : {A : Type 0} (new old : List (Stash A)) → map used_values new ≡ map used_values old → length new ≡ length old
-as_many new old same = sym (length-map new used_values) ∙ ap length same ∙ length-map old used_values
-
 pub rest_same : (p q : Rest) → map array_of q.arrays.items ≡ map array_of p.arrays.items →
     map is_hidden q.arrays.items ≡ map is_hidden p.arrays.items →
     map numbers_on q.scalar_stashes.items ≡ map numbers_on p.scalar_stashes.items →
@@ -82,9 +79,6 @@ module _ (code : Code) (lowered : LoweredParts) (is : IsProgram code lowered) wh
   abbrev pub base : ℕ
   base = lowered.layout.base
 
-  pub base_low : base ≤ dump_of lowered
-  base_low = omega (arith, is.lowered_is.temporaries)
-
   -- a view with other spare places
   state_with : (v : View) (q : Parts) → AreSame v.parts q → (input : Input) →
       state_of code lowered input (record v { parts = q }) ≡ state_of code lowered input v
@@ -92,7 +86,7 @@ module _ (code : Code) (lowered : LoweredParts) (is : IsProgram code lowered) wh
 
   ready_with : (v : View) (q : Parts) → AreSame v.parts q → IsReady code lowered v →
       IsReady code lowered (record v { parts = q })
-  ready_with v q same ready = search (rules, as_many, state_with, steady_by)
+  ready_with v q same ready = search (rules, length-map, state_with, steady_by)
 
   -- a state that was put into a memory
   module _ (old m : View) (was : IsSteady code lowered old) (marked : IsReady code lowered m) where
@@ -103,13 +97,13 @@ module _ (code : Code) (lowered : LoweredParts) (is : IsProgram code lowered) wh
     used = take m.depth m.returns
 
     first_count : length first ≡ base
-    first_count = length-take-le base m.registers (omega (arith, base_low, marked.steady.registers))
+    first_count = length-take-le base m.registers (omega (arith, marked.steady.registers))
 
     used_count : length used ≡ m.depth
     used_count = length-take-le m.depth m.returns (omega (arith, marked.steady.depth, marked.steady.returns))
 
     pub first_low : length first ≤ length old.registers
-    first_low = omega (arith, first_count, base_low, was.registers)
+    first_low = omega (arith, first_count, was.registers)
 
     pub used_low : length used ≤ length old.returns
     used_low = omega (arith, used_count, marked.steady.depth, was.returns)

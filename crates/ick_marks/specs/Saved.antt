@@ -1,15 +1,10 @@
 -- States that are kept apart from a memory.
 use Rattle.std.specs.Prelude.{ℕ, ◌≡◌, List, length, map, take}
-use Rattle.ick_code.specs.meaning.State.{Array}
-use Rattle.ick_code.specs.declared.code.Code.{Code}
+use Rattle.ick_code.specs.{meaning.State.Array, declared.code.Code.Code}
 use Rattle.ick_instructions.specs.declared.lowered.LoweredParts.{LoweredParts}
-use Rattle.ick_runtime.specs.declared.memory.Array.{Array as KeptArray}
-use Rattle.ick_runtime.specs.declared.memory.Stash.{Stash}
-use Rattle.ick_marks.specs.declared.saved.Saved.{Saved}
-use Rattle.ick_runtime.specs.Steady.{IsReady}
-use Rattle.ick_runtime.specs.Undo.{but_stashes}
 use Rattle.ick_runtime.specs.View.{View, Parts, array_names, arrays_of, numbers_of, parts_of, scalar_names, state_of, used}
-use Rattle.ick_runtime.specs.Inputs.{Input}
+use Rattle.ick_runtime.specs.{declared.memory.Array.Array as KeptArray, declared.memory.Stash.Stash, Steady.IsReady, Undo.but_stashes, Inputs.Input}
+use Rattle.ick_marks.specs.declared.saved.Saved.{Saved}
 
 -- the values on a stash
 abbrev pub numbers_on : Stash ℕ → List ℕ

@@ -1,9 +1,8 @@
 -- The changes that a trail has, the newest last.
 use Rattle.std.specs.Prelude.{ℕ, ◌≡◌, ◌≤◌, List, [], ◌∷◌, ◌++◌, length, map, reverse, take}
-use Rattle.ick_runtime.specs.declared.change.Entry.{Entry}
-use Rattle.ick_marks.specs.declared.trail.Trail.{Trail}
 use Rattle.ick_runtime.specs.Undo.{Change, Fixed, HighSame, Like, Rewinds, changes_of, fixed_of, register_was, undone}
-use Rattle.ick_runtime.specs.View.{View, array_of, bytes_of}
+use Rattle.ick_runtime.specs.{declared.change.Entry.Entry, View.View, View.array_of, View.bytes_of}
+use Rattle.ick_marks.specs.declared.trail.Trail.{Trail}
 
 -- the changes of entries, the newest first, with the arrays and statuses of a trail
 abbrev pub changes_by : Trail → List Entry → List Change

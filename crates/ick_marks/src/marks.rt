@@ -4,11 +4,10 @@ ghost use Rattle.std.specs.Prelude.{◌≡◌, ◌<◌, ◌≤◌, ℕ, length, 
 ghost use Rattle.std.proofs.Common.{get_or};
 ghost use Rattle.ick_code.specs.meaning.State.{no_array};
 ghost use Rattle.ick_marks.specs.TrailChanges.{changes_in, AreUndone, IsUndone};
-ghost use Rattle.ick_runtime.specs.Memory.{view_in};
-ghost use Rattle.ick_runtime.specs.Steady.{IsReady, IsSteady};
 ghost use Rattle.ick_runtime.specs.Undo.{change_of, stands_apart, undone, undone_array};
 ghost use Rattle.ick_runtime.specs.Undo.{with_number, IsRestored, Rewinds};
 ghost use Rattle.ick_runtime.specs.View.{View, array_of, is_hidden, parts_of};
+ghost use Rattle.ick_runtime.specs.{Memory.view_in, Steady.IsReady, Steady.IsSteady};
 
 use crate::trail::Trail;
 use ick_instructions::Lowered;
@@ -157,7 +156,6 @@ fn undo_array(rest: &mut Rest, change: ArrayChange, slot: u32, old: Array)
 fn undo_apart(trail: &mut Trail, memory: &mut Memory, entry: Entry)
     requires { stands_apart entry ≡ true }
     ensures entries { trail.new.entries ≡ trail.old.entries }
-    ensures low { trail.new.low ≡ trail.old.low }
     ensures base { trail.new.base ≡ trail.old.base }
     ensures kept { trail.new.kept ≡ trail.old.kept }
     ensures undone { IsUndone entry trail.old trail.new (view_in memory.old)
@@ -179,7 +177,6 @@ fn undo_apart(trail: &mut Trail, memory: &mut Memory, entry: Entry)
 /// Undoes a change whose entry was taken off the trail.
 fn undo_newest(trail: &mut Trail, memory: &mut Memory, entry: Entry)
     ensures entries { trail.new.entries ≡ trail.old.entries }
-    ensures low { trail.new.low ≡ trail.old.low }
     ensures base { trail.new.base ≡ trail.old.base }
     ensures kept { trail.new.kept ≡ trail.old.kept }
     ensures undone { IsUndone entry trail.old trail.new (view_in memory.old)

@@ -23,21 +23,6 @@ pub struct Saved {
     pub(crate) rest: Rest,
 }
 
-/// Returns whether two states have the same place, registers, statuses and return addresses.
-fn same_numbers(one: &Saved, other: &Saved) -> bool
-    ensures place { result ≡ true → one.now.place ≡ other.now.place }
-    ensures numbers { result ≡ true → one.now.numbers.items ≡ other.now.numbers.items }
-    ensures home { result ≡ true → one.now.home.items ≡ other.now.home.items }
-    ensures statuses { result ≡ true → one.now.statuses.items ≡ other.now.statuses.items }
-    ensures returns { result ≡ true → one.now.returns.items ≡ other.now.returns.items }
-{
-    one.place == other.place
-        && one.numbers == other.numbers
-        && one.home == other.home
-        && one.statuses == other.statuses
-        && one.returns == other.returns
-}
-
 /// Mixes two numbers into a hash.
 fn mixed(hash: u64, one: u64, other: u64) -> u64 {
     let (low, high) = (hash ^ one).carrying_mul(other ^ 0x9E37_79B9_7F4A_7C15, 0);
@@ -102,11 +87,9 @@ fn mix_rest(hash: u64, rest: &Rest) -> u64 {
 
 impl Saved {
     ghost use Rattle.std.specs.Prelude.{◌≡◌, ◌++◌, ◌≤◌, true, drop, length, IfOk, OnOk};
-    ghost use Rattle.ick_runtime.specs.Memory.{view_in};
+    ghost use Rattle.ick_runtime.specs.{Memory.view_in, Steady.IsReady, Steady.IsSteady, View.View};
+    ghost use Rattle.ick_runtime.specs.{View.parts_of, View.state_of, Inputs.Input};
     ghost use Rattle.ick_marks.specs.Saved.{HasLists, IsKept, IsLoaded, IsSaved, saved_view};
-    ghost use Rattle.ick_runtime.specs.Steady.{IsReady, IsSteady};
-    ghost use Rattle.ick_runtime.specs.View.{View, parts_of, state_of};
-    ghost use Rattle.ick_runtime.specs.Inputs.{Input};
     ghost use Rattle.ick_code.specs.declared.code.Code.{Code};
     ghost use Rattle.ick_instructions.specs.declared.lowered.LoweredParts.{LoweredParts};
 
@@ -277,7 +260,12 @@ impl Saved {
         // The clause needs that the instructions are those of the code.
         program.law();
         program.code.law();
-        same_numbers(self, other) && same_rest(&self.rest, &other.rest)
+        self.place == other.place
+            && self.numbers == other.numbers
+            && self.home == other.home
+            && self.statuses == other.statuses
+            && self.returns == other.returns
+            && same_rest(&self.rest, &other.rest)
     }
 
     /// Returns a number by which states can be looked up. States that are the same have the same

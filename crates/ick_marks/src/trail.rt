@@ -23,13 +23,12 @@ pub struct Trail {
 }
 
 impl Trail {
-    ghost use Rattle.std.specs.Prelude.{◌≡◌, ◌+◌, ◌-◌, ◌≤◌, ℕ, true, [], length, OnOk};
-    ghost use Rattle.std.specs.Prelude.{vec_len, vec_capacity, List};
+    ghost use Rattle.std.specs.Prelude.{◌≡◌, ◌+◌, ◌-◌, ◌≤◌, ℕ, true, [], length, OnOk, vec_len};
+    ghost use Rattle.std.specs.Prelude.{vec_capacity, List};
     ghost use Rattle.ick_instructions.specs.Extends.{Extends};
     ghost use Rattle.ick_marks.specs.declared.trail.Trail.{Trail};
     ghost use Rattle.ick_marks.specs.TrailChanges.{changes_in, fixed_by, IsNoted, UndoesBy};
-    ghost use Rattle.ick_runtime.specs.Undo.{Rewinds};
-    ghost use Rattle.ick_runtime.specs.View.{View};
+    ghost use Rattle.ick_runtime.specs.{Undo.Rewinds, View.View};
 
     /// Returns a trail without changes, of a program whose first temporary register is `base`.
     pub fn new(alloc: Global, base: u32) -> Trail
