@@ -8,6 +8,7 @@ returns-clause-notes c = λ k v m can h.
     let t = c.args.self.now in
     let change = array_was c.args.change c.args.slot (array_of c.args.array.now) in (
       h.0,
-      rw (newest_array t c.push_reserved.new.self.items c.push.new.self.items c.args.change c.args.slot c.in_ok-copy_array.field-0
-          (array_of c.args.array.now) c.push_reserved.ensures.items c.in_ok-push.ensures.items c.in_ok-copy_array.ensures.array) (notes_back t.base (changes_in t) t.low k change v (undone change v) m can refl h.1),
+      rw (newest_array t c.push_reserved.new.self.items c.push.new.self.items c.args.change c.args.slot
+          c.in_ok-copy_array.field-0 (array_of c.args.array.now) c.push_reserved.ensures.items c.in_ok-push.ensures.items c.in_ok-copy_array.ensures.array)
+          (notes_back t.base (changes_in t) t.low k change v (undone change v) m can refl h.1),
     )

@@ -19,4 +19,5 @@ returns-clause-notes c = λ k number v m same h.
     c.index-old.ensures
     ∙ get_or_default_zero a.elements.items at old (omega (arith, c.requires.at, ap (λ (x : Array). length x.elements) here))
     ∙ sym (ap (λ (x : Array). get_or x.elements at 0) here) in
-    c.note.ensures.notes k w m tt (rw (old_is, element_back slot at number arrays v same (omega (arith, c.requires.slot, length-map c.args.arrays.now array_of))) h)
+    c.note.ensures.notes k w m tt
+    (rw (old_is, element_back slot at number arrays v same (omega (arith, c.requires.slot, length-map c.args.arrays.now array_of))) h)
