@@ -1,11 +1,9 @@
 //! Statements that are set by gerund.
 
 ghost use Rattle.std.specs.Prelude.{◌≡◌, ◌+◌, ◌<◌, ◌==◌, ℕ, length, OnErr, OnOk};
-ghost use Rattle.ick_code.specs.Compiled.{code_program};
-ghost use Rattle.ick_code.specs.meaning.Abstain.{kind_number};
+ghost use Rattle.ick_code.specs.{Compiled.code_program, meaning.Abstain.kind_number};
 ghost use Rattle.ick_engine.specs.Gerunds.{IsFlagged, flag_if};
-ghost use Rattle.ick_runtime.specs.Noting.{NotesOne};
-ghost use Rattle.ick_runtime.specs.View.{View};
+ghost use Rattle.ick_runtime.specs.{Noting.NotesOne, View.View};
 
 use crate::status::flagged;
 use ick_bits::NoMemory;
@@ -64,11 +62,7 @@ pub fn set_kind_abstained<N: Notes>(
     if number > 13 {
         return Ok(());
     }
-    match notes.note_statuses(statuses) {
-        Ok(()) => {
-            flag_kind(code, statuses, number as u8, on);
-            Ok(())
-        }
-        Err(refused) => Err(refused),
-    }
+    notes.note_statuses(statuses)?;
+    flag_kind(code, statuses, number as u8, on);
+    Ok(())
 }
