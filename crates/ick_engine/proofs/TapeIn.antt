@@ -12,48 +12,25 @@ use Rattle.ick_runtime.specs.Inputs.{Input}
 use Rattle.ick_runtime.specs.View.{Parts, array_of, is_hidden}
 use Rattle.ick_engine.specs.Reads.{IsByte, HasRead, number_read, last_after, position_after}
 
--- one more byte
-next_numbers : (n lastin b : ℕ) (input rest : List ℕ) → drop n input ≡ b ∷ rest →
-    tape_numbers (suc n) lastin input
-    ≡ tape_numbers n lastin input ++ tape_difference (last_read n lastin input) b ∷ []
-next_numbers zero lastin b [] rest is = absurd (cc)
-next_numbers zero lastin b (a ∷ input) rest is = let e : a ≡ b = cc in ap (λ x. tape_difference lastin x ∷ []) e
-next_numbers (suc n) lastin b [] rest is = absurd (cc)
-next_numbers (suc n) lastin b (a ∷ input) rest is =
-    ap (λ l. tape_difference lastin a ∷ l) (next_numbers n a b input rest is)
+-- one more byte, or the end
+numbers_next : (n lastin : ℕ) (input : List ℕ) → tape_numbers (suc n) lastin input
+    ≡ tape_numbers n lastin input ++ tape_numbers 1 (last_read n lastin input) (drop n input)
+numbers_next zero lastin input = refl
+numbers_next (suc n) lastin [] = ap (λ l. 256 ∷ l) (rw (drop-nil n) at (numbers_next n lastin []))
+numbers_next (suc n) lastin (b ∷ bs) = ap (λ l. tape_difference lastin b ∷ l) (numbers_next n b bs)
 
-next_last : (n lastin b : ℕ) (input rest : List ℕ) → drop n input ≡ b ∷ rest → last_read (suc n) lastin input ≡ b
-next_last zero lastin b [] rest is = absurd (cc)
-next_last zero lastin b (a ∷ input) rest is = cc
-next_last (suc n) lastin b [] rest is = absurd (cc)
-next_last (suc n) lastin b (a ∷ input) rest is = next_last n a b input rest is
+last_next : (n lastin : ℕ) (input : List ℕ) →
+    last_read (suc n) lastin input ≡ last_read 1 (last_read n lastin input) (drop n input)
+last_next zero lastin input = refl
+last_next (suc n) lastin [] = refl
+last_next (suc n) lastin (b ∷ bs) = last_next n b bs
 
-next_rest : (n b : ℕ) (input rest : List ℕ) → drop n input ≡ b ∷ rest → drop (suc n) input ≡ rest
-next_rest zero b [] rest is = absurd (cc)
-next_rest zero b (a ∷ input) rest is = cc
-next_rest (suc n) b [] rest is = absurd (cc)
-next_rest (suc n) b (a ∷ input) rest is = next_rest n b input rest is
-
--- and past the end
-end_numbers : (n lastin : ℕ) (input : List ℕ) → drop n input ≡ [] →
-    tape_numbers (suc n) lastin input ≡ tape_numbers n lastin input ++ 256 ∷ []
-end_numbers zero lastin [] is = refl
-end_numbers zero lastin (a ∷ input) is = absurd (cc)
-end_numbers (suc n) lastin [] is = ap (λ l. 256 ∷ l) (end_numbers n lastin [] (drop-nil n))
-end_numbers (suc n) lastin (a ∷ input) is = ap (λ l. tape_difference lastin a ∷ l) (end_numbers n a input is)
-
-end_last : (n lastin : ℕ) (input : List ℕ) → drop n input ≡ [] →
-    last_read (suc n) lastin input ≡ last_read n lastin input
-end_last zero lastin [] is = refl
-end_last zero lastin (a ∷ input) is = absurd (cc)
-end_last (suc n) lastin [] is = refl
-end_last (suc n) lastin (a ∷ input) is = end_last n a input is
-
-end_rest : (n : ℕ) (input : List ℕ) → drop n input ≡ [] → drop (suc n) input ≡ []
-end_rest zero [] is = refl
-end_rest zero (a ∷ input) is = absurd (cc)
-end_rest (suc n) [] is = refl
-end_rest (suc n) (a ∷ input) is = end_rest n input is
+byte_is : (last to : ℕ) (byte : Option (ℕ × ℕ)) (mid after : Input) → IsByte byte to mid after →
+    (tape_numbers 1 last (mid.left to) ≡ number_read last byte ∷ [])
+    × (last_read 1 last (mid.left to) ≡ last_after last byte)
+    × (after.left (position_after to byte) ≡ drop 1 (mid.left to))
+byte_is last to None mid after end = rw end.0 (refl, refl, end.1)
+byte_is last to (Some (b, next)) mid after here = rw here (refl, refl, refl)
 
 tape_count : (n lastin : ℕ) (input : List ℕ) → length (tape_numbers n lastin input) ≡ n
 tape_count zero lastin input = refl
@@ -86,32 +63,17 @@ pub read_next : (stays : Bool) (count lastin from : ℕ) (old now new : List ℕ
     IsByte byte to mid after → new ≡ (if stays then now else slice_set now count (number_read last byte)) →
     last' ≡ last_after last byte → to' ≡ position_after to byte →
     HasRead stays (count + 1) lastin from old new last' to' before after
-read_next stays count lastin from old now new last last' to to' None before mid after within read end put more_last more_to =
+read_next stays count lastin from old now new last last' to to' byte before mid after within read is put more_last more_to =
     let input = before.left from in
     let one : suc count ≡ count + 1 = omega arith in
-    let none : drop count input ≡ [] = sym read.rest_is ∙ end.0 in
-    record {
-      elements_are =
-          fill_next stays (tape_numbers count lastin input) (tape_numbers (count + 1) lastin input) old now new count 256
-          (tape_count count lastin input) within
-          (ap (λ n. tape_numbers n lastin input) (sym one) ∙ end_numbers count lastin input none)
-          read.elements_are put;
-      last_is = cc (more_last, read.last_is, end_last count lastin input none, one);
-      rest_is = ap (after.left) more_to ∙ end.1 ∙ sym (end_rest count input none) ∙ ap (λ n. drop n input) one;
-    }
-read_next stays count lastin from old now new last last' to to' (Some (b, next)) before mid after within read here put
-    more_last more_to =
-    let input = before.left from in
-    let one : suc count ≡ count + 1 = omega arith in
-    let some : drop count input ≡ b ∷ after.left next = sym read.rest_is ∙ here in
+    let next = byte_is last to byte mid after is in
     record {
       elements_are =
           fill_next stays (tape_numbers count lastin input) (tape_numbers (count + 1) lastin input) old now new count
-          (tape_difference last b) (tape_count count lastin input) within
-          (cc (one, next_numbers count lastin b input (after.left next) some, read.last_is))
-          read.elements_are put;
-      last_is = cc (more_last, next_last count lastin b input (after.left next) some, one);
-      rest_is = cc (more_to, next_rest count b input (after.left next) some, one);
+          (number_read last byte) (tape_count count lastin input) within
+          (cc (one, numbers_next count lastin input, read.last_is, read.rest_is, next.0)) read.elements_are put;
+      last_is = cc (one, last_next count lastin input, read.last_is, read.rest_is, next.1, more_last);
+      rest_is = cc (more_to, next.2, read.rest_is, drop-drop 1 count input);
     }
 
 -- an array gets these elements, unless it is ignored
