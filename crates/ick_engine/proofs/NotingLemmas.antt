@@ -2,10 +2,9 @@
 use Rattle.std.proofs.Common.{◌≡◌, ℕ, Bool, List, rules, arith, slice_set}
 use Rattle.std.proofs.lemmas.Grind.{common_steps}
 use Rattle.ick_code.specs.meaning.State.{Array}
-use Rattle.ick_runtime.specs.declared.change.ArrayChange.TheVariants.{Replaced}
+use Rattle.ick_runtime.specs.{declared.change.ArrayChange.TheVariants.Replaced, View.View, View.Parts}
 use Rattle.ick_runtime.specs.Noting.{KeepsNotes, NotesParts, NotesBefore}
 use Rattle.ick_runtime.specs.Undo.{Change, Fixed, NotesChange, array_was, with_arrays}
-use Rattle.ick_runtime.specs.View.{View, Parts}
 
 module _ {N : Type 0} {Undoes : N → ℕ → View → View → Type 0} {low : N → ℕ} {fixed : N → Fixed}
     {changes : N → List Change} {first last : N} {before : Parts → Parts} (noted : NotesBefore Undoes low fixed changes first last before) where

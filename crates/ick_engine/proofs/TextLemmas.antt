@@ -6,12 +6,9 @@ use Rattle.std.proofs.lemmas.List.{drop-take, take-take, drop-drop, length-take}
 use Rattle.std.proofs.Math.Seq.{take-length}
 use Rattle.ick_bits.specs.Digits.{line_answer}
 use Rattle.ick_bits.specs.declared.digits.DigitFault.TheVariants as digit
-use Rattle.ick_code.specs.meaning.State.{State}
-use Rattle.ick_code.specs.meaning.Completion.{Completion}
-use Rattle.ick_code.specs.meaning.InputOutput.{with_input, with_number}
+use Rattle.ick_code.specs.{meaning.State.State, meaning.Completion.Completion, meaning.InputOutput.with_input, meaning.InputOutput.with_number}
 use Rattle.ick_runtime.specs.Inputs.{input_of}
-use Rattle.ick_engine.specs.declared.reader.Line.TheVariants.{BadWord}
-use Rattle.ick_engine.specs.Reads.{IsNext}
+use Rattle.ick_engine.specs.{declared.reader.Line.TheVariants.BadWord, Reads.IsNext}
 
 pub rest_of : (text : List ℕ) (from : ℕ) → take (length text - from) (drop from text) ≡ drop from text
 rest_of text from = ap (λ n. take n (drop from text)) (sym (length-drop from text)) ∙ take-length (drop from text)

@@ -2,10 +2,8 @@
 use Rattle.std.specs.Prelude.{ℕ, ◌≡◌, Bool, List, [], ◌∷◌, ◌++◌, drop, Option, Some, None, if◌then◌else◌}
 use Rattle.ick_bits.specs.declared.faults.FaultKind.TheVariants.{NoDigit, NoInput, SixtyFour}
 use Rattle.ick_bits.specs.Tape.{tape_difference}
-use Rattle.ick_code.specs.meaning.State.{State}
-use Rattle.ick_code.specs.meaning.Completion.{Completion, faults}
-use Rattle.ick_code.specs.meaning.InputOutput.{with_input}
-use Rattle.ick_code.specs.meaning.Tape.{tape_numbers, last_read}
+use Rattle.ick_code.specs.{meaning.State.State, meaning.Completion.Completion, meaning.Completion.faults}
+use Rattle.ick_code.specs.{meaning.InputOutput.with_input, meaning.Tape.tape_numbers, meaning.Tape.last_read}
 use Rattle.ick_runtime.specs.Inputs.{Input}
 use Rattle.ick_engine.specs.declared.reader.Line.{Line}
 use Rattle.ick_engine.specs.declared.reader.Line.TheVariants.{Nothing, Number, TooLarge, BadWord}

@@ -4,9 +4,7 @@ use Rattle.std.proofs.Common.{get_or}
 use Rattle.ick_bits.specs.declared.faults.FaultKind.TheVariants.{Hyperspace}
 use Rattle.ick_code.specs.meaning.State.{Array}
 use Rattle.ick_code.specs.meaning.Tape.{tape_bytes, tape_after, tape_numbers, last_read, with_elements}
-use Rattle.ick_runtime.specs.View.{Parts, array_at}
-use Rattle.ick_runtime.specs.Inputs.{Input}
-use Rattle.ick_runtime.specs.declared.halt.Halt.{Halt}
+use Rattle.ick_runtime.specs.{View.Parts, View.array_at, Inputs.Input, declared.halt.Halt.Halt}
 use Rattle.ick_runtime.specs.declared.halt.Halt.TheVariants.{Fault, Word, NoMemory}
 
 -- the parts after an array was printed

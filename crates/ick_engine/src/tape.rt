@@ -3,12 +3,10 @@
 ghost use Rattle.std.specs.Prelude.{◌≡◌, ◌+◌, ◌<◌, ◌≤◌, ◌++◌, length, take, IfOk, OnOk};
 ghost use Rattle.std.specs.Prelude.{OnErr, slice_set, if◌then◌else◌};
 ghost use Rattle.ick_code.specs.meaning.Tape.{tape_bytes, tape_after};
-ghost use Rattle.ick_runtime.specs.Halts.{Took};
-ghost use Rattle.ick_runtime.specs.Noting.{NotesBefore, NotesParts};
+ghost use Rattle.ick_runtime.specs.{Halts.Took, Noting.NotesBefore, Noting.NotesParts};
+ghost use Rattle.ick_runtime.specs.{Inputs.Leads, View.parts_of};
 ghost use Rattle.ick_engine.specs.Reads.{HasRead, number_read, last_after, position_after};
-ghost use Rattle.ick_runtime.specs.Inputs.{Leads};
 ghost use Rattle.ick_engine.specs.Text.{IsArrayRead, IsPrinted};
-ghost use Rattle.ick_runtime.specs.View.{parts_of};
 
 use crate::reader::Reader;
 use ick_bits::{FaultKind, NoMemory, tape_in, tape_out};

@@ -1,15 +1,12 @@
 use Rattle.std.proofs.Common.{◌≡◌, ◌+◌, ◌<◌, ℕ, List, Option, Some, None, length, map, get_or, refl, ap, ◌∙◌, arith, rules, slice_range}
 use Rattle.std.proofs.lemmas.List.{get_or-map, length-map}
-use Rattle.ick_code.specs.meaning.State.{no_array}
-use Rattle.ick_code.specs.meaning.Value.{element_offset}
+use Rattle.ick_code.specs.{meaning.State.no_array, meaning.Value.element_offset}
 use Rattle.ick_instructions.specs.Meaning.{values_of}
-use Rattle.ick_runtime.specs.declared.memory.Array.{Array}
-use Rattle.ick_runtime.specs.Steady.{IsProgram}
+use Rattle.ick_runtime.specs.{declared.memory.Array.Array, Steady.IsProgram}
 use Rattle.ick_runtime.specs.View.{Parts, array_of, is_hidden, parts_of}
-use Rattle.ick_runtime.proofs.Fetching.{stored_by_lists}
+use Rattle.ick_runtime.proofs.{Fetching.stored_by_lists, Steadiness.steady_by, Steadiness.parts_kept}
 use Rattle.ick_engine.proofs.NotingLemmas.{noted_parts, arrays_noted}
 use Rattle.ick_engine.proofs.Reading.{reads_nowhere, read_at_stops, reads_at, took_by}
-use Rattle.ick_runtime.proofs.Steadiness.{steady_by, parts_kept}
 use Rattle.ick_engine.proofs.input.read_at.Goals as goal
 
 -- the offset of an element, by the lists
