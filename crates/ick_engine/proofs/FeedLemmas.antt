@@ -71,21 +71,22 @@ abbrev pub Before : Bool → Bool → List ℕ → List ℕ → (Input → Type 
 Before told ended line left Read = (before : Input) × MayBeLeft told ended line left before × Read before
 
 -- what a read came to, that found input before it
-pub read_by : (told : Bool) (was is at : Result Bool FeedFault) (old_line line old new : List ℕ)
-    (Read : Input → Input → Type 0) → was ≡ Ok true → is ≡ at →
+pub read_by : {told : Bool} {was : Result Bool FeedFault} (is at : Result Bool FeedFault) {old_line line old new : List ℕ}
+    {Read : Input → Input → Type 0} → was ≡ Ok true → is ≡ at →
     ((after : Input) → MayBeLeft told (has_ended at) line new after →
     Before told false old_line old (λ before. Read before after)) →
     (after : Input) → MayBeLeft told (has_ended is) line new after →
     Before told (has_ended was) old_line old (λ before. Read before after)
-read_by told was is at old_line line old new Read begun came read after may =
+read_by {told} is at {old_line} {line} {old} {new} {Read} begun came read after may =
     subst (λ r. Before told (has_ended r) old_line old (λ before. Read before after)) (sym begun)
     (read after (subst (λ r. MayBeLeft told (has_ended r) line new after) came may))
 
--- what a feed gave that had not come to its end
-module _ (told ended : Bool) (goes_on : ended ≡ false) (old_line line old new : List ℕ) (from : ℕ) where
-  had : (left : List ℕ) → (told ≡ true → left ≡ old) → MayBeLeft told ended old_line old (input_after old_line left)
-  had left is = search (rules, false≢true)
+had : {told ended : Bool} → ended ≡ false → {old_line old : List ℕ} (left : List ℕ) → (told ≡ true → left ≡ old) →
+    MayBeLeft told ended old_line old (input_after old_line left)
+had goes_on left is = search (rules, false≢true)
 
+-- what a feed gave that had not come to its end
+module _ {told ended : Bool} (goes_on : ended ≡ false) {old_line line old new : List ℕ} {from : ℕ} where
   -- a line
   pub read_line : first_line line ≡ line →
       (told ≡ true → (old ≢ []) × (line ≡ first_line old) × (new ≡ later_lines old)) →
@@ -99,14 +100,14 @@ module _ (told ended : Bool) (goes_on : ended ≡ false) (old_line line old new 
           let is = gave e in
           let rest = may.told_left e from ∙ is.2 in (
             input_after old_line old,
-            had old (λ tells. refl),
+            had goes_on old (λ tells. refl),
             next_line (input_after old_line old) after from line may.word is.0 is.1 rest,
           )
       cases false e =
           let rest = after.left from in
           let left = line ++ 10 ∷ rest in (
             input_after old_line left,
-            had left (λ tells. absurd (false≢true (sym e ∙ tells))),
+            had goes_on left (λ tells. absurd (false≢true (sym e ∙ tells))),
             next_line (input_after old_line left) after from line may.word
                 (not_empty line rest) (front_is line rest one) (rest_is line rest one),
           )
@@ -117,7 +118,7 @@ module _ (told ended : Bool) (goes_on : ended ≡ false) (old_line line old new 
       Before told ended old_line old (λ before. IsByte (Some (b, from)) from before after)
   read_byte b gave after may = (
     input_after old_line (b ∷ after.left from),
-    had (b ∷ after.left from) (λ tells. ap (λ l. b ∷ l) (may.told_left tells from) ∙ sym (gave tells)),
+    had goes_on (b ∷ after.left from) (λ tells. ap (λ l. b ∷ l) (may.told_left tells from) ∙ sym (gave tells)),
     refl,
   )
 
@@ -127,7 +128,7 @@ module _ (told ended : Bool) (goes_on : ended ≡ false) (old_line line old new 
       Before told ended old_line old (λ before. IsNext Nothing from before after)
   read_nothing gave after may = (
     input_after old_line [],
-    had [] (λ tells. sym (gave tells).0),
+    had goes_on [] (λ tells. sym (gave tells).0),
     next_nothing (input_after old_line []) after from refl (may.none_left refl from),
   )
 
@@ -136,6 +137,6 @@ module _ (told ended : Bool) (goes_on : ended ≡ false) (old_line line old new 
       Before told ended old_line old (λ before. IsByte None from before after)
   read_no_byte gave after may = (
     input_after old_line [],
-    had [] (λ tells. sym (gave tells).0),
+    had goes_on [] (λ tells. sym (gave tells).0),
     (refl, may.none_left refl from),
   )
