@@ -2,7 +2,7 @@ use Rattle.std.proofs.Common.{◌≡◌, ◌+◌, ◌<◌, ℕ, List, Option, So
 use Rattle.std.proofs.lemmas.List.{get_or-map, length-map}
 use Rattle.ick_code.specs.{meaning.State.no_array, meaning.Value.element_offset}
 use Rattle.ick_instructions.specs.Meaning.{values_of}
-use Rattle.ick_runtime.specs.{declared.memory.Array.Array, Steady.IsProgram}
+use Rattle.ick_runtime.specs.{declared.memory.Array.Array}
 use Rattle.ick_runtime.specs.View.{Parts, array_of, is_hidden, parts_of}
 use Rattle.ick_runtime.proofs.{Fetching.stored_by_lists, Steadiness.steady_by, Steadiness.parts_kept}
 use Rattle.ick_engine.proofs.NotingLemmas.{noted_parts, arrays_noted}
@@ -25,12 +25,11 @@ pub returns-in_default-clause-does : goal.returns-in_default-clause-does
 returns-in_default-clause-does g c = λ home statuses returns place depth text steady.
     let i = c.args.i.now in
     let all = c.args.rest.now.arrays.items in
-    let is : IsProgram c.args.program.now.code.now c.args.program.now.parts = record { compiled = c.law.ensures; lowered_is = c.law-2.ensures } in
     let within : i.to < length all = omega (arith, c.requires.slot, c.requires.arrays) in
     let none = placed all i.to c.index.result.now c.subscripts.result.now c.args.program.now.parts.subscripts.items
     c.args.registers.now i.right (i.right + i.number) None within c.index.ensures c.subscripts.ensures
     c.in_default.ensures.index in
-    (steady, reads_nowhere is steady i text g.R.Reader.Has c.args.reader.now c.requires.operation c.requires.slot none)
+    (steady, reads_nowhere (search rules) steady i text g.R.Reader.Has c.args.reader.now c.requires.operation c.requires.slot none)
 
 pub returns-in-Ok-read_line-clause-does : goal.returns-in-Ok-read_line-clause-does
 returns-in-Ok-read_line-clause-does g c = λ home statuses returns place depth text steady.
@@ -38,7 +37,6 @@ returns-in-Ok-read_line-clause-does g c = λ home statuses returns place depth t
     let all = c.args.rest.now.arrays.items in
     let subs = c.args.program.now.parts.subscripts.items in
     let regs = c.args.registers.now in
-    let is : IsProgram c.args.program.now.code.now c.args.program.now.parts = record { compiled = c.law.ensures; lowered_is = c.law-2.ensures } in
     let within : i.to < length all = omega (arith, c.requires.slot, c.requires.arrays) in
     let some = placed all i.to c.index.result.now c.subscripts.result.now subs regs i.right (i.right + i.number)
     (Some c.in-Some._at) within c.index.ensures c.subscripts.ensures c.in-Some.ensures.index in
@@ -53,7 +51,7 @@ returns-in-Ok-read_line-clause-does g c = λ home statuses returns place depth t
           (ap length c.store_at.ensures.hidden ∙ ap (λ p. length p.hidden) kept)
           (ap (λ p. length p.scalar_stashes) kept) (ap (λ p. length p.array_stashes) kept),
       took_by g.R.Reader.Has c.args.reader.now c.read_line.new.reader fault _
-          (reads_at is steady i text g.R.Reader.Has c.args.reader.now c.read_line.new.reader c.requires.operation
+          (reads_at (search rules) steady i text g.R.Reader.Has c.args.reader.now c.read_line.new.reader c.requires.operation
           c.requires.slot c.in-Some._at some c.in-Ok-read_line.number mid kept c.in-Ok-read_line.ensures.read fault (map array_of now)
           (map is_hidden now) c.store_at.ensures.hidden
           (λ name at. stored_by_lists name was now c.subscripts.result.now subs regs i.to i.right (i.right + i.number)
@@ -65,7 +63,6 @@ returns-in-Err-clause-does g c = λ home statuses returns place depth text stead
     let i = c.args.i.now in
     let all = c.args.rest.now.arrays.items in
     let regs = c.args.registers.now in
-    let is : IsProgram c.args.program.now.code.now c.args.program.now.parts = record { compiled = c.law.ensures; lowered_is = c.law-2.ensures } in
     let within : i.to < length all = omega (arith, c.requires.slot, c.requires.arrays) in
     let some = placed all i.to c.index.result.now c.subscripts.result.now c.args.program.now.parts.subscripts.items regs
     i.right (i.right + i.number) (Some c.in-Some._at) within c.index.ensures c.subscripts.ensures
@@ -73,7 +70,7 @@ returns-in-Err-clause-does g c = λ home statuses returns place depth text stead
     let new = parts_of c.read_line.new.rest in
     let kept = c.in-Err.ensures.parts in (
       parts_kept steady regs new (record (parts_of c.args.rest.now) { taken = new.taken }) refl steady.constants kept refl refl refl refl,
-      read_at_stops is steady i text g.R.Reader.Has c.args.reader.now c.read_line.new.reader c.requires.operation
+      read_at_stops (search rules) steady i text g.R.Reader.Has c.args.reader.now c.read_line.new.reader c.requires.operation
           c.requires.slot c.in-Some._at some c.in-Err.halt new kept c.in-Err.ensures.read,
     )
 
