@@ -96,3 +96,5 @@ pub others_by : (p : Parts) (arrays : List Array) (hidden : List Bool) (taken la
     ◌≡◌ {A = Parts} (record p { arrays = arrays; hidden = hidden; taken = taken; lastin = lastin })
     (record p { arrays = arrays; taken = taken; lastin = lastin })
 others_by p arrays hidden taken lastin same = search rules
+
+pub ruleset other_parts = (map-set_same, others_by)

@@ -149,6 +149,7 @@ fn note_reading<N: Notes>(rest: &Rest, notes: &mut N, longest: usize) -> Result<
 /// Reads a byte of the input into each element of an array of one dimension (Revised Manual, 5.2).
 /// An ignored array takes its bytes and stays as it is. If the reader fails, some elements have
 /// changed.
+#[tactic(auto, using(crate::proofs::TapeIn::other_parts))]
 #[inline(never)]
 pub fn read_array<N: Notes, R: Reader>(
     rest: &mut Rest,

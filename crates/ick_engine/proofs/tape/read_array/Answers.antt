@@ -1,10 +1,10 @@
-use Rattle.std.proofs.Common.{ap, ap₂, arith, rules}
+use Rattle.std.proofs.Common.{ap, ap₂, arith}
 use Rattle.std.proofs.lemmas.Grind.{common_steps}
 use Rattle.std.proofs.Math.Seq.{map-set_same}
 use Rattle.std.proofs.lemmas.List.{get_or-map, with_items_is}
 use Rattle.ick_runtime.specs.View.{array_of, is_hidden, parts_of}
 use Rattle.ick_runtime.proofs.ArrayLists.{put_back, put_same}
-use Rattle.ick_engine.proofs.TapeIn.{array_filled, all_read, others_by}
+use Rattle.ick_engine.proofs.TapeIn.{array_filled, all_read}
 use Rattle.ick_engine.proofs.NotingLemmas.{noted_parts, array_noted}
 use Rattle.ick_engine.proofs.tape.read_array.Goals as goal
 
@@ -35,9 +35,6 @@ returns-clause-notes g c =
     (put_back array_of all slot _ r c.index-array.ensures)
     (map-set_same is_hidden all slot _ c.index_mut-array.result.now (ap is_hidden c.index_mut-array.ensures.value)))
 
-pub returns-clause-others : goal.returns-clause-others
-returns-clause-others g c = search (rules, map-set_same, others_by)
-
 pub returns-in_err-end-clause-notes : goal.returns-in_err-end-clause-notes
 returns-in_err-end-clause-notes g c =
     let m = c.args.rest.now in
@@ -51,6 +48,3 @@ returns-in_err-end-clause-notes g c =
     (ap₂ (λ arrays hidden. record old { arrays = arrays; hidden = hidden })
     (put_back array_of all slot _ r c.index-array.ensures)
     (map-set_same is_hidden all slot _ c.index_mut-array.result.now (ap is_hidden c.index_mut-array.ensures.value)))
-
-pub returns-in_err-end-clause-others : goal.returns-in_err-end-clause-others
-returns-in_err-end-clause-others g c = search (rules, map-set_same, others_by)
