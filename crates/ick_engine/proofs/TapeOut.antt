@@ -35,4 +35,5 @@ pub next_bytes : (vs : List ℕ) (at v last position next byte : ℕ) (output ou
     next ≡ tape_position position (v % 65536) → byte ≡ reversed_byte next →
     output' ≡ output ++ byte ∷ [] → output ≡ before ++ tape_bytes last (take at vs) →
     output' ≡ before ++ tape_bytes last (take (at + 1) vs)
-next_bytes vs at v last position next byte output output' before within read here moved is pushed done = grind (arith, common_steps, append_assoc, low_position, next_taken, tape_bytes-append)
+next_bytes vs at v last position next byte output output' before within read here moved is pushed done =
+    grind (arith, common_steps, append_assoc, low_position, next_taken, tape_bytes-append)
