@@ -3,6 +3,7 @@ mod StepLemmas
 mod Readiness
 mod Propositions
 mod StepsLemmas
+mod AlongLemmas
 mod RunLemmas
 mod Marks
 mod TrailMarks

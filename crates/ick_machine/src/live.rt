@@ -43,7 +43,8 @@ impl<'c, 'a> Live<'c, 'a> {
     ghost use Rattle.ick_engine.specs.Feeds.{feed_failures};
     ghost use Rattle.ick_machine.specs.Feeds.{MeetsInput};
     ghost use Rattle.ick_machine.specs.Live.{seen, fed, cleared, live_ask, fault_message};
-    ghost use Rattle.ick_machine.specs.Printing.{Prints, run_failures};
+    ghost use Rattle.ick_machine.specs.Printing.{IsAtInput, IsDone, Leaves, Prints};
+    ghost use Rattle.ick_machine.specs.Printing.{run_reads, run_writes};
 
     /// Returns a machine at the start of a program (Revised Manual, 3.1, 3.3). `NoMemory` is
     /// returned if a growth was refused, or if `lower` finds the program too large.
@@ -142,17 +143,70 @@ impl<'c, 'a> Live<'c, 'a> {
         Ok(())
     }
 
-    /// Makes steps, as many as the limit allows, while the run goes on by itself: up to a choice, a
-    /// WRITE IN or the end. It may stop before that. The output of each READ OUT leaves by the
-    /// outlet as soon as the statement is done. Returns the number of steps, and gives the outlet
-    /// back.
+    /// Makes steps, as many as the limit allows, while the run goes on by itself: up to a choice or
+    /// the end. A line, or a byte, is taken off the feed when a statement needs it, and no byte
+    /// more. Output that the machine holds leaves first, and the output of each READ OUT as soon as
+    /// the statement is done. Returns the number of steps, and gives the outlet back.
     ///
-    /// The machine must neither have failed nor hold output, and the outlet's count of failures
-    /// must be below its greatest value. No output is held then. After an error the machine has
-    /// failed, and what was written is a prefix of the run's output. `Write` raises the outlet's
-    /// count of failures by one, and every other answer leaves it. No input is taken: the feed is
-    /// there for contracts alone.
+    /// The machine must not have failed, and the counts of failures of the feed and the outlet must
+    /// be below their greatest values. No output is held then. After an error the machine has
+    /// failed, and what was written is a prefix of the run's output. After `Read` a WRITE IN is the
+    /// next statement, and exactly the output before it is written. `Read` raises the feed's count
+    /// of failures by one, `Write` the outlet's, and every other answer leaves both.
     pub fn run<F: Feed, O: Outlet>(
+        &mut self,
+        limit: u32,
+        feed: &mut F,
+        outlet: O,
+    ) -> (Result<u32, RunFault>, O)
+        requires sound { (seen self.old).failed ≡ false }
+        requires reads { F.failed feed.old + 1 < 2 ^ 64 }
+        requires writes { O.failed outlet + 1 < 2 ^ 64 }
+        ensures prints { let old = seen self.old in F.told ≡ true → Prints O.told old.program
+            (fed (F.left feed.old) old.state) limit (fed (F.left feed.new) (seen self.new).state)
+            (O.written outlet) (O.written result.1) result.0 }
+        ensures input { let old = seen self.old in F.told ≡ true → result.0 ≡ Err RunFault.Read →
+            IsAtInput O.told old.program (fed (F.left feed.old) old.state) limit
+            (O.written outlet) (O.written result.1) }
+        ensures rests { IfOk result.0 (λ k. IsDone limit k (seen self.new)) }
+        ensures leaves { Leaves (seen self.old) (seen self.new) result.0 }
+        ensures reads { F.failed feed.new ≡ F.failed feed.old + run_reads result.0 }
+        ensures writes { O.failed result.1 ≡ O.failed outlet + run_writes result.0 }
+        ensures held { F.held feed.new ≡ F.held feed.old }
+        ensures given { O.held result.1 ≡ O.held outlet }
+    {
+        let mut outlet = outlet;
+        let mut made = 0;
+        'on: loop {
+            let Ok(()) = outlet.write(self.output()) else {
+                self.clear_output();
+                self.failed = true;
+                return (Err(RunFault::Write), outlet);
+            };
+            self.clear_output();
+            let (ran, back) = self.stride(limit - made, feed, outlet);
+            outlet = back;
+            match ran {
+                Ok(more) => made += more,
+                Err(fault) => return (Err(fault), outlet),
+            }
+            let LiveAsk::Plain = self.asks() else {
+                return (Ok(made), outlet);
+            };
+            if made == limit {
+                return (Ok(made), outlet);
+            }
+            if let Err(fault) = self.step(false, feed) {
+                return (Err(RunFault::from(fault)), outlet);
+            }
+            made += 1;
+        }
+    }
+
+    /// Makes steps as `run` does, but stops before a WRITE IN, and may stop earlier if the memory
+    /// holds much output. It takes no input: the feed is there for contracts alone. The machine
+    /// must hold no output.
+    fn stride<F: Feed, O: Outlet>(
         &mut self,
         limit: u32,
         feed: &F,
@@ -165,12 +219,10 @@ impl<'c, 'a> Live<'c, 'a> {
             (fed (F.left feed.now) old.state) limit (fed (F.left feed.now) (seen self.new).state)
             (O.written outlet) (O.written result.1) result.0 }
         ensures within { IfOk result.0 (λ k. k ≤ limit) }
-        ensures program { (seen self.new).program ≡ (seen self.old).program }
-        ensures empty { (seen self.new).state.output ≡ [] }
-        ensures ok { OnOk result.0 ((seen self.new).failed ≡ false) }
-        ensures err { OnErr result.0 ((seen self.new).failed ≡ true) }
-        ensures count { O.failed result.1 ≡ O.failed outlet + run_failures result.0 }
-        ensures held { O.held result.1 ≡ O.held outlet }
+        ensures leaves { Leaves (seen self.old) (seen self.new) result.0 }
+        ensures reads { run_reads result.0 ≡ 0 }
+        ensures writes { O.failed result.1 ≡ O.failed outlet + run_writes result.0 }
+        ensures given { O.held result.1 ≡ O.held outlet }
     {
         if self.end.is_some() {
             return (Ok(0), outlet);
@@ -189,7 +241,7 @@ impl<'c, 'a> Live<'c, 'a> {
         (ran, outlet)
     }
 
-    /// Makes steps as `run` does, and lets the output leave by a printer.
+    /// Makes steps as `stride` does, and lets the output leave by a printer.
     fn run_by<F: Feed, O: Outlet>(
         &mut self,
         limit: u32,
@@ -204,13 +256,11 @@ impl<'c, 'a> Live<'c, 'a> {
             (fed left (seen self.new).state) (O.written printer.old.first.value)
             (O.written printer.new.outlet) result }
         ensures within { IfOk result (λ k. k ≤ limit) }
-        ensures program { (seen self.new).program ≡ (seen self.old).program }
-        ensures empty { (seen self.new).state.output ≡ [] }
-        ensures ok { OnOk result ((seen self.new).failed ≡ false) }
-        ensures err { OnErr result ((seen self.new).failed ≡ true) }
-        ensures count { O.failed printer.new.outlet ≡ O.failed printer.old.first.value
-            + run_failures result }
-        ensures held { O.held printer.new.outlet ≡ O.held printer.old.outlet }
+        ensures leaves { Leaves (seen self.old) (seen self.new) result }
+        ensures reads { run_reads result ≡ 0 }
+        ensures writes { O.failed printer.new.outlet ≡ O.failed printer.old.first.value
+            + run_writes result }
+        ensures given { O.held printer.new.outlet ≡ O.held printer.old.outlet }
     {
         self.failed = true;
         let program = self.lowered.program();

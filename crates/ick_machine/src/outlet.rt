@@ -1,7 +1,9 @@
 //! Where the output of a run goes while the run goes on.
 
 ghost use Rattle.std.specs.Prelude.{◌≡◌, ◌+◌, ◌<◌, ◌≤◌, ◌^◌, ◌++◌, ℕ, List, Bool, true, OnOk, length, take};
-ghost use Rattle.ick_machine.specs.Printing.{outlet_failures};
+ghost use Rattle.ick_machine.specs.Printing.{outlet_failures, run_fault};
+
+use ick_backtrack::FeedFault;
 
 /// Tells that a text wasn't written whole.
 #[derive(Clone, Copy, Debug)]
@@ -12,8 +14,21 @@ pub struct OutletFault;
 pub enum RunFault {
     /// Tells that a growth was refused.
     NoMemory,
+    /// Tells that a read failed.
+    Read,
     /// Tells that a write failed.
     Write,
+}
+
+impl From<FeedFault> for RunFault {
+    ghost from_gives = { λ feed_fault fault. fault ≡ run_fault feed_fault };
+
+    fn from(fault: FeedFault) -> RunFault {
+        match fault {
+            FeedFault::NoMemory => RunFault::NoMemory,
+            FeedFault::Read => RunFault::Read,
+        }
+    }
 }
 
 /// Takes the output of a run while the run goes on.

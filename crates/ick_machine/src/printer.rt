@@ -4,7 +4,7 @@ ghost use Rattle.std.specs.Prelude.{◌≡◌, ◌+◌, ◌<◌, ◌^◌, ◌++�
 ghost use Rattle.std.proofs.lemmas.Bool.{false≢true};
 ghost use Rattle.ick_engine.specs.Feeds.{MayBeLeft, one_if, some_left};
 ghost use Rattle.ick_machine.specs.Live.{fed, seen};
-ghost use Rattle.ick_machine.specs.Printing.{Begun, HasLeft, MayLeave, begun, failed_writes};
+ghost use Rattle.ick_machine.specs.Printing.{Begun, HasLeft, MayLeave, begun, failed_reads, failed_writes};
 
 use crate::live::Live;
 use crate::outlet::{Outlet, RunFault};
@@ -76,7 +76,8 @@ impl<F: Feed, O: Outlet> Printer<'_, '_, F, O> {
 
     /// Returns why a run stopped short.
     pub(crate) fn fault(&self) -> RunFault
-        ensures { failed_writes result ≡ one_if self.now.broken }
+        ensures writes { failed_writes result ≡ one_if self.now.broken }
+        ensures reads { failed_reads result ≡ 0 }
     {
         if self.broken {
             RunFault::Write

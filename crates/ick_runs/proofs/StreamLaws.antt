@@ -1,9 +1,8 @@
 -- How a streamed run goes.
 use Rattle.std.proofs.Common.{◌≡◌, ℕ, zero, suc, ◌+◌, ◌-◌, ◌<◌, ◌≤◌, le_refl, Bool, true}
 use Rattle.std.proofs.Common.{false, List, [], ◌∷◌, ◌++◌, length}
-use Rattle.std.proofs.Common.{take, drop, refl, ap, sym, ◌∙◌, subst, arith, append_assoc}
-use Rattle.std.specs.Prelude.{Result, Ok, Err, OnOk, Some, if◌then◌else◌}
-use Rattle.std.proofs.lemmas.Bool.{false≢true}
+use Rattle.std.proofs.Common.{inl, inr, take, drop, refl, ap, sym, ◌∙◌, subst, arith, append_assoc}
+use Rattle.std.specs.Prelude.{Result, Ok, Err, Some, if◌then◌else◌}
 use Rattle.std.proofs.Math.Seq.{take-append-add}
 use Rattle.std.proofs.lemmas.List.{append-nil, length-append, length-take, take_min, take-append-drop, take-append-le}
 use Rattle.std.proofs.Props.{props}
@@ -16,10 +15,14 @@ use Rattle.ick_code.proofs.Frames.{advance_frame}
 use Rattle.ick_backtrack.specs.Machine.{Program, Machine}
 use Rattle.ick_backtrack.specs.Asked.{Finish, finished, at_limit, IsGoing}
 use Rattle.ick_backtrack.specs.Steps.{after_steps, IsPlain, RunsOn}
+use Rattle.ick_backtrack.specs.declared.feed_fault.FeedFault.{FeedFault}
+use Rattle.ick_backtrack.specs.declared.feed_fault.FeedFault.TheVariants.{NoMemory as FeedOutOfMemory, Read as NotRead}
+use Rattle.ick_explorer.specs.Errors.{error_of}
+use Rattle.ick_explorer.specs.declared.errors.RunsError.TheVariants.{Read}
 use Rattle.ick_machine.specs.LiveAsk.{end_kind_of, live_asked}
 use Rattle.ick_machine.specs.Feeds.{MeetsInput}
 use Rattle.ick_machine.specs.Live.{LiveMachine, fed, cleared, live_ask, fault_message}
-use Rattle.ick_machine.specs.Printing.{Prints}
+use Rattle.ick_machine.specs.Printing.{IsAtInput, IsDone, Prints}
 use Rattle.ick_machine.specs.Message.{asked_message}
 use Rattle.ick_machine.specs.declared.live_ask.LiveAsk.{LiveAsk}
 use Rattle.ick_machine.specs.declared.live_ask.LiveAsk.TheVariants.{Choice, Ended, Failed}
@@ -30,7 +33,7 @@ use Rattle.ick_explorer.specs.Paths.{Leads}
 use Rattle.ick_explorer.specs.Walks.{EndsHere}
 use Rattle.ick_runs.specs.Chosen.{Chosen, IsChosen, answer_of}
 use Rattle.ick_runs.specs.Streams.{finish_kind, finish_message, stop_kind, stop_message, HasStreamed, StopsAtInput}
-use Rattle.ick_runs.specs.Streaming.{Turns, IsAlong, AreTaken, HasStopped, IsCutOff}
+use Rattle.ick_runs.specs.Streaming.{IsAlong, AreTaken, HasStopped, IsCutOff}
 use Rattle.ick_runs.specs.declared.streamed.Streamed.{Streamed}
 use Rattle.ick_explorer.specs.declared.errors.RunsError.{RunsError}
 use Rattle.ick_explorer.proofs.RunLaws.{Leads-start, Leads-plain, Leads-choice, Leads-wants, Leads-ends}
@@ -111,36 +114,23 @@ pub asks_chance : (m : LiveMachine) (r : LiveAsk) (chance : ℕ) → m.failed �
 asks_chance m r chance sound e f = same_choice _ chance (asked_by m r e sound ∙ f)
 
 -- where no choice is asked and the run hasn't ended, nothing is asked
-pub asks_nothing : (m : LiveMachine) (r : LiveAsk) → m.failed ≡ false → r ≡ live_ask m →
+asks_nothing : (m : LiveMachine) (r : LiveAsk) → m.failed ≡ false → r ≡ live_ask m →
     ((k : ℕ) → r ≡ Choice k → ⊥) → ((kind : EndKind) → r ≡ Ended kind → ⊥) → ask m.program m.state ≡ plain
 asks_nothing m r sound e i j = same_plain (ask m.program m.state) r (asked_by m r e sound) i j
+
+-- a run that asks nothing and hasn't ended stops only at the limit
+pub all_made : (m : LiveMachine) (r : LiveAsk) → m.failed ≡ false → r ≡ live_ask m → ((k : ℕ) → r ≡ Choice k → ⊥) →
+    ((kind : EndKind) → r ≡ Ended kind → ⊥) → (limit steps made : ℕ) → steps ≤ limit → IsDone (limit - steps) made m →
+    steps + made ≡ limit
+all_made m r sound e i j limit steps made le done = elim done.rests [
+  | inl all ↦ omega (arith, all, le)
+  | inr rests ↦ absurd (rests (asks_nothing m r sound e i j))
+]
 
 -- a run that may make a step
 pub may_go_on : (m : LiveMachine) (r : LiveAsk) → m.failed ≡ false → r ≡ live_ask m →
     ((kind : EndKind) → r ≡ Ended kind → ⊥) → IsGoing (ask m.program m.state)
 may_go_on m r sound e j = still_going (ask m.program m.state) r (asked_by m r e sound) j
-
--- if the sink tells what is written, a part of an output is written
-written_part : (told : Bool) (output written written' : List ℕ) →
-    (told ≡ true → (k : ℕ) × (k ≤ length output) × (written' ≡ written ++ take k output)) →
-    (k : ℕ) × (k ≤ length output) × (told ≡ true → written' ≡ written ++ take k output)
-written_part true output written written' wrote = let (k, le, same) = wrote refl in (k, le, λ _. same)
-written_part false output written written' wrote = (0, omega arith, λ tells. absurd (false≢true tells))
-
--- a step whose output leaves
-pub output_left : (told : Bool) (u : State) (mid now : LiveMachine) (left written written' : List ℕ)
-    (answer : Result (Unit {0}) RunsError) → fed left mid.state ≡ u →
-    OnOk answer (now ≡ record mid { state = cleared mid.state }) →
-    (told ≡ true → OnOk answer (written' ≡ written ++ mid.state.output)) →
-    (told ≡ true → (k : ℕ) × (k ≤ length mid.state.output) × (written' ≡ written ++ take k mid.state.output)) →
-    Turns told u (fed left now.state) written written' answer
-output_left told u mid now left written written' (Ok unit) is clears all part = (
-  ap (λ (m : LiveMachine). fed left m.state) clears ∙ ap cleared is,
-  λ tells. all tells ∙ ap (λ (s : State). written ++ s.output) is,
-)
-output_left told u mid now left written written' (Err error) is clears all part =
-    subst (λ (s : State). (k : ℕ) × (k ≤ length s.output) × (told ≡ true → written' ≡ written ++ take k s.output)) is
-    (written_part told mid.state.output written written' part)
 
 text_set : IsSet (List ℕ)
 text_set = hlevel props
@@ -205,6 +195,11 @@ module _ (p : Program) (s : State) (l : ℕ) where
           subst (Leads p s l c (after_output sent (after_steps p now (suc i)))) next
           (leads_plain c (after_steps p now i) sent (n + i) (leads_up_to i (omega (arith, le))) (runs.on i lt)
           (omega (arith, within, lt)))
+
+-- a read of the feed failed
+pub feed_read : (fault : FeedFault) → error_of fault ≡ Read → fault ≡ NotRead
+feed_read FeedOutOfMemory is = cc
+feed_read NotRead is = refl
 
 pub same_error : {A : Type 0} (r : Result A RunsError) (e f : RunsError) → r ≡ Err e → r ≡ Err f → e ≡ f
 same_error r e f is also = let same : Err e ≡ Err f = sym is ∙ also in cc
@@ -405,58 +400,46 @@ module _ (told : Bool) (p : Program) (s : State) (l : ℕ) where
           (leads_choice p s bound taken (fed left m.state) h.along.sent n chance b
           (h.along.leads bound (omega (arith, le))) asks_choice (omega (arith, le))))
 
-    -- where nothing is asked
-    pub leads_by_itself : ask m.program m.state ≡ plain → (bound : ℕ) → n + 1 ≤ bound →
-        Leads p s bound taken (after_output h.along.sent (advance m.program (fed left m.state) false)) (n + 1)
-    leads_by_itself asks bound le =
-        let state : Program → State = λ q. after_output h.along.sent (advance q (fed left m.state) false) in
-        subst (λ q. Leads p s bound taken (state q) (n + 1)) (sym h.program)
-        (leads_plain p s bound taken (fed left m.state) h.along.sent n (h.along.leads bound (omega (arith, le)))
-        (asks_fed ∙ asks) (omega (arith, le)))
-
     -- one step further
     module _ (lt : n < l) {taken' : List Bool} (b : Bool) (leads : (bound : ℕ) → n + 1 ≤ bound →
         Leads p s bound taken' (after_output h.along.sent (advance m.program (fed left m.state) b)) (n + 1)) where
-      pub step_turned : (now' : State) (after : List ℕ) (unit : Unit {0}) →
-          Turns told (advance m.program (fed left m.state) b) now' mid after (Ok unit) →
-          IsAlong told p s l taken' now' before after (n + 1)
-      step_turned now' after unit turns =
-          turned taken' (advance m.program (fed left m.state) b) now' h.along.sent before mid after (n + 1)
-          (omega (arith, lt)) leads h.along.text turns.0 turns.1
+      pub step_made : (now' : State) → now' ≡ advance m.program (fed left m.state) b →
+          IsAlong told p s l taken' now' before mid (n + 1)
+      step_made now' is = record {
+        sent = h.along.sent;
+        within = omega (arith, lt);
+        leads = λ bound le. subst (λ x. Leads p s bound taken' (after_output h.along.sent x) (n + 1)) (sym is) (leads bound le);
+        text = h.along.text;
+      }
 
-      pub step_refused : (c : List Bool) (now' : State) (after : List ℕ) (error : RunsError) → AreTaken c taken' →
-          Turns {T = Unit {0}} told (advance m.program (fed left m.state) b) now' mid after (Err error) →
-          IsCutOff told (run p s l c) before after
-      step_refused c now' after error f (k, le, wrote) =
-          refused c taken' (advance m.program (fed left m.state) b) h.along.sent before mid after (n + 1) k
-          f (leads l (omega (arith, lt))) h.along.text le wrote
-
-      pub step_at_input : (c : List Bool) (after : List ℕ) → AreTaken c taken → AreTaken c taken' →
-          MeetsInput m.program m.state → after ≡ mid → StopsAtInput told p s l c before after
-      step_at_input c after f f' meets same =
-          stopped_at_input c taken (after_output h.along.sent (fed left m.state)) before after n f h.along.leads
+      pub step_at_input : (c : List Bool) → AreTaken c taken → AreTaken c taken' → MeetsInput m.program m.state →
+          StopsAtInput told p s l c before mid
+      step_at_input c f f' meets =
+          stopped_at_input c taken (after_output h.along.sent (fed left m.state)) before mid n f h.along.leads
           (steps_past p s l c taken' (after_output h.along.sent (advance m.program (fed left m.state) b)) n f'
           (leads l (omega (arith, lt))))
           (subst (λ q. MeetsInput q m.state) h.program meets)
-          (λ t. same ∙ (h.along.text t ∙ ap (λ o. before ++ o) (sym (last_of h.along.sent (fed left m.state) h.empty))))
+          (λ t. h.along.text t ∙ ap (λ o. before ++ o) (sym (last_of h.along.sent (fed left m.state) h.empty)))
 
-    -- many, where the run goes on by itself
+  -- many steps, where the run goes on by itself
+  module _ {taken : List Bool} (m : LiveMachine) (left : List ℕ) {before mid : List ℕ} {n : ℕ}
+      (h : IsAlong told p s l taken (fed left m.state) before mid n) (same : m.program ≡ p) where
     leads_by_steps : (k : ℕ) (u : State) → RunsOn IsPlain m.program (fed left m.state) k u → (bound : ℕ) →
-        n + k ≤ bound → Leads p s bound taken (after_output h.along.sent u) (n + k)
+        n + k ≤ bound → Leads p s bound taken (after_output h.sent u) (n + k)
     leads_by_steps k u runs bound le =
-        leads_on p s bound taken (fed left m.state) u h.along.sent n k (h.along.leads bound (omega (arith, le)))
-        (subst (λ q. RunsOn IsPlain q (fed left m.state) k u) h.program runs) le
+        leads_on p s bound taken (fed left m.state) u h.sent n k (h.leads bound (omega (arith, le)))
+        (subst (λ q. RunsOn IsPlain q (fed left m.state) k u) same runs) le
 
-    pub strode : (k : ℕ) (m' : LiveMachine) (after : List ℕ) → m'.program ≡ m.program → m'.failed ≡ false →
-        m'.state.output ≡ [] →
-        Prints {E = RunsError} told m.program (fed left m.state) (l - n) (fed left m'.state) mid after (Ok k) →
-        Here taken m' left before after (n + k)
-    strode k m' after program sound empty (u, within, runs, now, wrote) =
-        let low = h.along.within in
+    pub strode : (k : ℕ) (m' : LiveMachine) (left' after : List ℕ) → m'.program ≡ m.program → m'.failed ≡ false →
+        m'.state.output ≡ [] → k ≤ l - n →
+        Prints {E = RunsError} told m.program (fed left m.state) (l - n) (fed left' m'.state) mid after (Ok k) →
+        Here taken m' left' before after (n + k)
+    strode k m' left' after program sound empty within (all, now) =
+        let low = h.within in
         record {
-          along = turned taken u (fed left m'.state) h.along.sent before mid after (n + k) (omega (arith, within, low))
-              (leads_by_steps k u runs) h.along.text now wrote;
-          program = program ∙ h.program;
+          along = turned taken all.state (fed left' m'.state) h.sent before mid after (n + k) (omega (arith, within, low))
+              (leads_by_steps k all.state all.runs) h.text now all.text;
+          program = program ∙ same;
           sound = sound;
           empty = empty;
         }
@@ -465,7 +448,7 @@ module _ (told : Bool) (p : Program) (s : State) (l : ℕ) where
     pub stride_cut : (c : List Bool) → AreTaken c taken → (now' : State) (after : List ℕ) (error : RunsError) →
         Prints told m.program (fed left m.state) (l - n) now' mid after (Err error) → IsCutOff told (run p s l c) before after
     stride_cut c f now' after error prints =
-        let low = h.along.within in
+        let low = h.within in
         let whole = run p s l c in (
           length after - length before,
           λ t. ∥∥₁_elim (prints t)
@@ -473,8 +456,23 @@ module _ (told : Bool) (p : Program) (s : State) (l : ℕ) where
               (λ found.
               let left' = found.1 in
               let within = left'.reaches.within in
-              let cut = refused c taken left'.state h.along.sent before mid after (n + left'.reaches.steps) found.0 f
+              let cut = refused c taken left'.state h.sent before mid after (n + left'.reaches.steps) found.0 f
               (leads_by_steps left'.reaches.steps left'.state left'.reaches.runs l (omega (arith, within, low)))
-              h.along.text left'.within (λ _. left'.text) in
+              h.text left'.within (λ _. left'.text) in
               cut_by before after whole.last.output cut.0 (cut.1 t)),
         )
+
+    -- or came to a WRITE IN that had no input
+    pub stride_at_input : (c : List Bool) → AreTaken c taken → (after : List ℕ) →
+        IsAtInput told m.program (fed left m.state) (l - n) mid after → StopsAtInput told p s l c before after
+    stride_at_input c f after at =
+        let u = at.all.state in
+        let j = at.steps in
+        let within = at.within in
+        let lt : n + j < l = omega (arith, within) in
+        let leads = leads_by_steps j u at.all.runs in
+        stopped_at_input c taken (after_output h.sent u) before after (n + j) f leads
+        (steps_past p s l c taken (after_output h.sent (advance p u false)) (n + j) f
+        (leads_plain p s l taken u h.sent (n + j) (leads l (omega (arith, lt))) (subst (λ q. IsPlain q u) same at.plain) lt))
+        (subst (λ q. MeetsInput q u) same at.meets)
+        (λ t. at.all.text t ∙ (ap (λ x. x ++ u.output) (h.text t) ∙ append_assoc before h.sent u.output))

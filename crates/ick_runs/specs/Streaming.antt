@@ -4,7 +4,6 @@ use Rattle.std.specs.Prelude.{take, get_or, Result, Ok, Err}
 use Rattle.ick_code.specs.meaning.State.{State}
 use Rattle.ick_code.specs.Laws.{after_output}
 use Rattle.ick_backtrack.specs.Machine.{Program}
-use Rattle.ick_machine.specs.Live.{cleared}
 use Rattle.ick_machine.specs.declared.live_ask.EndKind.{EndKind}
 use Rattle.ick_explorer.specs.Paths.{Leads}
 use Rattle.ick_explorer.specs.Runs.{Execution}
@@ -14,13 +13,6 @@ use Rattle.ick_explorer.specs.declared.errors.RunsError.{RunsError}
 -- none of these bytes ends a line
 abbrev pub HasNoEnd : List ℕ → Type 0
 HasNoEnd bytes = (k : ℕ) → k < length bytes → (get_or bytes k 0 == 10) ≡ false
-
--- the machine came to the state u by one or more steps, and then wrote its output, or a prefix at a refusal
-abbrev pub Turns : {T : Type 0} → Bool → State → State → List ℕ → List ℕ → Result T RunsError → Type 0
-Turns told u now written written' (Ok done) =
-    (now ≡ cleared u) × (told ≡ true → written' ≡ written ++ u.output)
-Turns told u now written written' (Err error) =
-    (n : ℕ) × (n ≤ length u.output) × (told ≡ true → written' ≡ written ++ take n u.output)
 
 -- n steps of the run of c are made, and all its output is written but the output that the machine holds
 pub record IsAlong (told : Bool) (p : Program) (s : State) (limit : ℕ) (c : List Bool) (now : State)

@@ -7,7 +7,7 @@
 //! | `draws`, `seeded` | one run whose choices a seed draws |
 //! | `chooser`, `drive` | the choices of a run, from a list or a seed, and a run by them |
 //! | `feeds` | a source of bytes as the input of a machine |
-//! | `turn`, `streamed` | one run whose input and output are streams |
+//! | `streamed` | one run whose input and output are streams |
 //! | `laws` | the law of draws |
 #![tactic(auto)]
 
@@ -19,7 +19,6 @@ mod laws;
 mod ordinary;
 mod seeded;
 mod streamed;
-mod turn;
 
 pub use chooser::Chooser;
 pub use draws::drawn;

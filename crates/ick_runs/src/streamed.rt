@@ -5,6 +5,7 @@ ghost use Rattle.std.specs.Prelude.{ℕ, List, Bool, [], true, false, Err, IfOk,
 ghost use Rattle.ick_code.specs.meaning.Move.{first_state};
 ghost use Rattle.ick_code.specs.Compiled.{code_program};
 ghost use Rattle.ick_machine.specs.Live.{seen, fed, fault_message};
+ghost use Rattle.ick_machine.specs.Printing.{IsAtInput, IsDone, Leaves, Prints};
 ghost use Rattle.ick_explorer.specs.Runs.{run, Execution};
 ghost use Rattle.ick_runs.specs.Chosen.{Chosen, IsChosen, Picks, chosen_of};
 ghost use Rattle.ick_runs.specs.Streams.{Streams, StopsAtInput, source_failures};
@@ -12,10 +13,10 @@ ghost use Rattle.ick_runs.specs.Streaming.{Stops};
 ghost use Rattle.ick_explorer.specs.Writes.{write_failures};
 
 use crate::chooser::{Chooser, Picker};
-use crate::turn::{stride, turn};
+use crate::feeds::{SinkOutlet, SourceFeed};
 use ick_code::Code;
 use ick_explorer::{ByteSink, ByteSource, RunsError};
-use ick_machine::{EndKind, Live, LiveAsk};
+use ick_machine::{EndKind, Live, LiveAsk, RunFault};
 use std::alloc::Global;
 
 /// Holds the result of a streamed run.
@@ -62,10 +63,45 @@ fn finish(
     })
 }
 
+/// Makes at most `limit` steps up to the next choice or the end, and returns their number. The
+/// output that the machine holds is written first, and the output of each READ OUT as soon as the
+/// statement is done. The answer is `NoMemory`, `Read` or `Write` if that part fails.
+fn stride<R: ByteSource, W: ByteSink>(
+    machine: &mut Live<'_, '_>,
+    reader: &mut R,
+    writer: &mut W,
+    limit: u32,
+) -> Result<u32, RunsError>
+    requires sound { (seen machine.old).failed ≡ false }
+    requires reads { R.failed reader.old + 1 < 2 ^ 64 }
+    requires writes { W.failed writer.old + 1 < 2 ^ 64 }
+    ensures prints { let old = seen machine.old in R.told ≡ true → Prints W.told old.program
+        (fed (R.left reader.old) old.state) limit (fed (R.left reader.new) (seen machine.new).state)
+        (W.written writer.old) (W.written writer.new) result }
+    ensures input { let old = seen machine.old in R.told ≡ true → result ≡ Err RunsError.Read →
+        IsAtInput W.told old.program (fed (R.left reader.old) old.state) limit
+        (W.written writer.old) (W.written writer.new) }
+    ensures rests { IfOk result (λ k. IsDone limit k (seen machine.new)) }
+    ensures leaves { Leaves (seen machine.old) (seen machine.new) result }
+    ensures reads { R.failed reader.new ≡ R.failed reader.old + source_failures result }
+    ensures writes { W.failed writer.new ≡ W.failed writer.old + write_failures result }
+    ensures errors { IfErr result (λ e. (e ≡ RunsError.NoMemory)
+        ⊎ ((e ≡ RunsError.Read) ⊎ (e ≡ RunsError.Write))) }
+{
+    let mut feed = SourceFeed::new(reader);
+    let (made, _) = machine.run(limit, &mut feed, SinkOutlet::new(writer));
+    match made {
+        Ok(made) => Ok(made),
+        Err(RunFault::NoMemory) => Err(RunsError::NoMemory),
+        Err(RunFault::Read) => Err(RunsError::Read),
+        Err(RunFault::Write) => Err(RunsError::Write),
+    }
+}
+
 /// Runs a machine from its state for at most `limit` steps, and lists the choices that the run used
-/// in `choices`. Returns how the run stopped and its number of steps. The machine must hold no
-/// output and must not have failed, and `choices` must be empty. The answer is `NoMemory`, `Read`
-/// or `Write` if that part fails.
+/// in `choices`. Returns how the run stopped and its number of steps. The machine must not have
+/// failed, and `choices` must be empty. The answer is `NoMemory`, `Read` or `Write` if that part
+/// fails.
 fn run_on<R: ByteSource, W: ByteSink>(
     machine: &mut Live<'_, '_>,
     reader: &mut R,
@@ -75,7 +111,6 @@ fn run_on<R: ByteSource, W: ByteSink>(
     choices: &mut Vec<bool>,
 ) -> Result<(EndKind, u32), RunsError>
     requires sound { (seen machine.old).failed ≡ false }
-    requires empty { (seen machine.old).state.output ≡ [] }
     requires unused { choices.old.items ≡ [] }
     requires reads { R.failed reader.old + 1 < 2 ^ 64 }
     requires writes { W.failed writer.old + 1 < 2 ^ 64 }
@@ -108,17 +143,14 @@ fn run_on<R: ByteSource, W: ByteSink>(
         if steps == limit {
             return Ok((EndKind::Limit, steps));
         }
-        if let LiveAsk::Choice(chance) = asked {
-            let Some(done) = picker.pick(choices.len(), chance) else {
-                return Ok((EndKind::Wants, steps));
-            };
-            choices.push(done)?;
-            turn(machine, reader, writer, done)?;
-            steps += 1;
-            continue;
-        }
-        // A WRITE IN is met, or the machine has stopped to clear its output.
-        turn(machine, reader, writer, false)?;
+        let LiveAsk::Choice(chance) = asked else {
+            return Ok((EndKind::Limit, steps));
+        };
+        let Some(done) = picker.pick(choices.len(), chance) else {
+            return Ok((EndKind::Wants, steps));
+        };
+        choices.push(done)?;
+        machine.step(done, &mut SourceFeed::new(reader))?;
         steps += 1;
     }
 }

@@ -110,15 +110,12 @@ fn runs(
         if ran.is_err() {
             return Err(failed(context, live, Call::RunOfLive));
         }
-        let stepped = match live.asks() {
-            LiveAsk::Plain => live.step(false, feed),
-            LiveAsk::Choice(_) => live.step(true, feed),
-            _ => break,
-        };
-        if stepped.is_err() {
-            return Err(failed(context, live, Call::StepOfLive));
+        if let LiveAsk::Choice(_) = live.asks() {
+            if live.step(true, feed).is_err() {
+                return Err(failed(context, live, Call::StepOfLive));
+            }
+            context.answer.say(live.output());
         }
-        context.answer.say(live.output());
     }
     Ok(())
 }

@@ -1,18 +1,18 @@
-use Rattle.std.proofs.Common.{◌≡◌, ◌+◌, ◌<◌, List, Bool, false, true, length, rules, refl, ap, sym, subst, ◌∙◌, arith}
+use Rattle.std.proofs.Common.{◌≡◌, ◌+◌, ◌<◌, List, Bool, true, length, rules, refl, ap, sym, subst, ◌∙◌, arith}
 use Rattle.std.specs.Prelude.{Err, Some, None}
 use Rattle.std.proofs.lemmas.Grind.{common_steps}
-use Rattle.ick_code.specs.meaning.Move.{ask, plain}
 use Rattle.ick_code.proofs.AskLaws.{chance_between}
 use Rattle.ick_machine.specs.Live.{seen, fed}
+use Rattle.ick_explorer.specs.Errors.{error_of}
 use Rattle.ick_explorer.specs.declared.errors.RunsError.TheVariants.{NoMemory, Read}
 use Rattle.ick_runs.specs.Chosen.{Chosen, IsChosen, Picks, answer_of}
 use Rattle.ick_runs.specs.Streaming.{IsAlong, AreTaken}
 use Rattle.ick_runs.proofs.ChosenLaws.{all_taken, picked, one_more}
-use Rattle.ick_runs.proofs.StreamLaws.{Here, along_start, none_taken, asks_chance, asks_nothing, here_stays, here_ended}
-use Rattle.ick_runs.proofs.StreamLaws.{here_limit, here_wants, leads_by_choice, leads_by_itself, may_go_on, same_error}
-use Rattle.ick_runs.proofs.StreamLaws.{step_at_input, step_refused, step_turned, stride_cut, strode, taken_choice}
+use Rattle.ick_runs.proofs.StreamLaws.{Here, along_start, none_taken, asks_chance, here_stays, here_ended}
+use Rattle.ick_runs.proofs.StreamLaws.{all_made, feed_read, here_limit, here_wants, leads_by_choice, may_go_on, same_error}
+use Rattle.ick_runs.proofs.StreamLaws.{step_at_input, step_made, stride_at_input, stride_cut, strode, taken_choice}
 use Rattle.ick_runs.proofs.streamed.run_on.Given.{Over}
-use Rattle.ick_runs.proofs.streamed.run_on.Goals.{After-asks-asked, After-turn, After-turn-in-along}
+use Rattle.ick_runs.proofs.streamed.run_on.Goals.{After-asks-asked, After-step}
 use Rattle.ick_runs.proofs.streamed.run_on.Goals as goal
 
 pub along-init : goal.along-init
@@ -26,16 +26,10 @@ along-init g c =
       writes = refl;
       sound = c.requires.sound;
       program = refl;
-      empty = c.requires.empty;
       within = omega arith;
       picks = λ chosen at. subst (λ k. Picks chosen k c.args.picker.now) (sym (ap length none)) at;
-      here = λ _. record {
-        along = subst (λ x. IsAlong g.W.ByteSink.told first.program begin c.args.limit x begin start start 0)
-            (sym none) (along_start g.W.ByteSink.told first.program begin c.args.limit start);
-        program = refl;
-        sound = c.requires.sound;
-        empty = c.requires.empty;
-      };
+      along = λ _. subst (λ x. IsAlong g.W.ByteSink.told first.program begin c.args.limit x begin start start 0)
+          (sym none) (along_start g.W.ByteSink.told first.program begin c.args.limit start);
       taken = λ _ _ _ c' _. subst (λ x. AreTaken c' x) (sym none) (none_taken c');
     }
 
@@ -47,22 +41,26 @@ here : (g : Over) (c : After-asks-asked g) → g.R.ByteSource.told ≡ true →
     (g.W.ByteSink.written c.stride.new.writer) (c.along.steps + c.in_ok-made.made)
 here g c t =
     let i = c.along.invariant in
-    let w = g.W.ByteSink.written in
-    let new = seen c.stride.new.machine in
-    subst (λ r. Here g.W.ByteSink.told (seen c.args.machine.now).program
-    (fed (g.R.ByteSource.left c.args.reader.now) (seen c.args.machine.now).state) c.args.limit c.along.choices.items
-    new (g.R.ByteSource.left r) (w c.args.writer.now) (w c.stride.new.writer) (c.along.steps + c.in_ok-made.made))
-    (sym c.stride.ensures.reader)
-    (strode _ _ _ _ (i.here t) c.in_ok-made.made new (w c.stride.new.writer) c.stride.ensures.program
-    c.in_ok-made.ensures.sound c.stride.ensures.empty (c.in_ok-made.ensures.moved t))
+    let left = c.stride.ensures.leaves in
+    strode _ _ _ _ (seen c.along.machine) (g.R.ByteSource.left c.along.reader) (i.along t) i.program c.in_ok-made.made (seen c.stride.new.machine)
+    (g.R.ByteSource.left c.stride.new.reader) (g.W.ByteSink.written c.stride.new.writer) left.program
+    c.in_ok-made.ensures.leaves.failed left.empty c.in_ok-made.ensures.rests.within (c.in_ok-made.ensures.prints t)
 
 pub returns-in_err-made-clause-run : goal.returns-in_err-made-clause-run
 returns-in_err-made-clause-run g c = λ t chosen at c' is_chosen.
     let i = c.along.invariant in
     let e : c.from_residual.result ≡ Err c.in_err-made.field-0.0 = search rules in
-    rw e (stride_cut _ _ _ _ (i.here t) c' (i.taken t chosen at c' is_chosen)
-    (fed (g.R.ByteSource.left c.along.reader) (seen c.stride.new.machine).state)
-    (g.W.ByteSink.written c.stride.new.writer) c.in_err-made.field-0.0 (c.in_err-made.ensures.moved t))
+    rw e (stride_cut _ _ _ _ (seen c.along.machine) (g.R.ByteSource.left c.along.reader) (i.along t) i.program c' (i.taken t chosen at c' is_chosen)
+    (fed (g.R.ByteSource.left c.stride.new.reader) (seen c.stride.new.machine).state)
+    (g.W.ByteSink.written c.stride.new.writer) c.in_err-made.field-0.0 (c.in_err-made.ensures.prints t))
+
+pub returns-in_err-made-clause-input : goal.returns-in_err-made-clause-input
+returns-in_err-made-clause-input g c = λ t chosen at c' is_chosen is_read.
+    let i = c.along.invariant in
+    let e : c.from_residual.result ≡ Err c.in_err-made.field-0.0 = search rules in
+    let read = ap Err (same_error c.from_residual.result c.in_err-made.field-0.0 Read e is_read) in
+    stride_at_input _ _ _ _ (seen c.along.machine) (g.R.ByteSource.left c.along.reader) (i.along t) i.program c' (i.taken t chosen at c' is_chosen)
+    (g.W.ByteSink.written c.stride.new.writer) (c.in_err-made.ensures.input t read)
 
 pub returns-in-Ended-clause-run : goal.returns-in-Ended-clause-run
 returns-in-Ended-clause-run g c = λ t chosen at c' is_chosen.
@@ -77,10 +75,19 @@ returns-then-steps-limit-clause-run g c = λ t chosen at c' is_chosen.
     here_limit _ _ _ _ (here g stage t) c' (c.along.invariant.taken t chosen at c' is_chosen)
     c.asks-asked.result c.asks-asked.ensures c.in_default.not-Ended all
 
+pub returns-in_default-asked-clause-run : goal.returns-in_default-asked-clause-run
+returns-in_default-asked-clause-run g c = λ t chosen at c' is_chosen.
+    let stage = (goal.at.returns-in_default-asked-clause-run g c).After-asks-asked in
+    let all = all_made (seen c.stride.new.machine) c.asks-asked.result c.in_ok-made.ensures.leaves.failed
+    c.asks-asked.ensures c.in_default-asked.not-Choice c.in_default.not-Ended c.args.limit c.along.steps c.in_ok-made.made
+    c.along.invariant.within c.in_ok-made.ensures.rests in
+    here_limit _ _ _ _ (here g stage t) c' (c.along.invariant.taken t chosen at c' is_chosen)
+    c.asks-asked.result c.asks-asked.ensures c.in_default.not-Ended all
+
 pub pick-requires : goal.pick-requires
 pick-requires g c =
     let now = seen c.stride.new.machine in
-    let asks = asks_chance now c.asks-asked.result c.in-Choice.chance c.in_ok-made.ensures.sound c.asks-asked.ensures
+    let asks = asks_chance now c.asks-asked.result c.in-Choice.chance c.in_ok-made.ensures.leaves.failed c.asks-asked.ensures
     c.in-Choice.is in
     let between = chance_between now.program now.state c.in-Choice.chance asks in
     record { low = between.0; high = between.1 }
@@ -104,20 +111,17 @@ returns-in_err-push-clause-run g c = λ t chosen at c' is_chosen.
     let e : c.from_residual-in_err-push.result ≡ Err NoMemory = search rules in
     rw e (here_stays _ _ _ _ (here g stage t) c' (c.along.invariant.taken t chosen at c' is_chosen))
 
-pub turn-requires : goal.turn-requires
-turn-requires g c =
-    let i = c.along.invariant in
-    let read = g.R.ByteSource.failed in
+pub step-requires : goal.step-requires
+step-requires g c =
     record {
-      sound = c.in_ok-made.ensures.sound;
-      going = may_go_on (seen c.stride.new.machine) c.asks-asked.result c.in_ok-made.ensures.sound c.asks-asked.ensures
-          c.in_default.not-Ended;
-      reads = search (rules, ap read c.stride.ensures.reader);
-      writes = search rules;
+      sound = c.in_ok-made.ensures.leaves.failed;
+      going = may_go_on (seen c.stride.new.machine) c.asks-asked.result c.in_ok-made.ensures.leaves.failed
+          c.asks-asked.ensures c.in_default.not-Ended;
+      room = search rules;
     }
 
 -- the choices are those that were taken, with the one that was answered
-are_taken : (g : Over) (c : After-turn g) → g.R.ByteSource.told ≡ true →
+are_taken : (g : Over) (c : After-step g) → g.R.ByteSource.told ≡ true →
     Here g.W.ByteSink.told (seen c.args.machine.now).program
     (fed (g.R.ByteSource.left c.args.reader.now) (seen c.args.machine.now).state) c.args.limit c.along.choices.items
     (seen c.stride.new.machine) (g.R.ByteSource.left c.stride.new.reader) (g.W.ByteSink.written c.args.writer.now)
@@ -138,123 +142,45 @@ are_taken g c t now chosen at c' is_chosen =
     chosen c' c.push.new.self.items c.in-Some.done is_chosen (i.taken t chosen at c' is_chosen) some
     c.in_ok-push.ensures.items
 
-pub returns-in_err-turn-clause-run : goal.returns-in_err-turn-clause-run
-returns-in_err-turn-clause-run g c = λ t chosen at c' is_chosen.
-    let stage = goal.at.returns-in_err-turn-clause-run g c in
-    let now = here g stage.After-asks-asked t in
-    let lt : c.along.steps + c.in_ok-made.made < c.args.limit = grind (arith, common_steps) in
-    let e : c.from_residual-in_err-turn.result ≡ Err c.in_err-turn.field-0.0 = search rules in
-    rw e (step_refused _ _ _ _ now lt c.in-Some.done
-    (leads_by_choice _ _ _ _ now c.asks-asked.ensures c.in-Choice.is lt c.in-Some.done c.in_ok-push.ensures.items) c'
-    (fed (g.R.ByteSource.left c.turn.new.reader) (seen c.turn.new.machine).state)
-    (g.W.ByteSink.written c.turn.new.writer) c.in_err-turn.field-0.0
-    (are_taken g stage.After-turn t now chosen at c' is_chosen) (c.in_err-turn.ensures.moved t))
+pub returns-in_err-step-clause-run : goal.returns-in_err-step-clause-run
+returns-in_err-step-clause-run g c = λ t chosen at c' is_chosen.
+    let stage = (goal.at.returns-in_err-step-clause-run g c).After-asks-asked in
+    let e : c.from_residual-in_err-step.result ≡ Err (error_of c.in_err-step.field-0.0) = search rules in
+    rw e (here_stays _ _ _ _ (here g stage t) c' (c.along.invariant.taken t chosen at c' is_chosen))
 
-pub returns-in_err-turn-clause-input : goal.returns-in_err-turn-clause-input
-returns-in_err-turn-clause-input g c = λ t chosen at c' is_chosen is_read.
-    let stage = goal.at.returns-in_err-turn-clause-input g c in
+pub returns-in_err-step-clause-input : goal.returns-in_err-step-clause-input
+returns-in_err-step-clause-input g c = λ t chosen at c' is_chosen is_read.
+    let stage = goal.at.returns-in_err-step-clause-input g c in
     let now = here g stage.After-asks-asked t in
     let lt : c.along.steps + c.in_ok-made.made < c.args.limit = grind (arith, common_steps) in
-    let e : c.from_residual-in_err-turn.result ≡ Err c.in_err-turn.field-0.0 = search rules in
-    let read = ap Err (same_error c.from_residual-in_err-turn.result c.in_err-turn.field-0.0 Read e is_read) in
+    let e : c.from_residual-in_err-step.result ≡ Err (error_of c.in_err-step.field-0.0) = search rules in
+    let read = ap Err (feed_read c.in_err-step.field-0.0 (same_error c.from_residual-in_err-step.result
+    (error_of c.in_err-step.field-0.0) Read e is_read)) in
     step_at_input _ _ _ _ now lt c.in-Some.done
     (leads_by_choice _ _ _ _ now c.asks-asked.ensures c.in-Choice.is lt c.in-Some.done c.in_ok-push.ensures.items) c'
-    (g.W.ByteSink.written c.turn.new.writer) (c.along.invariant.taken t chosen at c' is_chosen)
-    (are_taken g stage.After-turn t now chosen at c' is_chosen) (c.in_err-turn.ensures.input read)
-    (c.in_err-turn.ensures.unwritten read)
-
-pub along-preserved-in-Choice : goal.along-preserved-in-Choice
-along-preserved-in-Choice g c =
-    let stage = goal.at.along-preserved-in-Choice g c in
-    let i = c.along.invariant in
-    let taken = c.along.choices.items in
-    let within = c.stride.ensures.within in
-    let lt : c.along.steps + c.in_ok-made.made < c.args.limit = grind (arith, common_steps) in
-    let size : length taken ≡ c.len.result = omega (arith, c.len.ensures, c.along.choices.ok.0) in
-    let more = one_more taken c.push.new.self.items c.in-Some.done c.len.result c.in_ok-push.ensures.items size in
-    let same = c.in_ok-turn.ensures.program ∙ c.stride.ensures.program ∙ i.program in
-    record {
-      reads = search (rules, ap g.R.ByteSource.failed c.stride.ensures.reader);
-      writes = search rules;
-      sound = c.in_ok-turn.ensures.sound;
-      program = same;
-      empty = c.in_ok-turn.ensures.empty;
-      within = omega (arith, lt);
-      picks = λ chosen at. subst (λ k. Picks chosen k c.pick.new.self) more
-          (c.in-Some.ensures.on chosen (subst (λ k. Picks chosen k c.along.picker) size (i.picks chosen at)));
-      here = λ t. record {
-        along =
-            step_turned _ _ _ _ (here g stage.After-asks-asked t) lt c.in-Some.done
-            (leads_by_choice _ _ _ _ (here g stage.After-asks-asked t) c.asks-asked.ensures c.in-Choice.is lt c.in-Some.done
-            c.in_ok-push.ensures.items) _ _ c.in_ok-turn.field-0 (c.in_ok-turn.ensures.moved t);
-        program = same;
-        sound = c.in_ok-turn.ensures.sound;
-        empty = c.in_ok-turn.ensures.empty;
-      };
-      taken = λ t chosen at c' is_chosen.
-          are_taken g stage.After-turn t (here g stage.After-asks-asked t) chosen at c' is_chosen;
-    }
-
--- nothing is asked
-plain_now : (g : Over) (c : After-turn-in-along g) → ask (seen c.stride.new.machine).program (seen c.stride.new.machine).state ≡ plain
-plain_now g c = asks_nothing (seen c.stride.new.machine) c.asks-asked.result c.in_ok-made.ensures.sound c.asks-asked.ensures
-    c.in_default-asked.not-Choice c.in_default.not-Ended
-
-pub turn-requires-in-along : goal.turn-requires-in-along
-turn-requires-in-along g c =
-    record {
-      sound = c.in_ok-made.ensures.sound;
-      going = may_go_on (seen c.stride.new.machine) c.asks-asked.result c.in_ok-made.ensures.sound c.asks-asked.ensures
-          c.in_default.not-Ended;
-      reads = search (rules, ap g.R.ByteSource.failed c.stride.ensures.reader);
-      writes = search rules;
-    }
-
-pub returns-in_err-turn-2-clause-run : goal.returns-in_err-turn-2-clause-run
-returns-in_err-turn-2-clause-run g c = λ t chosen at c' is_chosen.
-    let stage = goal.at.returns-in_err-turn-2-clause-run g c in
-    let now = here g stage.After-asks-asked t in
-    let lt : c.along.steps + c.in_ok-made.made < c.args.limit = grind (arith, common_steps) in
-    let e : c.from_residual-in_err-turn-2.result ≡ Err c.in_err-turn-2.field-0.0 = search rules in
-    rw e (step_refused _ _ _ _ now lt false (leads_by_itself _ _ _ _ now (plain_now g stage.After-turn-in-along)) c'
-    (fed (g.R.ByteSource.left c.turn-in-along.new.reader) (seen c.turn-in-along.new.machine).state)
-    (g.W.ByteSink.written c.turn-in-along.new.writer) c.in_err-turn-2.field-0.0
-    (c.along.invariant.taken t chosen at c' is_chosen) (c.in_err-turn-2.ensures.moved t))
-
-pub returns-in_err-turn-2-clause-input : goal.returns-in_err-turn-2-clause-input
-returns-in_err-turn-2-clause-input g c = λ t chosen at c' is_chosen is_read.
-    let stage = goal.at.returns-in_err-turn-2-clause-input g c in
-    let now = here g stage.After-asks-asked t in
-    let lt : c.along.steps + c.in_ok-made.made < c.args.limit = grind (arith, common_steps) in
-    let e : c.from_residual-in_err-turn-2.result ≡ Err c.in_err-turn-2.field-0.0 = search rules in
-    let read = ap Err (same_error c.from_residual-in_err-turn-2.result c.in_err-turn-2.field-0.0 Read e is_read) in
-    let taken = c.along.invariant.taken t chosen at c' is_chosen in
-    step_at_input _ _ _ _ now lt false (leads_by_itself _ _ _ _ now (plain_now g stage.After-turn-in-along)) c'
-    (g.W.ByteSink.written c.turn-in-along.new.writer) taken taken (c.in_err-turn-2.ensures.input read)
-    (c.in_err-turn-2.ensures.unwritten read)
+    (c.along.invariant.taken t chosen at c' is_chosen)
+    (are_taken g stage.After-step t now chosen at c' is_chosen) (c.in_err-step.ensures.reads read)
 
 pub along-preserved : goal.along-preserved
 along-preserved g c =
     let stage = goal.at.along-preserved g c in
     let i = c.along.invariant in
+    let taken = c.along.choices.items in
     let lt : c.along.steps + c.in_ok-made.made < c.args.limit = grind (arith, common_steps) in
-    let same = c.in_ok-turn-2.ensures.program ∙ c.stride.ensures.program ∙ i.program in
+    let size : length taken ≡ c.len.result = omega (arith, c.len.ensures, c.along.choices.ok.0) in
+    let more = one_more taken c.push.new.self.items c.in-Some.done c.len.result c.in_ok-push.ensures.items size in
     record {
-      reads = search (rules, ap g.R.ByteSource.failed c.stride.ensures.reader);
+      reads = search rules;
       writes = search rules;
-      sound = c.in_ok-turn-2.ensures.sound;
-      program = same;
-      empty = c.in_ok-turn-2.ensures.empty;
+      sound = c.in_ok-step.ensures.ok;
+      program = c.step.ensures.program ∙ c.stride.ensures.leaves.program ∙ i.program;
       within = omega (arith, lt);
-      picks = i.picks;
-      here = λ t. record {
-        along =
-            step_turned _ _ _ _ (here g stage.After-asks-asked t) lt false
-            (leads_by_itself _ _ _ _ (here g stage.After-asks-asked t) (plain_now g stage.After-turn-in-along)) _ _
-            c.in_ok-turn-2.field-0 (c.in_ok-turn-2.ensures.moved t);
-        program = same;
-        sound = c.in_ok-turn-2.ensures.sound;
-        empty = c.in_ok-turn-2.ensures.empty;
-      };
-      taken = i.taken;
+      picks = λ chosen at. subst (λ k. Picks chosen k c.pick.new.self) more
+          (c.in-Some.ensures.on chosen (subst (λ k. Picks chosen k c.along.picker) size (i.picks chosen at)));
+      along = λ t.
+          step_made _ _ _ _ (here g stage.After-asks-asked t) lt c.in-Some.done
+          (leads_by_choice _ _ _ _ (here g stage.After-asks-asked t) c.asks-asked.ensures c.in-Choice.is lt c.in-Some.done
+          c.in_ok-push.ensures.items) _ (search rules);
+      taken = λ t chosen at c' is_chosen.
+          are_taken g stage.After-step t (here g stage.After-asks-asked t) chosen at c' is_chosen;
     }

@@ -1,8 +1,7 @@
-use Rattle.std.proofs.Common.{◌≡◌, ◌≤◌, ◌-◌, [], length, true, false, List, Bool}
+use Rattle.std.proofs.Common.{◌≡◌, ◌≤◌, ◌-◌, length, true, false, List, Bool}
 use Rattle.ick_machine.specs.Live.{seen, fed}
 use Rattle.ick_runs.specs.Chosen.{Chosen, IsChosen, Picks}
-use Rattle.ick_runs.specs.Streaming.{AreTaken}
-use Rattle.ick_runs.proofs.StreamLaws.{Here}
+use Rattle.ick_runs.specs.Streaming.{AreTaken, IsAlong}
 use Rattle.ick_runs.proofs.streamed.run_on.Given as goal
 
 abbrev pub invariant-along : goal.invariant-along
@@ -16,12 +15,11 @@ invariant-along g l =
       writes : g.W.ByteSink.failed l.writer ≡ g.W.ByteSink.failed l.fn.writer;
       sound : now.failed ≡ false;
       program : now.program ≡ first.program;
-      empty : now.state.output ≡ [];
       within : l.steps ≤ l.limit;
       picks : (chosen : Chosen) → Picks chosen 0 l.fn.picker → Picks chosen (length l.choices.items) l.picker;
-      here : g.R.ByteSource.told ≡ true →
-          Here g.W.ByteSink.told first.program (fed (left l.fn.reader) first.state) l.limit l.choices.items now
-          (left l.reader) (written l.fn.writer) (written l.writer) l.steps;
+      along : g.R.ByteSource.told ≡ true →
+          IsAlong g.W.ByteSink.told first.program (fed (left l.fn.reader) first.state) l.limit l.choices.items
+          (fed (left l.reader) now.state) (written l.fn.writer) (written l.writer) l.steps;
       taken : g.R.ByteSource.told ≡ true → (chosen : Chosen) → Picks chosen 0 l.fn.picker → (c : List Bool) →
           IsChosen first.program (fed (left l.fn.reader) first.state) l.limit chosen c →
           AreTaken c l.choices.items;

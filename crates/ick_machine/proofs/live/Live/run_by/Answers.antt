@@ -164,13 +164,14 @@ returns-clause-prints g c = λ tells.
     let found = c.in-Ok.ensures.runs refl after has in
     let u = state_in prog after call.new.memory call.new.end in
     let began = subst (λ (m : Live). MayBeLeft g.F.Feed.told false m.line.items left found.0) c.requires.machine found.1 in (
-      u,
-      c.in-Ok.ensures.within,
-      reaches g stage found.0 tells began c.in-Ok.came.made u found.2,
+      record {
+        state = u;
+        runs = reaches g stage found.0 tells began c.in-Ok.came.made u found.2;
+        text = λ tells'.
+            c.print-has_left.ensures.all tells tells' c.if-not-has_left.false
+            ∙ ap (λ (b : Begun). b.written ++ c.output.result.now) same
+            ∙ ap (λ o. g.O.Outlet.written p.first.value ++ o) c.output.ensures;
+      },
       ap (λ (o : List ℕ). record (state_in live.lowered after call.new.memory call.new.end) { output = o }) c.clear-2.ensures.items
           ∙ ap (λ (l : Lowered). cleared (state_in l after call.new.memory call.new.end)) (sym c.program-program.ensures),
-      λ tells'.
-          c.print-has_left.ensures.all tells tells' c.if-not-has_left.false
-          ∙ ap (λ (b : Begun). b.written ++ c.output.result.now) same
-          ∙ ap (λ o. g.O.Outlet.written p.first.value ++ o) c.output.ensures,
     )
