@@ -184,7 +184,7 @@ impl<'c, 'a> Live<'c, 'a> {
                 return (Err(RunFault::Write), outlet);
             };
             self.clear_output();
-            let (ran, back) = self.stride(limit - made, feed, outlet);
+            let (ran, back) = self.run_to_input(limit - made, feed, outlet);
             outlet = back;
             match ran {
                 Ok(more) => made += more,
@@ -206,7 +206,7 @@ impl<'c, 'a> Live<'c, 'a> {
     /// Makes steps as `run` does, but stops before a WRITE IN, and may stop earlier if the memory
     /// holds much output. It takes no input: the feed is there for contracts alone. The machine
     /// must hold no output.
-    fn stride<F: Feed, O: Outlet>(
+    fn run_to_input<F: Feed, O: Outlet>(
         &mut self,
         limit: u32,
         feed: &F,
@@ -241,7 +241,7 @@ impl<'c, 'a> Live<'c, 'a> {
         (ran, outlet)
     }
 
-    /// Makes steps as `stride` does, and lets the output leave by a printer.
+    /// Makes steps as `run_to_input` does, and lets the output leave by a printer.
     fn run_by<F: Feed, O: Outlet>(
         &mut self,
         limit: u32,

@@ -39,22 +39,16 @@ pub(crate) struct Printer<'c, 'a, F: Feed, O: Outlet> {
         limit.value (O.written first.value) (O.written outlet) n) ∥₁ },
 }
 
-impl<F: Feed, O: Outlet> Printer<'_, '_, F, O> {
+impl<'c, 'a, F: Feed, O: Outlet> Printer<'c, 'a, F, O> {
     /// Lets the output leave that hasn't left yet. Returns whether all of it has left.
     pub(crate) fn print(&mut self, output: &[u8]) -> bool
-        requires { F.told ≡ true → MayLeave (begun (seen self.old.machine.value)
-            self.old.machine.value.line.items (F.left self.old.feed.value) self.old.limit.value
-            (O.written self.old.first.value) (O.failed self.old.first.value)) output.now }
+        requires { let reader = ⟦<Printer<'c, 'a, F, O> as Reader>⟧ in
+            reader.Prints (reader.held self.old) output.now }
         ensures sound { result ≡ true → self.new.broken ≡ false }
         ensures all { F.told ≡ true → O.told ≡ true → result ≡ true →
             O.written self.new.outlet ≡ O.written self.old.first.value ++ output.now }
-        ensures held { O.held self.new.outlet ≡ O.held self.old.outlet }
-        ensures begun { begun (seen self.new.machine.value)
-            self.new.machine.value.line.items (F.left self.new.feed.value) self.new.limit.value
-            (O.written self.new.first.value) (O.failed self.new.first.value)
-            ≡ begun (seen self.old.machine.value)
-            self.old.machine.value.line.items (F.left self.old.feed.value) self.old.limit.value
-            (O.written self.old.first.value) (O.failed self.old.first.value) }
+        ensures held { let reader = ⟦<Printer<'c, 'a, F, O> as Reader>⟧ in
+            reader.held self.new ≡ reader.held self.old }
     {
         if self.broken || self.shown > output.len() {
             return false;

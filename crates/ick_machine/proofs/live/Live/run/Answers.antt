@@ -15,7 +15,7 @@ use Rattle.ick_machine.specs.declared.outlet.RunFault.TheVariants.{Read, Write}
 use Rattle.ick_machine.proofs.AlongLemmas.{IsAlong, along_start, along_left, along_further, along_step, along_done, along_part, along_cut}
 use Rattle.ick_machine.proofs.AlongLemmas.{along_at_input, plain_fed, plain_here, plain_there}
 use Rattle.ick_machine.proofs.live.Live.run.Given.{Over}
-use Rattle.ick_machine.proofs.live.Live.run.Goals.{After-stride-ran}
+use Rattle.ick_machine.proofs.live.Live.run.Goals.{After-run_to_input-ran}
 use Rattle.ick_machine.proofs.live.Live.run.Goals as goal
 
 pub on-init : goal.on-init
@@ -40,7 +40,7 @@ returns-in_default-clause-prints g c = λ t.
     subst (λ (o : List ℕ). (k : ℕ) × (k ≤ length o) × (after ≡ before ++ take k o)) c.output.ensures
     (c.write.ensures.part t'))
 
-module _ (g : Over) (c : After-stride-ran g) where
+module _ (g : Over) (c : After-run_to_input-ran g) where
   abbrev first : LiveMachine
   first = seen c.args.self.now
 
@@ -48,7 +48,7 @@ module _ (g : Over) (c : After-stride-ran g) where
   begin = fed (g.F.Feed.left c.args.feed.now) first.state
 
   abbrev now : LiveMachine
-  now = seen c.stride-ran.new.self
+  now = seen c.run_to_input-ran.new.self
 
   abbrev here : State
   here = fed (g.F.Feed.left c.on.feed) now.state
@@ -60,7 +60,7 @@ module _ (g : Over) (c : After-stride-ran g) where
   same = ap (λ (m : LiveMachine). m.program) c.clear_output-in-on.ensures ∙ c.on.invariant.program
 
   same_now : now.program ≡ first.program
-  same_now = c.stride-ran.ensures.leaves.program ∙ same
+  same_now = c.run_to_input-ran.ensures.leaves.program ∙ same
 
   -- all output that was held has left
   left_all : g.F.Feed.told ≡ true → IsAlong g.O.Outlet.told first.program begin
@@ -72,55 +72,55 @@ module _ (g : Over) (c : After-stride-ran g) where
       (along_left g.O.Outlet.told first.program begin (c.on.invariant.along t) (g.O.Outlet.written c.write.new.self)
       (λ t'. c.in-Ok.ensures.all t' ∙ ap (λ o. g.O.Outlet.written c.on.outlet ++ o) c.output.ensures))
 
-  -- what the stride wrote
-  prints : g.F.Feed.told ≡ true → (r : Result ℕ RunFault) → c.stride-ran.result.0 ≡ r →
+  -- what the call of `run_to_input` wrote
+  prints : g.F.Feed.told ≡ true → (r : Result ℕ RunFault) → c.run_to_input-ran.result.0 ≡ r →
       Prints g.O.Outlet.told first.program (fed (g.F.Feed.left c.on.feed) (seen c.clear_output-in-on.new.self).state)
-      (c.args.limit - c.on.made) here (g.O.Outlet.written c.write.new.self) (g.O.Outlet.written c.stride-ran.result.1) r
+      (c.args.limit - c.on.made) here (g.O.Outlet.written c.write.new.self) (g.O.Outlet.written c.run_to_input-ran.result.1) r
   prints t r is =
       let at : Program → Result ℕ RunFault → Type 0 = λ q r. Prints g.O.Outlet.told q
       (fed (g.F.Feed.left c.on.feed) (seen c.clear_output-in-on.new.self).state) (c.args.limit - c.on.made) here
-      (g.O.Outlet.written c.write.new.self) (g.O.Outlet.written c.stride-ran.result.1) r in
+      (g.O.Outlet.written c.write.new.self) (g.O.Outlet.written c.run_to_input-ran.result.1) r in
       subst (λ q. at q r) same
-      (subst (at (seen c.clear_output-in-on.new.self).program) is (c.stride-ran.ensures.prints t))
+      (subst (at (seen c.clear_output-in-on.new.self).program) is (c.run_to_input-ran.ensures.prints t))
 
-  strode : g.F.Feed.told ≡ true → (k : ℕ) → c.stride-ran.result.0 ≡ Ok k →
-      IsAlong g.O.Outlet.told first.program begin here written (g.O.Outlet.written c.stride-ran.result.1) (c.on.made + k)
-  strode t k is = along_further g.O.Outlet.told first.program begin (left_all t) (c.args.limit - c.on.made) here
-      (g.O.Outlet.written c.stride-ran.result.1) k (prints t (Ok k) is)
+  gone_on : g.F.Feed.told ≡ true → (k : ℕ) → c.run_to_input-ran.result.0 ≡ Ok k →
+      IsAlong g.O.Outlet.told first.program begin here written (g.O.Outlet.written c.run_to_input-ran.result.1) (c.on.made + k)
+  gone_on t k is = along_further g.O.Outlet.told first.program begin (left_all t) (c.args.limit - c.on.made) here
+      (g.O.Outlet.written c.run_to_input-ran.result.1) k (prints t (Ok k) is)
 
-  within : (k : ℕ) → c.stride-ran.result.0 ≡ Ok k → c.on.made + k ≤ c.args.limit
+  within : (k : ℕ) → c.run_to_input-ran.result.0 ≡ Ok k → c.on.made + k ≤ c.args.limit
   within k is =
-      let few = subst (λ r. IfOk r (λ k. k ≤ c.args.limit - c.on.made)) is c.stride-ran.ensures.within in
+      let few = subst (λ r. IfOk r (λ k. k ≤ c.args.limit - c.on.made)) is c.run_to_input-ran.ensures.within in
       let low = c.on.invariant.within in
       omega (arith, few, low)
 
-  done : g.F.Feed.told ≡ true → (k : ℕ) → c.stride-ran.result.0 ≡ Ok k →
+  done : g.F.Feed.told ≡ true → (k : ℕ) → c.run_to_input-ran.result.0 ≡ Ok k →
       Prints {E = RunFault} g.O.Outlet.told first.program begin c.args.limit here written
-      (g.O.Outlet.written c.stride-ran.result.1) (Ok (c.on.made + k))
-  done t k is = along_done g.O.Outlet.told first.program begin (strode t k is) c.args.limit c.stride-ran.ensures.leaves.empty
+      (g.O.Outlet.written c.run_to_input-ran.result.1) (Ok (c.on.made + k))
+  done t k is = along_done g.O.Outlet.told first.program begin (gone_on t k is) c.args.limit c.run_to_input-ran.ensures.leaves.empty
 
   -- nothing is asked where a step follows
-  plain_now : (k : ℕ) → c.stride-ran.result.0 ≡ Ok k → Plain ≡ live_ask now → IsPlain first.program here
+  plain_now : (k : ℕ) → c.run_to_input-ran.result.0 ≡ Ok k → Plain ≡ live_ask now → IsPlain first.program here
   plain_now k is asks =
-      let sound = subst (λ r. now.failed ≡ is_error r) is c.stride-ran.ensures.leaves.failed in
+      let sound = subst (λ r. now.failed ≡ is_error r) is c.run_to_input-ran.ensures.leaves.failed in
       plain_fed first.program now.state (g.F.Feed.left c.on.feed)
       (subst (λ q. IsPlain q now.state) same_now (plain_here now sound asks))
 
 pub returns-in-Err-clause-prints : goal.returns-in-Err-clause-prints
 returns-in-Err-clause-prints g c = λ t.
-    let stage = (goal.at.returns-in-Err-clause-prints g c).After-stride-ran in
+    let stage = (goal.at.returns-in-Err-clause-prints g c).After-run_to_input-ran in
     along_cut g.O.Outlet.told _ _ (left_all g stage t) c.args.limit (here g stage) (here g stage)
-    (g.O.Outlet.written c.stride-ran.result.1) c.in-Err.fault c.in-Err.fault c.on.invariant.within
+    (g.O.Outlet.written c.run_to_input-ran.result.1) c.in-Err.fault c.in-Err.fault c.on.invariant.within
     (prints g stage t (Err c.in-Err.fault) c.in-Err.is)
 
 pub returns-in_default-asks-clause-prints : goal.returns-in_default-asks-clause-prints
 returns-in_default-asks-clause-prints g c = λ t.
-    done g (goal.at.returns-in_default-asks-clause-prints g c).After-stride-ran t c.in-Ok-ran.more c.in-Ok-ran.is
+    done g (goal.at.returns-in_default-asks-clause-prints g c).After-run_to_input-ran t c.in-Ok-ran.more c.in-Ok-ran.is
 
 pub returns-in_default-asks-clause-rests : goal.returns-in_default-asks-clause-rests
 returns-in_default-asks-clause-rests g c =
-    let stage = (goal.at.returns-in_default-asks-clause-rests g c).After-stride-ran in
-    let sound = subst (λ r. (now g stage).failed ≡ is_error r) c.in-Ok-ran.is c.stride-ran.ensures.leaves.failed in
+    let stage = (goal.at.returns-in_default-asks-clause-rests g c).After-run_to_input-ran in
+    let sound = subst (λ r. (now g stage).failed ≡ is_error r) c.in-Ok-ran.is c.run_to_input-ran.ensures.leaves.failed in
     record {
       within = within g stage c.in-Ok-ran.more c.in-Ok-ran.is;
       rests = inr (λ plain. c.in_default-asks.not-Plain (c.asks.ensures ∙ plain_there (now g stage) sound plain));
@@ -128,14 +128,14 @@ returns-in_default-asks-clause-rests g c =
 
 pub returns-then-made-limit-clause-prints : goal.returns-then-made-limit-clause-prints
 returns-then-made-limit-clause-prints g c = λ t.
-    done g (goal.at.returns-then-made-limit-clause-prints g c).After-stride-ran t c.in-Ok-ran.more c.in-Ok-ran.is
+    done g (goal.at.returns-then-made-limit-clause-prints g c).After-run_to_input-ran t c.in-Ok-ran.more c.in-Ok-ran.is
 
 pub returns-in-Err-step-clause-prints : goal.returns-in-Err-step-clause-prints
 returns-in-Err-step-clause-prints g c = λ t.
-    let stage = (goal.at.returns-in-Err-step-clause-prints g c).After-stride-ran in
-    along_part g.O.Outlet.told _ _ (strode g stage t c.in-Ok-ran.more c.in-Ok-ran.is) c.args.limit (here g stage)
-    (g.O.Outlet.written c.stride-ran.result.1) c.from.result (within g stage c.in-Ok-ran.more c.in-Ok-ran.is)
-    (λ t'. (0, omega arith, sym (append-nil (g.O.Outlet.written c.stride-ran.result.1))))
+    let stage = (goal.at.returns-in-Err-step-clause-prints g c).After-run_to_input-ran in
+    along_part g.O.Outlet.told _ _ (gone_on g stage t c.in-Ok-ran.more c.in-Ok-ran.is) c.args.limit (here g stage)
+    (g.O.Outlet.written c.run_to_input-ran.result.1) c.from.result (within g stage c.in-Ok-ran.more c.in-Ok-ran.is)
+    (λ t'. (0, omega arith, sym (append-nil (g.O.Outlet.written c.run_to_input-ran.result.1))))
 
 read_fault : (fault : FeedFault) → run_fault fault ≡ Read → fault ≡ NotRead
 read_fault OutOfMemory is = cc
@@ -143,31 +143,31 @@ read_fault NotRead is = refl
 
 pub returns-in-Err-step-clause-input : goal.returns-in-Err-step-clause-input
 returns-in-Err-step-clause-input g c = λ t is_read.
-    let stage = (goal.at.returns-in-Err-step-clause-input g c).After-stride-ran in
+    let stage = (goal.at.returns-in-Err-step-clause-input g c).After-run_to_input-ran in
     let few = within g stage c.in-Ok-ran.more c.in-Ok-ran.is in
     let lt : c.on.made + c.in-Ok-ran.more < c.args.limit = omega (arith, few, c.if-made-limit.false) in
     let read : c.from.result ≡ Read = cc in
     let meets = c.in-Err-step.ensures.reads (ap Err (read_fault c.in-Err-step.fault (sym c.from.ensures ∙ read))) in
-    along_at_input g.O.Outlet.told _ _ (strode g stage t c.in-Ok-ran.more c.in-Ok-ran.is) c.args.limit lt
-    c.stride-ran.ensures.leaves.empty
+    along_at_input g.O.Outlet.told _ _ (gone_on g stage t c.in-Ok-ran.more c.in-Ok-ran.is) c.args.limit lt
+    c.run_to_input-ran.ensures.leaves.empty
     (plain_now g stage c.in-Ok-ran.more c.in-Ok-ran.is (sym c.in-Plain.is ∙ c.asks.ensures))
     (subst (λ q. MeetsInput q (now g stage).state) (same_now g stage) meets)
 
 pub on-preserved : goal.on-preserved
 on-preserved g c =
-    let stage = (goal.at.on-preserved g c).After-stride-ran in
+    let stage = (goal.at.on-preserved g c).After-run_to_input-ran in
     let i = c.on.invariant in
     let few = within g stage c.in-Ok-ran.more c.in-Ok-ran.is in
     let none = ap run_writes c.in-Ok-ran.is in
     record {
       reads = omega (arith, c.in_default-step.ensures.count, i.reads);
-      writes = omega (arith, c.stride-ran.ensures.writes, none, c.in-Ok.ensures.count, i.writes);
+      writes = omega (arith, c.run_to_input-ran.ensures.writes, none, c.in-Ok.ensures.count, i.writes);
       held = c.step.ensures.held ∙ i.held;
-      given = c.stride-ran.ensures.given ∙ c.write.ensures.held ∙ i.given;
+      given = c.run_to_input-ran.ensures.given ∙ c.write.ensures.held ∙ i.given;
       sound = c.in_default-step.ensures.ok;
       program = c.step.ensures.program ∙ same_now g stage;
       within = omega (arith, few, c.if-made-limit.false);
-      along = λ t. along_step g.O.Outlet.told _ _ (strode g stage t c.in-Ok-ran.more c.in-Ok-ran.is)
+      along = λ t. along_step g.O.Outlet.told _ _ (gone_on g stage t c.in-Ok-ran.more c.in-Ok-ran.is)
           (fed (g.F.Feed.left c.step.new.feed) (seen c.step.new.self).state)
           (plain_now g stage c.in-Ok-ran.more c.in-Ok-ran.is (sym c.in-Plain.is ∙ c.asks.ensures))
           (subst (λ q. fed (g.F.Feed.left c.step.new.feed) (seen c.step.new.self).state ≡ advance q (here g stage) false)

@@ -139,7 +139,7 @@ returns-then-not-has_left-clause-prints g c = λ tells tells'.
       x.0,
       cut g stage (begun (seen n.machine.value) n.machine.value.line.items (g.F.Feed.left n.feed.value) n.limit.value
           (g.O.Outlet.written n.first.value) (g.O.Outlet.failed n.first.value)) (g.O.Outlet.written n.outlet)
-          (c.print-has_left.ensures.begun ∙ ap (λ (h : ℕ × Begun). h.1) c.make_steps-came.ensures.held) x.0 x.2,
+          (ap (λ (h : ℕ × Begun). h.1) (c.print-has_left.ensures.held ∙ c.make_steps-came.ensures.held)) x.0 x.2,
     ))
 
 pub returns-clause-prints : goal.returns-clause-prints

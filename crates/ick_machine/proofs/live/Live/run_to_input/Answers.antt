@@ -4,7 +4,7 @@ use Rattle.ick_machine.specs.Live.{fed, seen}
 use Rattle.ick_machine.specs.Printing.{Prints, begun}
 use Rattle.ick_machine.proofs.PrinterLemmas.{Kept, kept_first}
 use Rattle.ick_machine.proofs.StepsLemmas.{no_step}
-use Rattle.ick_machine.proofs.live.Live.stride.Goals as goal
+use Rattle.ick_machine.proofs.live.Live.run_to_input.Goals as goal
 
 pub returns-then-is_some-clause-prints : goal.returns-then-is_some-clause-prints
 returns-then-is_some-clause-prints g c = λ tells.
