@@ -75,10 +75,7 @@ fn line_length(rest: &[u8]) -> usize
     ensures place { result ≡ position_or_len (λ b. b == 10) rest.now }
     ensures within { result ≤ length rest.now }
 {
-    for (index, byte) in rest.iter().enumerate() {
-        if *byte == b'\n' {
-            return index;
-        }
-    }
-    rest.len()
+    rest.iter()
+        .position(|byte| *byte == b'\n')
+        .unwrap_or(rest.len())
 }

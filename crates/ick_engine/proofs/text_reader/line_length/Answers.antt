@@ -1,11 +1,13 @@
-use Rattle.std.proofs.Common.{◌==◌, arith, sym, length, rules}
-use Rattle.std.proofs.lemmas.List.Sums.{position_or_len_is}
+use Rattle.std.proofs.Common.{◌==◌, arith, rules}
+use Rattle.std.proofs.lemmas.Grind.{common_steps}
+use Rattle.std.proofs.lemmas.List.Sums.{prefix_len-le-length}
+use Rattle.std.proofs.lemmas.Iterator.{YieldsList-from_slice}
+use Rattle.std.proofs.lemmas.Iterator.Search.{position_from_yields_List}
 use Rattle.ick_engine.proofs.text_reader.line_length.Goals as goal
+use borrow.Author.Tests.{tests}
 
 pub returns-clause-place : goal.returns-clause-place
 returns-clause-place c =
-    sym (position_or_len_is (λ b. b == 10) c.args.rest.now (length c.args.rest.now) 0 (omega arith)
-    (λ k h. c.loop-index.invariant k (omega arith)) (λ l. absurd (omega arith)))
-
-pub returns-then-byte-eq10-clause-place : goal.returns-then-byte-eq10-clause-place
-returns-then-byte-eq10-clause-place c = search (rules, position_or_len_is)
+    let found = position_from_yields_List (λ b. b == 10) _ _ c.position.result c.position.ensures.ran
+    (YieldsList-from_slice c.args.rest.now cc) (λ x b q k. search (rules, tests)) in
+    grind (arith, common_steps, found, prefix_len-le-length)
