@@ -26,8 +26,8 @@ returns-clause-moves g c = if_ok c.stopped.result _ _ c.stopped.ensures (λ came
     let call = c.run_steps-exit in
     let moved = moves_by call.result (g.R.Reader.waits (g.R.Reader.held c.args.reader.now))
     (c.args.lowered.now.parts.longest + 79) (g.N.Notes.room c.args.notes.now) c.args.limit call.new.memory.cursor.left
-    (stops.goes more) (λ room same. (if_room call.result room call.ensures.room).begun same)
-    (λ waits. if_waits call.result waits call.ensures.waits) call.ensures.left goes enough in
+    (stops.goes more) (λ room same. (if_room call.result room call.ensures.ran.is_short).begun same)
+    (λ waits. if_waits call.result waits call.ensures.ran.has_waited) call.ensures.ran.fewer goes enough in
     omega (arith, moved, stops.made_is))
 
 pub returns-clause-runs : goal.returns-clause-runs
@@ -39,7 +39,7 @@ returns-clause-runs g c = λ none. if_ok c.stopped.result _ _ c.stopped.ensures 
     (state_in program after call.new.memory c.stopped.new.end))) (sym stops.made_is)
     (has_made program.code.now program.parts g.R.Reader.Has c.args.reader.now call.new.reader c.args.limit
     call.new.memory.cursor.left c.args.answer call.new.memory.cursor.answer (view_in c.args.memory.now)
-    (view_in call.new.memory) call.result stops.going c.stopped.new.end stops.end_is call.ensures.comes none))
+    (view_in call.new.memory) call.result stops.going c.stopped.new.end stops.end_is call.ensures.ran.comes none))
 
 pub returns-clause-rests : goal.returns-clause-rests
 returns-clause-rests g c = λ none. if_ok c.stopped.result _ _ c.stopped.ensures (λ came stops over input.
@@ -49,8 +49,8 @@ returns-clause-rests g c = λ none. if_ok c.stopped.result _ _ c.stopped.ensures
     (state_in program input call.new.memory c.stopped.new.end)) (sym stops.made_is)
     (has_rested program.code.now program.parts g.R.Reader.Has c.args.reader.now call.new.reader c.args.limit
     call.new.memory.cursor.left c.args.answer call.new.memory.cursor.answer (view_in c.args.memory.now)
-    (view_in call.new.memory) call.result stops.going c.stopped.new.end stops.end_is call.ensures.comes
-    (g.R.Reader.some call.new.reader) call.ensures.left (stops.rests over).0 (stops.rests over).1 none input))
+    (view_in call.new.memory) call.result stops.going c.stopped.new.end stops.end_is call.ensures.ran.comes
+    (g.R.Reader.some call.new.reader) call.ensures.ran.fewer (stops.rests over).0 (stops.rests over).1 none input))
 
 pub returns-clause-steps : goal.returns-clause-steps
 returns-clause-steps g c = λ done same one goes enough. if_so c.stopped.result _ _ c.stopped.ensures (λ came stops.
@@ -59,10 +59,10 @@ returns-clause-steps g c = λ done same one goes enough. if_so c.stopped.result 
     by_flag came.more
     (λ more. absurd (never_short call.result (g.R.Reader.waits (g.R.Reader.held c.args.reader.now))
     (program.parts.longest + 79) (g.N.Notes.room c.args.notes.now) c.args.limit call.new.memory.cursor.left
-    (stops.goes more) (λ room. (if_room call.result room call.ensures.room).some)
-    (λ room whole. (if_room call.result room call.ensures.room).begun whole)
-    (λ waits. if_waits call.result waits call.ensures.waits) goes enough call.ensures.left one))
+    (stops.goes more) (λ room. (if_room call.result room call.ensures.ran.is_short).some)
+    (λ room whole. (if_room call.result room call.ensures.ran.is_short).begun whole)
+    (λ waits. if_waits call.result waits call.ensures.ran.has_waited) goes enough call.ensures.ran.fewer one))
     (λ over. has_stepped program.code.now program.parts g.R.Reader.Has c.args.reader.now call.new.reader c.args.limit
     call.new.memory.cursor.left c.args.answer call.new.memory.cursor.answer (view_in c.args.memory.now)
-    (view_in call.new.memory) call.result stops.going c.stopped.new.end stops.end_is call.ensures.comes
-    call.ensures.left (stops.rests over).0 (stops.rests over).1 done same one))
+    (view_in call.new.memory) call.result stops.going c.stopped.new.end stops.end_is call.ensures.ran.comes
+    call.ensures.ran.fewer (stops.rests over).0 (stops.rests over).1 done same one))
