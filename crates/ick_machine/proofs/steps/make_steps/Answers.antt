@@ -2,7 +2,7 @@ use Rattle.std.proofs.Common.{◌+◌, ℕ, None, sym, ◌∙◌, subst, arith, 
 use Rattle.ick_backtrack.specs.Steps.{IsPlain, RunsOn, Rests}
 use Rattle.ick_runtime.specs.{Memory.view_in, Inputs.Leads}
 use Rattle.ick_machine.specs.{RunIn.program_of, RunIn.state_in}
-use Rattle.ick_machine.proofs.StepLemmas.{has_made, has_rested, has_stepped, if_room, if_waits, moves_by, never_short}
+use Rattle.ick_machine.proofs.StepLemmas.{has_made, has_rested, has_stepped, moves_by, never_short}
 use Rattle.ick_machine.proofs.StepLemmas.{by_flag, on_the_way, ready_by, steady_by}
 use Rattle.ick_machine.proofs.WholeLemmas.{if_ok, if_so}
 use Rattle.ick_machine.proofs.steps.make_steps.Goals as goal
@@ -26,8 +26,8 @@ returns-clause-moves g c = if_ok c.stopped.result _ _ c.stopped.ensures (λ came
     let call = c.run_steps-exit in
     let moved = moves_by call.result (g.R.Reader.waits (g.R.Reader.held c.args.reader.now))
     (c.args.lowered.now.parts.longest + 79) (g.N.Notes.room c.args.notes.now) c.args.limit call.new.memory.cursor.left
-    (stops.goes more) (λ room same. (if_room call.result room call.ensures.ran.is_short).begun same)
-    (λ waits. if_waits call.result waits call.ensures.ran.has_waited) call.ensures.ran.fewer goes enough in
+    (stops.goes more) (λ room same. (call.ensures.ran.is_short room).begun same)
+    call.ensures.ran.has_waited call.ensures.ran.fewer goes enough in
     omega (arith, moved, stops.made_is))
 
 pub returns-clause-runs : goal.returns-clause-runs
@@ -39,7 +39,7 @@ returns-clause-runs g c = λ none. if_ok c.stopped.result _ _ c.stopped.ensures 
     (state_in program after call.new.memory c.stopped.new.end))) (sym stops.made_is)
     (has_made program.code.now program.parts g.R.Reader.Has c.args.reader.now call.new.reader c.args.limit
     call.new.memory.cursor.left c.args.answer call.new.memory.cursor.answer (view_in c.args.memory.now)
-    (view_in call.new.memory) call.result stops.going c.stopped.new.end stops.end_is call.ensures.ran.comes none))
+    (view_in call.new.memory) call.result stops.going c.stopped.new.end stops.end_is call.ensures.ran.stopped.comes none))
 
 pub returns-clause-rests : goal.returns-clause-rests
 returns-clause-rests g c = λ none. if_ok c.stopped.result _ _ c.stopped.ensures (λ came stops over input.
@@ -49,7 +49,7 @@ returns-clause-rests g c = λ none. if_ok c.stopped.result _ _ c.stopped.ensures
     (state_in program input call.new.memory c.stopped.new.end)) (sym stops.made_is)
     (has_rested program.code.now program.parts g.R.Reader.Has c.args.reader.now call.new.reader c.args.limit
     call.new.memory.cursor.left c.args.answer call.new.memory.cursor.answer (view_in c.args.memory.now)
-    (view_in call.new.memory) call.result stops.going c.stopped.new.end stops.end_is call.ensures.ran.comes
+    (view_in call.new.memory) call.result stops.going c.stopped.new.end stops.end_is call.ensures.ran.stopped.comes
     (g.R.Reader.some call.new.reader) call.ensures.ran.fewer (stops.rests over).0 (stops.rests over).1 none input))
 
 pub returns-clause-steps : goal.returns-clause-steps
@@ -59,10 +59,10 @@ returns-clause-steps g c = λ done same one goes enough. if_so c.stopped.result 
     by_flag came.more
     (λ more. absurd (never_short call.result (g.R.Reader.waits (g.R.Reader.held c.args.reader.now))
     (program.parts.longest + 79) (g.N.Notes.room c.args.notes.now) c.args.limit call.new.memory.cursor.left
-    (stops.goes more) (λ room. (if_room call.result room call.ensures.ran.is_short).some)
-    (λ room whole. (if_room call.result room call.ensures.ran.is_short).begun whole)
-    (λ waits. if_waits call.result waits call.ensures.ran.has_waited) goes enough call.ensures.ran.fewer one))
+    (stops.goes more) (λ room. (call.ensures.ran.is_short room).some)
+    (λ room whole. (call.ensures.ran.is_short room).begun whole)
+    call.ensures.ran.has_waited goes enough call.ensures.ran.fewer one))
     (λ over. has_stepped program.code.now program.parts g.R.Reader.Has c.args.reader.now call.new.reader c.args.limit
     call.new.memory.cursor.left c.args.answer call.new.memory.cursor.answer (view_in c.args.memory.now)
-    (view_in call.new.memory) call.result stops.going c.stopped.new.end stops.end_is call.ensures.ran.comes
+    (view_in call.new.memory) call.result stops.going c.stopped.new.end stops.end_is call.ensures.ran.stopped.comes
     call.ensures.ran.fewer (stops.rests over).0 (stops.rests over).1 done same one))
