@@ -31,8 +31,8 @@ returns-in_default-clause-does g c = λ home statuses returns place depth text s
     c.in_default.ensures.index in
     (steady, reads_nowhere (search rules) steady i text g.R.Reader.Has c.args.reader.now c.requires.operation c.requires.slot none)
 
-pub returns-in-Ok-read_line-clause-does : goal.returns-in-Ok-read_line-clause-does
-returns-in-Ok-read_line-clause-does g c = λ home statuses returns place depth text steady.
+pub returns-in-Ok-clause-does : goal.returns-in-Ok-clause-does
+returns-in-Ok-clause-does g c = λ home statuses returns place depth text steady.
     let i = c.args.i.now in
     let all = c.args.rest.now.arrays.items in
     let subs = c.args.program.now.parts.subscripts.items in
@@ -43,7 +43,7 @@ returns-in-Ok-read_line-clause-does g c = λ home statuses returns place depth t
     let mid = parts_of c.read_line.new.rest in
     let was = c.read_line.new.rest.arrays.items in
     let now = c.store_at.new.arrays.items in
-    let kept = c.in-Ok-read_line.ensures.parts in
+    let kept = c.in-Ok.ensures.parts in
     let fault = c.store_at.result in
     rw c.stored.ensures (
       steady_by steady regs (record mid { arrays = map array_of now; hidden = map is_hidden now }) refl steady.constants
@@ -52,10 +52,10 @@ returns-in-Ok-read_line-clause-does g c = λ home statuses returns place depth t
           (ap (λ p. length p.scalar_stashes) kept) (ap (λ p. length p.array_stashes) kept),
       took_by g.R.Reader.Has c.args.reader.now c.read_line.new.reader fault _
           (reads_at (search rules) steady i text g.R.Reader.Has c.args.reader.now c.read_line.new.reader c.requires.operation
-          c.requires.slot c.in-Some._at some c.in-Ok-read_line.number mid kept c.in-Ok-read_line.ensures.read fault (map array_of now)
+          c.requires.slot c.in-Some._at some c.in-Ok.number mid kept c.in-Ok.ensures.read fault (map array_of now)
           (map is_hidden now) c.store_at.ensures.hidden
           (λ name at. stored_by_lists name was now c.subscripts.result.now subs regs i.to i.right (i.right + i.number)
-          c.in-Ok-read_line.number fault fault c.subscripts.ensures refl (c.store_at.ensures.stored name at))),
+          c.in-Ok.number fault fault c.subscripts.ensures refl (c.store_at.ensures.stored name at))),
     )
 
 pub returns-in-Err-clause-does : goal.returns-in-Err-clause-does
@@ -74,11 +74,11 @@ returns-in-Err-clause-does g c = λ home statuses returns place depth text stead
           c.requires.slot c.in-Some._at some c.in-Err.halt new kept c.in-Err.ensures.read,
     )
 
-pub returns-in-Ok-read_line-clause-notes : goal.returns-in-Ok-read_line-clause-notes
-returns-in-Ok-read_line-clause-notes g c =
+pub returns-in-Ok-clause-notes : goal.returns-in-Ok-clause-notes
+returns-in-Ok-clause-notes g c =
     let old = parts_of c.args.rest.now in
     let mid = parts_of c.read_line.new.rest in
     let now = c.store_at.new.arrays.items in
     arrays_noted
-    (noted_parts c.in-Ok.ensures.notes old mid (ap (λ (p : Parts). record p { taken = old.taken }) c.in-Ok-read_line.ensures.parts))
+    (noted_parts c.in_ok-note_taken.ensures.notes old mid (ap (λ (p : Parts). record p { taken = old.taken }) c.in-Ok.ensures.parts))
     (map array_of now) (map is_hidden now) c.store_at.ensures.noted.kept c.store_at.ensures.hidden c.store_at.ensures.notes
