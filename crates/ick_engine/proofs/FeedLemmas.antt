@@ -1,6 +1,6 @@
 -- What a feed gives is what the input begins with.
 use Rattle.std.proofs.Common.{◌≡◌, ◌≢◌, ℕ, ◌+◌, ◌==◌, Bool, true, false, List, [], ◌∷◌, ◌++◌, length, take, rules}
-use Rattle.std.proofs.Common.{drop, Some, None, Result, Ok, Err, refl, sym, ap, ◌∙◌, subst, arith}
+use Rattle.std.proofs.Common.{drop, Some, None, Result, Ok, Err, refl, sym, ap, ◌∙◌, arith}
 use Rattle.std.specs.{Prelude.slice_range, List.position_or_len}
 use Rattle.std.proofs.Math.Seq.{take-append_seam, drop-append-add, get_or-append_seam}
 use Rattle.std.proofs.lemmas.Bool.{false≢true}
@@ -77,9 +77,7 @@ pub read_by : {told : Bool} {was : Result Bool FeedFault} (is at : Result Bool F
     Before told false old_line old (λ before. Read before after)) →
     (after : Input) → MayBeLeft told (has_ended is) line new after →
     Before told (has_ended was) old_line old (λ before. Read before after)
-read_by {told} is at {old_line} {line} {old} {new} {Read} begun came read after may =
-    subst (λ r. Before told (has_ended r) old_line old (λ before. Read before after)) (sym begun)
-    (read after (subst (λ r. MayBeLeft told (has_ended r) line new after) came may))
+read_by {told} is at {old_line} {line} {old} {new} {Read} begun came read after may = search rules
 
 had : {told ended : Bool} → ended ≡ false → {old_line old : List ℕ} (left : List ℕ) → (told ≡ true → left ≡ old) →
     MayBeLeft told ended old_line old (input_after old_line left)

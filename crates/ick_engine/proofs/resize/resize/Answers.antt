@@ -1,6 +1,5 @@
-use Rattle.std.proofs.Common.{ap, ◌∙◌, rules}
+use Rattle.std.proofs.Common.{rules}
 use Rattle.std.proofs.Math.Seq.{map-set_same}
-use Rattle.ick_runtime.specs.View.{array_of, is_hidden}
 use Rattle.ick_runtime.proofs.DimensionLemmas.{no_fault, array_sized, sized_back}
 use Rattle.ick_engine.proofs.resize.resize.Goals as goal
 
@@ -8,9 +7,7 @@ pub returns-in-Ok-set_dimensions-clause-resized : goal.returns-in-Ok-set_dimensi
 returns-in-Ok-set_dimensions-clause-resized g c = search (rules, array_sized, no_fault)
 
 pub returns-in-Ok-set_dimensions-clause-hidden : goal.returns-in-Ok-set_dimensions-clause-hidden
-returns-in-Ok-set_dimensions-clause-hidden g c =
-    map-set_same is_hidden c.args.arrays.now.items c.args.slot c.set_dimensions.new.array c.index_mut-array.result.now
-    (c.set_dimensions.ensures.hidden ∙ ap is_hidden c.index_mut-array.ensures.value)
+returns-in-Ok-set_dimensions-clause-hidden g c = search (rules, map-set_same)
 
 pub returns-in-Ok-set_dimensions-clause-notes : goal.returns-in-Ok-set_dimensions-clause-notes
 returns-in-Ok-set_dimensions-clause-notes g c =
@@ -19,14 +16,10 @@ returns-in-Ok-set_dimensions-clause-notes g c =
     ((g.N.Notes.fixed c.args.notes.now).base) c.in-Ok.ensures.notes
 
 pub returns-in-Err-clause-resized : goal.returns-in-Err-clause-resized
-returns-in-Err-clause-resized g c =
-    map-set_same array_of c.args.arrays.now.items c.args.slot c.set_dimensions.new.array c.index_mut-array.result.now
-    (c.in-Err.ensures.err ∙ ap array_of c.index_mut-array.ensures.value)
+returns-in-Err-clause-resized g c = search (rules, map-set_same)
 
 pub returns-in-Err-clause-hidden : goal.returns-in-Err-clause-hidden
-returns-in-Err-clause-hidden g c =
-    map-set_same is_hidden c.args.arrays.now.items c.args.slot c.set_dimensions.new.array c.index_mut-array.result.now
-    (c.set_dimensions.ensures.hidden ∙ ap is_hidden c.index_mut-array.ensures.value)
+returns-in-Err-clause-hidden g c = search (rules, map-set_same)
 
 pub returns-in-Err-clause-notes : goal.returns-in-Err-clause-notes
 returns-in-Err-clause-notes g c =
