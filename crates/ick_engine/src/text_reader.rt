@@ -43,6 +43,7 @@ impl<'c> Reader for TextReader<'c> {
         Ok(false)
     }
 
+    #[tactic(auto, using(crate::proofs::TextLemmas::rest_of, crate::proofs::TextLemmas::word_line))]
     fn line(&mut self, from: usize) -> Result<Line, NoMemory> {
         if from >= self.text.len() {
             return Ok(Line::Nothing);

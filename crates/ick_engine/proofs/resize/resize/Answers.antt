@@ -1,25 +1,11 @@
-use Rattle.std.proofs.Common.{rules}
-use Rattle.std.proofs.Math.Seq.{map-set_same}
-use Rattle.ick_runtime.proofs.DimensionLemmas.{no_fault, array_sized, sized_back}
+use Rattle.ick_runtime.proofs.DimensionLemmas.{sized_back}
 use Rattle.ick_engine.proofs.resize.resize.Goals as goal
-
-pub returns-in-Ok-set_dimensions-clause-resized : goal.returns-in-Ok-set_dimensions-clause-resized
-returns-in-Ok-set_dimensions-clause-resized g c = search (rules, array_sized, no_fault)
-
-pub returns-in-Ok-set_dimensions-clause-hidden : goal.returns-in-Ok-set_dimensions-clause-hidden
-returns-in-Ok-set_dimensions-clause-hidden g c = search (rules, map-set_same)
 
 pub returns-in-Ok-set_dimensions-clause-notes : goal.returns-in-Ok-set_dimensions-clause-notes
 returns-in-Ok-set_dimensions-clause-notes g c =
     sized_back c.args.arrays.now.items c.args.slot c.set_dimensions.new.array c.index_mut-array.result.now
     c.index_mut-array.ensures.value g.N.Notes.Undoes c.args.notes.now c.note_array.new.self
     ((g.N.Notes.fixed c.args.notes.now).base) c.in-Ok.ensures.notes
-
-pub returns-in-Err-clause-resized : goal.returns-in-Err-clause-resized
-returns-in-Err-clause-resized g c = search (rules, map-set_same)
-
-pub returns-in-Err-clause-hidden : goal.returns-in-Err-clause-hidden
-returns-in-Err-clause-hidden g c = search (rules, map-set_same)
 
 pub returns-in-Err-clause-notes : goal.returns-in-Err-clause-notes
 returns-in-Err-clause-notes g c =
