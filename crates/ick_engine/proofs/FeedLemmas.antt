@@ -121,15 +121,6 @@ module _ {told ended : Bool} (goes_on : ended ≡ false) {old_line line old new 
   )
 
   -- nothing, so that it has come to its end
-  pub read_nothing : (told ≡ true → (old ≡ []) × (new ≡ [])) →
-      (after : Input) → MayBeLeft told true line new after →
-      Before told ended old_line old (λ before. IsNext Nothing from before after)
-  read_nothing gave after may = (
-    input_after old_line [],
-    had goes_on [] (λ tells. sym (gave tells).0),
-    next_nothing (input_after old_line []) after from refl (may.none_left refl from),
-  )
-
   pub read_no_byte : (told ≡ true → (old ≡ []) × (new ≡ [])) →
       (after : Input) → MayBeLeft told true line new after →
       Before told ended old_line old (λ before. IsByte None from before after)
@@ -138,3 +129,9 @@ module _ {told ended : Bool} (goes_on : ended ≡ false) {old_line line old new 
     had goes_on [] (λ tells. sym (gave tells).0),
     (refl, may.none_left refl from),
   )
+
+  pub read_nothing : (told ≡ true → (old ≡ []) × (new ≡ [])) →
+      (after : Input) → MayBeLeft told true line new after →
+      Before told ended old_line old (λ before. IsNext Nothing from before after)
+  read_nothing gave after may =
+      let end = read_no_byte gave after may in (end.0, end.1, next_nothing end.0 after from end.2.0 end.2.1)

@@ -72,32 +72,21 @@ pub fn print_array<N: Notes>(
     Ok(())
 }
 
-/// The position of the next byte of the input, and the byte that was read last.
-#[derive(Clone, Copy)]
-struct Tape {
-    to: usize,
-    last: u8,
-}
-
-impl Tape {
-    /// Goes on behind a byte, or stays at the end of the input. Returns the number that an element
-    /// gets from it.
-    #[inline(always)]
-    fn take(&mut self, byte: Option<(u8, usize)>) -> u32
-        ensures number { result ≡ number_read self.old.last byte }
-        ensures last { self.new.last ≡ last_after self.old.last byte }
-        ensures to { self.new.to ≡ position_after self.old.to byte }
-    {
-        match byte {
-            Some((byte, to)) => {
-                let number = u32::from(tape_in(self.last, byte));
-                self.last = byte;
-                self.to = to;
-                number
-            }
-            None => 256,
-        }
-    }
+/// Goes on behind a byte, or stays at the end of the input. Returns the number that an element gets
+/// from it. `to` is the position of the next byte, and `last` the byte that was read last.
+#[inline(always)]
+fn take(byte: Option<(u8, usize)>, to: &mut usize, last: &mut u8) -> u32
+    ensures number { result ≡ number_read last.old byte }
+    ensures last { last.new ≡ last_after last.old byte }
+    ensures to { to.new ≡ position_after to.old byte }
+{
+    let Some((byte, next)) = byte else {
+        return 256;
+    };
+    let number = u32::from(tape_in(*last, byte));
+    *last = byte;
+    *to = next;
+    number
 }
 
 /// Sets an element, unless it stays as it is.
@@ -111,27 +100,26 @@ fn put_unless(stays: bool, elements: &mut [u32], at: usize, number: u32)
     }
 }
 
-/// Reads bytes of the input into elements, unless these stay as they are. Returns where the input
-/// goes on, and the last byte. If the reader fails, some elements have changed.
+/// Reads bytes of the input into elements, unless these stay as they are. The input begins at `to`,
+/// and `last` is the byte before it. If the reader fails, some elements have changed.
 fn read_bytes<R: Reader>(
     stays: bool,
     elements: &mut [u32],
     reader: &mut R,
-    start: Tape,
-) -> Result<Tape, NoMemory>
+    to: &mut usize,
+    last: &mut u8,
+) -> Result<(), NoMemory>
     ensures count { length elements.new ≡ length elements.old }
-    ensures read { IfOk result (λ end. Leads R.Has reader.old reader.new
-        (HasRead stays (length elements.old) start.last start.to elements.old elements.new
-        end.last end.to)) }
+    ensures read { OnOk result (Leads R.Has reader.old reader.new (HasRead stays
+        (length elements.old) last.old to.old elements.old elements.new last.new to.new)) }
     ensures held { R.held reader.new ≡ R.held reader.old }
 {
-    let mut tape = start;
     for at in 0..elements.len() {
-        let byte = reader.byte(tape.to)?;
-        let number = tape.take(byte);
+        let byte = reader.byte(*to)?;
+        let number = take(byte, to, last);
         put_unless(stays, elements, at, number);
     }
-    Ok(tape)
+    Ok(())
 }
 
 /// Notes the input and its tape, and makes room for a whole statement.
@@ -179,13 +167,14 @@ pub fn read_array<N: Notes, R: Reader>(
     }
     notes.note_array(ArrayChange::Replaced, slot, array)?;
     note_reading(rest, notes, longest)?;
-    let start = Tape {
-        to: rest.taken,
-        last: rest.lastin,
-    };
     let array = &mut rest.arrays[slot as usize];
-    let end = read_bytes(array.hidden, array.elements.as_mut_slice(), reader, start)?;
-    rest.taken = end.to;
-    rest.lastin = end.last;
+    let elements = array.elements.as_mut_slice();
+    read_bytes(
+        array.hidden,
+        elements,
+        reader,
+        &mut rest.taken,
+        &mut rest.lastin,
+    )?;
     Ok(())
 }

@@ -35,8 +35,8 @@ returns-clause-notes g c =
     (put_back array_of all slot _ r c.index-array.ensures)
     (map-set_same is_hidden all slot _ c.index_mut-array.result.now (ap is_hidden c.index_mut-array.ensures.value)))
 
-pub returns-in_err-end-clause-notes : goal.returns-in_err-end-clause-notes
-returns-in_err-end-clause-notes g c =
+pub returns-in_err-read_bytes-clause-notes : goal.returns-in_err-read_bytes-clause-notes
+returns-in_err-read_bytes-clause-notes g c =
     let m = c.args.rest.now in
     let old = parts_of m in
     let all = m.arrays.items in

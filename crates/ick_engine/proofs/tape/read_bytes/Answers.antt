@@ -13,8 +13,8 @@ loop-at-preserved g c =
           let past = c.loop-at.invariant.read byte.0 byte.1 in (
             past.0,
             past.1,
-            read_next c.args.stays at c.args.start.last c.args.start.to c.args.elements.now now c.put_unless.new.elements
-                c.loop-at.tape.last c.take-number.new.self.last c.loop-at.tape.to c.take-number.new.self.to
+            read_next c.args.stays at c.args.last.now c.args.to.now c.args.elements.now now c.put_unless.new.elements
+                c.loop-at.last c.take-number.new.last c.loop-at.to c.take-number.new.to
                 c.in_ok-byte.byte past.0 byte.0 after within past.2 byte.2
                 (c.put_unless.ensures
                 ∙ ap (λ n. if c.args.stays then now else slice_set now at n) c.take-number.ensures.number)
