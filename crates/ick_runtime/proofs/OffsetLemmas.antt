@@ -2,7 +2,7 @@
 use Rattle.std.proofs.Common.{[], add-mul, ap, ap₂, arith, bit_and, Bool, drop, false, get_or, if◌then◌else◌, leb-true, length, List, lt-ltb, mul-add, mul-one}
 use Rattle.std.proofs.Common.{mul_assoc, nat_le, nat_lt, None, Option, option_and_then, option_map, refl, rules, Some, subst, suc, sym, true, zero, ℕ, ◌%◌}
 use Rattle.std.proofs.Common.{◌&&◌, ◌*◌, ◌+◌, ◌-◌, ◌<◌, ◌^◌, ◌∙◌, ◌∷◌, ◌≡◌, ◌≤◌}
-use Rattle.ick_runtime.proofs.Names.{Array, bound_of, common_steps, drop_of_length-le, element_offset, get_or_default_zero, nat_tests, number_of, product}
+use Rattle.ick_runtime.proofs.Names.{Array, bound_of, common_steps, drop_of_length-le, element_offset, nat_tests, number_of, product}
 use Rattle.ick_runtime.proofs.Names.{sized, Value, walk}
 use Rattle.ick_code.specs.meaning.Value.{offset_at}
 use Rattle.ick_runtime.proofs.Maps.{both_true}
@@ -101,18 +101,6 @@ is_inside p count below = ap (λ b. if b then Some p else None) (sym (lt-ltb p c
 
 pub is_outside : (p count : ℕ) → count ≤ p → None ≡ inside count (Some p)
 is_outside p count le = ap (λ b. if b then Some p else None) (sym (not_below p count le))
-
--- lists of one and two
-pub only_one : {A : Type 0} (xs : List A) (x : A) → length xs ≡ 1 → x ≡ get_or xs 0 x → xs ≡ x ∷ []
-only_one = grind (arith, common_steps)
-
-pub only_two : {A : Type 0} (xs : List A) (x y : A) → length xs ≡ 2 → x ≡ get_or xs 0 x → y ≡ get_or xs 1 y →
-    xs ≡ x ∷ y ∷ []
-only_two = grind (arith, common_steps)
-
--- the same number, whatever stands for one that isn't there
-pub same_default : (xs : List ℕ) (k : ℕ) → k < length xs → get_or xs k 0 ≡ get_or xs k (get_or xs k 0)
-same_default xs k low = sym (get_or_default_zero xs k (get_or xs k 0) low)
 
 -- a number in the bits of a kind of variable
 pub masked : (kind : NameKind) (n m : ℕ) → n < 2 ^ 32 → m + 1 ≡ bound_of kind → bit_and n m ≡ number_of (sized kind n)

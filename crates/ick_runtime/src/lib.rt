@@ -31,9 +31,7 @@ mod tracer;
 pub use calculate::{calculated, calculation};
 pub use change::{ArrayChange, Entry};
 pub use cursor::{Cursor, put, set_register};
-pub use element::{
-    fetched, greatest, index_of, index_of_one, index_of_two, set_element, sized, store_at,
-};
+pub use element::{fetched, greatest, index_of, set_element, store_at};
 pub use fresh::fresh_memory;
 pub use halt::{Halt, stored};
 pub use hide::{hide_array, set_hidden};
