@@ -9,6 +9,7 @@ pub mod LabelLemmas
 pub mod TableLemmas
 pub mod EmitLemmas
 pub mod CountLemmas
+pub mod Leaves
 pub mod Covers
 pub mod Slotted
 pub mod Runs
