@@ -1,11 +1,9 @@
 -- An operation of a body that pushes nothing takes all operands.
-use Rattle.std.proofs.Common.{◌≡◌, ℕ, zero, suc, ◌+◌, List, [], ◌∷◌, ◌++◌, take, Some, refl, sym, ap, subst, arith}
+use Rattle.std.proofs.Common.{◌≡◌, ℕ, zero, suc, ◌+◌, List, [], ◌∷◌, ◌++◌, take, Some, refl, sym, subst, arith}
 use Rattle.std.specs.Prelude.{slice_get}
 use Rattle.std.specs.List.{flat_map}
-use Rattle.ick_syntax.specs.declared.tree.Name.{Name}
 use Rattle.ick_syntax.specs.declared.tree.UnaryOp.{UnaryOp}
 use Rattle.ick_syntax.specs.declared.tree.BinaryOp.{BinaryOp}
-use Rattle.ick_syntax.specs.declared.body.Gerund.{Gerund}
 use Rattle.ick_syntax.specs.declared.body.Target.{Target}
 use Rattle.ick_syntax.specs.declared.body.Target.TheVariants as to
 use Rattle.ick_syntax.specs.declared.body.Place.{Place}
@@ -16,12 +14,10 @@ use Rattle.ick_syntax.specs.Tree.{Tree, mesh, scalar, element, unary, binary, Tr
 use Rattle.ick_syntax.specs.NameKinds.{count_in}
 use Rattle.ick_syntax.specs.BodyTree.{ItemTree, single, whole, item_tree}
 use Rattle.ick_code.specs.declared.op.Op.{Op}
-use Rattle.ick_code.specs.declared.op.Op.TheVariants.{Constant, Load, Fetch, Store, StoreAt, Resize, Call, Forget, Resume}
-use Rattle.ick_code.specs.declared.op.Op.TheVariants.{Save, Restore, Hide, Show, AbstainOne, ReinstateOne, AbstainKind}
-use Rattle.ick_code.specs.declared.op.Op.TheVariants.{ReinstateKind, Print, ReadTo, ReadAt, PrintArray, ReadArray}
-use Rattle.ick_code.specs.declared.op.Op.TheVariants.{Stop, Fail}
+use Rattle.ick_code.specs.declared.op.Op.TheVariants.{StoreAt, Resize, Forget, Resume}
+use Rattle.ick_code.specs.declared.op.Op.TheVariants.{Print, ReadAt}
 use Rattle.ick_code.specs.Effects.{Slots}
-use Rattle.ick_code.specs.Names.{slot_in, slot_name}
+use Rattle.ick_code.specs.Names.{slot_in}
 use Rattle.ick_code.specs.Operations.{unary_op_of, binary_op_of, ops_of_tree, ops_of_trees, ops_of_item, ops_at, store_ops}
 use Rattle.ick_code.specs.Operations.{read_ops, print_ops, ops_of_body}
 use Rattle.ick_code.specs.Counts.{popped_by, pushed_by, count_after, TakesAll}
