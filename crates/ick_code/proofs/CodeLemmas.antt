@@ -19,7 +19,7 @@ use Rattle.ick_code.specs.declared.code.Code.{Code}
 use Rattle.ick_code.specs.meaning.State.{same_name, statement_at}
 use Rattle.ick_code.specs.Names.{is_scalar_name, is_array_name, each_once, names_of, slots_of}
 use Rattle.ick_code.specs.Counts.{count_after, peak}
-use Rattle.ick_code.specs.Code.{kinds_of, Means, names_existing, LeadsLast, LeavesNone, IsCompiledStatement, IsCode}
+use Rattle.ick_code.specs.Code.{kinds_of, Means, names_existing, LeadsLast, FindOperands, IsCompiledStatement, IsCode}
 use Rattle.ick_code.specs.Compiled.{code_program, code_statement, code_slots, compiled_at, ops_in, code_ops, Shows}
 use Rattle.ick_code.specs.Compiled.{IsCompiled}
 use Rattle.ick_code.proofs.SlotLemmas.{each_once-distinct}
@@ -125,7 +125,7 @@ is_compiled program code are h =
           (each_ops (AllPass (names_existing (length program) (slots_of program))) program code h
           (All-nil (λ op. names_existing (length program) (slots_of program) op ≡ true)) (λ c s is. is.named) n);
       leads = each_ops LeadsLast program code h (λ k op at leads. absurd (cc)) (λ c s is. is.leads);
-      leaves = each_ops LeavesNone program code h (λ k op at none. absurd (cc)) (λ c s is. is.leaves);
+      finds = each_ops FindOperands program code h (λ k op at. absurd (cc)) (λ c s is. is.finds);
       slots_are = slots;
       scalars_once =
           subst (IsDistinct same_name) (sym h.scalars_are)

@@ -26,8 +26,8 @@ use Rattle.ick_code.specs.Names.{slots_of}
 use Rattle.ick_code.specs.Counts.{peak}
 use Rattle.ick_code.specs.Operations.{ops_of_body}
 use Rattle.ick_code.specs.Emitted.{IsEmitted}
-use Rattle.ick_code.specs.Code.{kinds_of, names_existing, LeadsLast, LeavesNone, IsCompiledStatement, IsCode}
-use Rattle.ick_code.proofs.Leaves.{body_leaves}
+use Rattle.ick_code.specs.Code.{kinds_of, names_existing, LeadsLast, FindOperands, IsCompiledStatement, IsCode}
+use Rattle.ick_code.proofs.Finds.{body_finds}
 use Rattle.ick_code.proofs.Members.{some_is, some_member, push_cases, mapped_from}
 use Rattle.ick_code.proofs.TakeLemmas.{take_with}
 use Rattle.ick_code.proofs.CountLemmas.{within_peak}
@@ -207,7 +207,7 @@ emitted_means program statements place most ops compiled n statement trees place
       low = low;
       named = All-same (λ op. names_existing (length program) slots op ≡ true) _ _ are settled.named;
       leads = subst LeadsLast (sym are) settled.leads;
-      leaves = subst LeavesNone (sym are) (body_leaves slots (λ label. place_of label program) statement.body);
+      finds = subst FindOperands (sym are) (body_finds slots (λ label. place_of label program) statement.body);
       chance = h.chance;
       abstained = h.abstained;
       text = h.text;

@@ -9,7 +9,7 @@ pub mod LabelLemmas
 pub mod TableLemmas
 pub mod EmitLemmas
 pub mod CountLemmas
-pub mod Leaves
+pub mod Finds
 pub mod Covers
 pub mod Slotted
 pub mod Runs

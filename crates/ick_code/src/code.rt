@@ -80,7 +80,8 @@ impl<'a> Code<'a> {
     /// Has no effect, and lets a proof use what the type keeps. The operations do what the
     /// statements of the program do. Each operation names only slots and statements that exist.
     /// Only the last operation of a statement may set where the run goes on, give up, or be the
-    /// fault of an unrecognised statement. An operation that pushes nothing leaves no operand.
+    /// fault of an unrecognised statement. Each operation finds its operands on the stack, and one
+    /// that pushes nothing leaves none.
     pub fn law(&self)
         ensures { IsCompiled (code_program self.now) self.now }
     {}
