@@ -4,21 +4,18 @@ use crate::memory::{Array, Memory};
 use ick_instructions::Lowered;
 
 impl Memory {
-    ghost use Rattle.std.specs.Prelude.{◌≡◌, ◌<◌, ◌≤◌, length, map, reverse, slice_get, Some};
+    ghost use Rattle.std.specs.Prelude.{◌≡◌, ◌<◌, ◌≤◌, length, map, reverse};
     ghost use Rattle.ick_code.specs.Compiled.{code_program};
-    ghost use Rattle.ick_syntax.specs.declared.tree.Name.{Name};
     ghost use Rattle.ick_runtime.specs.View.{array_names, array_of, scalar_names, state_of};
-    ghost use Rattle.ick_runtime.specs.{Memory.view_in, Steady.IsReady, Inputs.Input};
+    ghost use Rattle.ick_runtime.specs.Memory.{view_in, Shows, ShowsAt};
+    ghost use Rattle.ick_runtime.specs.{Steady.IsReady, Inputs.Input};
 
     /// Returns the number of the scalar in a slot.
     #[tactic(auto, using(crate::proofs::Maps::by_slots))]
     pub fn number(&self, program: &Lowered<'_, '_>, slot: u32) -> u32
         requires slot { slot < length (scalar_names program.now.code.now) }
         requires ready { IsReady program.now.code.now program.now.parts (view_in self.now) }
-        ensures { (input : Input) (name : Name) →
-            slice_get (scalar_names program.now.code.now) slot ≡ Some name →
-            (state_of program.now.code.now program.now.parts input (view_in self.now)).scalars name
-            ≡ result }
+        ensures { ShowsAt scalar_names slot program.now self.now (λ s. s.scalars) result }
     {
         // The index needs that each slot has a register, and the answer that no two have one name.
         program.law();
@@ -30,10 +27,7 @@ impl Memory {
     pub fn is_scalar_ignored(&self, program: &Lowered<'_, '_>, slot: u32) -> bool
         requires slot { slot < length (scalar_names program.now.code.now) }
         requires ready { IsReady program.now.code.now program.now.parts (view_in self.now) }
-        ensures { (input : Input) (name : Name) →
-            slice_get (scalar_names program.now.code.now) slot ≡ Some name →
-            (state_of program.now.code.now program.now.parts input (view_in self.now)).ignored name
-            ≡ result }
+        ensures { ShowsAt scalar_names slot program.now self.now (λ s. s.ignored) result }
     {
         // The index needs that each slot has a register, and the answer that no two have one name.
         program.law();
@@ -45,18 +39,14 @@ impl Memory {
     pub fn is_abstained_from(&self, program: &Lowered<'_, '_>, n: u32) -> bool
         requires last { n ≤ length (code_program program.now.code.now) }
         requires ready { IsReady program.now.code.now program.now.parts (view_in self.now) }
-        ensures { (input : Input) →
-            (state_of program.now.code.now program.now.parts input (view_in self.now)).abstained n
-            ≡ result }
+        ensures { Shows program.now self.now (λ s. s.abstained n) result }
     {
         self.statuses[n as usize] >= 128
     }
 
     /// Returns the number of the statement that is met next.
     pub fn place(&self, program: &Lowered<'_, '_>) -> u32
-        ensures { (input : Input) →
-            (state_of program.now.code.now program.now.parts input (view_in self.now)).place
-            ≡ result }
+        ensures { Shows program.now self.now (λ s. s.place) result }
     {
         self.cursor.place
     }
@@ -64,9 +54,7 @@ impl Memory {
     /// Returns the return addresses, the newest last.
     pub fn return_addresses(&self, program: &Lowered<'_, '_>) -> &[u32]
         requires ready { IsReady program.now.code.now program.now.parts (view_in self.now) }
-        ensures { (input : Input) →
-            (state_of program.now.code.now program.now.parts input (view_in self.now)).returns
-            ≡ reverse result.now }
+        ensures { Shows program.now self.now (λ s. s.returns) (reverse result.now) }
     {
         &self.returns[..self.cursor.depth]
     }
@@ -76,10 +64,8 @@ impl Memory {
     pub fn dimensions(&self, program: &Lowered<'_, '_>, slot: u32) -> &[u32]
         requires slot { slot < length (array_names program.now.code.now) }
         requires ready { IsReady program.now.code.now program.now.parts (view_in self.now) }
-        ensures { (input : Input) (name : Name) →
-            slice_get (array_names program.now.code.now) slot ≡ Some name →
-            ((state_of program.now.code.now program.now.parts input (view_in self.now)).arrays
-            name).dimensions ≡ result.now }
+        ensures { ShowsAt array_names slot program.now self.now (λ s name. (s.arrays name).dimensions)
+            result.now }
     {
         // The answer needs that no two slots have one name.
         program.code.law();
@@ -91,10 +77,8 @@ impl Memory {
     pub fn elements(&self, program: &Lowered<'_, '_>, slot: u32) -> &[u32]
         requires slot { slot < length (array_names program.now.code.now) }
         requires ready { IsReady program.now.code.now program.now.parts (view_in self.now) }
-        ensures { (input : Input) (name : Name) →
-            slice_get (array_names program.now.code.now) slot ≡ Some name →
-            ((state_of program.now.code.now program.now.parts input (view_in self.now)).arrays
-            name).elements ≡ result.now }
+        ensures { ShowsAt array_names slot program.now self.now (λ s name. (s.arrays name).elements)
+            result.now }
     {
         // The answer needs that no two slots have one name.
         program.code.law();
@@ -106,10 +90,7 @@ impl Memory {
     pub fn is_array_ignored(&self, program: &Lowered<'_, '_>, slot: u32) -> bool
         requires slot { slot < length (array_names program.now.code.now) }
         requires ready { IsReady program.now.code.now program.now.parts (view_in self.now) }
-        ensures { (input : Input) (name : Name) →
-            slice_get (array_names program.now.code.now) slot ≡ Some name →
-            (state_of program.now.code.now program.now.parts input (view_in self.now)).ignored name
-            ≡ result }
+        ensures { ShowsAt array_names slot program.now self.now (λ s. s.ignored) result }
     {
         // The answer needs that no two slots have one name.
         program.code.law();
@@ -120,10 +101,8 @@ impl Memory {
     pub fn stashed_numbers(&self, program: &Lowered<'_, '_>, slot: u32) -> &[u32]
         requires slot { slot < length (scalar_names program.now.code.now) }
         requires ready { IsReady program.now.code.now program.now.parts (view_in self.now) }
-        ensures { (input : Input) (name : Name) →
-            slice_get (scalar_names program.now.code.now) slot ≡ Some name →
-            (state_of program.now.code.now program.now.parts input (view_in
-            self.now)).stashed_scalars name ≡ reverse result.now }
+        ensures { ShowsAt scalar_names slot program.now self.now (λ s. s.stashed_scalars)
+            (reverse result.now) }
     {
         // The answer needs that no two slots have one name.
         program.code.law();
@@ -135,10 +114,8 @@ impl Memory {
     pub fn stashed_arrays(&self, program: &Lowered<'_, '_>, slot: u32) -> &[Array]
         requires slot { slot < length (array_names program.now.code.now) }
         requires ready { IsReady program.now.code.now program.now.parts (view_in self.now) }
-        ensures { (input : Input) (name : Name) →
-            slice_get (array_names program.now.code.now) slot ≡ Some name →
-            (state_of program.now.code.now program.now.parts input (view_in
-            self.now)).stashed_arrays name ≡ reverse (map array_of result.now) }
+        ensures { ShowsAt array_names slot program.now self.now (λ s. s.stashed_arrays)
+            (reverse (map array_of result.now)) }
     {
         // The answer needs that no two slots have one name.
         program.code.law();
@@ -157,27 +134,21 @@ impl Memory {
 
     /// Returns the output.
     pub fn output(&self, program: &Lowered<'_, '_>) -> &[u8]
-        ensures { (input : Input) →
-            (state_of program.now.code.now program.now.parts input (view_in self.now)).output
-            ≡ result.now }
+        ensures { Shows program.now self.now (λ s. s.output) result.now }
     {
         &self.rest.output
     }
 
     /// Returns the position of the tape that arrays are printed to.
     pub fn last(&self, program: &Lowered<'_, '_>) -> u8
-        ensures { (input : Input) →
-            (state_of program.now.code.now program.now.parts input (view_in self.now)).last
-            ≡ result }
+        ensures { Shows program.now self.now (λ s. s.last) result }
     {
         self.rest.last
     }
 
     /// Returns the position of the tape that arrays are read from.
     pub fn lastin(&self, program: &Lowered<'_, '_>) -> u8
-        ensures { (input : Input) →
-            (state_of program.now.code.now program.now.parts input (view_in self.now)).lastin
-            ≡ result }
+        ensures { Shows program.now self.now (λ s. s.lastin) result }
     {
         self.rest.lastin
     }
