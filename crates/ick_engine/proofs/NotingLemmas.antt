@@ -20,11 +20,11 @@ kept_twice one other = grind (arith, common_steps)
 -- an array that was noted first
 module _ {N : Type 0} {Undoes : N → ℕ → View → View → Type 0} {low : N → ℕ} {fixed : N → Fixed}
     {changes : N → List Change} {first mid last : N} {before : Parts → Parts} (noted : NotesBefore Undoes low fixed changes mid last before) where
-  pub array_noted : (slot b : ℕ) (a : Array) → KeepsNotes low fixed changes first mid →
-      NotesChange Undoes first mid b (array_was Replaced slot a) →
+  pub array_noted : (slot : ℕ) (a : Array) → KeepsNotes low fixed changes first mid →
+      NotesChange Undoes first mid (array_was Replaced slot a) →
       NotesBefore Undoes low fixed changes first last
       (λ p. record (before p) { arrays = slice_set (before p).arrays slot a })
-  array_noted slot b a kept change = grind (arith, common_steps)
+  array_noted slot a kept change = grind (arith, common_steps)
 
 -- arrays that were noted behind
 module _ {N : Type 0} {Undoes : N → ℕ → View → View → Type 0} {low : N → ℕ} {fixed : N → Fixed}

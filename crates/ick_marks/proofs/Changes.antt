@@ -1,12 +1,12 @@
 -- The changes that a trail has.
-use Rattle.std.proofs.Common.{arith, false, get_or, length, List, refl, reverse, rules, take, take_all, ◌++◌, ◌≡◌, ◌≤◌, [], ap, map, suc, sym, ℕ, ◌∷◌}
-use Rattle.ick_marks.proofs.Names.{all_undone, changes_in, common_steps, length-take-le, statuses_were, take-append-le, array_of, array_was, ArrayValue}
+use Rattle.std.proofs.Common.{arith, false, get_or, length, List, refl, reverse, rules, take, take_all, ◌++◌, ◌≡◌, ◌≢◌, ◌≤◌, [], ap, map, suc, sym, ℕ, ◌∷◌}
+use Rattle.ick_marks.proofs.Names.{all_undone, changes_in, common_steps, notes_back, Rewinds, length-take-le, statuses_were, take-append-le, array_of, array_was, ArrayValue}
 use Rattle.ick_marks.proofs.Names.{change_of, Extends, HighSame, no_change, undone, Like, Trail, View}
 use Rattle.std.{proofs.lemmas.List.length-reverse, proofs.Math.Seq.take-suc, specs.Global.Vec}
 use Rattle.ick_runtime.specs.declared.{change.ArrayChange.ArrayChange, change.Entry.Entry, memory.Array.Array}
-use Rattle.ick_runtime.proofs.Undoing.{like_refl, marks_here}
-use Rattle.ick_marks.specs.TrailChanges.{AreUndone, changes_by, fixed_by, IsNoted, IsUndone}
-use Rattle.ick_runtime.specs.{Undo.Change, Undo.changes_of, Undo.fixed_of, Undo.stands_apart, View.bytes_of}
+use Rattle.ick_runtime.proofs.Undoing.{IsBelow, like_refl, marks_here}
+use Rattle.ick_marks.specs.TrailChanges.{AreUndone, changes_by, fixed_by, IsNoted, IsUndone, UndoesBy}
+use Rattle.ick_runtime.specs.{Undo.Change, Undo.changes_of, Undo.fixed_of, Undo.IsUndoable, Undo.stands_apart, View.bytes_of}
 use Rattle.ick_runtime.specs.declared.change.Entry.TheVariants as entry
 
 -- an entry with its old value is a change of its own
@@ -46,6 +46,22 @@ fixed_moved t u base kept more = search (rules, fixed_grown)
 pub newest_alone : (t : Trail) (all rest : List Entry) (e : Entry) → stands_apart e ≡ false → all ≡ rest ++ e ∷ [] →
     reverse (changes_by t (reverse all)) ≡ reverse (changes_by t (reverse rest)) ++ change_of e ∷ []
 newest_alone t all rest e h is = grind (arith, common_steps)
+
+-- it was noted
+pub noted_alone : (t : Trail) (all : List Entry) (pushed e : Entry) (k : ℕ) (v m : View) →
+    all ≡ t.entries.items ++ pushed ∷ [] → pushed ≡ e → stands_apart e ≡ false → IsBelow t.base (change_of e) →
+    IsUndoable (change_of e) v → UndoesBy t k (undone (change_of e) v) m →
+    (k ≤ t.kept) × Rewinds t.base (reverse (changes_by t (reverse all))) t.low k v m
+noted_alone t all pushed e k v m grew is apart below can h = (
+  h.0,
+  rw (newest_alone t all t.entries.items e apart (rw is at grew))
+      (notes_back t.base (changes_in t) t.low k (change_of e) v m below can h.1),
+)
+
+-- an entry of another kind is none of a register
+pub below_other : (base : ℕ) (e : Entry) → ((at old : ℕ) → e ≢ entry.Register at old) →
+    ((slot number old : ℕ) → e ≢ entry.ScalarRestored slot number old) → IsBelow base (change_of e)
+below_other = search rules
 
 pub grown : (t : Trail) (all rest : List Entry) (e : Entry) → stands_apart e ≡ false → all ≡ rest ++ e ∷ [] →
     Extends (reverse (changes_by t (reverse rest))) (reverse (changes_by t (reverse all)))

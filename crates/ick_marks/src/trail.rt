@@ -76,23 +76,6 @@ impl Trail {
         self.low = 0;
     }
 
-    /// Returns whether the newest change is one of a register, and newer than the newest mark.
-    /// Undoing it restores the register, so a further change needs no entry.
-    #[tactic(auto, using(crate::proofs::Changes::newest_register))]
-    #[inline(always)]
-    fn has_noted(&self, at: u32) -> bool
-        ensures { result ≡ true → IsNoted self.now at }
-    {
-        let count = self.entries.len();
-        if count <= self.kept {
-            return false;
-        }
-        match self.entries[count - 1] {
-            Entry::Register(newest, _) => newest == at,
-            _ => false,
-        }
-    }
-
     /// Notes the return addresses from a depth on that aren't noted yet.
     #[cold]
     #[inline(never)]
@@ -156,15 +139,21 @@ impl Notes for Trail {
     #[inline(always)]
     fn law(&self) {}
 
+    /// Returns false if the register is never restored, or if the newest change is one of the
+    /// register, and newer than the newest mark.
     #[inline(always)]
-    fn note_register(&mut self, registers: &[u32], at: u32) {
+    fn must_note(&self, at: u32) -> bool {
         if at >= self.base {
-            return;
+            return false;
         }
-        if self.has_noted(at) {
-            return;
+        let count = self.entries.len();
+        if count <= self.kept {
+            return true;
         }
-        self.note(Entry::Register(at, registers[at as usize]));
+        match self.entries[count - 1] {
+            Entry::Register(newest, _) => newest != at,
+            _ => true,
+        }
     }
 
     #[inline(always)]
@@ -184,16 +173,21 @@ impl Notes for Trail {
     #[tactic(auto, using(crate::proofs::Changes::noting))]
     #[inline(always)]
     fn note(&mut self, entry: Entry) {
-        self.entries.push_reserved(entry);
-    }
-
-    fn note_restored(&mut self, registers: &[u32], slot: u32, number: u32) {
-        if slot >= self.base {
-            self.note(Entry::ScalarTaken(slot, number));
-            return;
+        match entry {
+            Entry::Register(at, _) => {
+                if at >= self.base {
+                    return;
+                }
+            }
+            Entry::ScalarRestored(slot, number, _) => {
+                if slot >= self.base {
+                    self.entries.push_reserved(Entry::ScalarTaken(slot, number));
+                    return;
+                }
+            }
+            _ => {}
         }
-        let old = registers[slot as usize];
-        self.note(Entry::ScalarRestored(slot, number, old));
+        self.entries.push_reserved(entry);
     }
 
     fn make_room(&mut self, more: usize) -> Result<(), NoMemory> {

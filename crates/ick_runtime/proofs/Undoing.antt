@@ -58,39 +58,42 @@ noted : (base : ℕ) (changes : List Change) (low low' k : ℕ) (change : Change
     Rewinds base (changes ++ change ∷ []) low' k u m
 noted base changes low low' k change u v m h back = grind (arith, common_steps)
 
--- views that are alike are so after a change of both is undone
-pub undone_like : (base low : ℕ) (change : Change) (v w : View) → IsUndoable base change v → Like base low v w →
-    Like base low (undone change v) (undone change w)
-undone_like base low (register_was at old) v w can l = grind (arith, common_steps)
-undone_like base low (home_was at old) v w can l = search rules
-undone_like base low (status_was at old) v w can l = search rules
-undone_like base low (return_was at old) v w can l = grind (arith, common_steps)
-undone_like base low (element_was slot at old) v w can l = search rules
-undone_like base low (hidden_was slot old) v w can l = search rules
-undone_like base low (scalar_saved slot) v w can l = grind (arith, common_steps, scalars_alike, taken_off_like, with_parts)
-undone_like base low (scalar_taken slot number) v w can l = grind (arith, common_steps)
-undone_like base low (scalar_restored slot number old) v w can l = grind (arith, common_steps)
-undone_like base low (array_saved slot) v w can l = grind (arith, common_steps, arrays_alike, taken_off_like, with_parts)
-undone_like base low (array_was change slot old) v w can l = grind (arith, common_steps)
-undone_like base low (statuses_were old) v w can l = alike l.registers l.home refl l.parts l.returns
-undone_like base low (taken_was old) v w can l = search rules
-undone_like base low (output_was count) v w can l = search rules
-undone_like base low (last_was old) v w can l = search rules
-undone_like base low (lastin_was old) v w can l = search rules
-undone_like base low no_change v w can l = l
+-- a change is none of a register from a number on
+abbrev pub IsBelow : (base : ℕ) → Change → Type 0
+IsBelow base (register_was at old) = at < base
+IsBelow base (scalar_restored slot number old) = slot < base
+IsBelow base other = Unit {0}
 
-undone_high : (base : ℕ) (change : Change) (v w : View) → IsUndoable base change v → HighSame base w (undone change w)
+-- views that are alike are so after a change of both is undone
+pub undone_like : (base low : ℕ) (change : Change) (v w : View) → IsBelow base change → IsUndoable change v → Like base low v w →
+    Like base low (undone change v) (undone change w)
+undone_like base low (register_was at old) v w below can l = grind (arith, common_steps)
+undone_like base low (home_was at old) v w below can l = search rules
+undone_like base low (status_was at old) v w below can l = search rules
+undone_like base low (return_was at old) v w below can l = grind (arith, common_steps)
+undone_like base low (element_was slot at old) v w below can l = search rules
+undone_like base low (hidden_was slot old) v w below can l = search rules
+undone_like base low (scalar_saved slot) v w below can l = grind (arith, common_steps, scalars_alike, taken_off_like, with_parts)
+undone_like base low (scalar_taken slot number) v w below can l = grind (arith, common_steps)
+undone_like base low (scalar_restored slot number old) v w below can l = grind (arith, common_steps)
+undone_like base low (array_saved slot) v w below can l = grind (arith, common_steps, arrays_alike, taken_off_like, with_parts)
+undone_like base low (array_was change slot old) v w below can l = grind (arith, common_steps)
+undone_like base low (statuses_were old) v w below can l = alike l.registers l.home refl l.parts l.returns
+undone_like base low (taken_was old) v w below can l = search rules
+undone_like base low (output_was count) v w below can l = search rules
+undone_like base low (last_was old) v w below can l = search rules
+undone_like base low (lastin_was old) v w below can l = search rules
+undone_like base low no_change v w below can l = l
+
+undone_high : (base : ℕ) (change : Change) (w : View) → IsBelow base change → HighSame base w (undone change w)
 undone_high = search rules
 
--- a change whose undoing gives a view back
-pub notes_back : (base : ℕ) (changes : List Change) (low k : ℕ) (change : Change) (u v m : View) →
-    IsUndoable base change u → undone change u ≡ v → Rewinds base changes low k v m →
-    Rewinds base (changes ++ change ∷ []) low k u m
-notes_back base changes low k change u v m can same h = noted base changes low low k change u v m h
-    (λ w like. (
-      subst (λ x. Like base low x (undone change w)) same (undone_like base low change u w can like),
-      undone_high base change u w can,
-    ))
+-- a change that was noted
+pub notes_back : (base : ℕ) (changes : List Change) (low k : ℕ) (change : Change) (v m : View) → IsBelow base change →
+    IsUndoable change v → Rewinds base changes low k (undone change v) m →
+    Rewinds base (changes ++ change ∷ []) low k v m
+notes_back base changes low k change v m below can h = noted base changes low low k change v (undone change v) m h
+    (λ w like. (undone_like base low change v w below can like, undone_high base change w below))
 
 put_back : (xs : List ℕ) (at n : ℕ) → slice_set (slice_set xs at n) at (get_or xs at 0) ≡ xs
 put_back xs at n = set-set xs at n (get_or xs at 0) ∙ set-get_or xs at 0
@@ -115,46 +118,40 @@ pub restored_back : (base low slot number n : ℕ) (registers : List ℕ) (v : V
     (record v { registers = slice_set registers slot n; parts = p }))
 restored_back base low slot number n registers v p same parts = grind (arith, common_steps)
 
--- the same with a register that is never restored
-pub taken_back : (base low slot number n : ℕ) (registers : List ℕ) (v : View) (p : Parts) → v.registers ≡ registers →
-    base ≤ slot →
-    PartsLike v.parts (record p { scalar_stashes = at_slot (put_on number) slot p.scalar_stashes }) →
-    Like base low v (undone (scalar_taken slot number)
-    (record v { registers = slice_set registers slot n; parts = p }))
-taken_back base low slot number n registers v p same above parts = search rules
+-- a register that is never restored stays as it is
+pub register_left : (base low at old : ℕ) (v : View) → base ≤ at → Like base low (undone (register_was at old) v) v
+register_left base low at old v above = search rules
+
+pub restored_left : (base low slot number old : ℕ) (v : View) → base ≤ slot →
+    Like base low (undone (scalar_restored slot number old) v) (undone (scalar_taken slot number) v)
+restored_left base low slot number old v above = grind (arith, common_steps)
 
 -- a register of which the newest change was noted
-pub keeps_register : (base : ℕ) (changes older : List Change) (low k at old number : ℕ) (registers : List ℕ) (v m : View) →
-    v.registers ≡ registers → at < base → changes ≡ older ++ register_was at old ∷ [] → k ≤ length older →
-    Rewinds base changes low k v m →
-    Rewinds base changes low k (record v { registers = slice_set registers at number }) m
-keeps_register base changes older low k at old number registers v m from below is few h = record {
+pub keeps_register : (base : ℕ) (changes older : List Change) (low k at old was : ℕ) (v m : View) → at < base →
+    changes ≡ older ++ register_was at was ∷ [] → k ≤ length older →
+    Rewinds base changes low k (undone (register_was at old) v) m → Rewinds base changes low k v m
+keeps_register base changes older low k at old was v m below is few h = record {
   within = h.within;
   leads = λ w like. subst (Like base m.depth m) (same w) (h.leads (before w) (back w like));
-  stays = λ w like r high.
-      rw (← same w) (h.stays (before w) (back w like) r high ∙ undone_high base change after w below r high);
+  stays = λ w like r high. rw (← same w) (h.stays (before w) (back w like) r high ∙ undone_high base change w below r high);
 }
   where
     change : Change
-    change = register_was at (get_or registers at 0)
-
-    after : View
-    after = record v { registers = slice_set registers at number }
+    change = register_was at old
 
     before : View → View
     before w = undone change w
 
-    back : (w : View) → Like base low after w → Like base low v (before w)
-    back w like = rw (← register_back at number registers v from) (undone_like base low change after w below like)
+    back : (w : View) → Like base low v w → Like base low (before v) (before w)
+    back w like = undone_like base low change v w below tt like
 
-    first : reverse (drop k changes) ≡ register_was at old ∷ reverse (drop k older)
-    first = ap (λ l. reverse (drop k l)) is ∙ newest_first older (register_was at old) k few
+    first : reverse (drop k changes) ≡ register_was at was ∷ reverse (drop k older)
+    first = ap (λ l. reverse (drop k l)) is ∙ newest_first older (register_was at was) k few
 
     same : (w : View) → rewound (reverse (drop k changes)) (before w) ≡ rewound (reverse (drop k changes)) w
     same w =
         ap (λ es. rewound es (before w)) first
-        ∙ ap {A = List ℕ} (λ l. rewound (reverse (drop k older)) (record w { registers = l }))
-        (set-set w.registers at (get_or registers at 0) old)
+        ∙ ap {A = List ℕ} (λ l. rewound (reverse (drop k older)) (record w { registers = l })) (set-set w.registers at old was)
         ∙ sym (ap (λ es. rewound es w) first)
 
 -- an element

@@ -137,13 +137,12 @@ abbrev pub HasPlace : {A : Type 0} → List (Stash A) → ℕ → Type 0
 HasPlace stashes slot = (get_or stashes slot no_stash).depth < length (get_or stashes slot no_stash).items
 
 -- the value before a change can be put back
-abbrev pub IsUndoable : (base : ℕ) → Change → View → Type 0
-IsUndoable base (register_was at old) v = at < base
-IsUndoable base (scalar_taken slot number) v = HasPlace v.parts.scalar_stashes slot
-IsUndoable base (scalar_restored slot number old) v = (slot < base) × HasPlace v.parts.scalar_stashes slot
-IsUndoable base (array_was now.Taken slot old) v = HasPlace v.parts.array_stashes slot
-IsUndoable base (array_was now.Restored slot old) v = HasPlace v.parts.array_stashes slot
-IsUndoable base other v = Unit {0}
+abbrev pub IsUndoable : Change → View → Type 0
+IsUndoable (scalar_taken slot number) v = HasPlace v.parts.scalar_stashes slot
+IsUndoable (scalar_restored slot number old) v = HasPlace v.parts.scalar_stashes slot
+IsUndoable (array_was now.Taken slot old) v = HasPlace v.parts.array_stashes slot
+IsUndoable (array_was now.Restored slot old) v = HasPlace v.parts.array_stashes slot
+IsUndoable other v = Unit {0}
 
 -- stashes with the same values, and with as much room at least
 pub record StashLike {A : Type 0} (old new : Stash A) : Type 0 where
@@ -211,10 +210,9 @@ NotesElement Undoes old new slot at arrays =
     (k number : ℕ) (v m : View) → v.parts.arrays ≡ arrays → Undoes old k v m →
     Undoes new k (with_arrays (with_number arrays slot at number) v) m
 
-abbrev pub NotesChange : {N : Type 0} → (N → ℕ → View → View → Type 0) → N → N →
-    (base : ℕ) → Change → Type 0
-NotesChange Undoes old new base change =
-    (k : ℕ) (v m : View) → IsUndoable base change v → Undoes old k (undone change v) m → Undoes new k v m
+abbrev pub NotesChange : {N : Type 0} → (N → ℕ → View → View → Type 0) → N → N → Change → Type 0
+NotesChange Undoes old new change =
+    (k : ℕ) (v m : View) → IsUndoable change v → Undoes old k (undone change v) m → Undoes new k v m
 
 -- what could be undone before can be undone after
 abbrev pub KeepsUndoing : {N : Type 0} → (N → ℕ → View → View → Type 0) → N → N → Type 0

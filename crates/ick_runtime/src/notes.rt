@@ -7,7 +7,7 @@ ghost use Rattle.std.proofs.Common.{get_or};
 ghost use Rattle.ick_code.specs.meaning.State.{no_array};
 ghost use Rattle.ick_instructions.specs.Extends.{Extends};
 ghost use Rattle.ick_runtime.specs.Undo.{array_was, at_slot, change_of, put_on, stands_apart};
-ghost use Rattle.ick_runtime.specs.Undo.{statuses_were, Change, Fixed, HasPlace, KeepsUndoing};
+ghost use Rattle.ick_runtime.specs.Undo.{register_was, statuses_were, Change, Fixed, HasPlace, KeepsUndoing};
 ghost use Rattle.ick_runtime.specs.Undo.{Like, Means, NotesChange, NotesElement, PartsLike};
 ghost use Rattle.ick_runtime.specs.{Noting.NotesOne, View.array_of, View.Parts, View.View};
 
@@ -55,14 +55,11 @@ pub trait Notes: Drop {
         ensures means { Means Undoes tells self.now (changes self.now) (fixed self.now)
             (low self.now) };
 
-    /// Notes that a register will change.
-    fn note_register(&mut self, registers: &[u32], at: u32)
-        requires room { 0 < room self.old }
-        requires there { at < length registers.now }
-        ensures noted { NotesOne room low fixed changes self.old self.new }
-        ensures notes { (k number : ℕ) (v m : View) → v.registers ≡ registers.now →
-            Undoes self.old k v m →
-            Undoes self.new k (record v { registers = slice_set registers.now at number }) m };
+    /// Returns whether a change of a register has to be noted. If not, undoing restores the
+    /// register anyway, or it is never restored.
+    fn must_note(&self, at: u32) -> bool
+        ensures { result ≡ false → (old : ℕ) →
+            NotesChange Undoes self.now self.now (register_was at old) };
 
     /// Notes that an element will have another number.
     fn note_element(&mut self, arrays: &[Array], slot: u32, at: u32)
@@ -85,30 +82,13 @@ pub trait Notes: Drop {
         ensures notes { (k : ℕ) (v m : View) → v.returns ≡ returns.now → Undoes self.old k v m →
             Undoes self.new k v m };
 
-    /// Notes a change whose old value is in its entry. It may have been made already.
+    /// Notes a change whose old value is in its entry. It may have been made already. Undoing may
+    /// leave registers that are never restored as they are.
     fn note(&mut self, entry: Entry)
         requires room { 0 < room self.old }
         requires alone { stands_apart entry ≡ false }
         ensures noted { NotesOne room low fixed changes self.old self.new }
-        ensures notes { NotesChange Undoes self.old self.new (fixed self.old).base
-            (change_of entry) };
-
-    /// Notes that the number of the scalar in a slot will change to one that was taken off its
-    /// stash.
-    fn note_restored(&mut self, registers: &[u32], slot: u32, number: u32)
-        requires room { 0 < room self.old }
-        requires there { slot < length registers.now }
-        ensures noted { NotesOne room low fixed changes self.old self.new }
-        ensures notes { (k n : ℕ) (v m : View) (p : Parts) → v.registers ≡ registers.now →
-            HasPlace p.scalar_stashes slot →
-            PartsLike v.parts (record p {
-              scalar_stashes =
-                  at_slot (put_on number) slot p.scalar_stashes;
-            }) → Undoes self.old k v m →
-            Undoes self.new k (record v {
-              registers = slice_set registers.now slot n;
-              parts = p;
-            }) m };
+        ensures notes { NotesChange Undoes self.old self.new (change_of entry) };
 
     /// Makes room for so many changes and all return addresses. If memory runs out, nothing else
     /// changes.
@@ -124,7 +104,7 @@ pub trait Notes: Drop {
     fn note_array(&mut self, change: ArrayChange, slot: u32, array: &Array) -> Result<(), NoMemory>
         requires room { 0 < room self.old }
         ensures noted { NotesOne room low fixed changes self.old self.new }
-        ensures notes { OnOk result (NotesChange Undoes self.old self.new (fixed self.old).base
+        ensures notes { OnOk result (NotesChange Undoes self.old self.new
             (array_was change slot (array_of array.now))) }
         ensures same { OnErr result (changes self.new ≡ changes self.old) }
         ensures keeps { OnErr result (KeepsUndoing Undoes self.old self.new) };
@@ -134,7 +114,7 @@ pub trait Notes: Drop {
     fn note_statuses(&mut self, statuses: &[u8]) -> Result<(), NoMemory>
         requires room { 0 < room self.old }
         ensures noted { NotesOne room low fixed changes self.old self.new }
-        ensures notes { OnOk result (NotesChange Undoes self.old self.new (fixed self.old).base
+        ensures notes { OnOk result (NotesChange Undoes self.old self.new
             (statuses_were statuses.now)) }
         ensures same { OnErr result (changes self.new ≡ changes self.old) }
         ensures keeps { OnErr result (KeepsUndoing Undoes self.old self.new) };
@@ -176,7 +156,9 @@ impl Notes for Nobody {
     fn law(&self) {}
 
     #[inline(always)]
-    fn note_register(&mut self, registers: &[u32], at: u32) {}
+    fn must_note(&self, at: u32) -> bool {
+        false
+    }
 
     #[inline(always)]
     fn note_element(&mut self, arrays: &[Array], slot: u32, at: u32) {}
@@ -186,9 +168,6 @@ impl Notes for Nobody {
 
     #[inline(always)]
     fn note(&mut self, entry: Entry) {}
-
-    #[inline(always)]
-    fn note_restored(&mut self, registers: &[u32], slot: u32, number: u32) {}
 
     #[inline(always)]
     fn make_room(&mut self, more: usize) -> Result<(), NoMemory> {

@@ -239,7 +239,7 @@ pub fn restore_scalar<N: Notes>(
         notes.note(Entry::ScalarTaken(slot, number));
         return true;
     }
-    notes.note_restored(registers, slot, number);
+    notes.note(Entry::ScalarRestored(slot, number, registers[slot as usize]));
     registers[slot as usize] = number;
     true
 }

@@ -5,10 +5,10 @@ pub returns-in-Ok-set_dimensions-clause-notes : goal.returns-in-Ok-set_dimension
 returns-in-Ok-set_dimensions-clause-notes g c =
     sized_back c.args.arrays.now.items c.args.slot c.set_dimensions.new.array c.index_mut-array.result.now
     c.index_mut-array.ensures.value g.N.Notes.Undoes c.args.notes.now c.note_array.new.self
-    ((g.N.Notes.fixed c.args.notes.now).base) c.in-Ok.ensures.notes
+    c.in-Ok.ensures.notes
 
 pub returns-in-Err-clause-notes : goal.returns-in-Err-clause-notes
 returns-in-Err-clause-notes g c =
     sized_back c.args.arrays.now.items c.args.slot c.set_dimensions.new.array c.index_mut-array.result.now
     c.index_mut-array.ensures.value g.N.Notes.Undoes c.args.notes.now c.note_array.new.self
-    ((g.N.Notes.fixed c.args.notes.now).base) c.in-Ok.ensures.notes
+    c.in-Ok.ensures.notes

@@ -17,7 +17,7 @@ returns-in_err-note_reading-clause-notes g c =
     let old = parts_of m in
     let r = c.index-array.result.now in
     noted_parts
-    (array_noted c.note_reading.ensures.notes c.args.slot ((g.N.Notes.fixed c.args.notes.now).base) (array_of r)
+    (array_noted c.note_reading.ensures.notes c.args.slot (array_of r)
     c.in_ok-note_array.ensures.noted.kept c.in_ok-note_array.ensures.notes) old old
     (ap (λ l. record old { arrays = l }) (put_same array_of m.arrays.items c.args.slot r c.index-array.ensures))
 
@@ -29,7 +29,7 @@ returns-clause-notes g c =
     let slot = c.args.slot in
     let r = c.index-array.result.now in
     noted_parts
-    (array_noted c.note_reading.ensures.notes slot ((g.N.Notes.fixed c.args.notes.now).base) (array_of r)
+    (array_noted c.note_reading.ensures.notes slot (array_of r)
     c.in_ok-note_array.ensures.noted.kept c.in_ok-note_array.ensures.notes) old _
     (ap₂ (λ arrays hidden. record old { arrays = arrays; hidden = hidden })
     (put_back array_of all slot _ r c.index-array.ensures)
@@ -43,7 +43,7 @@ returns-in_err-read_bytes-clause-notes g c =
     let slot = c.args.slot in
     let r = c.index-array.result.now in
     noted_parts
-    (array_noted c.note_reading.ensures.notes slot ((g.N.Notes.fixed c.args.notes.now).base) (array_of r)
+    (array_noted c.note_reading.ensures.notes slot (array_of r)
     c.in_ok-note_array.ensures.noted.kept c.in_ok-note_array.ensures.notes) old _
     (ap₂ (λ arrays hidden. record old { arrays = arrays; hidden = hidden })
     (put_back array_of all slot _ r c.index-array.ensures)

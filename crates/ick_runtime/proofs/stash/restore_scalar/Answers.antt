@@ -1,7 +1,7 @@
 use Rattle.std.proofs.Common.{get_or, map, rules, slice_set}
 use Rattle.ick_runtime.proofs.Names.{ChangesAt, IsTakenOff, no_stash, numbers_of, Parts, with_scalar_stashes}
 use Rattle.ick_runtime.proofs.StashingLemmas.{changes_at, kept_at, like_scalars, restored_elsewhere, restored_here, taken_like}
-use Rattle.ick_runtime.proofs.{stash.restore_scalar.Given.Over, stash.restore_scalar.Goals.In-Some}
+use Rattle.ick_runtime.proofs.{Undoing.restored_back, stash.restore_scalar.Given.Over, stash.restore_scalar.Goals.In-Some}
 use Rattle.ick_runtime.proofs.stash.restore_scalar.Goals as goal
 
 -- the number is off its stash
@@ -44,5 +44,6 @@ returns-clause-notes g c = λ k v m registers same h.
     let number = c.in-Some.number in
     let at : ChangesAt c.args.slot (IsTakenOff number) old new = taken g (goal.at.returns-clause-notes g c).In-Some in
     let p : Parts = record v.parts { scalar_stashes = new } in
-    c.note_restored.ensures.notes k number v m p registers at.here.place
-    (like_scalars 0 0 v _ (taken_like number c.args.slot _ old new same at)).parts h
+    c.note-2.ensures.notes k (record v { registers = slice_set c.args.registers.now c.args.slot number; parts = p }) m at.here.place
+    (c.law.ensures.alike k v _ m (restored_back _ _ c.args.slot number number c.args.registers.now v p registers
+    (like_scalars 0 0 v _ (taken_like number c.args.slot _ old new same at)).parts) h)

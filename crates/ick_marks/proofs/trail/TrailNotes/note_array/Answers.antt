@@ -1,5 +1,4 @@
-use Rattle.std.proofs.Common.{refl}
-use Rattle.ick_marks.proofs.Names.{array_of, array_was, changes_in, notes_back, undone}
+use Rattle.ick_marks.proofs.Names.{array_of, array_was, changes_in, notes_back}
 use Rattle.ick_marks.proofs.Changes.{newest_array}
 use Rattle.ick_marks.proofs.trail.TrailNotes.note_array.Goals as goal
 
@@ -10,5 +9,5 @@ returns-clause-notes c = λ k v m can h.
       h.0,
       rw (newest_array t c.push_reserved.new.self.items c.push.new.self.items c.args.change c.args.slot
           c.in_ok-copy_array.field-0 (array_of c.args.array.now) c.push_reserved.ensures.items c.in_ok-push.ensures.items c.in_ok-copy_array.ensures.array)
-          (notes_back t.base (changes_in t) t.low k change v (undone change v) m can refl h.1),
+          (notes_back t.base (changes_in t) t.low k change v m tt can h.1),
     )
