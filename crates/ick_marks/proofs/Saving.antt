@@ -4,7 +4,8 @@ use Rattle.ick_marks.proofs.Names.{common_steps, get_or-map, length-map, length-
 use Rattle.ick_marks.proofs.Names.{IsProgram, numbers_on, saved_view, take-take, AreSame, array_of, IsLoaded, IsSteady, Parts, parts_of, restored, state_of}
 use Rattle.ick_marks.proofs.Names.{take-map, Code, IsReady, IsSaved, Like, map-map, Name, Saved, View}
 use Rattle.std.proofs.lemmas.List.{length-append, length-drop, map-append, map-set, take_more}
-use Rattle.ick_runtime.specs.{declared.memory.Rest.Rest, Undo.IsRestored, Undo.SameFirst}
+use Rattle.ick_marks.specs.Saved.{flagged}
+use Rattle.ick_runtime.specs.{declared.memory.Array.Array as Kept, declared.memory.Rest.Rest, Undo.IsRestored, Undo.SameFirst}
 use Rattle.ick_runtime.specs.View.{dump_of, map_of, scalar_names, Stash, used as used_values}
 use Rattle.ick_runtime.proofs.{Restoring.all_same, Restoring.state_by, Steadiness.steady_by, Undoing.alike}
 use Rattle.ick_runtime.proofs.StashLemmas.{parts_same}
@@ -54,12 +55,18 @@ same_parts_refl p = record { others = refl; scalars = refl; arrays = refl }
 pub same_parts_trans : {p q r : Parts} → AreSame p q → AreSame q r → AreSame p r
 same_parts_trans a b = search rules
 
-pub rest_same : (p q : Rest) → map array_of q.arrays.items ≡ map array_of p.arrays.items →
-    map is_hidden q.arrays.items ≡ map is_hidden p.arrays.items →
+-- the parts of pairs
+pub firsts : (xs ys : List Kept) → map flagged xs ≡ map flagged ys → map array_of xs ≡ map array_of ys
+firsts xs ys same = cc (ap (map (λ p. p.0)) same, map-map (λ p. p.0) flagged xs, map-map (λ p. p.0) flagged ys)
+
+seconds : (xs ys : List Kept) → map flagged xs ≡ map flagged ys → map is_hidden xs ≡ map is_hidden ys
+seconds xs ys same = cc (ap (map (λ p. p.1)) same, map-map (λ p. p.1) flagged xs, map-map (λ p. p.1) flagged ys)
+
+pub rest_same : (p q : Rest) → map flagged q.arrays.items ≡ map flagged p.arrays.items →
     map numbers_on q.scalar_stashes.items ≡ map numbers_on p.scalar_stashes.items →
     map arrays_on q.array_stashes.items ≡ map arrays_on p.array_stashes.items → q.taken ≡ p.taken →
     q.output.items ≡ p.output.items → q.last ≡ p.last → q.lastin ≡ p.lastin → AreSame (parts_of p) (parts_of q)
-rest_same p q arrays hidden numbers stashed taken output last lastin = search (rules, map-map)
+rest_same p q arrays numbers stashed taken output last lastin = search (rules, firsts, map-map, seconds)
 
 -- the first values of a list are those that names lead to
 map_first : {A : Type 0} (names : List Name) (n : ℕ) (xs : List A) (none : A) (name : Name) → length names ≤ n →
@@ -139,9 +146,7 @@ module _ (code : Code) (lowered : LoweredParts) (is : IsProgram code lowered) wh
             (depth ∙ used_count)
 
 -- for lists that are copied or compared value by value
-pub ruleset value_by_value = (copied_next, compared_next, take-map, take-take)
+pub ruleset value_by_value = (copied_next, compared_next, firsts, take-map, take-take)
 
--- for parts that are compared, and an array that is replaced
-pub ruleset parts_compared = (rest_same, same_parts_sym)
-
+-- for an array that is replaced
 pub ruleset arrays_set = (map-set, map-set_same)

@@ -1,8 +1,8 @@
 -- States that are kept apart from a memory.
-use Rattle.std.specs.Prelude.{ℕ, ◌≡◌, List, length, map, take}
+use Rattle.std.specs.Prelude.{ℕ, ◌≡◌, Bool, List, length, map, take}
 use Rattle.ick_code.specs.{meaning.State.Array, declared.code.Code.Code}
 use Rattle.ick_instructions.specs.declared.lowered.LoweredParts.{LoweredParts}
-use Rattle.ick_runtime.specs.View.{View, Parts, array_names, arrays_of, numbers_of, parts_of, scalar_names, state_of, used}
+use Rattle.ick_runtime.specs.View.{View, Parts, array_names, array_of, arrays_of, is_hidden, numbers_of, parts_of, scalar_names, state_of, used}
 use Rattle.ick_runtime.specs.{declared.memory.Array.Array as KeptArray, declared.memory.Stash.Stash, Steady.IsReady, Undo.but_stashes, Inputs.Input}
 use Rattle.ick_marks.specs.declared.saved.Saved.{Saved}
 
@@ -12,6 +12,10 @@ numbers_on stash = used (numbers_of stash)
 
 abbrev pub arrays_on : Stash KeptArray → List Array
 arrays_on stash = used (arrays_of stash)
+
+-- an array, and whether it is ignored
+abbrev pub flagged : KeptArray → Array × Bool
+flagged a = (array_of a, is_hidden a)
 
 -- parts that differ in the spare room of stashes alone
 pub record AreSame (p q : Parts) : Type 0 where

@@ -3,12 +3,11 @@
 //! - `trail`: changes that can be undone
 //! - `marks`: states that a trail leads back to
 //! - `saved`: states that are kept apart from a memory
-//! - `copy`, `same`: lists that are copied and compared
+//! - `copy`: values that are copied and compared
 #![tactic(auto)]
 
 mod copy;
 mod marks;
-mod same;
 mod saved;
 mod trail;
 

@@ -2,8 +2,7 @@
 
 ghost use Rattle.std.specs.Prelude.{◌≡◌, ◌+◌, ◌≤◌, true, length};
 
-use crate::copy::{copy_list, copy_rest, put_first, put_list};
-use crate::same::same_rest;
+use crate::copy::{copy_list, copy_rest, put_first, put_list, same_rest};
 use ick_bits::NoMemory;
 use ick_instructions::Lowered;
 use ick_runtime::{Array, Memory, Rest};

@@ -2,7 +2,7 @@
 
 ghost use Rattle.std.specs.Prelude.{◌≤◌, length};
 
-use crate::copy::{copy_array, copy_list};
+use crate::copy::{Part, copy_list};
 use ick_bits::NoMemory;
 use ick_runtime::{Array, ArrayChange, Entry, Notes};
 use std::alloc::Global;
@@ -205,7 +205,7 @@ impl Notes for Trail {
         array: &Array,
     ) -> Result<(), NoMemory> {
         let alloc = *self.entries.allocator();
-        self.arrays.push(copy_array(alloc, array)?)?;
+        self.arrays.push(array.copied(alloc)?)?;
         self.entries.push_reserved(Entry::Array(change, slot));
         Ok(())
     }

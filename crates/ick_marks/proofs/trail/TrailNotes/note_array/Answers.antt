@@ -1,3 +1,4 @@
+use Rattle.std.proofs.Common.{ap}
 use Rattle.ick_marks.proofs.Names.{array_of, array_was, changes_in, notes_back}
 use Rattle.ick_marks.proofs.Changes.{newest_array}
 use Rattle.ick_marks.proofs.trail.TrailNotes.note_array.Goals as goal
@@ -8,6 +9,6 @@ returns-clause-notes c = λ k v m can h.
     let change = array_was c.args.change c.args.slot (array_of c.args.array.now) in (
       h.0,
       rw (newest_array t c.push_reserved.new.self.items c.push.new.self.items c.args.change c.args.slot
-          c.in_ok-copy_array.field-0 (array_of c.args.array.now) c.push_reserved.ensures.items c.in_ok-push.ensures.items c.in_ok-copy_array.ensures.array)
+          c.in_ok-copied.field-0 (array_of c.args.array.now) c.push_reserved.ensures.items c.in_ok-push.ensures.items (ap (λ p. p.0) c.in_ok-copied.ensures))
           (notes_back t.base (changes_in t) t.low k change v m tt can h.1),
     )

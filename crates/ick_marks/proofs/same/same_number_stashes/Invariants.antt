@@ -1,6 +1,0 @@
-use Rattle.std.proofs.Common.{map, take, ◌≡◌}
-use Rattle.ick_marks.proofs.Names.{numbers_on}
-use Rattle.ick_marks.proofs.same.same_number_stashes.Given as goal
-
-abbrev pub invariant-loop-at : goal.invariant-loop-at
-invariant-loop-at l = take l.at (map numbers_on l.one) ≡ take l.at (map numbers_on l.other)
