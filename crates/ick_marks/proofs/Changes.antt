@@ -58,6 +58,11 @@ noted_alone t all pushed e k v m grew is apart below can h = (
       (notes_back t.base (changes_in t) t.low k (change_of e) v m below can h.1),
 )
 
+-- another kind of entry than these has its old value
+pub with_value : (e : Entry) → ((change : ArrayChange) (slot : ℕ) → e ≢ entry.Array change slot) → e ≢ entry.Statuses →
+    stands_apart e ≡ false
+with_value = search rules
+
 -- an entry of another kind is none of a register
 pub below_other : (base : ℕ) (e : Entry) → ((at old : ℕ) → e ≢ entry.Register at old) →
     ((slot number old : ℕ) → e ≢ entry.ScalarRestored slot number old) → IsBelow base (change_of e)

@@ -4,7 +4,7 @@ ghost use Rattle.std.specs.Prelude.{◌≡◌, ◌<◌, ◌≤◌, ℕ, length, 
 ghost use Rattle.std.proofs.Common.{get_or};
 ghost use Rattle.ick_code.specs.meaning.State.{no_array};
 ghost use Rattle.ick_marks.specs.TrailChanges.{changes_in, AreUndone, IsUndone};
-ghost use Rattle.ick_runtime.specs.Undo.{change_of, stands_apart, undone, undone_array};
+ghost use Rattle.ick_runtime.specs.Undo.{change_of, undone, undone_array};
 ghost use Rattle.ick_runtime.specs.Undo.{with_number, IsRestored, Rewinds};
 ghost use Rattle.ick_runtime.specs.View.{View, array_of, is_hidden, parts_of};
 ghost use Rattle.ick_runtime.specs.{Memory.view_in, Steady.IsReady, Steady.IsSteady};
@@ -152,9 +152,8 @@ fn undo_array(rest: &mut Rest, change: ArrayChange, slot: u32, old: Array)
     }
 }
 
-/// Undoes a change whose old value is kept apart from its entry, and takes it off the trail.
-fn undo_apart(trail: &mut Trail, memory: &mut Memory, entry: Entry)
-    requires { stands_apart entry ≡ true }
+/// Undoes a change whose entry was taken off the trail, and takes off what is kept apart from it.
+fn undo_newest(trail: &mut Trail, memory: &mut Memory, entry: Entry)
     ensures entries { trail.new.entries ≡ trail.old.entries }
     ensures base { trail.new.base ≡ trail.old.base }
     ensures kept { trail.new.kept ≡ trail.old.kept }
@@ -170,22 +169,7 @@ fn undo_apart(trail: &mut Trail, memory: &mut Memory, entry: Entry)
             Some(old) => memory.statuses = old,
             None => {}
         },
-        _ => unreachable!(),
-    }
-}
-
-/// Undoes a change whose entry was taken off the trail.
-fn undo_newest(trail: &mut Trail, memory: &mut Memory, entry: Entry)
-    ensures entries { trail.new.entries ≡ trail.old.entries }
-    ensures base { trail.new.base ≡ trail.old.base }
-    ensures kept { trail.new.kept ≡ trail.old.kept }
-    ensures undone { IsUndone entry trail.old trail.new (view_in memory.old)
-        (view_in memory.new) }
-{
-    if entry.stands_apart() {
-        undo_apart(trail, memory, entry)
-    } else {
-        undo(memory, entry)
+        _ => undo(memory, entry),
     }
 }
 

@@ -1,8 +1,5 @@
 //! What is noted of a change, so that it can be undone.
 
-ghost use Rattle.std.specs.Prelude.{◌≡◌};
-ghost use Rattle.ick_runtime.specs.Undo.{stands_apart};
-
 use std::mem::size_of;
 
 /// How an array was changed. The array is kept apart from its entry.
@@ -55,13 +52,3 @@ pub enum Entry {
 }
 
 const _: () = prove!(size_of::<Entry>() <= 16);
-
-impl Entry {
-    /// Returns whether the old value is kept apart from the entry.
-    #[inline(always)]
-    pub fn stands_apart(self) -> bool
-        ensures { result ≡ stands_apart self }
-    {
-        matches!(self, Entry::Array(_, _) | Entry::Statuses)
-    }
-}
