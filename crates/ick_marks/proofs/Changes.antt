@@ -4,7 +4,7 @@ use Rattle.ick_marks.proofs.Names.{all_undone, changes_in, common_steps, notes_b
 use Rattle.ick_marks.proofs.Names.{change_of, Extends, HighSame, no_change, undone, Like, Trail, View}
 use Rattle.std.{proofs.lemmas.List.length-reverse, proofs.Math.Seq.take-suc, specs.Global.Vec}
 use Rattle.ick_runtime.specs.declared.{change.ArrayChange.ArrayChange, change.Entry.Entry, memory.Array.Array}
-use Rattle.ick_runtime.proofs.Undoing.{IsBelow, like_refl, marks_here}
+use Rattle.ick_runtime.proofs.{StashLemmas.arrays_put, Undoing.IsBelow, Undoing.like_refl, Undoing.marks_here}
 use Rattle.ick_marks.specs.TrailChanges.{AreUndone, changes_by, fixed_by, IsNoted, IsUndone, UndoesBy}
 use Rattle.ick_runtime.specs.{Undo.Change, Undo.changes_of, Undo.fixed_of, Undo.IsUndoable, Undo.stands_apart, View.bytes_of}
 use Rattle.ick_runtime.specs.declared.change.Entry.TheVariants as entry
@@ -151,7 +151,9 @@ nothing_newer t changes v few = record {
   stays = λ m h. all_undone (HighSame t.base v) (changes_in t) changes v few (h.stays v (like_refl t.base t.low v));
 }
 
--- for marks, and for notes
+-- for marks, for notes, and for arrays that are put back
 pub ruleset marked = (common_steps, count_history, marks_here)
 
 pub ruleset noting = (common_steps, fixed_grown, grown, grown_one, newest_array, newest_statuses)
+
+pub ruleset replacing = (common_steps, arrays_put)

@@ -52,3 +52,6 @@ kept_loaded code lowered saved old new is kept steady registers returns home sta
         loaded code lowered is old h.0 steady h.1 new (parts_of saved.rest) (rw was.numbers_kept at registers)
         (rw was.returns_kept at returns) (home ∙ was.home_kept) (statuses ∙ was.statuses_kept) (place ∙ was.place_kept)
         (depth ∙ ap length was.returns_kept) was.parts_kept parts
+
+-- for states that are copied
+pub ruleset copying = (copy_kept, copy_state)

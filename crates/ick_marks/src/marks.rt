@@ -131,6 +131,7 @@ fn replace_array(arrays: &mut Vec<Array>, slot: u32, old: Array) -> Array
 }
 
 /// Undoes a change of an array.
+#[tactic(auto, using(crate::proofs::Changes::replacing))]
 fn undo_array(rest: &mut Rest, change: ArrayChange, slot: u32, old: Array)
     ensures { parts_of rest.new ≡ undone_array change slot (array_of old) (parts_of rest.old) }
 {

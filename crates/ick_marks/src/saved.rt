@@ -204,6 +204,7 @@ impl Saved {
     }
 
     /// Returns a copy. `NoMemory` is returned only if a growth was refused.
+    #[tactic(auto, using(crate::proofs::Copying::copying))]
     pub fn copy(&self, alloc: Global) -> Result<Saved, NoMemory>
         ensures kept { IfOk result (λ copy. (code : Code) (lowered : LoweredParts) →
             IsKept code lowered self.now → IsKept code lowered copy) }

@@ -1,7 +1,7 @@
 -- Values that are put on stashes and taken off.
 use Rattle.std.proofs.Common.{ap, arith, get_or, length, List, map, refl, rules, sym, true, ℕ, ◌+◌, ◌-◌, ◌<◌, ◌∙◌, ◌≡◌}
 use Rattle.ick_runtime.proofs.Names.{Array, array_of, array_was, arrays_of, at_slot, ChangesAt, common_steps, Err, get_or-map, get_or-set_same, IsPutOn}
-use Rattle.ick_runtime.proofs.Names.{IsRestoredTo, IsTakenOff, Kept, KeptStash, length-map, length-set, Like, map-set, nat_lt, nat_tests, no_array, Ok, put_on}
+use Rattle.ick_runtime.proofs.Names.{IsRestoredTo, IsTakenOff, Kept, KeptStash, length-map, length-set, Like, map-set, map-set_same, nat_lt, nat_tests, no_array, Ok, put_on}
 use Rattle.ick_runtime.proofs.Names.{Result, set-get_or, set-set, slice_set, Stash, stash_in, StashLike, taken_off, undone, View, with_array_stashes}
 use Rattle.ick_runtime.proofs.Names.{with_arrays, with_scalar_stashes}
 use Rattle.ick_runtime.proofs.StashLemmas.{seen}
@@ -93,3 +93,6 @@ pub exchanged_like : (base low slot : ℕ) (v : View) (x : Array) (new : List (S
     (with_array_stashes new (with_arrays (slice_set v.parts.arrays slot x) v)))
 exchanged_like base low slot v x new there h =
     grind (arith, common_steps, length-set, set-set, set-get_or, get_or-set_same, like_arrays, taken_like)
+
+-- for what a stash of many becomes
+pub ruleset stashing = (common_steps, kept_at, length-map, like_arrays, like_at, map-set, map-set_same, on_err)

@@ -43,8 +43,7 @@ alike_rewinds a h = search rules
 -- the newest change is undone first
 pub newest_first : (changes : List Change) (change : Change) (k : ℕ) → k ≤ length changes →
     reverse (drop k (changes ++ change ∷ [])) ≡ change ∷ reverse (drop k changes)
-newest_first changes change k within =
-    ap reverse (drop-append-le k changes (change ∷ []) within) ∙ reverse-append (drop k changes) (change ∷ [])
+newest_first changes change k within = search (rules, drop-append-le, reverse-append)
 
 -- a return address that is pushed changes nothing below its depth
 pub pushed_like : (base low depth place : ℕ) (v : View) → low ≤ depth →

@@ -115,6 +115,7 @@ impl Stash<Array> {
 
     /// Puts a copy of an array on the stash, over spare buffers. If memory runs out,
     /// the arrays on the stash stay.
+    #[tactic(auto, using(crate::proofs::StashingLemmas::stashing))]
     fn save(&mut self, array: &Array) -> Result<(), NoMemory>
         ensures ok { OnOk result (IsPutOn (array_of array.now) (arrays_of self.old)
             (arrays_of self.new)) }
@@ -151,6 +152,7 @@ pub fn put_at<T: Drop>(stashes: &mut Vec<Stash<T>>, slot: u32, value: T)
 
 /// Puts a number on the stash of the scalar in a slot, and notes that (Revised Manual, 4.4.5). If
 /// memory runs out, nothing changes.
+#[tactic(auto, using(crate::proofs::StashingLemmas::stashing))]
 pub fn save_scalar<N: Notes>(
     stashes: &mut Vec<Stash<u32>>,
     notes: &mut N,
@@ -177,6 +179,7 @@ pub fn save_scalar<N: Notes>(
 
 /// Puts a copy of the array in a slot on its stash, and notes that (Revised Manual, 4.4.5). If
 /// memory runs out, the arrays on the stash stay.
+#[tactic(auto, using(crate::proofs::StashingLemmas::stashing))]
 pub fn save_array<N: Notes>(
     arrays: &Vec<Array>,
     stashes: &mut Vec<Stash<Array>>,
@@ -206,6 +209,7 @@ pub fn save_array<N: Notes>(
 /// Takes the newest number off the stash of the scalar in a slot, and notes that. The number
 /// becomes that of the scalar, unless stores to it lead elsewhere, as it is then ignored (Revised
 /// Manual, 4.4.6). Returns whether there was a number. If there was none, nothing changes.
+#[tactic(auto, using(crate::proofs::StashingLemmas::stashing))]
 pub fn restore_scalar<N: Notes>(
     registers: &mut [u32],
     home: &[u32],
@@ -247,6 +251,7 @@ pub fn restore_scalar<N: Notes>(
 /// Retrieves the array in a slot from its stash, and notes that (Revised Manual, 4.4.6). The newest
 /// array is taken off. It becomes the array in the slot, unless that one is ignored. An empty stash
 /// is a fault. Then, and if memory runs out, nothing changes.
+#[tactic(auto, using(crate::proofs::StashingLemmas::stashing))]
 pub fn restore_array<N: Notes>(
     arrays: &mut Vec<Array>,
     stashes: &mut Vec<Stash<Array>>,

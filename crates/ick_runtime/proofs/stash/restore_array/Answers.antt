@@ -50,9 +50,6 @@ returns-clause-retrieved g c =
       arrays_are = map-set array_of arrays slot x;
     })
 
-pub returns-clause-hidden : goal.returns-clause-hidden
-returns-clause-hidden g c = search (rules, map-set_same)
-
 pub returns-clause-notes : goal.returns-clause-notes
 returns-clause-notes g c = λ k v m same_arrays same h.
     let slot = c.args.slot in

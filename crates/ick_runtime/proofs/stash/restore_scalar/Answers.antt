@@ -12,12 +12,6 @@ taken g c =
     changes_at numbers_of (IsTakenOff c.in-Some.number) c.args.stashes.now.items c.args.slot c.index_mut.result.now
     c.take_newest.new.self c.requires.slot c.index_mut.ensures.value c.in-Some.ensures.some
 
-pub returns-in_default-clause-stashes : goal.returns-in_default-clause-stashes
-returns-in_default-clause-stashes g c = search (rules, kept_at)
-
-pub returns-in_default-clause-notes : goal.returns-in_default-clause-notes
-returns-in_default-clause-notes g c = search (rules, kept_at)
-
 pub returns-then-home-slot-clause-restored : goal.returns-then-home-slot-clause-restored
 returns-then-home-slot-clause-restored g c =
     restored_elsewhere c.args.slot (get_or c.args.home.now c.args.slot 0) c.in-Some.number c.args.registers.now _ _

@@ -3,9 +3,6 @@ use Rattle.ick_runtime.proofs.Names.{array_of, arrays_of, ChangesAt, get_or-map,
 use Rattle.ick_runtime.proofs.StashingLemmas.{changes_at, like_arrays, like_at, on_err, saved_like}
 use Rattle.ick_runtime.proofs.stash.save_array.Goals as goal
 
-pub returns-in_err-save-clause-same : goal.returns-in_err-save-clause-same
-returns-in_err-save-clause-same g c = search (rules, like_at, on_err)
-
 pub returns-in_err-save-clause-notes : goal.returns-in_err-save-clause-notes
 returns-in_err-save-clause-notes g c = search (rules, like_arrays, like_at)
 

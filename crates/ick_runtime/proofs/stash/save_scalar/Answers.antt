@@ -8,12 +8,6 @@ returns-clause-saved g c =
     changes_at numbers_of (IsPutOn c.args.number) c.args.stashes.now.items c.args.slot c.index_mut.result.now c.save.new.self
     c.requires.slot c.index_mut.ensures.value c.in_ok-save.ensures.ok
 
-pub returns-in_err-save-clause-same : goal.returns-in_err-save-clause-same
-returns-in_err-save-clause-same g c = search (rules, kept_at, on_err)
-
-pub returns-in_err-save-clause-notes : goal.returns-in_err-save-clause-notes
-returns-in_err-save-clause-notes g c = search (rules, kept_at)
-
 pub returns-clause-notes : goal.returns-clause-notes
 returns-clause-notes g c = λ k v m same h.
     let old = map numbers_of c.args.stashes.now.items in
