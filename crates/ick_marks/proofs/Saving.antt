@@ -6,7 +6,7 @@ use Rattle.ick_marks.proofs.Names.{take-map, Code, IsReady, IsSaved, Like, map-m
 use Rattle.std.proofs.lemmas.List.{length-append, length-drop, map-append, map-set, take_more}
 use Rattle.ick_marks.specs.Saved.{flagged}
 use Rattle.ick_runtime.specs.{declared.memory.Array.Array as Kept, declared.memory.Rest.Rest, Undo.IsRestored, Undo.SameFirst}
-use Rattle.ick_runtime.specs.View.{dump_of, map_of, scalar_names, Stash, used as used_values}
+use Rattle.ick_runtime.specs.View.{map_of, scalar_names}
 use Rattle.ick_runtime.proofs.{Restoring.all_same, Restoring.state_by, Steadiness.steady_by, Undoing.alike}
 use Rattle.ick_runtime.proofs.StashLemmas.{parts_same}
 

@@ -1,5 +1,5 @@
 -- Values that are put on stashes and taken off.
-use Rattle.std.proofs.Common.{ap, arith, get_or, length, List, map, refl, rules, sym, true, ℕ, ◌+◌, ◌-◌, ◌<◌, ◌∙◌, ◌≡◌}
+use Rattle.std.proofs.Common.{ap, arith, get_or, length, List, map, rules, sym, ℕ, ◌+◌, ◌-◌, ◌<◌, ◌∙◌, ◌≡◌}
 use Rattle.ick_runtime.proofs.Names.{Array, array_of, array_was, arrays_of, at_slot, ChangesAt, common_steps, Err, get_or-map, get_or-set_same, IsPutOn}
 use Rattle.ick_runtime.proofs.Names.{IsRestoredTo, IsTakenOff, Kept, KeptStash, length-map, length-set, Like, map-set, map-set_same, nat_lt, nat_tests, no_array, Ok, put_on}
 use Rattle.ick_runtime.proofs.Names.{Result, set-get_or, set-set, slice_set, Stash, stash_in, StashLike, taken_off, undone, View, with_array_stashes}
@@ -51,16 +51,6 @@ like_arrays base low v stashes like = search rules
 pub like_at : {A B : Type 0} (g : B → Stash A) (xs : List B) (slot : ℕ) (old new : B) → slot < length xs →
     old ≡ get_or xs slot old → StashLike (g old) (g new) → StashesLike (map g xs) (map g (slice_set xs slot new))
 like_at g xs slot old new low is like = search (rules, get_or-map, map-set, common_steps)
-
--- a number that was taken off became the number of its scalar, or not
-pub restored_here : (slot home number : ℕ) (registers : List ℕ) (old new : List (Stash ℕ)) → home ≡ slot →
-    ChangesAt slot (IsTakenOff number) old new →
-    IsRestoredTo slot home registers (slice_set registers slot number) old new
-restored_here slot home number registers old new same taken = search rules
-
-pub restored_elsewhere : (slot home number : ℕ) (registers : List ℕ) (old new : List (Stash ℕ)) → (home ≡ slot → ⊥) →
-    ChangesAt slot (IsTakenOff number) old new → IsRestoredTo slot home registers registers old new
-restored_elsewhere slot home number registers old new other taken = search rules
 
 pub on_err : {A E : Type 0} (r : Result A E) (P : Type 0) → P → OnErr r P
 on_err (Ok x) P h = tt

@@ -94,7 +94,7 @@ pub notes_back : (base : ℕ) (changes : List Change) (low k : ℕ) (change : Ch
 notes_back base changes low k change v m below can h = noted base changes low low k change v (undone change v) m h
     (λ w like. (undone_like base low change v w below can like, undone_high base change w below))
 
-put_back : (xs : List ℕ) (at n : ℕ) → slice_set (slice_set xs at n) at (get_or xs at 0) ≡ xs
+pub put_back : (xs : List ℕ) (at n : ℕ) → slice_set (slice_set xs at n) at (get_or xs at 0) ≡ xs
 put_back xs at n = set-set xs at n (get_or xs at 0) ∙ set-get_or xs at 0
 
 -- undoing the change of a register, of a home and of a status
@@ -110,12 +110,12 @@ pub status_back : (at number : ℕ) (v : View) →
     undone (status_was at (get_or v.statuses at 0)) (record v { statuses = slice_set v.statuses at number }) ≡ v
 status_back at number v = ap {A = List ℕ} (λ l. record v { statuses = l }) (put_back v.statuses at number)
 
--- a number of a stash became the number of its scalar
-pub restored_back : (base low slot number n : ℕ) (registers : List ℕ) (v : View) (p : Parts) → v.registers ≡ registers →
+-- a number that was taken off a stash, and that the scalar may have now
+pub restored_back : (base low slot number : ℕ) (registers after : List ℕ) (v : View) (p : Parts) →
+    v.registers ≡ registers → slice_set after slot (get_or registers slot 0) ≡ registers →
     PartsLike v.parts (record p { scalar_stashes = at_slot (put_on number) slot p.scalar_stashes }) →
-    Like base low v (undone (scalar_restored slot number (get_or registers slot 0))
-    (record v { registers = slice_set registers slot n; parts = p }))
-restored_back base low slot number n registers v p same parts = grind (arith, common_steps)
+    Like base low v (undone (scalar_restored slot number (get_or registers slot 0)) (record v { registers = after; parts = p }))
+restored_back base low slot number registers after v p same back parts = grind (arith, common_steps)
 
 -- a register that is never restored stays as it is
 pub register_left : (base low at old : ℕ) (v : View) → base ≤ at → Like base low (undone (register_was at old) v) v

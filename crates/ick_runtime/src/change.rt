@@ -32,8 +32,8 @@ pub enum Entry {
     ScalarSaved(u32),
     /// The number that was taken off the stash of the scalar in a slot.
     ScalarTaken(u32, u32),
-    /// A number of the stash of the scalar in a slot that became its number: the slot, the number
-    /// and the number before.
+    /// A number that was taken off the stash of the scalar in a slot, and that may have become its
+    /// number: the slot, the number and the scalar's number before.
     ScalarRestored(u32, u32, u32),
     /// An array was put on the stash of its slot.
     ArraySaved(u32),

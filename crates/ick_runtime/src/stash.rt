@@ -57,12 +57,10 @@ impl Stash<u32> {
         ensures ok { OnOk result (IsPutOn number (numbers_of self.old) (numbers_of self.new)) }
         ensures err { OnErr result (numbers_of self.new ≡ numbers_of self.old) }
     {
-        if self.depth < self.items.len() {
-            self.items[self.depth] = number;
-            self.depth += 1;
-            return Ok(());
+        if self.depth == self.items.len() {
+            self.items.push(number)?;
         }
-        self.items.push(number)?;
+        self.items[self.depth] = number;
         self.depth += 1;
         Ok(())
     }
@@ -239,12 +237,10 @@ pub fn restore_scalar<N: Notes>(
     };
     // `notes` needs that views that are alike are undone alike.
     notes.law();
-    if home[slot as usize] != slot {
-        notes.note(Entry::ScalarTaken(slot, number));
-        return true;
-    }
     notes.note(Entry::ScalarRestored(slot, number, registers[slot as usize]));
-    registers[slot as usize] = number;
+    if home[slot as usize] == slot {
+        registers[slot as usize] = number;
+    }
     true
 }
 

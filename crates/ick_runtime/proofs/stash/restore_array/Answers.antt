@@ -1,5 +1,5 @@
-use Rattle.std.proofs.Common.{ap, arith, false, get_or, length, map, refl, rules, slice_set, sym, true, ◌<◌, ◌∙◌, ◌≡◌}
-use Rattle.ick_runtime.proofs.Names.{array_of, array_was, arrays_of, ChangesAt, get_or-map, is_hidden, IsTakenOff, length-map, Like, map-set, map-set_same}
+use Rattle.std.proofs.Common.{ap, arith, false, get_or, length, map, refl, slice_set, sym, true, ◌<◌, ◌∙◌, ◌≡◌}
+use Rattle.ick_runtime.proofs.Names.{array_of, array_was, arrays_of, ChangesAt, get_or-map, is_hidden, IsTakenOff, length-map, Like, map-set}
 use Rattle.ick_runtime.proofs.Names.{no_array, undone, View, with_array_stashes, with_arrays}
 use Rattle.ick_runtime.proofs.StashingLemmas.{changes_at, drops_at, exchanged_like, like_arrays, taken_like}
 use Rattle.ick_runtime.specs.declared.change.ArrayChange.TheVariants as now

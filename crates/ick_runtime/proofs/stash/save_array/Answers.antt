@@ -1,6 +1,6 @@
 use Rattle.std.proofs.Common.{get_or, map, rules, slice_set, ◌≡◌}
 use Rattle.ick_runtime.proofs.Names.{array_of, arrays_of, ChangesAt, get_or-map, IsPutOn, no_array, with_array_stashes}
-use Rattle.ick_runtime.proofs.StashingLemmas.{changes_at, like_arrays, like_at, on_err, saved_like}
+use Rattle.ick_runtime.proofs.StashingLemmas.{changes_at, like_arrays, like_at, saved_like}
 use Rattle.ick_runtime.proofs.stash.save_array.Goals as goal
 
 pub returns-in_err-save-clause-notes : goal.returns-in_err-save-clause-notes

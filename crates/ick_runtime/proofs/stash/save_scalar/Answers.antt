@@ -1,6 +1,6 @@
-use Rattle.std.proofs.Common.{map, rules, slice_set}
+use Rattle.std.proofs.Common.{map, slice_set}
 use Rattle.ick_runtime.proofs.Names.{ChangesAt, IsPutOn, numbers_of, with_scalar_stashes}
-use Rattle.ick_runtime.proofs.StashingLemmas.{changes_at, kept_at, like_scalars, on_err, saved_like}
+use Rattle.ick_runtime.proofs.StashingLemmas.{changes_at, like_scalars, saved_like}
 use Rattle.ick_runtime.proofs.stash.save_scalar.Goals as goal
 
 pub returns-clause-saved : goal.returns-clause-saved

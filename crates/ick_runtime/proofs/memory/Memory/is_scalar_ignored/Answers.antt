@@ -1,5 +1,5 @@
-use Rattle.std.proofs.Common.{arith, ◌≡◌, ◌-◌, length}
-use Rattle.ick_runtime.proofs.Names.{common_steps, dump_of}
+use Rattle.std.proofs.Common.{arith, ◌≡◌, ◌-◌}
+use Rattle.ick_runtime.proofs.Names.{dump_of}
 use Rattle.ick_runtime.proofs.Maps.{by_slots, scalar_slot}
 use Rattle.ick_runtime.proofs.memory.Memory.is_scalar_ignored.Goals as goal
 
