@@ -75,14 +75,6 @@ module _ (told : Bool) (p : Program) (s : State) where
   along_start w = record { sent = []; runs = no_step IsPlain p s; text = λ t. sym (append-nil w) }
 
   module _ {now : State} {w w' : List ℕ} {n : ℕ} (h : IsAlong told p s now w w' n) where
-    -- all output leaves
-    pub along_left : (w'' : List ℕ) → (told ≡ true → w'' ≡ w' ++ now.output) → IsAlong told p s (cleared now) w w'' n
-    along_left w'' wrote = record {
-      sent = h.sent ++ now.output;
-      runs = subst (RunsOn IsPlain p s n) (left_then h.sent now) h.runs;
-      text = λ t. wrote t ∙ ap (λ x. x ++ now.output) (h.text t) ∙ append_assoc w h.sent now.output;
-    }
-
     runs_further : (k : ℕ) (u : State) → RunsOn IsPlain p now k u → RunsOn IsPlain p s (n + k) (after_output h.sent u)
     runs_further k u runs =
         steps_on IsPlain p s (after_output h.sent now) (after_output h.sent u) n k h.runs (runs_frame p h.sent now k u runs)

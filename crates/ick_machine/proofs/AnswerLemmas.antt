@@ -1,7 +1,7 @@
 -- What a machine asks, by the status of the statement that is met.
-use Rattle.std.proofs.Common.{◌≡◌, ℕ, ◌+◌, ◌-◌, ◌<◌, ◌≤◌, Bool, true, false, List, [], length, get_or, Option, Some, None}
+use Rattle.std.proofs.Common.{◌≡◌, ◌≢◌, ℕ, ◌+◌, ◌-◌, ◌<◌, ◌≤◌, Bool, true, false, List, [], length, get_or, Option, Some, None}
 use Rattle.std.proofs.Common.{refl, ap, arith, rules}
-use Rattle.std.specs.Prelude.{◌⊎◌, nat_lt, ◌&&◌, option_map, if◌then◌else◌, is_some}
+use Rattle.std.specs.Prelude.{◌⊎◌, nat_lt, ◌&&◌, option_map, if◌then◌else◌}
 use Rattle.std.proofs.{lemmas.Bool.cases_lt, lemmas.Bool.Decides.nat_tests, lemmas.Option.slice_get_past}
 use Rattle.ick_syntax.specs.StatementTree.{StatementTree}
 use Rattle.ick_code.specs.{declared.code.Code.Code, Compiled.code_program}
@@ -61,8 +61,8 @@ unfolding ask
 ended_bound program s end is free = absurd (cc (ap (λ e. ask_of e program s) is, free))
 
 pub some_bound : (code : Code) (lowered : LoweredParts) (input : Input) (v : View) (end : Option RawEnd) →
-    is_some end ≡ true → ¬ IsPlain (code_program code) (run_state code lowered input v end)
-some_bound code lowered input v None is = absurd (cc)
+    end ≢ None → ¬ IsPlain (code_program code) (run_state code lowered input v end)
+some_bound code lowered input v None is = absurd (is refl)
 some_bound code lowered input v (Some e) is =
     ended_bound (code_program code) (run_state code lowered input v (Some e)) (end_of (code_program code) input e) refl
 

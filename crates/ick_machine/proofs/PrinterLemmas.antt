@@ -10,7 +10,7 @@ use Rattle.ick_code.specs.meaning.State.{State}
 use Rattle.ick_code.proofs.Leads.{advance_leads}
 use Rattle.ick_backtrack.specs.Machine.{Program}
 use Rattle.ick_backtrack.specs.Steps.{IsPlain, after_steps}
-use Rattle.ick_machine.specs.Printing.{Begun, Reaches, HasLeft, MayLeave}
+use Rattle.ick_machine.specs.Printing.{Reaches, HasLeft, MayLeave}
 use Rattle.ick_machine.proofs.StepsLemmas.{no_step}
 
 module _ (program : Program) (s : State) where
@@ -114,24 +114,23 @@ rest_of shown output =
     take_all (length output - shown) (drop shown output) (omega (arith, long))
 
 -- what a printer keeps
-module _ (told tells : Bool) (begun : Begun) where
+module _ (told tells : Bool) (program : Program) (s : State) (limit : ℕ) (written : List ℕ) where
   abbrev pub Kept : (after : List ℕ) → (shown : ℕ) → (broken : Bool) → Type 0
   Kept after shown broken = ∥ (told ≡ true → tells ≡ true → (n : ℕ) × (broken ≡ false → n ≡ shown)
-      × HasLeft begun.program begun.state begun.limit begun.written after n) ∥₁
+      × HasLeft program s limit written after n) ∥₁
 
-  pub kept_first : Kept begun.written 0 false
-  kept_first = ∣ (λ t t'. (0, λ is. refl, none_left begun.program begun.state begun.limit begun.written)) ∣₁
+  pub kept_first : Kept written 0 false
+  kept_first = ∣ (λ t t'. (0, λ is. refl, none_left program s limit written)) ∣₁
 
-  module _ {output before : List ℕ} {shown : ℕ} {broken : Bool} (may : told ≡ true → MayLeave begun output)
+  module _ {output before : List ℕ} {shown : ℕ} {broken : Bool} (may : told ≡ true → MayLeave program s limit output)
       (whole : broken ≡ false) (kept : Kept before shown broken) where
     -- all is written that has left
-    pub kept_all : shown ≡ length output → told ≡ true → tells ≡ true → before ≡ begun.written ++ output
-    kept_all is t t' = ∥∥₁_elim kept (list_set before (begun.written ++ output)) (λ f.
+    pub kept_all : shown ≡ length output → told ≡ true → tells ≡ true → before ≡ written ++ output
+    kept_all is t t' = ∥∥₁_elim kept (list_set before (written ++ output)) (λ f.
         let x = f t t' in
         let u = may t in
-        all_written begun.program begun.state begun.limit begun.written before output u.state
-        (subst (HasLeft begun.program begun.state begun.limit begun.written before) (x.1 whole ∙ is) x.2) u.reaches
-        u.output_is)
+        all_written program s limit written before output u.state
+        (subst (HasLeft program s limit written before) (x.1 whole ∙ is) x.2) u.reaches u.output_is)
 
     module _ (few : shown ≤ length output) {after : List ℕ} where
       pub kept_more : (tells ≡ true → after ≡ before ++ take (length output - shown) (drop shown output)) →
@@ -141,8 +140,8 @@ module _ (told tells : Bool) (begun : Begun) where
           let u = may t in (
             length output,
             λ is. refl,
-            rest_left begun.program begun.state begun.limit begun.written before after output shown u.state
-                (subst (HasLeft begun.program begun.state begun.limit begun.written before) (x.1 whole) x.2) u.reaches
+            rest_left program s limit written before after output shown u.state
+                (subst (HasLeft program s limit written before) (x.1 whole) x.2) u.reaches
                 u.output_is few (wrote t' ∙ ap (λ o. before ++ o) (rest_of shown output)),
           ))
 
@@ -156,7 +155,7 @@ module _ (told tells : Bool) (begun : Begun) where
           (wrote t') in (
             shown + part.0,
             λ is. absurd (false≢true (sym is)),
-            more_left begun.program begun.state begun.limit begun.written before after output shown part.0 u.state
-                (subst (HasLeft begun.program begun.state begun.limit begun.written before) (x.1 whole) x.2) u.reaches
+            more_left program s limit written before after output shown part.0 u.state
+                (subst (HasLeft program s limit written before) (x.1 whole) x.2) u.reaches
                 u.output_is few part.1 part.2,
           ))

@@ -3,8 +3,6 @@ use Rattle.std.specs.Prelude.{ℕ, ◌≡◌, ◌<◌, ◌≤◌, ◌++◌, Bool
 use Rattle.ick_code.specs.meaning.State.{State}
 use Rattle.ick_backtrack.specs.Machine.{Program}
 use Rattle.ick_backtrack.specs.Steps.{IsPlain, Rests, RunsOn}
-use Rattle.ick_backtrack.specs.declared.feed_fault.FeedFault.{FeedFault}
-use Rattle.ick_backtrack.specs.declared.feed_fault.FeedFault.TheVariants.{NoMemory as OutOfMemory, Read as NotRead}
 use Rattle.ick_machine.specs.Feeds.{MeetsInput}
 use Rattle.ick_machine.specs.Live.{LiveMachine, cleared, fed}
 use Rattle.ick_machine.specs.declared.outlet.OutletFault.{OutletFault}
@@ -15,11 +13,6 @@ use Rattle.ick_machine.specs.declared.outlet.RunFault.TheVariants.{NoMemory, Rea
 abbrev pub outlet_failures : Result (Unit {0}) OutletFault → ℕ
 outlet_failures (Ok unit) = 0
 outlet_failures (Err fault) = 1
-
--- why a run stopped short whose step had this fault
-abbrev pub run_fault : FeedFault → RunFault
-run_fault OutOfMemory = NoMemory
-run_fault NotRead = Read
 
 abbrev pub failed_writes : RunFault → ℕ
 failed_writes NoMemory = 0
@@ -92,30 +85,14 @@ pub record Leaves {T E : Type 0} (old new : LiveMachine) (result : Result T E) :
   pub empty : new.state.output ≡ []
   pub failed : new.failed ≡ is_error result
 
--- the run of a printer: its program, the state in which it began, the last line and the input that is left, and the
--- limit on steps; and what was written and had failed before
-pub record Begun : Type 0 where
-  pub program : Program
-  pub state : State
-  pub line : List ℕ
-  pub left : List ℕ
-  pub limit : ℕ
-  pub written : List ℕ
-  pub failed : ℕ
-
-abbrev pub begun : LiveMachine → (line left : List ℕ) → (limit : ℕ) → (written : List ℕ) → (failed : ℕ) → Begun
-begun machine line left limit written failed = record {
-  program = machine.program;
-  state = fed left machine.state;
-  line = line;
-  left = left;
-  limit = limit;
-  written = written;
-  failed = failed;
-}
+-- so many steps of a machine lead to a state, if the feed is told, and exactly what the machine then holds is written
+pub record HasPrinted (told tells : Bool) (old new : LiveMachine) (left written written' : List ℕ) (steps : ℕ)
+    : Type 0 where
+  pub runs : told ≡ true → RunsOn IsPlain old.program (fed left old.state) steps (fed left new.state)
+  pub text : told ≡ true → tells ≡ true → written' ≡ written ++ new.state.output
 
 -- the run comes to this output
-pub record MayLeave (begun : Begun) (output : List ℕ) : Type 0 where
+pub record MayLeave (program : Program) (s : State) (limit : ℕ) (output : List ℕ) : Type 0 where
   pub state : State
-  pub reaches : Reaches begun.program begun.state begun.limit state
+  pub reaches : Reaches program s limit state
   pub output_is : state.output ≡ output

@@ -1,5 +1,5 @@
 -- What contracts see of the machines with marks.
-use Rattle.std.specs.Prelude.{◌≡◌, ℕ, ◌+◌, ◌-◌, ◌<◌, ◌≤◌, Bool, true, false, List, length, map, reverse, Option, Some, None}
+use Rattle.std.specs.Prelude.{◌≡◌, ℕ, ◌+◌, ◌-◌, ◌<◌, ◌≤◌, Bool, List, length, map, reverse, Option, Some, None}
 use Rattle.std.specs.Prelude.{Result, IfOk, OnOk, OnErr, vec_len, vec_capacity}
 use Rattle.ick_bits.specs.declared.memory.NoMemory.{NoMemory}
 use Rattle.ick_code.specs.meaning.Move.{advance}
@@ -7,8 +7,7 @@ use Rattle.ick_instructions.specs.declared.lowered.Lowered.{Lowered}
 use Rattle.ick_marks.specs.declared.marks.Mark.{Mark}
 use Rattle.ick_runtime.specs.{Memory.view_in, Inputs.input_of}
 use Rattle.ick_marks.specs.{TrailChanges.changes_in}
-use Rattle.ick_backtrack.specs.{Machine.Machine, Steps.IsPlain, Steps.RunsOn, Steps.Rests}
-use Rattle.ick_machine.specs.declared.steps.Came.{Came}
+use Rattle.ick_backtrack.specs.{Machine.Machine, Steps.IsPlain, Steps.RunsOn}
 use Rattle.ick_machine.specs.declared.trailed.Trailed.{Trailed}
 use Rattle.ick_machine.specs.declared.copied.Copied.{Copied}
 use Rattle.ick_machine.specs.Copies.{copied_state}
@@ -38,19 +37,17 @@ pub record IsStarted (old new : Trailed) (result : Result Mark NoMemory) : Type 
   pub room : OnOk result (new.lowered.parts.longest + 79 ≤ vec_capacity new.trail.entries - vec_len new.trail.entries)
 
 -- a machine made steps, or is as before. Its marks stay
-pub record IsWhole (limit : ℕ) (answer : Option Bool) (old new : Trailed) (result : Result Came NoMemory) : Type 0 where
+pub record IsWhole (limit : ℕ) (answer : Option Bool) (old new : Trailed) (result : Result ℕ NoMemory) : Type 0 where
   pub rest : trailed_machine new ≡ record (trailed_machine old) { state = (trailed_machine new).state }
   pub fixed : fixed_parts new ≡ fixed_parts old
   pub err : OnErr result ((trailed_machine new).state ≡ (trailed_machine old).state)
-  pub within : IfOk result (λ came. came.made ≤ limit)
-  pub going : IfOk result (λ came. came.more ≡ true → new.end ≡ None)
-  pub moves : IfOk result (λ came. came.more ≡ true → 0 < came.made)
-  pub runs : answer ≡ None → IfOk result (λ came. RunsOn IsPlain (trailed_machine old).program
-      (trailed_machine old).state came.made (trailed_machine new).state)
-  pub rests : answer ≡ None → IfOk result (λ came. came.more ≡ false →
-      Rests IsPlain (trailed_machine new).program limit came.made (trailed_machine new).state)
-  pub steps : (done : Bool) → answer ≡ Some done → limit ≡ 1 → OnOk result ((trailed_machine new).state
-      ≡ advance (trailed_machine old).program (trailed_machine old).state done)
+  pub within : IfOk result (λ made. made ≤ limit)
+  pub moves : answer ≡ None → 0 < limit → IfOk result (λ made.
+      IsPlain (trailed_machine new).program (trailed_machine new).state → 0 < made)
+  pub runs : answer ≡ None → IfOk result (λ made. RunsOn IsPlain (trailed_machine old).program
+      (trailed_machine old).state made (trailed_machine new).state)
+  pub steps : (done : Bool) → answer ≡ Some done → limit ≡ 1 → old.end ≡ None → OnOk result
+      ((trailed_machine new).state ≡ advance (trailed_machine old).program (trailed_machine old).state done)
 
 abbrev pub copied_machine : Copied → Machine
 copied_machine m = record (trailed_machine m.machine) {

@@ -32,5 +32,5 @@ pub use live::Live;
 pub use live_ask::{EndKind, LiveAsk};
 pub use outlet::{Outlet, OutletFault, RunFault};
 pub use present::{Inspect, Present};
-pub use steps::{Came, make_steps};
+pub use steps::make_steps;
 pub use trailed::Trailed;

@@ -12,7 +12,7 @@ use crate::{EndKind, LiveAsk, Outlet, RunFault, end_of, make_steps};
 use ick_backtrack::{Ask, End, FeedFault};
 use ick_bits::{NoMemory, append_message};
 use ick_code::Code;
-use ick_engine::{Feed, FeedReader, RawEnd, make_single};
+use ick_engine::{Feed, FeedReader, RawEnd, Reader, make_single};
 use ick_lowering::lower;
 use ick_runtime::{Memory, NoTraces, Nobody, fresh_memory};
 use ick_syntax::Kind;
@@ -43,8 +43,8 @@ impl<'c, 'a> Live<'c, 'a> {
     ghost use Rattle.ick_engine.specs.Feeds.{feed_failures};
     ghost use Rattle.ick_machine.specs.Feeds.{MeetsInput};
     ghost use Rattle.ick_machine.specs.Live.{seen, fed, cleared, live_ask, fault_message};
-    ghost use Rattle.ick_machine.specs.Printing.{IsAtInput, IsDone, Leaves, Prints};
-    ghost use Rattle.ick_machine.specs.Printing.{run_reads, run_writes};
+    ghost use Rattle.ick_machine.specs.Printing.{HasPrinted, IsAtInput, IsDone, Leaves, Prints};
+    ghost use Rattle.ick_machine.specs.Printing.{is_error, run_reads, run_writes};
 
     /// Returns a machine at the start of a program (Revised Manual, 3.1, 3.3). `NoMemory` is
     /// returned if a growth was refused, or if `lower` finds the program too large.
@@ -178,12 +178,6 @@ impl<'c, 'a> Live<'c, 'a> {
         let mut outlet = outlet;
         let mut made = 0;
         'on: loop {
-            let Ok(()) = outlet.write(self.output()) else {
-                self.clear_output();
-                self.failed = true;
-                return (Err(RunFault::Write), outlet);
-            };
-            self.clear_output();
             let (ran, back) = self.run_to_input(limit - made, feed, outlet);
             outlet = back;
             match ran {
@@ -196,16 +190,16 @@ impl<'c, 'a> Live<'c, 'a> {
             if made == limit {
                 return (Ok(made), outlet);
             }
-            if let Err(fault) = self.step(false, feed) {
-                return (Err(RunFault::from(fault)), outlet);
+            match self.step(false, feed) {
+                Ok(()) => made += 1,
+                Err(FeedFault::NoMemory) => return (Err(RunFault::NoMemory), outlet),
+                Err(FeedFault::Read) => return (Err(RunFault::Read), outlet),
             }
-            made += 1;
         }
     }
 
     /// Makes steps as `run` does, but stops before a WRITE IN, and may stop earlier if the memory
-    /// holds much output. It takes no input: the feed is there for contracts alone. The machine
-    /// must hold no output.
+    /// holds much output. It takes no input: the feed is there for contracts alone.
     fn run_to_input<F: Feed, O: Outlet>(
         &mut self,
         limit: u32,
@@ -213,7 +207,6 @@ impl<'c, 'a> Live<'c, 'a> {
         outlet: O,
     ) -> (Result<u32, RunFault>, O)
         requires sound { (seen self.old).failed ≡ false }
-        requires empty { (seen self.old).state.output ≡ [] }
         requires room { O.failed outlet + 1 < 2 ^ 64 }
         ensures prints { let old = seen self.old in F.told ≡ true → Prints O.told old.program
             (fed (F.left feed.now) old.state) limit (fed (F.left feed.now) (seen self.new).state)
@@ -224,9 +217,6 @@ impl<'c, 'a> Live<'c, 'a> {
         ensures writes { O.failed result.1 ≡ O.failed outlet + run_writes result.0 }
         ensures given { O.held result.1 ≡ O.held outlet }
     {
-        if self.end.is_some() {
-            return (Ok(0), outlet);
-        }
         let mut printer = Printer {
             machine: Snapshot::of(&*self),
             feed: Snapshot::of(feed),
@@ -237,49 +227,46 @@ impl<'c, 'a> Live<'c, 'a> {
             broken: false,
         };
         let ran = self.run_by(limit, &mut printer);
-        let Printer { outlet, .. } = printer;
-        (ran, outlet)
+        self.clear_output();
+        let Printer { outlet, broken, .. } = printer;
+        match ran {
+            Ok(made) => (Ok(made), outlet),
+            Err(_) if broken => (Err(RunFault::Write), outlet),
+            Err(_) => (Err(RunFault::NoMemory), outlet),
+        }
     }
 
-    /// Makes steps as `run_to_input` does, and lets the output leave by a printer.
+    /// Makes the steps of `run_to_input`, and lets all output leave by a printer: first what the
+    /// machine holds.
     fn run_by<F: Feed, O: Outlet>(
         &mut self,
         limit: u32,
-        printer: &mut Printer<'_, '_, F, O>,
-    ) -> Result<u32, RunFault>
+        printer: &mut Printer<'c, 'a, F, O>,
+    ) -> Result<u32, NoMemory>
         requires sound { (seen self.old).failed ≡ false }
-        requires going { self.old.end ≡ None }
         requires machine { printer.old.machine.value ≡ self.old }
         requires limit { printer.old.limit.value ≡ limit }
-        ensures prints { let old = seen self.old in let left = F.left printer.old.feed.value in
-            F.told ≡ true → Prints O.told old.program (fed left old.state) limit
-            (fed left (seen self.new).state) (O.written printer.old.first.value)
-            (O.written printer.new.outlet) result }
+        ensures made { IfOk result (λ k. HasPrinted F.told O.told (seen self.old) (seen self.new)
+            (F.left printer.old.feed.value) (O.written printer.old.first.value)
+            (O.written printer.new.outlet) k) }
         ensures within { IfOk result (λ k. k ≤ limit) }
-        ensures leaves { Leaves (seen self.old) (seen self.new) result }
-        ensures reads { run_reads result ≡ 0 }
-        ensures writes { O.failed printer.new.outlet ≡ O.failed printer.old.first.value
-            + run_writes result }
-        ensures given { O.held printer.new.outlet ≡ O.held printer.old.outlet }
+        ensures sound { OnOk result (printer.new.broken ≡ false) }
+        ensures program { (seen self.new).program ≡ (seen self.old).program }
+        ensures failed { (seen self.new).failed ≡ is_error result }
+        ensures held { let reader = ⟦<Printer<'c, 'a, F, O> as Reader>⟧ in
+            reader.held printer.new ≡ reader.held printer.old }
     {
         self.failed = true;
+        let _ = printer.leave(self.output())?;
         let program = self.lowered.program();
         let traces = &self.lowered;
         let memory = &mut self.memory;
         let end = &mut self.end;
         let notes = &mut Nobody;
-        let came = make_steps(program, memory, end, notes, printer, traces, limit, None);
-        let Ok(came) = came else {
-            self.memory.rest.output.clear();
-            return Err(printer.fault());
-        };
-        let has_left = printer.print(self.output());
-        self.memory.rest.output.clear();
-        if !has_left {
-            return Err(printer.fault());
-        }
+        let made = make_steps(program, memory, end, notes, printer, traces, limit, None)?;
+        let _ = printer.leave(self.output())?;
         self.failed = false;
-        Ok(came.made)
+        Ok(made)
     }
 
     /// Returns what was written since the output was last cleared.

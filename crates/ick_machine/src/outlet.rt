@@ -1,9 +1,7 @@
 //! Where the output of a run goes while the run goes on.
 
 ghost use Rattle.std.specs.Prelude.{◌≡◌, ◌+◌, ◌<◌, ◌≤◌, ◌^◌, ◌++◌, ℕ, List, Bool, true, OnOk, length, take};
-ghost use Rattle.ick_machine.specs.Printing.{outlet_failures, run_fault};
-
-use ick_backtrack::FeedFault;
+ghost use Rattle.ick_machine.specs.Printing.{outlet_failures};
 
 /// Tells that a text wasn't written whole.
 #[derive(Clone, Copy, Debug)]
@@ -18,17 +16,6 @@ pub enum RunFault {
     Read,
     /// Tells that a write failed.
     Write,
-}
-
-impl From<FeedFault> for RunFault {
-    ghost from_gives = { λ feed_fault fault. fault ≡ run_fault feed_fault };
-
-    fn from(fault: FeedFault) -> RunFault {
-        match fault {
-            FeedFault::NoMemory => RunFault::NoMemory,
-            FeedFault::Read => RunFault::Read,
-        }
-    }
 }
 
 /// Takes the output of a run while the run goes on.

@@ -1,13 +1,13 @@
 //! A reader that takes no input, and lets the output of a run leave.
 
-ghost use Rattle.std.specs.Prelude.{◌≡◌, ◌+◌, ◌<◌, ◌^◌, ◌++◌, ℕ, true, false};
+ghost use Rattle.std.specs.Prelude.{◌≡◌, ◌+◌, ◌<◌, ◌^◌, ◌++◌, ℕ, true, false, OnOk};
 ghost use Rattle.std.proofs.lemmas.Bool.{false≢true};
+ghost use Rattle.ick_runtime.specs.Inputs.{Leads};
 ghost use Rattle.ick_engine.specs.Feeds.{MayBeLeft, one_if, some_left};
-ghost use Rattle.ick_machine.specs.Live.{fed, seen};
-ghost use Rattle.ick_machine.specs.Printing.{Begun, HasLeft, MayLeave, begun, failed_reads, failed_writes};
+ghost use Rattle.ick_machine.specs.{Live.fed, Live.seen, Printing.HasLeft, Printing.MayLeave};
+ghost use Rattle.ick_machine.specs.declared.live.Live.{Live};
 
-use crate::live::Live;
-use crate::outlet::{Outlet, RunFault};
+use crate::{Live, Outlet};
 use ick_bits::NoMemory;
 use ick_engine::{Feed, Line, Reader};
 use std::snapshot::Snapshot;
@@ -39,65 +39,25 @@ pub(crate) struct Printer<'c, 'a, F: Feed, O: Outlet> {
         limit.value (O.written first.value) (O.written outlet) n) ∥₁ },
 }
 
-impl<'c, 'a, F: Feed, O: Outlet> Printer<'c, 'a, F, O> {
-    /// Lets the output leave that hasn't left yet. Returns whether all of it has left.
-    pub(crate) fn print(&mut self, output: &[u8]) -> bool
-        requires { let reader = ⟦<Printer<'c, 'a, F, O> as Reader>⟧ in
-            reader.Prints (reader.held self.old) output.now }
-        ensures sound { result ≡ true → self.new.broken ≡ false }
-        ensures all { F.told ≡ true → O.told ≡ true → result ≡ true →
-            O.written self.new.outlet ≡ O.written self.old.first.value ++ output.now }
-        ensures held { let reader = ⟦<Printer<'c, 'a, F, O> as Reader>⟧ in
-            reader.held self.new ≡ reader.held self.old }
-    {
-        if self.broken || self.shown > output.len() {
-            return false;
-        }
-        if self.shown == output.len() {
-            return true;
-        }
-        match self.outlet.write(&output[self.shown..]) {
-            Ok(()) => {
-                self.shown = output.len();
-                true
-            }
-            Err(_) => {
-                self.broken = true;
-                false
-            }
-        }
-    }
-
-    /// Returns why a run stopped short.
-    pub(crate) fn fault(&self) -> RunFault
-        ensures writes { failed_writes result ≡ one_if self.now.broken }
-        ensures reads { failed_reads result ≡ 0 }
-    {
-        if self.broken {
-            RunFault::Write
-        } else {
-            RunFault::NoMemory
-        }
-    }
-}
-
-impl<F: Feed, O: Outlet> Reader for Printer<'_, '_, F, O> {
+impl<'c, 'a, F: Feed, O: Outlet> Reader for Printer<'c, 'a, F, O> {
     ghost Has = { λ printer. MayBeLeft F.told false printer.machine.value.line.items
         (F.left printer.feed.value) };
 
     // What the outlet keeps, and how the run began.
-    ghost Held = { ℕ × Begun };
+    ghost Held = { ℕ × Live × F × ℕ × O };
 
     ghost held = { λ printer. (
       O.held printer.outlet,
-      begun (seen printer.machine.value)
-          printer.machine.value.line.items (F.left printer.feed.value) printer.limit.value
-          (O.written printer.first.value) (O.failed printer.first.value),
+      printer.machine.value,
+      printer.feed.value,
+      printer.limit.value,
+      printer.first.value,
     ) };
 
     ghost waits = { λ _. true };
 
-    ghost Prints = { λ held output. F.told ≡ true → MayLeave held.1 output };
+    ghost Prints = { λ held output. F.told ≡ true → MayLeave (seen held.1).program
+        (fed (F.left held.2) (seen held.1).state) held.3 output };
 
     ghost some = { λ printer. some_left F.told false printer.machine.value.line.items
         (F.left printer.feed.value) (λ e. absurd (false≢true e)) };
@@ -107,12 +67,28 @@ impl<F: Feed, O: Outlet> Reader for Printer<'_, '_, F, O> {
     }
 
     #[inline(always)]
-    fn leave(&mut self, output: &[u8]) -> Result<bool, NoMemory> {
-        if self.print(output) {
-            Ok(self.shown > MOST)
-        } else {
-            Err(NoMemory)
+    fn leave(&mut self, output: &[u8]) -> Result<bool, NoMemory>
+        requires { let reader = ⟦<Printer<'c, 'a, F, O> as Reader>⟧ in
+            reader.Prints (reader.held self.old) output.now }
+        ensures input { Leads ⟦<Printer<'c, 'a, F, O> as Reader>⟧.Has self.old self.new
+            (λ before after. before ≡ after) }
+        ensures held { let reader = ⟦<Printer<'c, 'a, F, O> as Reader>⟧ in
+            reader.held self.new ≡ reader.held self.old }
+        ensures sound { OnOk result (self.new.broken ≡ false) }
+        ensures all { F.told ≡ true → O.told ≡ true → OnOk result
+            (O.written self.new.outlet ≡ O.written self.old.first.value ++ output.now) }
+    {
+        if self.broken || self.shown > output.len() {
+            return Err(NoMemory);
         }
+        if self.shown < output.len() {
+            if let Err(_) = self.outlet.write(&output[self.shown..]) {
+                self.broken = true;
+                return Err(NoMemory);
+            }
+            self.shown = output.len();
+        }
+        Ok(self.shown > MOST)
     }
 
     fn line(&mut self, from: usize) -> Result<Line, NoMemory> {

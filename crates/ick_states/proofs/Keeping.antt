@@ -99,21 +99,3 @@ pub same_steps : (program : Program) (old old' new new' : State) (k : ℕ) → o
     RunsOn IsPlain program old k new → RunsOn IsPlain program old' k new'
 same_steps program old old' new new' k same same' runs =
     subst (λ z. RunsOn IsPlain program old' k z) (sym same') (subst (λ z. RunsOn IsPlain program z k new) same runs)
-
--- no step
-pub no_steps : (program : Program) (s : State) → RunsOn IsPlain program s 0 s
-no_steps program s = record { leads = refl; on = λ i lt. absurd (omega (arith, lt)) }
-
--- steps over a text, of a run that hasn't ended
-pub ran_on : (code : Code) (lowered : LoweredParts) (text : List ℕ) (v w : View) (end end' : Option RawEnd) (k : ℕ)
-    (old new : TextReader) → end ≡ None → old.text.now ≡ text → new.text.now ≡ old.text.now →
-    Leads (λ (reader : TextReader) input. input ≡ input_of reader.text.now) old new
-    (λ before after. RunsOn IsPlain (code_program code) (run_state code lowered before v None) k
-    (run_state code lowered after w end')) →
-    RunsOn IsPlain (code_program code) (run_state code lowered (input_of text) v end) k
-    (run_state code lowered (input_of text) w end')
-ran_on code lowered text v w end end' k old new none is same leads =
-    subst (λ o. RunsOn IsPlain (code_program code) (run_state code lowered (input_of text) v o) k
-    (run_state code lowered (input_of text) w end')) (sym none)
-    (by_text old new text (λ before after. RunsOn IsPlain (code_program code) (run_state code lowered before v None) k
-    (run_state code lowered after w end')) is same leads)

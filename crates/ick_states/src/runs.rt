@@ -71,7 +71,6 @@ impl<'c, 'a> Runs<'c, 'a> {
 
     /// Makes steps while nothing is asked and the run hasn't ended, at most as many as the limit.
     /// Returns their number.
-    #[tactic(auto, using(crate::proofs::Keeping::no_steps))]
     fn go_on(
         &self,
         memory: &mut Memory,
@@ -86,23 +85,10 @@ impl<'c, 'a> Runs<'c, 'a> {
             (present_state self.now memory.new end.new)) }
         ensures within { IfOk result (λ made. made ≤ limit) }
     {
-        let None = *end else {
-            return Ok(0);
-        };
-        let mut reader = TextReader::new(self.input);
-        let notes = &mut Nobody;
         let program = &self.lowered;
-        let came = make_steps(
-            program,
-            memory,
-            end,
-            notes,
-            &mut reader,
-            &NoTraces,
-            limit,
-            None,
-        )?;
-        Ok(came.made)
+        let notes = &mut Nobody;
+        let reader = &mut TextReader::new(self.input);
+        make_steps(program, memory, end, notes, reader, &NoTraces, limit, None)
     }
 
     /// Makes one step of a run that hasn't ended, and then further steps while nothing is asked, at
@@ -127,19 +113,10 @@ impl<'c, 'a> Runs<'c, 'a> {
         let program = &self.lowered;
         // It has a length, so `Nobody` has room for the changes of any statement.
         let _longest = program.longest();
-        let mut reader = TextReader::new(self.input);
         let notes = &mut Nobody;
+        let reader = &mut TextReader::new(self.input);
         let answer = Some(done);
-        let _ = make_steps(
-            program,
-            memory,
-            end,
-            notes,
-            &mut reader,
-            &NoTraces,
-            1,
-            answer,
-        )?;
+        let _ = make_steps(program, memory, end, notes, reader, &NoTraces, 1, answer)?;
         self.go_on(memory, end, limit)
     }
 

@@ -1,68 +1,61 @@
-use Rattle.std.proofs.Common.{◌+◌, ℕ, None, sym, ◌∙◌, subst, arith, rules}
-use Rattle.ick_backtrack.specs.Steps.{IsPlain, RunsOn, Rests}
-use Rattle.ick_runtime.specs.{Memory.view_in, Inputs.Leads}
-use Rattle.ick_machine.specs.{RunIn.program_of, RunIn.state_in}
-use Rattle.ick_machine.proofs.StepLemmas.{has_made, has_rested, has_stepped, moves_by, never_short}
-use Rattle.ick_machine.proofs.StepLemmas.{by_flag, on_the_way, ready_by, steady_by}
+use Rattle.std.proofs.Common.{refl, arith}
+use Rattle.ick_backtrack.specs.Steps.{IsPlain}
+use Rattle.ick_runtime.specs.{Memory.view_in}
+use Rattle.ick_machine.proofs.AnswerLemmas.{some_bound}
+use Rattle.ick_machine.proofs.StepLemmas.{has_made, has_moved, has_stepped, ready_by, steady_by}
+use Rattle.ick_machine.proofs.StepsLemmas.{no_step}
 use Rattle.ick_machine.proofs.WholeLemmas.{if_ok, if_so}
 use Rattle.ick_machine.proofs.steps.make_steps.Goals as goal
 
-pub returns-clause-steady : goal.returns-clause-steady
-returns-clause-steady g c = search (rules, steady_by)
+-- the run had ended
+pub returns-in_default : goal.returns-in_default
+returns-in_default g c = record {
+  low_within = c.requires.low;
+  base_same = refl;
+  follows = λ k m h. h;
+  steady = c.requires.ready.steady;
+  ready = c.requires.ready;
+  held_same = refl;
+  end_same = tt;
+  within = omega arith;
+  moves = λ none goes enough some input still.
+      absurd (some_bound c.args.lowered.now.code.now c.args.lowered.now.parts input (view_in c.args.memory.now)
+      c.args.end.now c.in_default.not-None still);
+  runs = λ none after has. (after, has, no_step IsPlain _ _);
+  steps = λ done same one going goes enough. absurd (c.in_default.not-None going);
+}
 
-pub returns-clause-ready : goal.returns-clause-ready
-returns-clause-ready g c = if_so c.stopped.result _ _ c.stopped.ensures (λ came stops. search (rules, ready_by))
-
-pub returns-clause-within : goal.returns-clause-within
-returns-clause-within g c =
-    if_ok c.stopped.result _ _ c.stopped.ensures (λ came stops. omega (arith, stops.made_is))
-
-pub returns-clause-going : goal.returns-clause-going
-returns-clause-going g c = if_ok c.stopped.result _ _ c.stopped.ensures (λ came stops more.
-    stops.end_is ∙ sym (on_the_way c.run_steps-exit.result (stops.goes more)).1)
-
-pub returns-clause-moves : goal.returns-clause-moves
-returns-clause-moves g c = if_ok c.stopped.result _ _ c.stopped.ensures (λ came stops more goes enough.
+pub returns : goal.returns
+returns g c =
     let call = c.run_steps-exit in
-    let moved = moves_by call.result (g.R.Reader.waits (g.R.Reader.held c.args.reader.now))
-    (c.args.lowered.now.parts.longest + 79) (g.N.Notes.room c.args.notes.now) c.args.limit call.new.memory.cursor.left
-    (stops.goes more) (λ room same. (call.ensures.ran.is_short room).begun same)
-    call.ensures.ran.has_waited call.ensures.ran.fewer goes enough in
-    omega (arith, moved, stops.made_is))
+    let ran = call.ensures.ran in
+    let code = c.args.lowered.now.code.now in
+    let lowered = c.args.lowered.now.parts in
+    let w = view_in call.new.memory in
+    let ok = c.stopped.ensures.ok in
+    record {
+      low_within = ran.noted.low_within;
+      base_same = ran.noted.base_same;
+      follows = call.ensures.follows;
+      steady = steady_by call.result code lowered w ran.stopped.remains;
+      ready = if_so c.stopped.result _ _ ok (λ k is. ready_by call.result code lowered w is.1 ran.stopped.remains);
+      held_same = ran.held_same;
+      end_same = c.stopped.ensures.err;
+      within = if_ok c.stopped.result _ _ ok (λ k is. omega (arith, is.0));
+      moves = λ none goes enough some. if_ok c.stopped.result _ _ ok (λ k is.
+          has_moved code lowered g.R.Reader.Has c.args.reader.now call.new.reader c.args.limit call.new.memory.cursor.left
+          c.args.answer call.new.memory.cursor.answer (view_in c.args.memory.now) w call.result _ _ _ _ ran.is_short
+          ran.has_waited ran.fewer ran.stopped.comes k c.stopped.new.end is
+          (g.R.Reader.some call.new.reader) none goes enough some);
+      runs = λ none. if_ok c.stopped.result _ _ ok (λ k is. rw c.in-None.is (
+          has_made code lowered g.R.Reader.Has c.args.reader.now call.new.reader c.args.limit call.new.memory.cursor.left
+          c.args.answer call.new.memory.cursor.answer (view_in c.args.memory.now) w call.result _ _ _ _ ran.is_short
+          ran.has_waited ran.fewer ran.stopped.comes k c.stopped.new.end is none));
+      steps = λ done same one going goes enough. if_so c.stopped.result _ _ ok (λ k is. rw c.in-None.is (
+          has_stepped code lowered g.R.Reader.Has c.args.reader.now call.new.reader c.args.limit call.new.memory.cursor.left
+          c.args.answer call.new.memory.cursor.answer (view_in c.args.memory.now) w call.result _ _ _ _ ran.is_short
+          ran.has_waited ran.fewer ran.stopped.comes k c.stopped.new.end is goes enough done same one));
+    }
 
-pub returns-clause-runs : goal.returns-clause-runs
-returns-clause-runs g c = λ none. if_ok c.stopped.result _ _ c.stopped.ensures (λ came stops.
-    let call = c.run_steps-exit in
-    let program = c.args.lowered.now in
-    subst (λ (k : ℕ). Leads g.R.Reader.Has c.args.reader.now call.new.reader (λ before after.
-    RunsOn IsPlain (program_of program) (state_in program before c.args.memory.now None) k
-    (state_in program after call.new.memory c.stopped.new.end))) (sym stops.made_is)
-    (has_made program.code.now program.parts g.R.Reader.Has c.args.reader.now call.new.reader c.args.limit
-    call.new.memory.cursor.left c.args.answer call.new.memory.cursor.answer (view_in c.args.memory.now)
-    (view_in call.new.memory) call.result stops.going c.stopped.new.end stops.end_is call.ensures.ran.stopped.comes none))
-
-pub returns-clause-rests : goal.returns-clause-rests
-returns-clause-rests g c = λ none. if_ok c.stopped.result _ _ c.stopped.ensures (λ came stops over input.
-    let call = c.run_steps-exit in
-    let program = c.args.lowered.now in
-    subst (λ (k : ℕ). Rests IsPlain (program_of program) c.args.limit k
-    (state_in program input call.new.memory c.stopped.new.end)) (sym stops.made_is)
-    (has_rested program.code.now program.parts g.R.Reader.Has c.args.reader.now call.new.reader c.args.limit
-    call.new.memory.cursor.left c.args.answer call.new.memory.cursor.answer (view_in c.args.memory.now)
-    (view_in call.new.memory) call.result stops.going c.stopped.new.end stops.end_is call.ensures.ran.stopped.comes
-    (g.R.Reader.some call.new.reader) call.ensures.ran.fewer (stops.rests over).0 (stops.rests over).1 none input))
-
-pub returns-clause-steps : goal.returns-clause-steps
-returns-clause-steps g c = λ done same one goes enough. if_so c.stopped.result _ _ c.stopped.ensures (λ came stops.
-    let call = c.run_steps-exit in
-    let program = c.args.lowered.now in
-    by_flag came.more
-    (λ more. absurd (never_short call.result (g.R.Reader.waits (g.R.Reader.held c.args.reader.now))
-    (program.parts.longest + 79) (g.N.Notes.room c.args.notes.now) c.args.limit call.new.memory.cursor.left
-    (stops.goes more) (λ room. (call.ensures.ran.is_short room).some)
-    (λ room whole. (call.ensures.ran.is_short room).begun whole)
-    call.ensures.ran.has_waited goes enough call.ensures.ran.fewer one))
-    (λ over. has_stepped program.code.now program.parts g.R.Reader.Has c.args.reader.now call.new.reader c.args.limit
-    call.new.memory.cursor.left c.args.answer call.new.memory.cursor.answer (view_in c.args.memory.now)
-    (view_in call.new.memory) call.result stops.going c.stopped.new.end stops.end_is call.ensures.ran.stopped.comes
-    call.ensures.ran.fewer (stops.rests over).0 (stops.rests over).1 done same one))
+pub run_steps-exit-requires-clause-prints : goal.run_steps-exit-requires-clause-prints
+run_steps-exit-requires-clause-prints g c = c.requires.prints c.in-None.is

@@ -1,9 +1,9 @@
-use Rattle.std.proofs.Common.{◌≡◌, None, refl, ap, sym, ◌∙◌, subst, arith, rules}
-use Rattle.ick_code.specs.{Compiled.code_program, meaning.Move.advance, meaning.State.State}
+use Rattle.std.proofs.Common.{◌≡◌, refl, ap, sym, ◌∙◌, subst, arith, rules}
+use Rattle.ick_code.specs.{meaning.Move.advance, meaning.State.State}
 use Rattle.ick_backtrack.specs.{Machine.Machine, Steps.IsPlain, Steps.RunsOn}
-use Rattle.ick_runtime.specs.{Memory.view_in, Undo.IsRestored, View.View, Inputs.input_of}
-use Rattle.ick_machine.specs.{Marks.IsMarked, Marks.KeepsMarks, Run.run_state, RunIn.state_in, Seen.trailed_machine}
-use Rattle.ick_machine.proofs.{Marks.run_same, WholeLemmas.by_text, WholeLemmas.going_on, WholeLemmas.keeps_marks}
+use Rattle.ick_runtime.specs.{Memory.view_in, Undo.IsRestored, Inputs.input_of}
+use Rattle.ick_machine.specs.{Marks.IsMarked, Marks.KeepsMarks, RunIn.program_of, RunIn.state_in, Seen.trailed_machine}
+use Rattle.ick_machine.proofs.{Marks.run_same, WholeLemmas.by_text, WholeLemmas.keeps_marks}
 use Rattle.ick_machine.proofs.WholeLemmas.{always_err}
 use Rattle.ick_instructions.specs.declared.lowered.Lowered.{Lowered}
 use Rattle.ick_machine.proofs.TrailMarks.{depth_restored, noted_marks, restored_by, undone_marks}
@@ -27,11 +27,9 @@ returns-in_err-mark c =
       fixed = start.fixed;
       err = always_err c.from_residual.result _ e;
       within = search rules;
-      going = search rules;
-      moves = search rules;
+      moves = λ none some. search rules;
       runs = λ none. search rules;
-      rests = λ none. search rules;
-      steps = λ done given one. search rules;
+      steps = λ done given one going. search rules;
     }
 
 -- a mark was made
@@ -56,7 +54,7 @@ noted c =
     let can = c.law.ensures.can in
     noted_marks m.lowered.code.now m.lowered.parts c.law.ensures.program m.trail m.trail made.new.notes m.memory
     made.new.memory can.base can.ready.steady.constants (marked (goal.at.After-make_steps c).After-law)
-    made.ensures.base made.ensures.follows (rw (sym c.program-program.ensures) made.ensures.steady.constants)
+    made.ensures.base_same made.ensures.follows (rw (sym c.program-program.ensures) made.ensures.steady.constants)
 
 pub invariant_of-self : goal.invariant_of-self
 invariant_of-self c =
@@ -64,8 +62,8 @@ invariant_of-self c =
     record {
       can = ∣ record {
         ready = rw (sym c.program-program.ensures) c.in-Ok.ensures.ready;
-        low = c.make_steps.ensures.low;
-        base = ap (λ f. f.base) c.make_steps.ensures.base ∙ c.law.ensures.can.base;
+        low = c.make_steps.ensures.low_within;
+        base = ap (λ f. f.base) c.make_steps.ensures.base_same ∙ c.law.ensures.can.base;
       } ∣₁;
       marked = (keeps_marks m c.make_steps.new.notes c.make_steps.new.memory
           (noted (goal.at.invariant_of-self c).After-make_steps)).0;
@@ -78,47 +76,35 @@ returns-in-Ok c =
     let start = c.start.ensures in
     let new = c.make_steps.new in
     let input = input_of m.input.now in
-    let going = start.end ∙ c.requires in
+    let last = state_in m.lowered input new.memory new.end in
     let stay = noted (goal.at.returns-in-Ok c).After-make_steps in
     let longest = ap (λ (l : Lowered). l.parts.longest) c.program-program.ensures in
     let room = c.in_ok-mark.ensures.room in
     record {
-      rest = ap (λ marks. record (trailed_machine m) { state = state_in m.lowered input new.memory new.end; marks = marks })
+      rest = ap (λ marks. record (trailed_machine m) { state = last; marks = marks })
           (keeps_marks m new.notes new.memory stay).1
-          ∙ same_but (trailed_machine m) (state_in m.lowered input new.memory new.end) old start.same;
+          ∙ same_but (trailed_machine m) last old start.same;
       fixed = start.fixed;
       err = tt;
       within = c.in-Ok.ensures.within;
-      going = c.in-Ok.ensures.going;
-      moves = λ more. c.in-Ok.ensures.moves more refl (omega (arith, room, longest));
+      moves = λ none some. rw (sym c.program-program.ensures) (
+          c.in-Ok.ensures.moves none refl (omega (arith, room, longest)) some input);
       runs = λ none.
-          subst (λ (x : Machine). RunsOn IsPlain x.program x.state c.in-Ok.came.made
-          (state_in m.lowered input new.memory new.end)) start.same
+          subst (λ (x : Machine). RunsOn IsPlain x.program x.state c.in-Ok.made last) start.same
           (rw (sym c.program-program.ensures) (
-          let code = c.program-program.result.now.code.now in
-          let lowered = c.program-program.result.now.parts in
-          going_on code lowered input (view_in m.memory) m.end going
-          (λ (s : State). RunsOn IsPlain (code_program code) s c.in-Ok.came.made
-          (run_state code lowered input (view_in new.memory) new.end))
-          (by_text c.new.result new.reader m.input.now (λ before after.
-          RunsOn IsPlain (code_program code) (run_state code lowered before (view_in m.memory) None) c.in-Ok.came.made
-          (run_state code lowered after (view_in new.memory) new.end)) c.new.ensures c.make_steps.ensures.held
-          (c.in-Ok.ensures.runs none))));
-      rests = λ none more. rw (sym c.program-program.ensures) (c.in-Ok.ensures.rests none more input);
-      steps = λ done given one.
-          subst (λ (x : Machine). state_in m.lowered input new.memory new.end ≡ advance x.program x.state done)
-          start.same
+          let program = c.program-program.result.now in
+          by_text c.new.result new.reader m.input.now (λ before after.
+          RunsOn IsPlain (program_of program) (state_in program before m.memory m.end) c.in-Ok.made
+          (state_in program after new.memory new.end)) c.new.ensures c.make_steps.ensures.held_same
+          (c.in-Ok.ensures.runs none)));
+      steps = λ done given one going.
+          subst (λ (x : Machine). last ≡ advance x.program x.state done) start.same
           (rw (sym c.program-program.ensures) (
-          let code = c.program-program.result.now.code.now in
-          let lowered = c.program-program.result.now.parts in
-          going_on code lowered input (view_in m.memory) m.end going
-          (λ (s : State). run_state code lowered input (view_in new.memory) new.end
-          ≡ advance (code_program code) s done)
-          (by_text c.new.result new.reader m.input.now (λ before after.
-          run_state code lowered after (view_in new.memory) new.end
-          ≡ advance (code_program code) (run_state code lowered before (view_in m.memory) None) done)
-          c.new.ensures c.make_steps.ensures.held
-          (c.in-Ok.ensures.steps done given one refl (omega (arith, room, longest))))));
+          let program = c.program-program.result.now in
+          by_text c.new.result new.reader m.input.now (λ before after. state_in program after new.memory new.end
+          ≡ advance (program_of program) (state_in program before m.memory m.end) done)
+          c.new.ensures c.make_steps.ensures.held_same
+          (c.in-Ok.ensures.steps done given one (start.end ∙ going) refl (omega (arith, room, longest)))));
     }
 
 -- the marked state was gone back to
@@ -143,7 +129,7 @@ undone c =
     undone_marks m.lowered.code.now m.lowered.parts c.law.ensures.program m.trail m.trail
     c.make_steps.new.notes c.back.new.trail m.memory c.back.new.memory c.in_ok-mark.mark can.base
     can.ready.steady.constants (marked (goal.at.After-back c).After-law) c.in_ok-mark.ensures.mark
-    c.make_steps.ensures.base (restored c) c.back.ensures.changes c.back.ensures.low c.back.ensures.base
+    c.make_steps.ensures.base_same (restored c) c.back.ensures.changes c.back.ensures.low c.back.ensures.base
 
 pub invariant_of-self-2 : goal.invariant_of-self-2
 invariant_of-self-2 c =
@@ -157,7 +143,7 @@ invariant_of-self-2 c =
       can = ∣ record {
         ready = back.ready;
         low = omega (arith, same, c.back.ensures.low, c.in_ok-mark.ensures.mark.depth_is);
-        base = c.back.ensures.base ∙ ap (λ f. f.base) c.make_steps.ensures.base ∙ c.law.ensures.can.base;
+        base = c.back.ensures.base ∙ ap (λ f. f.base) c.make_steps.ensures.base_same ∙ c.law.ensures.can.base;
       } ∣₁;
       marked = (keeps_marks m c.back.new.trail c.back.new.memory (undone at)).0;
     }
@@ -165,16 +151,13 @@ invariant_of-self-2 c =
 -- the state is as before
 as_before : (c : After-back) →
     let m = c.start.new.self in
-    state_in m.lowered (input_of m.input.now) c.back.new.memory None ≡ (trailed_machine m).state
+    state_in m.lowered (input_of m.input.now) c.back.new.memory c.make_steps.new.end ≡ (trailed_machine m).state
 as_before c =
     let m = c.start.new.self in
-    let code = m.lowered.code.now in
-    let lowered = m.lowered.parts in
     let input = input_of m.input.now in
-    let w : View = view_in c.back.new.memory in
-    going_on code lowered input (view_in m.memory) m.end (c.start.ensures.end ∙ c.requires)
-    (λ (s : State). run_state code lowered input w None ≡ s)
-    (run_same code lowered input w (view_in m.memory) None ((restored c).states input))
+    run_same m.lowered.code.now m.lowered.parts input (view_in c.back.new.memory) (view_in m.memory)
+    c.make_steps.new.end ((restored c).states input)
+    ∙ ap (state_in m.lowered input m.memory) c.in_default.ensures.end_same
 
 pub returns : goal.returns
 returns c =
@@ -182,7 +165,7 @@ returns c =
     let old = trailed_machine c.args.self.now in
     let start = c.start.ensures in
     let at = (goal.at.returns c).After-back in
-    let s = state_in m.lowered (input_of m.input.now) c.back.new.memory None in
+    let s = state_in m.lowered (input_of m.input.now) c.back.new.memory c.make_steps.new.end in
     record {
       rest = ap (λ marks. record (trailed_machine m) { state = s; marks = marks })
           (keeps_marks m c.back.new.trail c.back.new.memory (undone at)).1
@@ -190,9 +173,7 @@ returns c =
       fixed = start.fixed;
       err = as_before at ∙ ap (λ (x : Machine). x.state) start.same;
       within = tt;
-      going = tt;
-      moves = tt;
+      moves = λ none some. tt;
       runs = λ none. tt;
-      rests = λ none. tt;
-      steps = λ done given one. tt;
+      steps = λ done given one going. tt;
     }
