@@ -66,7 +66,6 @@ impl<'c, 'a, F: Feed, O: Outlet> Reader for Printer<'c, 'a, F, O> {
         true
     }
 
-    #[inline(always)]
     fn leave(&mut self, output: &[u8]) -> Result<bool, NoMemory>
         requires { let reader = ⟦<Printer<'c, 'a, F, O> as Reader>⟧ in
             reader.Prints (reader.held self.old) output.now }
