@@ -178,11 +178,24 @@ impl<'c, 'a> Live<'c, 'a> {
         let mut outlet = outlet;
         let mut made = 0;
         'on: loop {
-            let (ran, back) = self.run_to_input(limit - made, feed, outlet);
-            outlet = back;
+            let most = limit - made;
+            let mut printer = Printer {
+                machine: Snapshot::of(&*self),
+                feed: Snapshot::of(&*feed),
+                limit: Snapshot::of(&most),
+                first: Snapshot::of(&outlet),
+                outlet,
+                shown: 0,
+                broken: false,
+            };
+            let ran = self.run_by(most, &mut printer);
+            self.clear_output();
+            let broken = printer.broken;
+            outlet = printer.outlet;
             match ran {
                 Ok(more) => made += more,
-                Err(fault) => return (Err(fault), outlet),
+                Err(_) if broken => return (Err(RunFault::Write), outlet),
+                Err(_) => return (Err(RunFault::NoMemory), outlet),
             }
             let LiveAsk::Plain = self.asks() else {
                 return (Ok(made), outlet);
@@ -199,45 +212,7 @@ impl<'c, 'a> Live<'c, 'a> {
     }
 
     /// Makes steps as `run` does, but stops before a WRITE IN, and may stop earlier if the memory
-    /// holds much output. It takes no input: the feed is there for contracts alone.
-    fn run_to_input<F: Feed, O: Outlet>(
-        &mut self,
-        limit: u32,
-        feed: &F,
-        outlet: O,
-    ) -> (Result<u32, RunFault>, O)
-        requires sound { (seen self.old).failed ≡ false }
-        requires room { O.failed outlet + 1 < 2 ^ 64 }
-        ensures prints { let old = seen self.old in F.told ≡ true → Prints O.told old.program
-            (fed (F.left feed.now) old.state) limit (fed (F.left feed.now) (seen self.new).state)
-            (O.written outlet) (O.written result.1) result.0 }
-        ensures within { IfOk result.0 (λ k. k ≤ limit) }
-        ensures leaves { Leaves (seen self.old) (seen self.new) result.0 }
-        ensures reads { run_reads result.0 ≡ 0 }
-        ensures writes { O.failed result.1 ≡ O.failed outlet + run_writes result.0 }
-        ensures given { O.held result.1 ≡ O.held outlet }
-    {
-        let mut printer = Printer {
-            machine: Snapshot::of(&*self),
-            feed: Snapshot::of(feed),
-            limit: Snapshot::of(&limit),
-            first: Snapshot::of(&outlet),
-            outlet,
-            shown: 0,
-            broken: false,
-        };
-        let ran = self.run_by(limit, &mut printer);
-        self.clear_output();
-        let Printer { outlet, broken, .. } = printer;
-        match ran {
-            Ok(made) => (Ok(made), outlet),
-            Err(_) if broken => (Err(RunFault::Write), outlet),
-            Err(_) => (Err(RunFault::NoMemory), outlet),
-        }
-    }
-
-    /// Makes the steps of `run_to_input`, and lets all output leave by a printer: first what the
-    /// machine holds.
+    /// holds much output. All output leaves by a printer, first what the machine holds.
     fn run_by<F: Feed, O: Outlet>(
         &mut self,
         limit: u32,
