@@ -3,7 +3,6 @@ use Rattle.std.specs.Prelude.{Ok, Err, [], ◌^◌}
 use mathlib.Core.Logic.{∥∥₁_map}
 use Rattle.ick_code.specs.meaning.State.{State}
 use Rattle.ick_code.specs.meaning.Move.{advance}
-use Rattle.ick_backtrack.specs.Machine.{Program}
 use Rattle.ick_backtrack.specs.Steps.{IsPlain, RunsOn}
 use Rattle.ick_machine.specs.Feeds.{MeetsInput}
 use Rattle.ick_machine.specs.Live.{LiveMachine, fed, live_ask, seen}
