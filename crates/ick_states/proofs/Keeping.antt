@@ -1,5 +1,5 @@
 -- Proves lemmas on states that are kept, and on steps from them.
-use Rattle.std.proofs.Common.{◌≡◌, ℕ, ◌<◌, List, length, get_or, Option, Some, None, refl, ap, sym, ◌∙◌, subst, arith}
+use Rattle.std.proofs.Common.{◌≡◌, ℕ, ◌<◌, length, get_or, Option, Some, None, refl, ap, sym, ◌∙◌, subst, arith}
 use Rattle.std.proofs.Common.{Result, Ok, Err}
 use Rattle.std.specs.Prelude.{option_map, IfOk}
 use Rattle.std.proofs.Props.{props}
@@ -14,8 +14,7 @@ use Rattle.ick_backtrack.specs.Steps.{IsPlain, RunsOn}
 use Rattle.ick_instructions.specs.declared.lowered.LoweredParts.{LoweredParts}
 use Rattle.ick_engine.specs.declared.exit.RawEnd.{RawEnd}
 use Rattle.ick_marks.specs.declared.saved.Saved.{Saved}
-use Rattle.ick_engine.specs.declared.text_reader.TextReader.{TextReader}
-use Rattle.ick_runtime.specs.Inputs.{Leads, Input, input_of}
+use Rattle.ick_runtime.specs.Inputs.{Input, input_of}
 use Rattle.ick_marks.specs.Saved.{IsKept, IsSaved, saved_view}
 use Rattle.ick_runtime.specs.View.{View, state_of}
 use Rattle.ick_engine.specs.Exits.{end_of}
@@ -27,7 +26,6 @@ use Rattle.ick_states.specs.Seen.{kept_state, seen_of}
 use Rattle.ick_states.specs.declared.runs.KeptRun.{KeptRun}
 use Rattle.ick_states.specs.declared.runs.Runs.{Runs}
 use Rattle.ick_machine.proofs.AnswerLemmas.{asks_status, place_low}
-use Rattle.ick_machine.proofs.WholeLemmas.{by_text}
 
 -- views of the same state, and the same end
 pub run_same : (code : Code) (lowered : LoweredParts) (input : Input) (v m : View) (end : Option RawEnd) →

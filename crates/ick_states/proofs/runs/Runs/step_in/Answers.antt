@@ -1,4 +1,4 @@
-use Rattle.std.proofs.Common.{◌≡◌, None, ap, refl, ◌∙◌, rules, arith}
+use Rattle.std.proofs.Common.{◌≡◌, None, refl, arith}
 use Rattle.ick_code.specs.meaning.Move.{advance}
 use Rattle.ick_machine.specs.RunIn.{program_of, state_in}
 use Rattle.ick_machine.proofs.WholeLemmas.{by_text, if_ok}
