@@ -67,13 +67,9 @@ fn put_element(arrays: &mut Vec<Array>, slot: u32, at: u32, old: u32)
         ≡ with_number (map array_of arrays.old.items) slot at old }
     ensures hidden { map is_hidden arrays.new.items ≡ map is_hidden arrays.old.items }
 {
-    if slot as usize >= arrays.len() {
-        return;
+    if (slot as usize) < arrays.len() && (at as usize) < arrays[slot as usize].elements.len() {
+        set_element(arrays, slot, at, old);
     }
-    if at as usize >= arrays[slot as usize].elements.len() {
-        return;
-    }
-    set_element(arrays, slot, at, old);
 }
 
 /// Hides an array again, or shows it, if there is such an array.
@@ -82,10 +78,9 @@ fn put_hidden(arrays: &mut Vec<Array>, slot: u32, old: bool)
     ensures hidden { map is_hidden arrays.new.items
         ≡ slice_set (map is_hidden arrays.old.items) slot old }
 {
-    if slot as usize >= arrays.len() {
-        return;
+    if (slot as usize) < arrays.len() {
+        set_hidden(arrays, slot, old);
     }
-    set_hidden(arrays, slot, old);
 }
 
 /// Undoes a change whose old value is in its entry.
@@ -138,17 +133,15 @@ fn undo_array(rest: &mut Rest, change: ArrayChange, slot: u32, old: Array)
     match change {
         ArrayChange::Taken => put_at(&mut rest.array_stashes, slot, old),
         ArrayChange::Replaced => {
-            if slot as usize >= rest.arrays.len() {
-                return;
+            if (slot as usize) < rest.arrays.len() {
+                let _ = replace_array(&mut rest.arrays, slot, old);
             }
-            let _ = replace_array(&mut rest.arrays, slot, old);
         }
         ArrayChange::Restored => {
-            if slot as usize >= rest.arrays.len() {
-                return;
+            if (slot as usize) < rest.arrays.len() {
+                let present = replace_array(&mut rest.arrays, slot, old);
+                put_at(&mut rest.array_stashes, slot, present);
             }
-            let present = replace_array(&mut rest.arrays, slot, old);
-            put_at(&mut rest.array_stashes, slot, present);
         }
     }
 }
