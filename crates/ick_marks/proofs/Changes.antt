@@ -1,10 +1,12 @@
 -- The changes that a trail has.
-use Rattle.std.proofs.Common.{arith, false, get_or, length, List, refl, reverse, rules, take, take_all, ◌++◌, ◌≡◌, ◌≢◌, ◌≤◌, [], ap, map, suc, sym, ℕ, ◌∷◌}
+use Rattle.std.proofs.Common.{arith, false, length, List, refl, reverse, rules, take, take_all, ◌++◌, ◌∙◌, ◌≡◌, ◌≢◌, ◌<◌, ◌≤◌, Some, [], ap, map, suc, sym, ℕ, ◌∷◌}
 use Rattle.ick_marks.proofs.Names.{all_undone, changes_in, common_steps, notes_back, Rewinds, length-take-le, statuses_were, take-append-le, array_of, array_was, ArrayValue}
 use Rattle.ick_marks.proofs.Names.{change_of, Extends, HighSame, no_change, undone, Like, Trail, View}
-use Rattle.std.{proofs.lemmas.List.length-reverse, proofs.Math.Seq.take-suc, specs.Global.Vec}
+use Rattle.std.proofs.lemmas.List.{length-append, reverse-append, reverse-reverse}
+use Rattle.std.{proofs.lemmas.List.length-reverse, specs.Global.Vec}
 use Rattle.ick_runtime.specs.declared.{change.ArrayChange.ArrayChange, change.Entry.Entry, memory.Array.Array}
 use Rattle.ick_runtime.proofs.{StashLemmas.arrays_put, Undoing.IsBelow, Undoing.like_refl, Undoing.marks_here}
+use Rattle.ick_marks.specs.Newest.{register_first}
 use Rattle.ick_marks.specs.TrailChanges.{AreUndone, changes_by, fixed_by, IsNoted, IsUndone, UndoesBy}
 use Rattle.ick_runtime.specs.{Undo.Change, Undo.changes_of, Undo.fixed_of, Undo.IsUndoable, Undo.stands_apart, View.bytes_of}
 use Rattle.ick_runtime.specs.declared.change.Entry.TheVariants as entry
@@ -73,27 +75,34 @@ pub grown : (t : Trail) (all rest : List Entry) (e : Entry) → stands_apart e �
 grown t all rest e h is = record { more = change_of e ∷ []; is = newest_alone t all rest e h is }
 
 -- the newest entry is one of a register
-pub newest_register : (t : Trail) (n at old : ℕ) (e : Entry) → length t.entries.items ≡ suc n →
-    get_or t.entries.items n e ≡ entry.Register at old → t.kept ≤ n → IsNoted t at
-newest_register t n at old e count is newer =
-    let all = t.entries.items in
-    let rest = take n all in
-    let behind : all ≡ rest ++ entry.Register at old ∷ [] =
-    cc (take_all (suc n) all (omega (arith, count)), take-suc all n e (omega (arith, count)), is) in
-    record {
-      older = reverse (changes_by t (reverse rest));
-      old = old;
-      noted_is = newest_alone t all rest (entry.Register at old) refl behind;
-      newer = omega (
-        arith,
-        newer,
-        count,
-        length-take-le n all (omega (arith, count)),
-        length-reverse (changes_by t (reverse rest)),
-        count_changes (reverse rest) (reverse (map array_of t.arrays.items)) (reverse (map bytes_of t.statuses.items)),
-        length-reverse rest,
-      );
-    }
+pub newest_register : (t : Trail) (at : ℕ) → t.kept < length t.entries.items →
+    register_first (reverse t.entries.items) ≡ Some at → IsNoted t at
+newest_register t at newer is = by_first (reverse t.entries.items) refl is
+  where
+    by_first : (es : List Entry) → reverse t.entries.items ≡ es → register_first es ≡ Some at → IsNoted t at
+    by_first [] e none = absurd (cc none)
+    by_first (entry.Register a old ∷ older) e some =
+        let all = t.entries.items in
+        let rest = reverse older in
+        let same : a ≡ at = cc some in
+        let behind : all ≡ rest ++ entry.Register at old ∷ [] =
+        sym (reverse-reverse all) ∙ ap reverse e ∙ reverse-append (entry.Register a old ∷ []) older
+        ∙ ap (λ n. rest ++ entry.Register n old ∷ []) same in
+        record {
+          older = reverse (changes_by t (reverse rest));
+          old = old;
+          noted_is = newest_alone t all rest (entry.Register at old) refl behind;
+          newer = omega (
+            arith,
+            newer,
+            ap length behind,
+            length-append rest (entry.Register at old ∷ []),
+            length-reverse (changes_by t (reverse rest)),
+            count_changes (reverse rest) (reverse (map array_of t.arrays.items)) (reverse (map bytes_of t.statuses.items)),
+            length-reverse rest,
+          );
+        }
+    by_first (other ∷ older) e none = absurd (cc none)
 
 pub newest_array : (t : Trail) (all : List Entry) (arrays : List Array) (change : ArrayChange) (slot : ℕ) (copy : Array)
     (old : ArrayValue) → all ≡ t.entries.items ++ entry.Array change slot ∷ [] → arrays ≡ t.arrays.items ++ copy ∷ [] →

@@ -1,2 +1,3 @@
 pub mod TrailChanges
 pub mod Saved
+pub mod Newest

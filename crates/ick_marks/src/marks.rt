@@ -45,6 +45,7 @@ pub fn make_mark(trail: &mut Trail, memory: &Memory) -> Mark
     let changes = trail.entries.len();
     trail.low = memory.cursor.depth;
     trail.kept = changes;
+    trail.newest = u32::MAX;
     Mark {
         place: memory.cursor.place,
         depth: memory.cursor.depth,
@@ -151,6 +152,7 @@ fn undo_newest(trail: &mut Trail, memory: &mut Memory, entry: Entry)
     ensures entries { trail.new.entries ≡ trail.old.entries }
     ensures base { trail.new.base ≡ trail.old.base }
     ensures kept { trail.new.kept ≡ trail.old.kept }
+    ensures newest { trail.new.newest ≡ trail.old.newest }
     ensures undone { IsUndone entry trail.old trail.new (view_in memory.old)
         (view_in memory.new) }
 {
@@ -174,6 +176,7 @@ fn undo_changes(trail: &mut Trail, changes: usize, memory: &mut Memory)
     ensures { AreUndone trail.old trail.new changes (view_in memory.old) (view_in memory.new) }
 {
     trail.kept = 0;
+    trail.newest = u32::MAX;
     'changes: while trail.entries.len() > changes {
         if let Some(entry) = trail.entries.pop() {
             undo_newest(trail, memory, entry);
@@ -214,6 +217,7 @@ pub fn back(trail: &mut Trail, mark: Mark, memory: &mut Memory, program: &Lowere
     program.code.law();
     undo_newer(trail, mark.changes, memory);
     trail.kept = trail.entries.len();
+    trail.newest = u32::MAX;
     trail.low = mark.depth;
     memory.cursor.place = mark.place;
     memory.cursor.depth = mark.depth;

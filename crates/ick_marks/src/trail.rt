@@ -1,6 +1,7 @@
 //! A trail of changes, which can be undone.
 
-ghost use Rattle.std.specs.Prelude.{◌≤◌, length};
+ghost use Rattle.std.specs.Prelude.{◌≡◌, ◌≢◌, ◌<◌, ◌≤◌, length, reverse, Some};
+ghost use Rattle.ick_marks.specs.Newest.{register_first};
 
 use crate::copy::{Part, copy_list};
 use ick_bits::NoMemory;
@@ -10,7 +11,8 @@ use std::alloc::Global;
 /// Changes, the newest last, the least depth of the NEXT stack since the newest mark, the first
 /// temporary register, and how many changes were noted before the newest mark. Temporaries, and
 /// what is behind them, are never noted. Arrays and statuses are kept apart from their entries, so
-/// that an entry is small.
+/// that an entry is small. Unless `newest` is `u32::MAX`, it is the register of the newest change,
+/// which is newer than the newest mark.
 #[derive(Drop)]
 pub struct Trail {
     pub(crate) entries: Vec<Entry>,
@@ -19,7 +21,10 @@ pub struct Trail {
     pub(crate) low: usize,
     pub(crate) base: u32,
     pub(crate) kept: usize,
+    pub(crate) newest: u32,
     pub ghost few: { kept ≤ length entries.items },
+    pub ghost named: { newest ≢ 4294967295 → (kept < length entries.items)
+        × (register_first (reverse entries.items) ≡ Some newest) },
 }
 
 impl Trail {
@@ -44,6 +49,7 @@ impl Trail {
             low: 0,
             base,
             kept: 0,
+            newest: u32::MAX,
         }
     }
 
@@ -70,6 +76,7 @@ impl Trail {
             ≡ vec_capacity self.old.entries }
     {
         self.kept = 0;
+        self.newest = u32::MAX;
         self.entries.clear();
         self.arrays.clear();
         self.statuses.clear();
@@ -94,6 +101,7 @@ impl Trail {
             Rewinds self.old.base (changes_in self.old) self.old.low k v m →
             Rewinds self.new.base (changes_in self.new) self.new.low k v m }
     {
+        self.newest = u32::MAX;
         'returns: while self.low > depth {
             self.low -= 1;
             let at = self.low;
@@ -143,17 +151,7 @@ impl Notes for Trail {
     /// register, and newer than the newest mark.
     #[inline(always)]
     fn must_note(&self, at: u32) -> bool {
-        if at >= self.base {
-            return false;
-        }
-        let count = self.entries.len();
-        if count <= self.kept {
-            return true;
-        }
-        match self.entries[count - 1] {
-            Entry::Register(newest, _) => newest != at,
-            _ => true,
-        }
+        at < self.base && at != self.newest
     }
 
     #[inline(always)]
@@ -178,14 +176,16 @@ impl Notes for Trail {
                 if at >= self.base {
                     return;
                 }
+                self.newest = at;
             }
             Entry::ScalarRestored(slot, number, _) => {
+                self.newest = u32::MAX;
                 if slot >= self.base {
                     self.entries.push_reserved(Entry::ScalarTaken(slot, number));
                     return;
                 }
             }
-            _ => {}
+            _ => self.newest = u32::MAX,
         }
         self.entries.push_reserved(entry);
     }
@@ -206,6 +206,7 @@ impl Notes for Trail {
     ) -> Result<(), NoMemory> {
         let alloc = *self.entries.allocator();
         self.arrays.push(array.copied(alloc)?)?;
+        self.newest = u32::MAX;
         self.entries.push_reserved(Entry::Array(change, slot));
         Ok(())
     }
@@ -214,6 +215,7 @@ impl Notes for Trail {
     fn note_statuses(&mut self, statuses: &[u8]) -> Result<(), NoMemory> {
         let alloc = *self.entries.allocator();
         self.statuses.push(copy_list(alloc, statuses)?)?;
+        self.newest = u32::MAX;
         self.entries.push_reserved(Entry::Statuses);
         Ok(())
     }

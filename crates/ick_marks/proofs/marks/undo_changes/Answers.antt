@@ -45,6 +45,7 @@ changes-preserved-in-Some c =
     record {
       base = c.undo_newest.ensures.base ∙ inv.base;
       none = c.undo_newest.ensures.kept ∙ inv.none;
+      unset = c.undo_newest.ensures.newest ∙ inv.unset;
       kept = sym (ap (take mark) are ∙ take-append-le mark rest (undone.change ∷ []) within) ∙ inv.kept;
       leads = λ m h. undone_one (Like base m.depth m) all rest undone.change mark (view_in c.changes.memory)
           (view_in c.undo_newest.new.memory) are within undone.view_is (inv.leads m h);

@@ -7,6 +7,7 @@ abbrev pub invariant-changes : goal.invariant-changes
 invariant-changes l = record {
   base : l.trail.base ≡ l.initial.trail.base;
   none : l.trail.kept ≡ 0;
+  unset : l.trail.newest ≡ 4294967295;
   kept : take l.changes (changes_in l.trail) ≡ take l.changes (changes_in l.initial.trail);
   leads : (m : View) → Rewinds l.initial.trail.base (changes_in l.initial.trail) l.initial.trail.low l.changes
       (view_in l.initial.memory) m →

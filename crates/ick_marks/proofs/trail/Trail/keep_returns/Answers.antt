@@ -20,6 +20,7 @@ returns-preserved c =
       lower = omega (arith, old.lower);
       base = old.base;
       kept = old.kept;
+      unset = old.unset;
       changes = extends_trans old.changes
           (grown t c.push_reserved.new.self.items t.entries.items entry refl pushed.items);
       notes = λ k v m same h.

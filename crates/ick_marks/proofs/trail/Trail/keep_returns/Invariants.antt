@@ -10,6 +10,7 @@ invariant-returns l = record {
   lower : l.self.low ≤ l.initial.self.low;
   base : l.self.base ≡ l.initial.self.base;
   kept : l.self.kept ≡ l.initial.self.kept;
+  unset : l.self.newest ≡ 4294967295;
   changes : Extends (changes_in l.initial.self) (changes_in l.self);
   notes : (k : ℕ) (v m : View) → v.returns ≡ l.returns →
       Rewinds l.initial.self.base (changes_in l.initial.self) l.initial.self.low k v m →
