@@ -79,12 +79,6 @@ pub length_read : (text : List ℕ) → length (map (λ b. b == 49) text) ≡ le
 length_read [] = refl
 length_read (b ∷ text) = omega (arith, length_read text)
 
--- the same error in results of two types
-pub error_again : {T U E : Type 0} (r : Result T E) (x y : E) → r ≡ Err x →
-    r ≡ Err y → (let a : Result U E = Err x in a) ≡ Err y
-error_again {T} {U} {E} r x y e f = let g : (let a : Result T E = Err x in a) ≡ Err y = sym e ∙ f in
-    let h : x ≡ y = cc in ap Err h
-
 pub on_error : {T E : Type 0} (r : Result T E) {P : Type 0} → P → OnErr r P
 on_error (Ok x) p = tt
 on_error (Err e) p = p

@@ -6,7 +6,7 @@ ghost use Rattle.ick_explorer.specs.ChoiceTexts.{choices_text};
 
 use crate::choice_texts::{MOST_PLAIN, digit, push_stretches};
 use crate::stretches::{Stretch, group, shorten};
-use ick_bits::NoMemory;
+use ick_bits::{NoMemory, append_all};
 use std::alloc::Global;
 use std::marker::Model;
 
@@ -75,7 +75,9 @@ impl Choices {
         ensures items { self.old ≡ self.new ++ option_to_list result }
         ensures variant { IsSome result ↔ (0 < length self.old) }
     {
-        let choice = self.list.pop()?;
+        let Some(choice) = self.list.pop() else {
+            return None;
+        };
         if self.grouped <= self.list.len() {
             return Some(choice);
         }
@@ -121,8 +123,7 @@ impl Choices {
             return self.append_groups(out);
         }
         if count == 0 {
-            out.push(b'-')?;
-            return Ok(());
+            return append_all(out, &[b"-"]);
         }
         out.extend_from_slice(&self.digits[..count])?;
         Ok(())

@@ -56,8 +56,10 @@ impl Cursor {
         ensures back { (c : List Bool) → text.now ≡ choices_text c → length c ≤ limit →
             IfOk result (λ cursor. cursor ≡ c) × IfErr result (λ e. e ≡ RunsError.NoMemory) }
     {
-        let choices = read_choices(alloc, text, limit)?;
-        Ok(Cursor { choices })
+        match read_choices(alloc, text, limit) {
+            Err(refused) => Err(refused),
+            Ok(choices) => Ok(Cursor { choices }),
+        }
     }
 
     /// Returns the choices. The first choice of the run comes first.

@@ -13,7 +13,7 @@ use crate::lines::LineBuilder;
 use crate::path::{Path, Progress};
 use crate::run::Run;
 use crate::walk;
-use ick_backtrack::{Asks, Backtrack, End};
+use ick_backtrack::{Ask, Asks, Backtrack, End};
 use ick_bits::NoMemory;
 use std::alloc::Global;
 
@@ -113,16 +113,17 @@ impl<M: Backtrack> Explorer<M> {
             choices: Choices::new(alloc),
             points: Vec::new(alloc),
         };
-        if !walk::follow(&mut machine, &mut path, limit, cursor.choices())? {
-            return Err(RunsError::NoSuchRun);
+        match walk::follow(&mut machine, &mut path, limit, cursor.choices()) {
+            Ok(true) => Ok(Explorer {
+                machine,
+                limit,
+                path,
+                progress: Progress::Given,
+                alloc,
+            }),
+            Ok(false) => Err(RunsError::NoSuchRun),
+            Err(NoMemory) => Err(RunsError::NoMemory),
         }
-        Ok(Explorer {
-            machine,
-            limit,
-            path,
-            progress: Progress::Given,
-            alloc,
-        })
     }
 
     /// Returns the machine's count of work: its first value plus the steps made since.
@@ -216,8 +217,10 @@ impl<M: Backtrack> Explorer<M> {
         ensures program { (explored self.new).program ≡ (explored self.old).program }
         ensures limit { (explored self.new).limit ≡ (explored self.old).limit }
     {
-        let Some(steps) = self.advance()? else {
-            return Ok(None);
+        let steps = match self.advance() {
+            Err(refused) => return Err(refused),
+            Ok(None) => return Ok(None),
+            Ok(Some(steps)) => steps,
         };
         let end = self.end_here();
         match self.copy_run(steps, end) {
@@ -290,7 +293,8 @@ impl<M: Backtrack> Explorer<M> {
         }
     }
 
-    /// Returns how the run at the explorer's position ends.
+    /// Returns how the run at the explorer's position ends: as the machine answers, or at the
+    /// limit.
     #[inline(always)]
     pub(crate) fn end_here<'c>(&self) -> End<'c>
     where
@@ -298,7 +302,10 @@ impl<M: Backtrack> Explorer<M> {
         ensures { (limit n : ℕ) → IsOver limit (M.seen self.now.machine) n →
             EndsHere limit (M.seen self.now.machine) n (finish_of result) }
     {
-        walk::end_here(&self.machine)
+        match self.machine.asks() {
+            Ask::Ended(end) => end,
+            _ => End::Limit,
+        }
     }
 
     /// Returns the run at the explorer's position, which has made this number of steps and has this

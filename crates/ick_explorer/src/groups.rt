@@ -16,7 +16,7 @@ const CAP: u64 = 4_294_967_296;
 
 /// Describes the group at the front of a text. `choice` is its choice, `size` is the length of its
 /// stretch up to the cap, and `count` is the number of digits of that length.
-#[derive(Clone, Copy, Debug)]
+#[derive(Clone, Copy)]
 pub(crate) struct Front {
     pub(crate) choice: bool,
     pub(crate) size: u64,
@@ -24,7 +24,7 @@ pub(crate) struct Front {
 }
 
 /// Describes the digits at the front of a text: their count, and their value up to the cap.
-#[derive(Clone, Copy, Debug)]
+#[derive(Clone, Copy)]
 struct Digits {
     count: usize,
     value: u64,
@@ -93,7 +93,9 @@ fn read_front(text: &[u8], last: Option<bool>) -> Option<Front>
     if text.len() < 3 {
         return None;
     }
-    let choice = choice_of(text[0])?;
+    let Some(choice) = choice_of(text[0]) else {
+        return None;
+    };
     if repeats(last, choice) {
         return None;
     }
@@ -125,7 +127,9 @@ pub(crate) fn measure(text: &[u8]) -> Option<u64>
     let mut at = 0;
     let mut total = 0;
     'groups: loop {
-        let front = read_front(&text[at..], last)?;
+        let Some(front) = read_front(&text[at..], last) else {
+            return None;
+        };
         total = capped(total + front.size);
         at += front.count + 2;
         if at == text.len() {

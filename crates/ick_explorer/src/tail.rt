@@ -1,27 +1,26 @@
 //! Keeps the tail of a line, which is all that follows the choices.
 
-ghost use Rattle.std.specs.Prelude.{◌≡◌, ◌++◌, ℕ, List, [], true, OnOk};
+ghost use Rattle.std.specs.Prelude.{◌≡◌, ◌∷◌, ◌++◌, ℕ, List, [], true, OnOk};
 ghost use Rattle.ick_backtrack.specs.Asked.{finish_of};
 ghost use Rattle.ick_explorer.specs.Lines.{end_text};
 ghost use Rattle.ick_explorer.specs.Tails.{tail_of};
 
 use ick_backtrack::End;
-use ick_bits::{NoMemory, append_decimal, append_quoted};
+use ick_bits::{NoMemory, append_all, append_decimal, append_quoted};
 use std::alloc::Global;
 use std::marker::Model;
 
-/// Appends the text of an end. If this call runs out of memory, it may have appended a prefix of
-/// the text.
+/// Appends a space and the text of an end. If this call runs out of memory, it may have appended a
+/// prefix of the text.
 fn append_end(out: &mut Vec<u8>, end: End<'_>) -> Result<(), NoMemory>
-    ensures { OnOk result (out.new.items ≡ out.old.items ++ end_text (finish_of end.entry)) }
+    ensures { OnOk result
+        (out.new.items ≡ out.old.items ++ 32 ∷ end_text (finish_of end.entry)) }
 {
     match end {
-        End::GiveUp => Ok(out.extend_from_slice(b"GIVE-UP")?),
-        End::Limit => Ok(out.extend_from_slice(b"LIMIT")?),
+        End::GiveUp => append_all(out, &[b" GIVE-UP"]),
+        End::Limit => append_all(out, &[b" LIMIT"]),
         End::Fault(fault) => {
-            out.push(b'E')?;
-            out.extend_from_slice(&fault.kind.digits())?;
-            out.push(b'@')?;
+            append_all(out, &[b" E", &fault.kind.digits(), b"@"])?;
             append_decimal(out, u64::from(fault.statement))
         }
     }
@@ -34,12 +33,10 @@ fn write_tail(text: &mut Vec<u8>, end: End<'_>, output: &[u8]) -> Result<(), NoM
     ensures { OnOk result (text.new.items ≡ tail_of (finish_of end.entry) output.now) }
 {
     text.clear();
-    text.push(b' ')?;
     append_end(text, end)?;
     text.push(b' ')?;
     append_quoted(text, output)?;
-    text.push(b'\n')?;
-    Ok(())
+    append_all(text, &[b"\n"])
 }
 
 /// Returns whether both ends are the same end without a fault.

@@ -1,23 +1,22 @@
 //! Leads a machine from one run to the next.
 
-ghost use Rattle.std.specs.Prelude.{◌≡◌, false, true, ℕ, ◌+◌, ◌-◌, ◌<◌};
+ghost use Rattle.std.specs.Prelude.{◌≡◌, false, true, ◌+◌, ◌-◌, ◌<◌};
 ghost use Rattle.std.specs.Prelude.{◌≤◌, ◌^◌, [], ◌∷◌, ◌++◌};
-ghost use Rattle.std.specs.Prelude.{length, None, Some, IfOk, IfSome, IfNone, OnOk, OnErr};
+ghost use Rattle.std.specs.Prelude.{length, None, Some, IfOk, OnOk};
 ghost use Rattle.ick_code.specs.meaning.State.{State};
-ghost use Rattle.ick_code.specs.meaning.Move.{ask};
-ghost use Rattle.ick_backtrack.specs.Asked.{Finish, finish_of};
+ghost use Rattle.ick_backtrack.specs.Asked.{Finish};
 ghost use Rattle.ick_explorer.specs.Runs.{IsWhole};
 ghost use Rattle.ick_explorer.specs.Listings.{zeros_in};
 ghost use Rattle.ick_explorer.specs.Paths.{TurnsAt};
 ghost use Rattle.ick_explorer.specs.Marked.{IsMarked};
-ghost use Rattle.ick_explorer.specs.Standing.{StandsAfter, StandsFrom, position_of, has_failed};
+ghost use Rattle.ick_explorer.specs.Standing.{StandsFrom, position_of, has_failed};
 ghost use Rattle.ick_explorer.specs.Walks.{IsChoosing, IsOver, EndsHere, Moves, given_by, Goes};
 ghost use Rattle.ick_explorer.specs.Walks.{IsStranded, TurnsBack, Finds, Follows};
 ghost use Rattle.ick_explorer.specs.declared.walk.Way.TheVariants.{Down};
 
 use crate::choices::Choices;
 use crate::path::{Path, Progress};
-use ick_backtrack::{Ask, Asks, Backtrack, End};
+use ick_backtrack::{Ask, Asks, Backtrack};
 use ick_bits::NoMemory;
 
 /// Makes step `steps + 1` by the choice `done`, and adds the choice to the path. If the choice is a
@@ -43,13 +42,11 @@ fn choose<M: Backtrack>(
 {
     path.choices.push(done)?;
     if done {
-        machine.step(true)?;
-        return Ok(());
+        return machine.step(true);
     }
     machine.mark()?;
     path.points.push(steps)?;
-    machine.step(false)?;
-    Ok(())
+    machine.step(false)
 }
 
 /// Drops the last zero and the ones after it. The list must have a zero.
@@ -79,8 +76,10 @@ fn turn_back<M: Backtrack>(machine: &mut M, path: &mut Path, limit: u32) -> Resu
     drop_last_zero(&mut path.choices);
     let steps = path.points.pop().unwrap();
     machine.back();
-    choose(machine, path, limit, steps, true)?;
-    Ok(steps + 1)
+    match choose(machine, path, limit, steps, true) {
+        Ok(()) => Ok(steps + 1),
+        Err(NoMemory) => Err(NoMemory),
+    }
 }
 
 /// Where a machine is led from the state that it is in.
@@ -167,21 +166,10 @@ fn go_down<'c, M: Asks<'c>>(
         (M.seen machine.new) path.new.choices path.new.points.items r) }
     ensures over { IfOk result (IsOver limit (M.seen machine.new)) }
 {
-    match lead(machine, path, limit, start, Way::Down)? {
-        (steps, true) => Ok(steps),
-        (_, false) => unreachable!(),
-    }
-}
-
-/// Returns how the run ends at whose end the machine is: as the machine answers, or at the limit.
-#[inline(always)]
-pub(crate) fn end_here<'c, M: Asks<'c>>(machine: &M) -> End<'c>
-    ensures { (limit n : ℕ) → IsOver limit (M.seen machine.now) n →
-        EndsHere limit (M.seen machine.now) n (finish_of result) }
-{
-    match machine.asks() {
-        Ask::Ended(end) => end,
-        _ => End::Limit,
+    match lead(machine, path, limit, start, Way::Down) {
+        Ok((steps, true)) => Ok(steps),
+        Ok((_, false)) => unreachable!(),
+        Err(NoMemory) => Err(NoMemory),
     }
 }
 
@@ -233,57 +221,6 @@ pub(crate) fn reset<M: Backtrack>(machine: &mut M, path: &mut Path)
     path.points.clear();
 }
 
-/// Moves to the first run, and returns its number of steps. The path must be empty. The answer is
-/// `NoMemory` if this call runs out of memory.
-fn find_first<'c, M: Asks<'c>>(
-    machine: &mut M,
-    path: &mut Path,
-    limit: u32,
-) -> Result<u32, NoMemory>
-    requires marked { IsMarked limit
-        (M.seen machine.old) path.old.choices path.old.points.items }
-    requires none { path.old.choices ≡ [] }
-    requires room { (M.seen machine.old).work + limit < 2 ^ 64 }
-    ensures program { (M.seen machine.new).program ≡ (M.seen machine.old).program }
-    ensures marked { IfOk result (λ _. IsMarked limit
-        (M.seen machine.new) path.new.choices path.new.points.items) }
-    ensures within { IfOk result (λ _.
-        (M.seen machine.new).work ≤ (M.seen machine.old).work + limit) }
-    ensures over { IfOk result (IsOver limit (M.seen machine.new)) }
-    ensures found { IfOk result (λ r. (finish : Finish) →
-        EndsHere limit (M.seen machine.new) r finish →
-        Finds (M.seen machine.old).state limit None
-        (M.seen machine.old) (M.seen machine.new) path.new.choices path.new.points.items
-        r finish) }
-{
-    go_down(machine, path, limit, 0)
-}
-
-/// Moves to the run after the run that the path names, and returns its number of steps. The path
-/// must have a zero. The answer is `NoMemory` if this call runs out of memory.
-fn find_next<'c, M: Asks<'c>>(machine: &mut M, path: &mut Path, limit: u32) -> Result<u32, NoMemory>
-    requires marked { IsMarked limit
-        (M.seen machine.old) path.old.choices path.old.points.items }
-    requires more { 0 < length path.old.points.items }
-    requires room { (M.seen machine.old).work + limit < 2 ^ 64 }
-    ensures program { (M.seen machine.new).program ≡ (M.seen machine.old).program }
-    ensures marked { IfOk result (λ _. IsMarked limit
-        (M.seen machine.new) path.new.choices path.new.points.items) }
-    ensures within { IfOk result (λ _.
-        (M.seen machine.new).work ≤ (M.seen machine.old).work + limit) }
-    ensures over { IfOk result (IsOver limit (M.seen machine.new)) }
-    ensures found { IfOk result (λ r. (finish : Finish) →
-        EndsHere limit (M.seen machine.new) r finish → (s : State) →
-        StandsAfter (M.seen machine.old).program s limit path.old.choices
-        (M.seen machine.old).marks path.old.points.items →
-        Finds s limit (Some path.old.choices)
-        (M.seen machine.old) (M.seen machine.new) path.new.choices path.new.points.items
-        r finish) }
-{
-    let turned = turn_back(machine, path, limit)?;
-    go_down(machine, path, limit, turned)
-}
-
 /// Moves to the run after the explorer's position, and returns its number of steps. The explorer
 /// must not have failed, and a further run must exist. The answer is `NoMemory` if this call runs
 /// out of memory.
@@ -314,8 +251,11 @@ pub(crate) fn find<'c, M: Asks<'c>>(
         r finish) }
 {
     match progress {
-        Progress::Fresh => find_first(machine, path, limit),
-        Progress::Given => find_next(machine, path, limit),
+        Progress::Fresh => go_down(machine, path, limit, 0),
+        Progress::Given => match turn_back(machine, path, limit) {
+            Ok(turned) => go_down(machine, path, limit, turned),
+            Err(NoMemory) => Err(NoMemory),
+        },
         Progress::Spent => unreachable!(),
     }
 }

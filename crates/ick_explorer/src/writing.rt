@@ -38,9 +38,11 @@ fn write_next<'c, M: Asks<'c>, W: ByteSink>(
     if !explorer.more() {
         return Ok(false);
     }
-    let Some(_) = explorer.advance()? else {
-        return Ok(false);
-    };
+    match explorer.advance() {
+        Err(refused) => return Err(refused),
+        Ok(None) => return Ok(false),
+        Ok(Some(_)) => {}
+    }
     let end = explorer.end_here();
     if explorer.build_line(lines, end).is_err() {
         explorer.fail();
@@ -97,9 +99,10 @@ fn write_lines<'c, M: Asks<'c>, W: ByteSink>(
         (W.written writer.old) (W.written writer.new) result }
 {
     'each: for _i in 0..count {
-        let some = write_next(lines, explorer, writer)?;
-        if !some {
-            return Ok(Listed2::Done);
+        match write_next(lines, explorer, writer) {
+            Err(refused) => return Err(refused),
+            Ok(false) => return Ok(Listed2::Done),
+            Ok(true) => {}
         }
     }
     if explorer.more() {
@@ -152,6 +155,8 @@ pub fn write_runs<'c, M: Asks<'c>, W: ByteSink>(
         return Err(RunsError::Failed);
     }
     let mut lines = LineBuilder::new(alloc);
-    let listed = write_lines(&mut lines, explorer, count, writer)?;
-    write_last(writer, listed)
+    match write_lines(&mut lines, explorer, count, writer) {
+        Err(refused) => Err(refused),
+        Ok(listed) => write_last(writer, listed),
+    }
 }

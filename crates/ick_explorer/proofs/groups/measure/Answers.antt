@@ -7,18 +7,18 @@ use Rattle.ick_explorer.proofs.ReadingLaws.{no_front, capped_sum, stretch_size, 
 use Rattle.ick_explorer.proofs.ReadingLaws.{group_is_last}
 use Rattle.ick_explorer.proofs.groups.measure.Goals as goal
 
-pub returns-in_err-front-clause-none : goal.returns-in_err-front-clause-none
-returns-in_err-front-clause-none c = λ e.
+pub returns-in_default-clause-none : goal.returns-in_default-clause-none
+returns-in_default-clause-none c = λ e.
     let i = c.groups.invariant in
     no_front c.args.text.now c.groups.last c.groups.at i.read.0 i.read.1 (λ g tail d l n is.
-    c.in_err-front.ensures.none refl g tail d l n (take_rest c.args.text.now c.groups.at ∙ is))
+    c.in_default.ensures.none refl g tail d l n (take_rest c.args.text.now c.groups.at ∙ is))
 
 pub returns-then-at-text-clause-some : goal.returns-then-at-text-clause-some
 returns-then-at-text-clause-some c =
     let i = c.groups.invariant in
-    let f = c.in_ok-front.front in
+    let f = c.in-Some.front in
     let g = front_group f (drop c.groups.at c.args.text.now) in
-    let h = group_at c.args.text.now c.groups.last c.groups.at f c.in_ok-front.ensures.some in (
+    let h = group_at c.args.text.now c.groups.last c.groups.at f c.in-Some.ensures.some in (
       _,
       group_ends h i.read.1 (grind (arith, common_steps)),
       subst (λ n. IsCapped c.capped-total.result n) (sym (stretch_size g i.read.0))
@@ -29,16 +29,16 @@ returns-then-at-text-clause-some c =
 pub returns-then-text-at-ne44-clause-none : goal.returns-then-text-at-ne44-clause-none
 returns-then-text-at-ne44-clause-none c = λ e.
     let i = c.groups.invariant in
-    let f = c.in_ok-front.front in
-    let h = group_at c.args.text.now c.groups.last c.groups.at f c.in_ok-front.ensures.some in
+    let f = c.in-Some.front in
+    let h = group_at c.args.text.now c.groups.last c.groups.at f c.in-Some.ensures.some in
     group_is_last h i.read.1 (grind (arith, common_steps)) (grind (arith, common_steps))
 
 pub groups-preserved : goal.groups-preserved
 groups-preserved c =
     let i = c.groups.invariant in
-    let f = c.in_ok-front.front in
+    let f = c.in-Some.front in
     let g = front_group f (drop c.groups.at c.args.text.now) in
-    let h = group_at c.args.text.now c.groups.last c.groups.at f c.in_ok-front.ensures.some in
+    let h = group_at c.args.text.now c.groups.last c.groups.at f c.in-Some.ensures.some in
     record {
       within = grind (arith, common_steps);
       read = (

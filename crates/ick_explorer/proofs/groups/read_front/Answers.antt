@@ -11,14 +11,14 @@ pub returns-clause-some : goal.returns-clause-some
 returns-clause-some c =
     let text = c.args.text.now in
     let size : 3 ≤ length text = grind (arith, common_steps) in
-    let first : get_or text 0 0 ≡ digit_of c.in_ok-choice.choice = search rules in
+    let first : get_or text 0 0 ≡ digit_of c.in-Some.choice = search rules in
     let star : get_or text 1 0 ≡ 42 = grind (arith, common_steps) in
     let no_zero : get_or text 2 0 ≢ 48 = grind (arith, common_steps) in
     let some : 0 < c.read_digits-digits.result.count = grind (arith, common_steps) in
     let rest = take_rest text 2 in
     let digits = c.read_digits-digits.result in
     let found = c.read_digits-digits.ensures in
-    front_is text c.args.last c.in_ok-choice.choice digits.value digits.count size first star no_zero
+    front_is text c.args.last c.in-Some.choice digits.value digits.count size first star no_zero
     (c.repeats.ensures.other c.if-repeats.false) some (subst (λ t. digits.count ≤ length t) rest found.within)
     (subst (λ t. AllDigits 10 (take digits.count t)) rest found.digits)
     (subst (λ t. HasNoDigit (drop digits.count t)) rest found.stops)

@@ -1,28 +1,23 @@
-use Rattle.std.proofs.Common.{◌≡◌, ◌⊎◌, ◌<◌, ◌≤◌, rules, arith, subst, sym, ◌∙◌}
+use Rattle.std.proofs.Common.{◌≡◌, ◌<◌, ◌≤◌, rules, arith, ◌∙◌}
 use Rattle.std.proofs.lemmas.Grind.{common_steps}
-use Rattle.std.specs.Prelude.{Err, IfErr}
-use Rattle.ick_explorer.specs.WritingSteps.{WritesLines}
 use Rattle.ick_explorer.specs.Explorers.{explored}
-use Rattle.ick_explorer.specs.declared.errors.RunsError.TheVariants.{NoMemory, WorkFull, Write}
+use Rattle.ick_explorer.specs.declared.errors.RunsError.TheVariants.{NoMemory, WorkFull}
 use Rattle.ick_explorer.proofs.WritingLaws.{one_more_limit, along-on, end_short, end_more, end_done}
 use Rattle.ick_explorer.proofs.WritingLaws.{next_refused, is_one, is_none, refused_errors, refused_memory, refused_full}
 use Rattle.ick_explorer.proofs.writing.write_lines.Goals as goal
 
-pub returns-in_err-some-clause-listing : goal.returns-in_err-some-clause-listing
-returns-in_err-some-clause-listing g c = λ s cs h k.
+pub returns-in-Err-clause-listing : goal.returns-in-Err-clause-listing
+returns-in-Err-clause-listing g c = λ s cs h k.
     let written = g.W.ByteSink.written in
     let a = c.each.invariant.along s cs h k in
-    let e : c.from_residual.result ≡ Err c.in_err-some.field-0.0 = search rules in
     let lt : c.each._i < c.args.count = grind (arith, common_steps) in
-    subst (λ r. WritesLines g.W.ByteSink.told s cs c.args.count (explored c.args.explorer.now)
-    (explored c.write_next.new.explorer) (written c.args.writer.now) (written c.write_next.new.writer) r) (sym e)
-    (next_refused g.W.ByteSink.told s cs c.each._i c.args.count (explored c.args.explorer.now)
+    next_refused g.W.ByteSink.told s cs c.each._i c.args.count (explored c.args.explorer.now)
     (explored c.each.explorer) (explored c.write_next.new.explorer)
-    (written c.args.writer.now) (written c.each.writer) (written c.write_next.new.writer) c.in_err-some.field-0.0 lt a
-    (c.in_err-some.ensures.next s _ a.gave.stands a.rest))
+    (written c.args.writer.now) (written c.each.writer) (written c.write_next.new.writer) c.in-Err.refused lt a
+    (c.in-Err.ensures.next s _ a.gave.stands a.rest)
 
-pub returns-then-not-some-clause-listing : goal.returns-then-not-some-clause-listing
-returns-then-not-some-clause-listing g c = λ s cs h k.
+pub returns-in-Ok-false-clause-listing : goal.returns-in-Ok-false-clause-listing
+returns-in-Ok-false-clause-listing g c = λ s cs h k.
     let told = g.W.ByteSink.told in
     let written = g.W.ByteSink.written in
     let a = c.each.invariant.along s cs h k in
@@ -30,14 +25,14 @@ returns-then-not-some-clause-listing g c = λ s cs h k.
     end_short told s cs c.each._i c.args.count (explored c.args.explorer.now) (explored c.each.explorer)
     (explored c.write_next.new.explorer) (written c.args.writer.now) (written c.each.writer)
     (written c.write_next.new.writer) lt a
-    (is_none told s _ _ _ _ _ c.in_ok-some.some c.if-not-some.true
-    (c.in_ok-some.ensures.next s _ a.gave.stands a.rest))
+    (is_none told s _ _ _ _ _ c.in-Ok-false.field-0 c.in-Ok-false.field-0-test
+    (c.in-Ok-false.ensures.next s _ a.gave.stands a.rest))
 
 pub each-preserved : goal.each-preserved
 each-preserved g c = record {
-  sound = c.in_ok-some.ensures.moves.sound;
-  limit = c.in_ok-some.ensures.moves.limit ∙ c.each.invariant.limit;
-  work = one_more_limit _ _ _ _ _ _ c.each.invariant.work c.in_ok-some.ensures.moves.work c.each.invariant.limit;
+  sound = c.in-Ok-true.ensures.moves.sound;
+  limit = c.in-Ok-true.ensures.moves.limit ∙ c.each.invariant.limit;
+  work = one_more_limit _ _ _ _ _ _ c.each.invariant.work c.in-Ok-true.ensures.moves.work c.each.invariant.limit;
   count = search rules;
   along = λ s cs h k.
       let a = c.each.invariant.along s cs h k in
@@ -45,8 +40,8 @@ each-preserved g c = record {
       (explored c.write_next.new.explorer)
       (g.W.ByteSink.written c.args.writer.now) (g.W.ByteSink.written c.each.writer)
       (g.W.ByteSink.written c.write_next.new.writer) a
-      (is_one g.W.ByteSink.told s _ _ _ _ _ c.in_ok-some.some c.if-not-some.false
-      (c.in_ok-some.ensures.next s _ a.gave.stands a.rest));
+      (is_one g.W.ByteSink.told s _ _ _ _ _ c.in-Ok-true.field-0 c.in-Ok-true.field-0-test
+      (c.in-Ok-true.ensures.next s _ a.gave.stands a.rest));
 }
 
 pub returns-then-more-clause-listing : goal.returns-then-more-clause-listing
@@ -65,25 +60,21 @@ returns-clause-listing g c = λ s cs h k.
     (g.W.ByteSink.written c.args.writer.now) (g.W.ByteSink.written c.each.writer) all a
     (c.more.ensures.last s a.gave.stands c.if-more.false)
 
-pub returns-in_err-some-clause-errors : goal.returns-in_err-some-clause-errors
-returns-in_err-some-clause-errors g c =
-    let e : c.from_residual.result ≡ Err c.in_err-some.field-0.0 = search rules in
-    subst (λ r. IfErr r (λ x. (x ≡ NoMemory) ⊎ ((x ≡ WorkFull) ⊎ (x ≡ Write)))) (sym e)
-    (refused_errors (explored c.each.explorer) (explored c.write_next.new.explorer) c.in_err-some.field-0.0
-    c.in_err-some.ensures.moves)
+pub returns-in-Err-clause-errors : goal.returns-in-Err-clause-errors
+returns-in-Err-clause-errors g c =
+    refused_errors (explored c.each.explorer) (explored c.write_next.new.explorer) c.in-Err.refused
+    c.in-Err.ensures.moves
 
-pub returns-in_err-some-clause-no_memory : goal.returns-in_err-some-clause-no_memory
-returns-in_err-some-clause-no_memory g c = λ is.
-    let e : c.from_residual.result ≡ Err c.in_err-some.field-0.0 = search rules in
-    let same : c.in_err-some.field-0.0 ≡ NoMemory = cc in
-    refused_memory (explored c.each.explorer) (explored c.write_next.new.explorer) c.in_err-some.field-0.0
-    c.in_err-some.ensures.moves same
+pub returns-in-Err-clause-no_memory : goal.returns-in-Err-clause-no_memory
+returns-in-Err-clause-no_memory g c = λ is.
+    let same : c.in-Err.refused ≡ NoMemory = cc in
+    refused_memory (explored c.each.explorer) (explored c.write_next.new.explorer) c.in-Err.refused
+    c.in-Err.ensures.moves same
 
-pub returns-in_err-some-clause-enough : goal.returns-in_err-some-clause-enough
-returns-in_err-some-clause-enough g c = λ is.
+pub returns-in-Err-clause-enough : goal.returns-in-Err-clause-enough
+returns-in-Err-clause-enough g c = λ is.
     let i = c.each.invariant in
-    let e : c.from_residual.result ≡ Err c.in_err-some.field-0.0 = search rules in
-    let same : c.in_err-some.field-0.0 ≡ WorkFull = cc in
+    let same : c.in-Err.refused ≡ WorkFull = cc in
     let lt : c.each._i < c.args.count = grind (arith, common_steps) in
     refused_full (explored c.args.explorer.now) (explored c.each.explorer) (explored c.write_next.new.explorer)
-    c.each._i c.args.count c.in_err-some.field-0.0 c.in_err-some.ensures.moves i.limit i.work lt same
+    c.each._i c.args.count c.in-Err.refused c.in-Err.ensures.moves i.limit i.work lt same

@@ -1,15 +1,16 @@
-use Rattle.std.proofs.Common.{◌≡◌, ◌<◌, ◌≤◌, ◌++◌, length, take, ap, sym, ◌∙◌, arith}
+use Rattle.std.proofs.Common.{◌≡◌, ◌<◌, ◌≤◌, ◌++◌, length, take, ap, ◌∙◌, arith}
 use Rattle.std.proofs.lemmas.Grind.{common_steps}
 use Rattle.ick_explorer.specs.ChoiceTexts.{choices_text}
-use Rattle.ick_explorer.proofs.KeptLaws.{text_of_none, text_of_digits}
+use Rattle.ick_explorer.proofs.KeptLaws.{on_ok_map, text_of_none, text_of_digits}
 use Rattle.ick_explorer.proofs.choices.Choices.append_text.Goals as goal
 
 pub returns-then-count-eq0-clause-text : goal.returns-then-count-eq0-clause-text
 returns-then-count-eq0-clause-text c =
     let list = c.self.inside.list.items in
     let none : length list ≡ 0 = grind (arith, common_steps) in
-    c.in_ok-push.ensures.items
-    ∙ ap (λ t. c.args.out.now.items ++ t) (text_of_none list none ∙ ap choices_text c.self.view_is)
+    on_ok_map c.append_all.result
+    (λ e. e ∙ ap (λ t. c.args.out.now.items ++ t) (text_of_none list none ∙ ap choices_text c.self.view_is))
+    c.append_all.ensures.ok
 
 pub returns-clause-text : goal.returns-clause-text
 returns-clause-text c =
