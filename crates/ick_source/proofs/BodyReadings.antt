@@ -1,5 +1,5 @@
 -- From what is found of the parts of a body to what is found of the body.
-use Rattle.std.proofs.Common.{◌≡◌, ℕ, List, [], ◌∷◌, Option, Some, Result, map, refl, sym, ap, subst}
+use Rattle.std.proofs.Common.{◌≡◌, ℕ, true, List, [], ◌∷◌, Some, Result, map, refl, sym, ap, subst}
 use Rattle.std.specs.Prelude.{codes}
 use Rattle.ick_syntax.specs.declared.tree.NameKind.{NameKind}
 use Rattle.ick_syntax.specs.declared.tree.Name.{Name}
@@ -14,7 +14,7 @@ use Rattle.ick_source.specs.declared.form.Form.{Form}
 use Rattle.ick_source.specs.declared.form.Form.TheVariants.{Calculation, Dimensioning, Call, Action}
 use Rattle.ick_source.specs.declared.verb.Verb.{Verb}
 use Rattle.ick_source.specs.declared.verb.Verb.TheVariants.{Forget, Resume, Stash, Retrieve, Ignore, Remember, Abstain}
-use Rattle.ick_source.specs.declared.verb.Verb.TheVariants.{Reinstate, Write, Read}
+use Rattle.ick_source.specs.declared.verb.Verb.TheVariants.{Reinstate, Give, Write, Read}
 use Rattle.ick_source.specs.Position.{next_lead}
 use Rattle.ick_source.specs.Token.{IsWord}
 use Rattle.ick_syntax.specs.Tree.{Tree}
@@ -31,6 +31,8 @@ use Rattle.ick_source.specs.BodyGrammar.{writes_in, reads_out, IsBodyOf, calcula
 use Rattle.ick_source.specs.Nonterminal.{Nonterminal, listed, wholes, names, targets, places, items, gerunds, labels}
 use Rattle.ick_source.specs.Nonterminal.{after, formed, bodies}
 use Rattle.ick_source.specs.Answers.{IsParsed, IsAbsent, AnswersRead}
+use Rattle.ick_source.specs.Gating.{IsGated, abstains_from, reinstates, kinds_tree, label_tree, naming_tree}
+use Rattle.ick_source.specs.Gating.{takes_names}
 use Rattle.ick_source.specs.Made.{IsMade, of_none, of_part}
 use Rattle.ick_source.proofs.WordUnique.{word_unique, verb_unique, no_gerund_in_brackets}
 use Rattle.ick_source.proofs.PartUnique.{target_unique, name_unique, label_unique, spot_is_no_array}
@@ -152,9 +154,9 @@ abstain_kinds_back w o (abstains_label v p) = let q = label_there (word_unique (
     absurd (o q.inner q.opens)
 abstain_kinds_back w o (abstains_kinds {gs = gs} v p) = (gs, gerunds_there (word_unique (codes "FROM") refl w v) p)
 
-map_same : (gs : List Gerund) → map (λ g. g) gs ≡ gs
+pub map_same : {A : Type 0} (xs : List A) → map (λ x. x) xs ≡ xs
 map_same [] = refl
-map_same (g ∷ gs) = ap (λ l. g ∷ l) (map_same gs)
+map_same (x ∷ xs) = ap (λ l. x ∷ l) (map_same xs)
 
 pub abstain_kinds_made : (from mid : List ℕ) →
     IsWord (codes "FROM") from mid → ((later : List ℕ) → IsWord (codes "(") mid later → ⊥) →
@@ -196,6 +198,33 @@ reinstate_kinds_made from o = record {
   clamped = λ x. ap (λ gs. Some (reinstate_kinds gs)) (map_same x);
   faults = λ x. sym (no_faults_along x);
 }
+
+-- the verbs that take names
+pub naming_made : (v : Verb) → takes_names v ≡ true → (from : List ℕ) →
+    Makes (listed names (codes "+")) (after v) (naming_tree v) (λ xs. Some (naming_tree v xs)) from from
+naming_made Stash e from = stash_made from
+naming_made Retrieve e from = retrieve_made from
+naming_made Ignore e from = ignore_made from
+naming_made Remember e from = remember_made from
+naming_made Forget e from = absurd (cc)
+naming_made Resume e from = absurd (cc)
+naming_made Abstain e from = absurd (cc)
+naming_made Reinstate e from = absurd (cc)
+naming_made Give e from = absurd (cc)
+naming_made Write e from = absurd (cc)
+naming_made Read e from = absurd (cc)
+
+-- ABSTAIN and REINSTATE
+pub label_made : {v : Verb} {from mid later : List ℕ} → IsGated v from mid → IsWord (codes "(") mid later →
+    Makes labels (after v) (label_tree v) (λ n. Some (label_tree v n)) mid from
+label_made (abstains_from w) o = abstain_label_made _ _ _ w o
+label_made reinstates o = reinstate_label_made _ _ o
+
+pub kinds_made : {v : Verb} {from mid : List ℕ} → IsGated v from mid →
+    ((later : List ℕ) → IsWord (codes "(") mid later → ⊥) →
+    Makes (listed gerunds (codes "+")) (after v) (kinds_tree v) (λ gs. Some (kinds_tree v gs)) mid from
+kinds_made (abstains_from w) o = abstain_kinds_made _ _ w o
+kinds_made reinstates o = reinstate_kinds_made _ o
 
 write_in_back : {from mid to : List ℕ} {b : BodyTree} → IsWord (codes "IN") from mid →
     IsAfter Write from to b → (xs : List ItemTree) × ArePlaces mid to xs

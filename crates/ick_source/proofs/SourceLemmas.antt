@@ -1,6 +1,6 @@
 -- What the reader of a source has read, and what the end of the reading gives.
 use mir.Val.{bool_byte}
-use Rattle.std.proofs.Common.{Bool, Err, IfErr, IfOk, IsErrAnd, List, Ok, Result, Some, [], append_assoc, arith, cond}
+use Rattle.std.proofs.Common.{Bool, Err, IfErr, IfOk, IsErrAnd, List, OnOk, Ok, Result, Some, [], append_assoc, arith, cond}
 use Rattle.std.proofs.Common.{false, inl, inr, length, map, refl, slice_get, subst, suc, sym, true, zero, ℕ, ◌++◌}
 use Rattle.std.proofs.Common.{◌+◌, ◌<◌, ◌∷◌, ◌≡◌, ◌≤◌, ◌⊎◌}
 use Rattle.std.proofs.lemmas.Bool.{cases_order}
@@ -106,6 +106,16 @@ pub refused_cut : {s : List ℕ} {trees : List StatementTree} (e : Refusal) → 
 refused_cut {trees = trees} (Fault kind n) g f h = record { trees = trees; cut = g; fits = f; first_fault = h }
 refused_cut TooLong g f h = absurd h
 refused_cut NoMemory g f h = tt
+
+-- a fact that holds anyway
+pub on-ok : {X E : Type 0} (r : Result X E) {P : Type 0} → P → OnOk r P
+on-ok (Ok x) p = p
+on-ok (Err e) p = tt
+
+pub refused_cuts : {X : Type 0} {s : List ℕ} {trees : List StatementTree} (r : Result X Refusal) → IsCut s trees →
+    length s ≤ longest → IfErr r (RefusesTrees trees) → IfErr r (RefusesFitting s)
+refused_cuts (Ok x) g f h = tt
+refused_cuts (Err e) g f h = refused_cut e g f h
 
 pub polite_push : (all : List StatementTree) (p : StatementTree) →
     polite_in (all ++ p ∷ []) ≡ polite_in all + cond p.polite 1 0

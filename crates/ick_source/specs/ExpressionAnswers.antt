@@ -12,7 +12,7 @@ use Rattle.ick_syntax.specs.declared.tree.Expr.{Expr}
 use Rattle.ick_syntax.specs.declared.tree.UnaryOp.{UnaryOp}
 use Rattle.ick_source.specs.Position.{left_at, next_lead, past_lead}
 use Rattle.ick_source.specs.Token.{IsNumber, unary_at, past_unary}
-use Rattle.ick_syntax.specs.Tree.{Tree, Trees, under, binary, none, more, join, tree_of, trees_in}
+use Rattle.ick_syntax.specs.Tree.{Tree, Trees, under, binary, tree_of, trees_in}
 use Rattle.ick_syntax.specs.Clamped.{clamped_tree, clamped_trees, faults_of, faults_in, both_faults}
 use Rattle.ick_source.specs.Expression.{IsExpr}
 
@@ -74,21 +74,6 @@ abbrev pub AnswersTrees : Readings → ℕ → List ℕ → Result (Measured (Ve
 AnswersTrees R limit text (Ok s) = AllStand R limit (left_at text s.to) (trees_in s.value.items) s.height s.faults
 AnswersTrees R limit text (Err e) = e ≡ Absent → HasNoTrees R limit
 
--- these subscripts after others
-pub data GoesAfter (R : Readings) (others : Trees) (below : ℕ) : List ℕ → Trees → ℕ → Type 0 where
-  after : {to : List ℕ} {ts : Trees} {h : ℕ} → R to ts h →
-      GoesAfter R others below to (join others ts) (max below h)
-
--- the answer continues any subscripts that come before
-abbrev pub AnswersFrom : Readings → ℕ → List ℕ → Measured (Vec Expr) →
-    Result (Measured (Vec Expr)) Unread → Type 0
-AnswersFrom R limit text before answer =
-    (others : Trees) →
-    trees_in before.value.items ≡ clamped_trees others →
-    before.faults ≡ faults_in others →
-    before.height ≤ limit →
-    AnswersTrees (GoesAfter R others before.height) limit text answer
-
 -- the expression under the operator, if there is one
 pub record IsApplied (op : Option UnaryOp) (found s : Measured Expr) : Type 0 where
   pub tree : tree_of s.value ≡ under op (tree_of found.value)
@@ -102,17 +87,3 @@ pub record IsJoined (op : BinaryOp) (left right s : Measured Expr) : Type 0 wher
   pub height : s.height ≡ suc (max left.height right.height)
   pub to : s.to ≡ right.to
   pub faults : s.faults ≡ both_faults left.faults right.faults
-
--- the list of one subscript
-pub record IsStarted (only : Measured Expr) (s : Measured (Vec Expr)) : Type 0 where
-  pub subs : trees_in s.value.items ≡ more (tree_of only.value) none
-  pub height : s.height ≡ only.height
-  pub to : s.to ≡ only.to
-  pub faults : s.faults ≡ only.faults
-
--- the list with one more subscript
-pub record IsExtended (all : Measured (Vec Expr)) (one : Measured Expr) (s : Measured (Vec Expr)) : Type 0 where
-  pub subs : trees_in s.value.items ≡ join (trees_in all.value.items) (more (tree_of one.value) none)
-  pub height : s.height ≡ max all.height one.height
-  pub to : s.to ≡ one.to
-  pub faults : s.faults ≡ both_faults all.faults one.faults

@@ -7,6 +7,7 @@ pub mod Bytes
 pub mod Cut
 pub mod Expression
 pub mod ExpressionAnswers
+pub mod Gating
 pub mod HeadAnswers
 pub mod Labels
 pub mod Laws

@@ -18,17 +18,19 @@ pub fn body_in(alloc: Global, text: &[u8], at: usize) -> Result<Parsed<Body, usi
     ensures { AnswersBody text.now at result }
 {
     let from = Position { at, between: false };
-    let found = body_at(alloc, text, from)?;
-    match byte_position(text, found.to) {
-        None => {
-            drop(found);
-            Err(Unread::Absent)
-        }
-        Some(to) => Ok(Parsed {
-            value: found.value,
-            to,
-            faults: found.faults,
-        }),
+    match body_at(alloc, text, from) {
+        Err(unread) => Err(unread),
+        Ok(found) => match byte_position(text, found.to) {
+            None => {
+                drop(found);
+                Err(Unread::Absent)
+            }
+            Some(to) => Ok(Parsed {
+                value: found.value,
+                to,
+                faults: found.faults,
+            }),
+        },
     }
 }
 

@@ -1,20 +1,23 @@
 //! Readers of bodies. Each body has one form, which its first characters decide.
 
+ghost use Rattle.std.specs.Prelude.{◌≡◌, ℕ, List, Some, true};
 ghost use Rattle.ick_source.specs.Answers.{Answers, AnswersRead};
 ghost use Rattle.ick_syntax.specs.BodyTree.{body_tree_of};
+ghost use Rattle.ick_source.specs.Gating.{IsGated, kinds_tree, label_tree, naming_tree};
+ghost use Rattle.ick_source.specs.Gating.{takes_names};
 ghost use Rattle.ick_source.specs.Made.{IsMade};
 ghost use Rattle.ick_source.specs.Nonterminal.{after, bodies, formed};
 ghost use Rattle.ick_source.specs.Position.{left_at};
 
 use crate::form::{Form, form_at};
 use crate::lead::Lead;
-use crate::list::{dimensions_at, gerunds_at, items_at, names_at, places_at};
+use crate::list::list_at;
 use crate::parsed::{Parsed, Unread};
-use crate::part::{label_at, name_at, target_at, whole_at};
+use crate::part::{Part, label_at, name_at, target_at};
 use crate::position::{Position, lead_at};
 use crate::token::word_at;
 use crate::verb::{Verb, verb_at};
-use ick_syntax::{Body, Faults};
+use ick_syntax::{Body, Expr, Faults, Gerund, Name};
 use std::alloc::Global;
 
 /// Makes a body of a part that was read. Returns the reason if no part was read.
@@ -35,70 +38,91 @@ fn made<T: Drop, F: FnOnce(T) -> Body + Drop>(
     }
 }
 
-/// Reads the rest of an ABSTAIN statement, after that word (Revised Manual, 4.4.9).
-fn abstain_at(alloc: Global, text: &[u8], from: Position) -> Result<Parsed<Body, Position>, Unread>
-    ensures { AnswersRead (after Verb.Abstain) body_tree_of
-        text.now (left_at text.now from) result }
+/// Makes the body of STASH, RETRIEVE, IGNORE or REMEMBER.
+fn naming(verb: Verb, names: Vec<Name>) -> Body
+    ensures { body_tree_of result ≡ Some (naming_tree verb names.items) }
 {
-    let Some(from) = word_at(text, from, b"FROM") else {
-        return Err(Unread::Absent);
-    };
-    if word_at(text, from, b"(").is_some() {
-        let label = label_at(text, from).ok_or(Unread::Absent);
-        return made(label, Body::AbstainLabel);
+    match verb {
+        Verb::Retrieve => Body::Retrieve(names),
+        Verb::Ignore => Body::Ignore(names),
+        Verb::Remember => Body::Remember(names),
+        _ => Body::Stash(names),
     }
-    made(gerunds_at(alloc, text, from), Body::AbstainKinds)
 }
 
-/// Reads the rest of a REINSTATE statement, after that word (Revised Manual, 4.4.10).
-fn reinstate_at(
+/// Reads the rest of a STASH, RETRIEVE, IGNORE or REMEMBER statement, after that word (Revised
+/// Manual, 4.4.5 to 4.4.8).
+fn naming_at(
     alloc: Global,
     text: &[u8],
+    verb: Verb,
     from: Position,
 ) -> Result<Parsed<Body, Position>, Unread>
-    ensures { AnswersRead (after Verb.Reinstate) body_tree_of
-        text.now (left_at text.now from) result }
+    requires { takes_names verb ≡ true }
+    ensures { AnswersRead (after verb) body_tree_of text.now (left_at text.now from) result }
+{
+    match list_at::<Name>(alloc, text, b"+", from) {
+        Err(unread) => Err(unread),
+        Ok(names) => Ok(Parsed {
+            value: naming(verb, names.value),
+            to: names.to,
+            faults: names.faults,
+        }),
+    }
+}
+
+/// Makes the body of ABSTAIN or REINSTATE with a label.
+fn gating_label(verb: Verb, label: u16) -> Body
+    ensures { body_tree_of result ≡ Some (label_tree verb label) }
+{
+    match verb {
+        Verb::Abstain => Body::AbstainLabel(label),
+        _ => Body::ReinstateLabel(label),
+    }
+}
+
+/// Makes the body of ABSTAIN or REINSTATE with gerunds.
+fn gating_kinds(verb: Verb, gerunds: Vec<Gerund>) -> Body
+    ensures { body_tree_of result ≡ Some (kinds_tree verb gerunds.items) }
+{
+    match verb {
+        Verb::Abstain => Body::AbstainKinds(gerunds),
+        _ => Body::ReinstateKinds(gerunds),
+    }
+}
+
+/// Reads the rest of an ABSTAIN or REINSTATE statement, after `ABSTAIN FROM` or `REINSTATE`
+/// (Revised Manual, 4.4.9 and 4.4.10).
+fn gating_at(
+    alloc: Global,
+    text: &[u8],
+    verb: Verb,
+    from: Position,
+) -> Result<Parsed<Body, Position>, Unread>
+    ensures { (before : List ℕ) → IsGated verb before (left_at text.now from) →
+        AnswersRead (after verb) body_tree_of text.now before result }
 {
     if word_at(text, from, b"(").is_some() {
-        let label = label_at(text, from).ok_or(Unread::Absent);
-        return made(label, Body::ReinstateLabel);
+        return match label_at(text, from) {
+            None => Err(Unread::Absent),
+            Some(label) => Ok(Parsed {
+                value: gating_label(verb, label.value),
+                to: label.to,
+                faults: label.faults,
+            }),
+        };
     }
-    made(gerunds_at(alloc, text, from), Body::ReinstateKinds)
+    match list_at::<Gerund>(alloc, text, b"+", from) {
+        Err(unread) => Err(unread),
+        Ok(gerunds) => Ok(Parsed {
+            value: gating_kinds(verb, gerunds.value),
+            to: gerunds.to,
+            faults: gerunds.faults,
+        }),
+    }
 }
 
-/// Reads the rest of a GIVE UP statement, after `GIVE` (Revised Manual, 4.4.11).
-fn give_up_at(text: &[u8], from: Position) -> Option<Parsed<Body, Position>>
-    ensures { Answers (after Verb.Give) body_tree_of text.now (left_at text.now from) result }
-{
-    let to = word_at(text, from, b"UP")?;
-    Some(Parsed {
-        value: Body::GiveUp,
-        to,
-        faults: Faults::NONE,
-    })
-}
-
-/// Reads the rest of a WRITE IN statement, after `WRITE` (Revised Manual, 4.4.12 and 5.2).
-fn write_in_at(alloc: Global, text: &[u8], from: Position) -> Result<Parsed<Body, Position>, Unread>
-    ensures { AnswersRead (after Verb.Write) body_tree_of text.now (left_at text.now from) result }
-{
-    let Some(from) = word_at(text, from, b"IN") else {
-        return Err(Unread::Absent);
-    };
-    made(places_at(alloc, text, from), Body::WriteIn)
-}
-
-/// Reads the rest of a READ OUT statement, after `READ` (Revised Manual, 4.4.13 and 5.2).
-fn read_out_at(alloc: Global, text: &[u8], from: Position) -> Result<Parsed<Body, Position>, Unread>
-    ensures { AnswersRead (after Verb.Read) body_tree_of text.now (left_at text.now from) result }
-{
-    let Some(from) = word_at(text, from, b"OUT") else {
-        return Err(Unread::Absent);
-    };
-    made(items_at(alloc, text, from), Body::ReadOut)
-}
-
-/// Reads the rest of a body after its verb.
+/// Reads the rest of a body after its verb (Revised Manual, 4.4.3 to 4.4.13 and 5.2).
 fn after_verb_at(
     alloc: Global,
     text: &[u8],
@@ -108,17 +132,32 @@ fn after_verb_at(
     ensures { AnswersRead (after verb) body_tree_of text.now (left_at text.now from) result }
 {
     match verb {
-        Verb::Forget => made(whole_at(alloc, text, from), Body::Forget),
-        Verb::Resume => made(whole_at(alloc, text, from), Body::Resume),
-        Verb::Stash => made(names_at(alloc, text, from), Body::Stash),
-        Verb::Retrieve => made(names_at(alloc, text, from), Body::Retrieve),
-        Verb::Ignore => made(names_at(alloc, text, from), Body::Ignore),
-        Verb::Remember => made(names_at(alloc, text, from), Body::Remember),
-        Verb::Abstain => abstain_at(alloc, text, from),
-        Verb::Reinstate => reinstate_at(alloc, text, from),
-        Verb::Give => give_up_at(text, from).ok_or(Unread::Absent),
-        Verb::Write => write_in_at(alloc, text, from),
-        Verb::Read => read_out_at(alloc, text, from),
+        Verb::Forget => made(Expr::read_at(alloc, text, from), Body::Forget),
+        Verb::Resume => made(Expr::read_at(alloc, text, from), Body::Resume),
+        Verb::Stash | Verb::Retrieve | Verb::Ignore | Verb::Remember => {
+            naming_at(alloc, text, verb, from)
+        }
+        Verb::Abstain => match word_at(text, from, b"FROM") {
+            None => Err(Unread::Absent),
+            Some(from) => gating_at(alloc, text, verb, from),
+        },
+        Verb::Reinstate => gating_at(alloc, text, verb, from),
+        Verb::Give => match word_at(text, from, b"UP") {
+            None => Err(Unread::Absent),
+            Some(to) => Ok(Parsed {
+                value: Body::GiveUp,
+                to,
+                faults: Faults::NONE,
+            }),
+        },
+        Verb::Write => match word_at(text, from, b"IN") {
+            None => Err(Unread::Absent),
+            Some(from) => made(list_at(alloc, text, b"+", from), Body::WriteIn),
+        },
+        Verb::Read => match word_at(text, from, b"OUT") {
+            None => Err(Unread::Absent),
+            Some(from) => made(list_at(alloc, text, b"+", from), Body::ReadOut),
+        },
     }
 }
 
@@ -136,7 +175,7 @@ fn calculation_at(
         drop(target);
         return Err(Unread::Absent);
     };
-    match whole_at(alloc, text, later) {
+    match Expr::read_at(alloc, text, later) {
         Err(unread) => {
             drop(target);
             Err(unread)
@@ -168,7 +207,7 @@ fn dimensioning_at(
     let Some(later) = word_at(text, array.to, b"<-") else {
         return Err(Unread::Absent);
     };
-    match dimensions_at(alloc, text, later) {
+    match list_at(alloc, text, b"BY", later) {
         Err(unread) => Err(unread),
         Ok(dimensions) => Ok(Parsed {
             value: Body::Dimension(array.value, dimensions.value),
@@ -195,17 +234,6 @@ fn call_at(text: &[u8], from: Position) -> Option<Parsed<Body, Position>>
     })
 }
 
-/// Reads a verb and the rest of its body.
-fn action_at(alloc: Global, text: &[u8], from: Position) -> Result<Parsed<Body, Position>, Unread>
-    ensures { AnswersRead (formed Form.Action) body_tree_of
-        text.now (left_at text.now from) result }
-{
-    let Some(verb) = verb_at(text, from) else {
-        return Err(Unread::Absent);
-    };
-    after_verb_at(alloc, text, verb.value, verb.to)
-}
-
 /// Reads the body at the position, and the position after it (Revised Manual, 4.4).
 ///
 /// The next character decides which part is read, so nothing is read twice. The answer is
@@ -217,6 +245,9 @@ pub fn body_at(alloc: Global, text: &[u8], from: Position) -> Result<Parsed<Body
         Form::Calculation => calculation_at(alloc, text, from),
         Form::Dimensioning => dimensioning_at(alloc, text, from),
         Form::Call => call_at(text, from).ok_or(Unread::Absent),
-        Form::Action => action_at(alloc, text, from),
+        Form::Action => match verb_at(text, from) {
+            None => Err(Unread::Absent),
+            Some(verb) => after_verb_at(alloc, text, verb.value, verb.to),
+        },
     }
 }

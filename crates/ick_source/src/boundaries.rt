@@ -54,7 +54,9 @@ fn label_in(text: &[u8], at: usize) -> Option<Scanned<u32, usize>>
     if byte_at(text, at) != b'(' {
         return None;
     }
-    let number = number_in(text, after_white(text, at + 1))?;
+    let Some(number) = number_in(text, after_white(text, at + 1)) else {
+        return None;
+    };
     let close = after_white(text, number.to);
     if byte_at(text, close) != b')' {
         return None;
@@ -82,8 +84,12 @@ pub fn opening_at(text: &[u8], at: usize) -> Option<Scanned<Start, usize>>
             to: polite.to,
         });
     }
-    let label = label_in(text, at)?;
-    let polite = identifier_at(text, after_white(text, label.to))?;
+    let Some(label) = label_in(text, at) else {
+        return None;
+    };
+    let Some(polite) = identifier_at(text, after_white(text, label.to)) else {
+        return None;
+    };
     let value = Start {
         label: Some(label.value),
         polite: polite.value,

@@ -1,22 +1,20 @@
 //! Readers of expressions (Revised Manual, 3.4). The next character decides each step, so no part
 //! is read in two ways.
 
-ghost use Rattle.std.specs.Prelude.{◌≡◌, ◌<◌, IfOk, OnOk, MatchResult, IsTrue, ◌↔◌};
+ghost use Rattle.std.specs.Prelude.{◌≡◌, ◌<◌, MatchResult, IsTrue, ◌↔◌};
 ghost use Rattle.ick_source.specs.declared.parsed.Unread.TheVariants.{NoMemory};
 ghost use Rattle.ick_source.specs.Position.{left_at};
 ghost use Rattle.ick_syntax.specs.Tree.{tree_of, trees_in, scalar, mesh, element};
-ghost use Rattle.ick_source.specs.Expression.{IsExpr, IsOperand, IsSimple, IsElement, IsSubs};
-ghost use Rattle.ick_source.specs.Expression.{IsRest, begins_sub};
-ghost use Rattle.ick_source.specs.ExpressionAnswers.{AnswersTree, AnswersTrees, AnswersFrom};
-ghost use Rattle.ick_source.specs.ExpressionAnswers.{IsNumbered, IsGroup, IsApplied, IsJoined};
-ghost use Rattle.ick_source.specs.ExpressionAnswers.{IsStarted, IsExtended};
+ghost use Rattle.ick_source.specs.Expression.{IsExpr, IsOperand, IsElement, IsSubs, begins_sub};
+ghost use Rattle.ick_source.specs.ExpressionAnswers.{AnswersTree, AnswersTrees, IsNumbered};
+ghost use Rattle.ick_source.specs.ExpressionAnswers.{IsGroup, IsApplied, IsJoined};
 
 use crate::lead::{Delimiter, Lead};
 use crate::parsed::{Measured, Unread};
 use crate::position::{Position, lead_at};
 use crate::token::{number_at, prefix_at, word_at};
 use ick_syntax::{BinaryOp, Element, Expr, Faults, Name, NameKind, UnaryOp, clamped_number};
-use std::alloc::{AllocError, Global};
+use std::alloc::Global;
 
 /// Applies the operator to the expression that was read, if there is an operator.
 fn applied(
@@ -116,28 +114,6 @@ fn group_at(
     applied(alloc, prefix.value, group)
 }
 
-/// Reads a variable, a mesh or a group.
-#[cycle(reader)]
-fn simple_at(
-    alloc: Global,
-    text: &[u8],
-    limit: u16,
-    from: Position,
-) -> Result<Measured<Expr>, Unread>
-    ensures { AnswersTree (IsSimple (left_at text.now from)) limit text.now result }
-{
-    if limit == 0 {
-        return Err(Unread::Absent);
-    }
-    let next = lead_at(text, from);
-    match next.value {
-        Lead::Spot(kind) => spot_at(alloc, text, kind, next.to),
-        Lead::Hash => constant_at(alloc, text, next.to),
-        Lead::Group(delimiter) => group_at(alloc, text, delimiter, limit, next.to),
-        _ => Err(Unread::Absent),
-    }
-}
-
 /// Reads an element: an array, `SUB` and its subscripts (Revised Manual, 3.3).
 #[cycle(reader)]
 pub fn element_at(
@@ -147,6 +123,7 @@ pub fn element_at(
     limit: u16,
     from: Position,
 ) -> Result<Measured<Expr>, Unread>
+    requires { 0 < limit }
     ensures { AnswersTree (IsElement delimiter (left_at text.now from)) limit text.now result }
 {
     let next = lead_at(text, from);
@@ -159,9 +136,6 @@ pub fn element_at(
     let Some(later) = word_at(text, found.to, b"SUB") else {
         return Err(Unread::Absent);
     };
-    if limit == 0 {
-        return Err(Unread::Absent);
-    }
     let array = Name {
         kind,
         number: clamped_number(found.value),
@@ -188,34 +162,23 @@ fn subs_at(
 ) -> Result<Measured<Vec<Expr>>, Unread>
     ensures { AnswersTrees (IsSubs delimiter (left_at text.now from)) limit text.now result }
 {
-    let begins = lead_at(text, from).value;
-    let first = operand_at(alloc, text, delimiter, limit, from)?;
-    let all = started(alloc, first)?;
-    match begins {
-        Lead::Array(_) => Ok(all),
-        _ => rest_at(alloc, text, delimiter, limit, all),
-    }
-}
-
-/// Reads further subscripts, and appends them.
-#[cycle(reader)]
-fn rest_at(
-    alloc: Global,
-    text: &[u8],
-    delimiter: Option<Delimiter>,
-    limit: u16,
-    mut all: Measured<Vec<Expr>>,
-) -> Result<Measured<Vec<Expr>>, Unread>
-    ensures { AnswersFrom (IsRest delimiter (left_at text.now all.to)) limit text.now all result }
-{
-    'further: loop {
+    let mut all = Measured {
+        value: Vec::new(alloc),
+        height: 0,
+        to: from,
+        faults: Faults::NONE,
+    };
+    'subs: loop {
         let begins = lead_at(text, all.to).value;
-        if !may_begin_sub(delimiter, begins) {
+        let one = operand_at(alloc, text, delimiter, limit, all.to)?;
+        all.value.push(one.value)?;
+        all.height = all.height.max(one.height);
+        all.to = one.to;
+        all.faults = all.faults.union(one.faults);
+        if let Lead::Array(_) = begins {
             return Ok(all);
         }
-        let one = operand_at(alloc, text, delimiter, limit, all.to)?;
-        extend(&mut all, one)?;
-        if let Lead::Array(_) = begins {
+        if !may_begin_sub(delimiter, lead_at(text, all.to).value) {
             return Ok(all);
         }
     }
@@ -232,9 +195,16 @@ fn operand_at(
 ) -> Result<Measured<Expr>, Unread>
     ensures { AnswersTree (IsOperand delimiter (left_at text.now from)) limit text.now result }
 {
-    match lead_at(text, from).value {
+    if limit == 0 {
+        return Err(Unread::Absent);
+    }
+    let next = lead_at(text, from);
+    match next.value {
         Lead::Array(_) => element_at(alloc, text, delimiter, limit, from),
-        _ => simple_at(alloc, text, limit, from),
+        Lead::Spot(kind) => spot_at(alloc, text, kind, next.to),
+        Lead::Hash => constant_at(alloc, text, next.to),
+        Lead::Group(opened) => group_at(alloc, text, opened, limit, next.to),
+        _ => Err(Unread::Absent),
     }
 }
 
@@ -289,31 +259,6 @@ fn joined(
         to: right.to,
         faults: left.faults.union(right.faults),
     })
-}
-
-/// Makes the list of one subscript.
-fn started(alloc: Global, only: Measured<Expr>) -> Result<Measured<Vec<Expr>>, AllocError>
-    ensures { IfOk result (IsStarted only) }
-{
-    let mut value = Vec::new(alloc);
-    value.push(only.value)?;
-    Ok(Measured {
-        value,
-        height: only.height,
-        to: only.to,
-        faults: only.faults,
-    })
-}
-
-/// Appends one more subscript.
-fn extend(all: &mut Measured<Vec<Expr>>, one: Measured<Expr>) -> Result<(), AllocError>
-    ensures { OnOk result (IsExtended all.old one all.new) }
-{
-    all.value.push(one.value)?;
-    all.height = all.height.max(one.height);
-    all.to = one.to;
-    all.faults = all.faults.union(one.faults);
-    Ok(())
 }
 
 /// Returns whether a character closes the group of this delimiter.

@@ -14,7 +14,7 @@
 //!
 //! - `refusals`: the reasons
 //! - `ranges`, `labels`, `politeness`: numbers out of range, labels, and politeness
-//! - `programs`: makes a program of statements, or refuses them
+//! - `programs`: refuses statements that make no program
 //!
 //! `listing` appends the lines of a program.
 //!

@@ -33,24 +33,6 @@ pub trait Part: Drop {
         ensures { AnswersRead nonterminal seen text.now (left_at text.now from) result };
 }
 
-/// Reads the expression at the position, outside groups (Revised Manual, 3.4).
-pub fn whole_at(
-    alloc: Global,
-    text: &[u8],
-    from: Position,
-) -> Result<Parsed<Expr, Position>, Unread>
-    ensures { AnswersRead wholes tree_of text.now (left_at text.now from) result }
-{
-    match expr_at(alloc, text, None, MAX_HEIGHT, from) {
-        Err(unread) => Err(unread),
-        Ok(found) => Ok(Parsed {
-            value: found.value,
-            to: found.to,
-            faults: found.faults,
-        }),
-    }
-}
-
 /// Reads the element at the position, outside groups (Revised Manual, 3.3).
 pub fn whole_element_at(
     alloc: Global,
@@ -59,14 +41,16 @@ pub fn whole_element_at(
 ) -> Result<Parsed<Target, Position>, Unread>
     ensures { AnswersRead elements target_tree text.now (left_at text.now from) result }
 {
-    let found = element_at(alloc, text, None, MAX_HEIGHT, from)?;
-    match found.value.into_element() {
-        None => Err(Unread::Absent),
-        Some(element) => Ok(Parsed {
-            value: Target::Element(element),
-            to: found.to,
-            faults: found.faults,
-        }),
+    match element_at(alloc, text, None, MAX_HEIGHT, from) {
+        Err(unread) => Err(unread),
+        Ok(found) => match found.value.into_element() {
+            None => Err(Unread::Absent),
+            Some(element) => Ok(Parsed {
+                value: Target::Element(element),
+                to: found.to,
+                faults: found.faults,
+            }),
+        },
     }
 }
 
@@ -79,7 +63,9 @@ pub fn name_at(text: &[u8], from: Position) -> Option<Parsed<Name, Position>>
         Lead::Spot(kind) | Lead::Array(kind) => kind,
         _ => return None,
     };
-    let found = number_at(text, next.to)?;
+    let Some(found) = number_at(text, next.to) else {
+        return None;
+    };
     let value = Name {
         kind,
         number: clamped_number(found.value),
@@ -128,32 +114,6 @@ fn tail_at(text: &[u8], from: Position) -> Option<Parsed<Name, Position>>
     }
 }
 
-/// Reads the place at the position: a variable, an element or a whole array (Revised Manual, 4.4.12
-/// and 5.2).
-pub fn place_at(
-    alloc: Global,
-    text: &[u8],
-    from: Position,
-) -> Result<Parsed<Place, Position>, Unread>
-    ensures { AnswersRead places place_tree text.now (left_at text.now from) result }
-{
-    if let Some(found) = tail_at(text, from) {
-        return Ok(Parsed {
-            value: Place::Array(found.value),
-            to: found.to,
-            faults: found.faults,
-        });
-    }
-    match target_at(alloc, text, from) {
-        Err(unread) => Err(unread),
-        Ok(found) => Ok(Parsed {
-            value: stored(found.value),
-            to: found.to,
-            faults: found.faults,
-        }),
-    }
-}
-
 /// Returns the target as a place of WRITE IN.
 fn stored(target: Target) -> Place
     ensures { place_tree result ≡ single (target_tree target) }
@@ -164,30 +124,13 @@ fn stored(target: Target) -> Place
     }
 }
 
-/// Reads the item at the position: a variable, an element, a whole array or a mesh (Revised Manual,
-/// 4.4.13 and 5.2).
-pub fn item_at(alloc: Global, text: &[u8], from: Position) -> Result<Parsed<Item, Position>, Unread>
-    ensures { AnswersRead items item_tree text.now (left_at text.now from) result }
-{
-    let next = lead_at(text, from);
-    if let Lead::Hash = next.value {
-        return mesh_item_at(text, next.to).ok_or(Unread::Absent);
-    }
-    match place_at(alloc, text, from) {
-        Err(unread) => Err(unread),
-        Ok(found) => Ok(Parsed {
-            value: printed(found.value),
-            to: found.to,
-            faults: found.faults,
-        }),
-    }
-}
-
 /// Reads a mesh after its sigil, as an item.
 fn mesh_item_at(text: &[u8], past: Position) -> Option<Parsed<Item, Position>>
     ensures { Answers numbers item_tree text.now (left_at text.now past) result }
 {
-    let found = number_at(text, past)?;
+    let Some(found) = number_at(text, past) else {
+        return None;
+    };
     Some(Parsed {
         value: Item::Mesh(clamped_number(found.value)),
         to: found.to,
@@ -220,29 +163,16 @@ fn gerund_word_at(text: &[u8], from: Position) -> Option<Scanned<Gerund, Positio
     None
 }
 
-/// Reads the gerund at the position (Revised Manual, 4.4.9). Any white bytes may stand between its
-/// two words.
-pub fn gerund_at(text: &[u8], from: Position) -> Option<Parsed<Gerund, Position>>
-    ensures { Answers gerunds (λ gerund. gerund) text.now (left_at text.now from) result }
-{
-    let first = gerund_word_at(text, from)?;
-    let to = match first.value.second_word() {
-        None => first.to,
-        Some(word) => word_at(text, first.to, word)?,
-    };
-    Some(Parsed {
-        value: first.value,
-        to,
-        faults: Faults::NONE,
-    })
-}
-
 /// Reads the label at the position, in its parentheses (Revised Manual, 4.2).
 pub fn label_at(text: &[u8], from: Position) -> Option<Parsed<u16, Position>>
     ensures { Answers labels (λ label. label) text.now (left_at text.now from) result }
 {
-    let inner = word_at(text, from, b"(")?;
-    let found = number_at(text, inner)?;
+    let Some(inner) = word_at(text, from, b"(") else {
+        return None;
+    };
+    let Some(found) = number_at(text, inner) else {
+        return None;
+    };
     let Some(to) = word_at(text, found.to, b")") else {
         return None;
     };
@@ -258,12 +188,20 @@ impl Part for Expr {
 
     ghost seen = { tree_of };
 
+    /// Reads the expression at the position, outside groups (Revised Manual, 3.4).
     fn read_at(
         alloc: Global,
         text: &[u8],
         from: Position,
     ) -> Result<Parsed<Self, Position>, Unread> {
-        whole_at(alloc, text, from)
+        match expr_at(alloc, text, None, MAX_HEIGHT, from) {
+            Err(unread) => Err(unread),
+            Ok(found) => Ok(Parsed {
+                value: found.value,
+                to: found.to,
+                faults: found.faults,
+            }),
+        }
     }
 }
 
@@ -286,12 +224,28 @@ impl Part for Place {
 
     ghost seen = { place_tree };
 
+    /// Reads the place at the position: a variable, an element or a whole array (Revised Manual,
+    /// 4.4.12 and 5.2).
     fn read_at(
         alloc: Global,
         text: &[u8],
         from: Position,
     ) -> Result<Parsed<Self, Position>, Unread> {
-        place_at(alloc, text, from)
+        if let Some(found) = tail_at(text, from) {
+            return Ok(Parsed {
+                value: Place::Array(found.value),
+                to: found.to,
+                faults: found.faults,
+            });
+        }
+        match target_at(alloc, text, from) {
+            Err(unread) => Err(unread),
+            Ok(found) => Ok(Parsed {
+                value: stored(found.value),
+                to: found.to,
+                faults: found.faults,
+            }),
+        }
     }
 }
 
@@ -300,12 +254,25 @@ impl Part for Item {
 
     ghost seen = { item_tree };
 
+    /// Reads the item at the position: a variable, an element, a whole array or a mesh (Revised
+    /// Manual, 4.4.13 and 5.2).
     fn read_at(
         alloc: Global,
         text: &[u8],
         from: Position,
     ) -> Result<Parsed<Self, Position>, Unread> {
-        item_at(alloc, text, from)
+        let next = lead_at(text, from);
+        if let Lead::Hash = next.value {
+            return mesh_item_at(text, next.to).ok_or(Unread::Absent);
+        }
+        match Place::read_at(alloc, text, from) {
+            Err(unread) => Err(unread),
+            Ok(found) => Ok(Parsed {
+                value: printed(found.value),
+                to: found.to,
+                faults: found.faults,
+            }),
+        }
     }
 }
 
@@ -314,11 +281,30 @@ impl Part for Gerund {
 
     ghost seen = { λ gerund. gerund };
 
+    /// Reads the gerund at the position (Revised Manual, 4.4.9). Any white bytes may stand between
+    /// its two words.
     fn read_at(
         _alloc: Global,
         text: &[u8],
         from: Position,
     ) -> Result<Parsed<Self, Position>, Unread> {
-        gerund_at(text, from).ok_or(Unread::Absent)
+        let Some(first) = gerund_word_at(text, from) else {
+            return Err(Unread::Absent);
+        };
+        match first.value.second_word() {
+            None => Ok(Parsed {
+                value: first.value,
+                to: first.to,
+                faults: Faults::NONE,
+            }),
+            Some(word) => match word_at(text, first.to, word) {
+                None => Err(Unread::Absent),
+                Some(to) => Ok(Parsed {
+                    value: first.value,
+                    to,
+                    faults: Faults::NONE,
+                }),
+            },
+        }
     }
 }

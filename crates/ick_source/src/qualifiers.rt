@@ -57,7 +57,9 @@ fn percentage_at(text: &[u8], at: usize) -> Option<Scanned<u8, usize>>
     if byte_at(text, at) != b'%' {
         return None;
     }
-    let number = number_in(text, after_white(text, at + 1))?;
+    let Some(number) = number_in(text, after_white(text, at + 1)) else {
+        return None;
+    };
     if number.value > 100 {
         return None;
     }

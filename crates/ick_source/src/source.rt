@@ -4,18 +4,19 @@ ghost use Rattle.std.specs.Prelude.{◌≡◌, ℕ, ◌+◌, ◌-◌, ◌*◌, �
 ghost use Rattle.std.specs.Prelude.{◌≤◌, List, [], ◌∷◌, ◌++◌, ◌↔◌};
 ghost use Rattle.std.specs.Prelude.{length, IfOk, IfErr, OnOk, IsErrOf};
 ghost use Rattle.ick_bits.specs.declared.faults.FaultKind.{FaultKind};
-ghost use Rattle.ick_syntax.specs.StatementTree.{StatementTree};
+ghost use Rattle.ick_syntax.specs.ProgramFaults.{IsSound};
+ghost use Rattle.ick_syntax.specs.StatementTree.{StatementTree, statement_trees};
 ghost use Rattle.ick_source.specs.Cut.{IsCut};
 ghost use Rattle.ick_source.specs.Refusals.{Compiles, IsRefused, longest};
 ghost use Rattle.ick_syntax.specs.Programs.{trees_of};
 ghost use Rattle.ick_source.specs.RefusalAnswers.{Refuses, RefusesFitting};
 ghost use Rattle.ick_source.specs.StatementAnswers.{ReadsStatement};
+ghost use Rattle.ick_source.specs.Ranges.{IsEmpty};
 ghost use Rattle.ick_source.specs.SourceAnswers.{HasRead, HasReadUpTo, HasReadAll};
 
 use crate::boundaries::next_boundary;
 use crate::bytes::after_white;
-use crate::parsed::Scanned;
-use crate::programs::checked_program;
+use crate::programs::check_statements;
 use crate::ranges::OutOfRange;
 use crate::refusals::Refusal;
 use crate::statement_reader::{statement_at, trimmed};
@@ -34,17 +35,6 @@ struct Reader<'a> {
 }
 
 impl<'a> Reader<'a> {
-    fn new(alloc: Global) -> Self
-        ensures { HasRead result [] }
-    {
-        Reader {
-            statements: Vec::new(alloc),
-            count: 0,
-            polite: 0,
-            out_of_range: OutOfRange::new(),
-        }
-    }
-
     fn add(&mut self, statement: Statement<'a>, faults: Faults) -> Result<(), AllocError>
         requires room { self.old.count < 2 ^ 32 - 1 }
         requires polite { self.old.polite ≤ self.old.count }
@@ -64,19 +54,16 @@ impl<'a> Reader<'a> {
 }
 
 /// Reads the bytes before the first start as a statement of their own, unless all are white.
-/// Returns the reader, and the position of that start or of the end of the text.
-fn front_of(alloc: Global, text: &[u8]) -> Result<Scanned<Reader<'_>, usize>, AllocError>
-    ensures read { IfOk result (λ r. HasReadUpTo text.now r.to r.value) }
-    ensures count { IfOk result (λ r. 2 * r.value.count ≤ r.to + 1) }
+/// Returns the position of that start or of the end of the text.
+fn read_front<'a>(reader: &mut Reader<'a>, text: &'a [u8]) -> Result<usize, AllocError>
+    requires { HasRead reader.old [] }
+    ensures read { IfOk result (λ to. HasReadUpTo text.now to reader.new) }
+    ensures count { IfOk result (λ to. 2 * reader.new.count ≤ to + 1) }
 {
-    let mut reader = Reader::new(alloc);
     let begin = after_white(text, 0);
     let start = next_boundary(text, 0);
     if begin >= start {
-        return Ok(Scanned {
-            value: reader,
-            to: start,
-        });
+        return Ok(start);
     }
     let statement = Statement {
         label: None,
@@ -87,27 +74,29 @@ fn front_of(alloc: Global, text: &[u8]) -> Result<Scanned<Reader<'_>, usize>, Al
         text: trimmed(text, begin, start),
         number: 1,
     };
-    reader.add(statement, Faults::NONE)?;
-    Ok(Scanned {
-        value: reader,
-        to: start,
-    })
+    match reader.add(statement, Faults::NONE) {
+        Err(refused) => Err(refused),
+        Ok(()) => Ok(start),
+    }
 }
 
-/// Reads the whole text into statements.
-fn whole_of(alloc: Global, text: &[u8]) -> Result<Reader<'_>, AllocError>
-    requires { length text.now ≤ longest }
-    ensures read { IfOk result (HasReadAll text.now) }
-    ensures count { IfOk result (λ r. 2 * r.count ≤ length text.now + 1) }
+/// Reads the whole text into statements, and refuses them if they make no program.
+fn read_whole<'a>(alloc: Global, text: &'a [u8], reader: &mut Reader<'a>) -> Result<(), Refusal>
+    requires fits { length text.now ≤ longest }
+    requires nothing { HasRead reader.old [] }
+    ensures read { OnOk result (HasReadAll text.now reader.new) }
+    ensures ranges { OnOk result (IsEmpty reader.new.out_of_range) }
+    ensures sound { OnOk result (IsSound (statement_trees reader.new.statements.items)) }
+    ensures count { OnOk result (2 * reader.new.count ≤ length text.now + 1) }
+    ensures err { IfErr result (RefusesFitting text.now) }
 {
-    let front = front_of(alloc, text)?;
-    let mut reader = front.value;
-    let mut at = front.to;
+    let mut at = read_front(reader, text)?;
     while let Some(statement) = statement_at(alloc, text, at, reader.count + 1)? {
         reader.add(statement.value, statement.faults)?;
         at = statement.to;
     }
-    Ok(reader)
+    reader.out_of_range.check()?;
+    check_statements(alloc, &reader.statements, reader.polite)
 }
 
 /// Reads a source of at most 1,048,576 bytes, and refuses it if it has a fault.
@@ -116,14 +105,16 @@ fn program_of(alloc: Global, text: &[u8]) -> Result<Program<'_>, Refusal>
     ensures ok { IfOk result (λ p. IsCut text.now (trees_of p)) }
     ensures err { IfErr result (RefusesFitting text.now) }
 {
-    let Reader {
-        statements,
-        count: _,
-        polite,
-        out_of_range,
-    } = whole_of(alloc, text)?;
-    out_of_range.check()?;
-    checked_program(alloc, statements, polite)
+    let mut reader = Reader {
+        statements: Vec::new(alloc),
+        count: 0,
+        polite: 0,
+        out_of_range: OutOfRange::new(),
+    };
+    match read_whole(alloc, text, &mut reader) {
+        Err(refusal) => Err(refusal),
+        Ok(()) => Ok(Program::new(reader.statements, reader.polite)),
+    }
 }
 
 /// Reads a source text as a program, or refuses it.

@@ -2,40 +2,44 @@ use Rattle.std.proofs.Common.{◌≡◌, ◌≢◌, ◌<◌, true, false, refl, 
 use Rattle.std.proofs.lemmas.Result.{err_from_is_err_and}
 use Rattle.ick_source.specs.declared.lead.Lead.TheVariants.{Array, Group}
 use Rattle.ick_syntax.specs.declared.tree.NameKind.{NameKind}
+use Rattle.ick_syntax.specs.Tree.{trees_in}
+use Rattle.ick_syntax.proofs.TreeLemmas.{trees_in-append}
 use Rattle.ick_source.specs.Position.{next_lead, left_at}
 use Rattle.ick_source.specs.Expression.{begins_sub}
 use Rattle.ick_source.proofs.ExpressionReadings.{operand_of_element, operand_of_simple, simple_of_spot, simple_of_mesh}
 use Rattle.ick_source.proofs.ExpressionReadings.{simple_of_group, group_stays_open, group_closes, expr_alone}
 use Rattle.ick_source.proofs.ExpressionReadings.{expr_too_high, expr_no_right, expr_joined, made_answers}
 use Rattle.ick_source.proofs.ExpressionReadings.{element_of_operand, simple_of_operand}
-use Rattle.ick_source.proofs.SubscriptReadings.{element_stands, element_no_sub, element_no_subs, element_no_height}
-use Rattle.ick_source.proofs.SubscriptReadings.{only_element, begun, goes_on-start, goes_on-further, goes_on-ends}
-use Rattle.ick_source.proofs.SubscriptReadings.{goes_on-last, goes_on-no_operand, subs_no_operand}
+use Rattle.ick_source.proofs.SubscriptReadings.{element_stands, element_no_sub, element_no_subs, operand_no_height}
+use Rattle.ick_source.proofs.SubscriptReadings.{goes_on-start, goes_on-further, goes_on-ends, goes_on-last}
+use Rattle.ick_source.proofs.SubscriptReadings.{goes_on-no_operand}
 use Rattle.ick_source.proofs.ExpressionShorter.{simple-shorter}
 use Rattle.ick_source.proofs.expression.+reader.Goals as goal
 
+pub operand_at-returns-then-limit-eq0 : goal.operand_at-returns-then-limit-eq0
+operand_at-returns-then-limit-eq0 t c = λ absent. operand_no_height _ _ _ c.if-limit-eq0.true
+
 pub operand_at-returns-in-Array : goal.operand_at-returns-in-Array
 operand_at-returns-in-Array t c =
-    operand_of_element _ _ _ _ _ _ (sym c.lead_at.ensures.lead ∙ c.in-Array.is) c.element_at.ensures
+    operand_of_element _ _ _ _ _ _ (sym c.lead_at-next.ensures.lead ∙ c.in-Array.is) c.element_at.ensures
 
-pub operand_at-returns-in_default : goal.operand_at-returns-in_default
-operand_at-returns-in_default t c =
-    operand_of_simple _ _ _ _ _ (λ k e. c.in_default.not-Array k (c.lead_at.ensures.lead ∙ e)) c.simple_at.ensures
+pub operand_at-returns-in-Spot : goal.operand_at-returns-in-Spot
+operand_at-returns-in-Spot t c =
+    let leads = sym c.lead_at-next.ensures.lead ∙ c.in-Spot.is in
+    operand_of_simple _ _ _ _ _ (λ k e. let f = sym leads ∙ e in cc)
+    (simple_of_spot _ _ _ _ _ _ leads c.lead_at-next.ensures.to (omega arith) c.spot_at.ensures)
 
-pub simple_at-returns-in-Spot : goal.simple_at-returns-in-Spot
-simple_at-returns-in-Spot t c =
-    simple_of_spot _ _ _ _ _ _ (sym c.lead_at-next.ensures.lead ∙ c.in-Spot.is) c.lead_at-next.ensures.to
-    (omega arith) c.spot_at.ensures
+pub operand_at-returns-in-Hash : goal.operand_at-returns-in-Hash
+operand_at-returns-in-Hash t c =
+    let leads = sym c.lead_at-next.ensures.lead ∙ c.in-Hash.is in
+    operand_of_simple _ _ _ _ _ (λ k e. let f = sym leads ∙ e in cc)
+    (simple_of_mesh _ _ _ _ _ leads c.lead_at-next.ensures.to (omega arith) c.constant_at.ensures)
 
-pub simple_at-returns-in-Hash : goal.simple_at-returns-in-Hash
-simple_at-returns-in-Hash t c =
-    simple_of_mesh _ _ _ _ _ (sym c.lead_at-next.ensures.lead ∙ c.in-Hash.is) c.lead_at-next.ensures.to (omega arith)
-    c.constant_at.ensures
-
-pub simple_at-returns-in-Group : goal.simple_at-returns-in-Group
-simple_at-returns-in-Group t c =
-    simple_of_group _ _ _ _ _ _ (sym c.lead_at-next.ensures.lead ∙ c.in-Group.is) c.lead_at-next.ensures.to
-    c.group_at.ensures
+pub operand_at-returns-in-Group : goal.operand_at-returns-in-Group
+operand_at-returns-in-Group t c =
+    let leads = sym c.lead_at-next.ensures.lead ∙ c.in-Group.is in
+    operand_of_simple _ _ _ _ _ (λ k e. let f = sym leads ∙ e in cc)
+    (simple_of_group _ _ _ _ _ _ leads c.lead_at-next.ensures.to c.group_at.ensures)
 
 pub group_at-returns-then-not-closes : goal.group_at-returns-then-not-closes
 group_at-returns-then-not-closes t c =
@@ -77,9 +81,6 @@ pub element_at-returns-in_default-word_at : goal.element_at-returns-in_default-w
 element_at-returns-in_default-word_at t c =
     λ absent. element_no_sub _ _ _ _ _ _ c.lead_at-next.ensures.to c.in-Some.ensures c.in_default-word_at.ensures
 
-pub element_at-returns-then-limit-eq0 : goal.element_at-returns-then-limit-eq0
-element_at-returns-then-limit-eq0 t c = λ absent. element_no_height _ _ _ c.if-limit-eq0.true
-
 pub element_at-returns-in-Err : goal.element_at-returns-in-Err
 element_at-returns-in-Err t c =
     λ absent. element_no_subs _ _ _ _ _ _ _ c.lead_at-next.ensures.to c.in-Some.ensures c.in-Some-word_at.ensures
@@ -88,68 +89,46 @@ element_at-returns-in-Err t c =
 pub element_at-returns-in-Ok : goal.element_at-returns-in-Ok
 element_at-returns-in-Ok t c =
     element_stands _ _ _ _ _ _ _ _ _ _ _ _ _ _ _ _ (sym c.lead_at-next.ensures.lead ∙ c.in-Array.is)
-    c.lead_at-next.ensures.to c.in-Some.ensures c.in-Some-word_at.ensures c.if-limit-eq0.false
+    c.lead_at-next.ensures.to c.in-Some.ensures c.in-Some-word_at.ensures c.requires
     c.in-Ok.ensures c.indexed.ensures c.clamped_number.ensures c.of_name.ensures c.union.ensures
 
-pub subs_at-returns-in_err-first : goal.subs_at-returns-in_err-first
-subs_at-returns-in_err-first t c =
+pub subs_at-subs-init : goal.subs_at-subs-init
+subs_at-subs-init t c = rw c.new.ensures.items (goes_on-start _ _ _)
+
+pub subs_at-returns-in_err-one : goal.subs_at-returns-in_err-one
+subs_at-returns-in_err-one t c =
     let p = err_from_is_err_and c.from_residual.result c.from_residual.ensures.1 in
-    rw (p.1, p.2) (λ absent. subs_no_operand _ _ _ (c.in_err-first.ensures absent))
+    rw (p.1, p.2) (λ absent. goes_on-no_operand _ _ _ _ _ _ _ c.subs.invariant (c.in_err-one.ensures absent))
 
 pub subs_at-returns-in-Array : goal.subs_at-returns-in-Array
 subs_at-returns-in-Array t c =
     let leads = sym c.lead_at-begins.ensures.lead ∙ c.in-Array.is in
-    let w = element_of_operand _ _ _ _ _ _ _ _ leads c.in_ok-first.ensures in
-    let one = c.in_ok-all.ensures in
-    rw one.to (only_element _ _ _ _ _ _ _ _ _ _ w one.subs one.height one.faults)
+    let w = element_of_operand _ _ _ _ _ _ _ _ leads c.in_ok-one.ensures in
+    goes_on-last _ _ _ _ _ _ _ _ _ _ _ _ _ _ c.subs.invariant w
+    (ap trees_in c.in_ok-push.ensures.items ∙ trees_in-append _ _) c.max.ensures c.union-all.ensures
 
-pub subs_at-returns-in_default : goal.subs_at-returns-in_default
-subs_at-returns-in_default t c =
-    let other : (k : NameKind) → next_lead (left_at c.args.text.now c.args.from) ≢ Array k =
-    λ k e. c.in_default.not-Array k (c.lead_at-begins.ensures.lead ∙ e) in
-    let w = simple_of_operand _ _ _ _ _ _ _ other c.in_ok-first.ensures in
-    let one = c.in_ok-all.ensures in
-    let r = rw one.to at c.rest_at.ensures in
-    begun _ _ _ _ _ _ _ _ c.in_ok-all.all c.rest_at.result w other one.subs one.height one.faults r
-
-pub rest_at-further-init : goal.rest_at-further-init
-rest_at-further-init t c = goes_on-start _ _ _ _ _ _
-
-pub rest_at-further-preserved : goal.rest_at-further-preserved
-rest_at-further-preserved t c =
-    let other : (k : NameKind) → next_lead (left_at c.args.text.now c.further.all.to) ≢ Array k =
+pub subs_at-returns-then-not-may_begin_sub : goal.subs_at-returns-then-not-may_begin_sub
+subs_at-returns-then-not-may_begin_sub t c =
+    let other : (k : NameKind) → next_lead (left_at c.args.text.now c.subs.all.to) ≢ Array k =
     λ k e. c.in_default.not-Array k (c.lead_at-begins.ensures.lead ∙ e) in
     let w = simple_of_operand _ _ _ _ _ _ _ other c.in_ok-one.ensures in
-    let b : begins_sub c.args.delimiter c.lead_at-begins.result.value ≡ true = cc in
-    let all = c.in_ok-extend.ensures in
-    rw all.to
-    (goes_on-further _ _ _ _ _ _ _ _ _ _ _ _ _ _ _ _ _ c.further.invariant
-    (ap (begins_sub c.args.delimiter) (sym c.lead_at-begins.ensures.lead) ∙ b) other w all.subs all.height all.faults)
+    let b : begins_sub c.args.delimiter c.lead_at.result.value ≡ false = cc in
+    goes_on-ends _ _ _ _ _ _ _ _ _ _ _ _ _ _ c.subs.invariant w
+    (ap (begins_sub c.args.delimiter) (sym c.lead_at.ensures.lead) ∙ b)
+    (ap trees_in c.in_ok-push.ensures.items ∙ trees_in-append _ _) c.max.ensures c.union-all.ensures
 
-pub rest_at-returns-then-not-may_begin_sub : goal.rest_at-returns-then-not-may_begin_sub
-rest_at-returns-then-not-may_begin_sub t c others e1 e2 low =
-    let b : begins_sub c.args.delimiter c.lead_at-begins.result.value ≡ false = cc in
-    goes_on-ends _ _ _ _ _ _ _ _ _ _ c.further.invariant
-    (ap (begins_sub c.args.delimiter) (sym c.lead_at-begins.ensures.lead) ∙ b) others e1 e2 low
+pub subs_at-subs-preserved : goal.subs_at-subs-preserved
+subs_at-subs-preserved t c =
+    let other : (k : NameKind) → next_lead (left_at c.args.text.now c.subs.all.to) ≢ Array k =
+    λ k e. c.in_default.not-Array k (c.lead_at-begins.ensures.lead ∙ e) in
+    let w = simple_of_operand _ _ _ _ _ _ _ other c.in_ok-one.ensures in
+    let b : begins_sub c.args.delimiter c.lead_at.result.value ≡ true = cc in
+    goes_on-further _ _ _ _ _ _ _ _ _ _ _ _ _ _ c.subs.invariant w
+    (ap (begins_sub c.args.delimiter) (sym c.lead_at.ensures.lead) ∙ b) other
+    (ap trees_in c.in_ok-push.ensures.items ∙ trees_in-append _ _) c.max.ensures c.union-all.ensures
 
-pub rest_at-returns-in_err-one : goal.rest_at-returns-in_err-one
-rest_at-returns-in_err-one t c others e1 e2 low =
-    let p = err_from_is_err_and c.from_residual.result c.from_residual.ensures.1 in
-    let b : begins_sub c.args.delimiter c.lead_at-begins.result.value ≡ true = cc in
-    rw (p.1, p.2) (λ absent. goes_on-no_operand _ _ _ _ _ _ _ _ _ _ c.further.invariant
-    (ap (begins_sub c.args.delimiter) (sym c.lead_at-begins.ensures.lead) ∙ b) (c.in_err-one.ensures absent) others)
-
-pub rest_at-returns-in-Array : goal.rest_at-returns-in-Array
-rest_at-returns-in-Array t c others e1 e2 low =
-    let leads = sym c.lead_at-begins.ensures.lead ∙ c.in-Array.is in
-    let w = element_of_operand _ _ _ _ _ _ _ _ leads c.in_ok-one.ensures in
-    let all = c.in_ok-extend.ensures in
-    rw all.to
-    (goes_on-last _ _ _ _ _ _ _ _ _ _ _ _ _ _ _ _ _ c.further.invariant w all.subs all.height all.faults others
-    e1 e2 low)
-
-pub rest_at-further-smaller : goal.rest_at-further-smaller
-rest_at-further-smaller t c =
+pub subs_at-subs-smaller : goal.subs_at-subs-smaller
+subs_at-subs-smaller t c =
     let w = simple_of_operand _ _ _ _ _ _ _ (λ k e. c.in_default.not-Array k (c.lead_at-begins.ensures.lead ∙ e))
     c.in_ok-one.ensures in
-    rw c.in_ok-extend.ensures.to (simple-shorter w.stands)
+    simple-shorter w.stands

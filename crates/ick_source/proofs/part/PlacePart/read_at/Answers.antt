@@ -1,5 +1,5 @@
 use Rattle.ick_source.proofs.PartReadings.{places_by_tails, places_by_targets, found_as}
-use Rattle.ick_source.proofs.part.place_at.Goals as goal
+use Rattle.ick_source.proofs.part.PlacePart.read_at.Goals as goal
 
 pub returns-in-Some : goal.returns-in-Some
 returns-in-Some c = found_as (places_by_tails c.in-Some.ensures.stands) c.in-Some.ensures

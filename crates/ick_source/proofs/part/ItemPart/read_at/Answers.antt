@@ -2,7 +2,7 @@ use Rattle.std.proofs.Common.{refl, sym, ◌∙◌}
 use Rattle.ick_syntax.specs.BodyTree.{item_tree}
 use Rattle.ick_source.specs.Nonterminal.{items}
 use Rattle.ick_source.proofs.PartReadings.{items_by_numbers, items_by_places, answers_as, found_as, read_or_absent}
-use Rattle.ick_source.proofs.part.item_at.Goals as goal
+use Rattle.ick_source.proofs.part.ItemPart.read_at.Goals as goal
 
 pub returns-in-Hash : goal.returns-in-Hash
 returns-in-Hash c =
