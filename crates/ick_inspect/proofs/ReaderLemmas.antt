@@ -1,11 +1,16 @@
--- What a map of names has at a name that it doesn't have.
-use Rattle.std.proofs.Common.{◌≡◌, ◌≢◌, ℕ, suc, Bool, true, false, List, [], ◌∷◌, Some, refl, ap}
+-- What a map of names has at a name, by the slots.
+use Rattle.std.proofs.Common.{◌≡◌, ◌≢◌, ◌<◌, ◌≤◌, ℕ, suc, Bool, true, false, List, [], ◌∷◌, Some, refl, ap, arith, sym, ◌∙◌}
+use Rattle.std.proofs.Common.{get_or, length, map}
+use Rattle.std.proofs.lemmas.List.{get_or-map, length-map}
+use Rattle.std.proofs.lemmas.Option.{slice_get_within}
+use Rattle.std.proofs.lemmas.Grind.{common_steps}
+use Rattle.std.specs.List.{IsDistinct}
 use Rattle.std.specs.Prelude.{slice_get, if◌then◌else◌}
 use Rattle.ick_syntax.specs.declared.tree.Name.{Name}
 use Rattle.ick_code.specs.meaning.State.{same_name}
 use Rattle.ick_code.proofs.SameNames.{same_name_is}
-use Rattle.ick_syntax.specs.NameKinds.{is_array}
-use Rattle.ick_runtime.specs.View.{map_of, both}
+use Rattle.ick_runtime.proofs.Maps.{array_kind, map_of-get}
+use Rattle.ick_runtime.specs.View.{map_of, Stash, used}
 
 pub map_of-absent : {A : Type 0} (names : List Name) (xs : List A) (none : A) (name : Name) →
     ((slot : ℕ) → slice_get names slot ≢ Some name) → map_of names xs none name ≡ none
@@ -19,11 +24,25 @@ map_of-absent (n ∷ names) (x ∷ xs) none name absent =
     cases true e rest = absurd (absent 0 (ap Some (same_name_is n name e)))
     cases false e rest = rest
 
--- one of the two maps that are kept for one
-pub both-array : {A : Type 0} (scalars arrays : Name → A) (name : Name) → is_array name.kind ≡ true →
-    both scalars arrays name ≡ arrays name
-both-array scalars arrays name is = ap (λ b. if b then arrays name else scalars name) is
+-- what a name has, of a list that is mapped
+pub map_of-map : {A B : Type 0} (names : List Name) (f : B → A) (xs : List B) (none : A) (slot : ℕ) (name : Name) (x : B) →
+    IsDistinct same_name names → length names ≤ length xs → slice_get names slot ≡ Some name →
+    x ≡ get_or xs slot x → map_of names (map f xs) none name ≡ f x
+map_of-map names f xs none slot name x once long at is =
+    let within : slot < length xs = omega (arith, long, slice_get_within names slot name at) in
+    map_of-get names (map f xs) none slot name none once (omega (arith, long, length-map xs f)) at
+    ∙ get_or-map f xs slot x none within ∙ ap f (sym is)
 
-pub both-scalar : {A : Type 0} (scalars arrays : Name → A) (name : Name) → is_array name.kind ≡ false →
-    both scalars arrays name ≡ scalars name
-both-scalar scalars arrays name is = ap (λ b. if b then arrays name else scalars name) is
+-- and of one that is mapped twice
+pub map_of-used : {A B : Type 0} (names : List Name) (g : B → Stash A) (xs : List B) (slot : ℕ) (name : Name) (x : B) →
+    IsDistinct same_name names → length names ≤ length xs → slice_get names slot ≡ Some name →
+    x ≡ get_or xs slot x → map_of names (map used (map g xs)) [] name ≡ used (g x)
+map_of-used {A} names g xs slot name x once long at is =
+    let within : slot < length xs = omega (arith, long, slice_get_within names slot name at) in
+    map_of-get names (map used (map g xs)) [] slot name [] once
+    (omega (arith, long, length-map xs g, length-map (map g xs) (used {A = A}))) at
+    ∙ get_or-map used (map g xs) slot (g x) [] (omega (arith, within, length-map xs g))
+    ∙ ap used (get_or-map g xs slot x (g x) within ∙ ap g (sym is))
+
+-- for the parts of a state that a name has
+pub ruleset by_slots = (common_steps, map_of-get, map_of-map, map_of-absent, slice_get_within, array_kind)

@@ -1,15 +1,16 @@
 //! Readers of a state. Each returns a part of the present state of a machine, and changes nothing.
 //! A name that the program doesn't have is that of a variable that is 0, or of an array that has no
 //! dimensions; nothing is stashed of it, and it isn't ignored.
-//!
-//! The readers call `Present::law`, because those of a memory require that it can be read.
+#![tactic(auto, unfolding(ick_machine::specs::Present::present_state, ick_machine::specs::Present::present_program), using(crate::proofs::ReaderLemmas::by_slots))]
 
 ghost use Rattle.std.specs.Prelude.{◌≡◌, ◌≢◌, ◌≤◌, ℕ, drop, length, map, reverse, slice_get};
 ghost use Rattle.std.specs.Prelude.{MatchOption, Some};
 ghost use Rattle.ick_syntax.specs.NameKinds.{is_array};
 ghost use Rattle.ick_code.specs.meaning.State.{same_name};
+ghost use Rattle.ick_runtime.specs.Steady.{IsProgram};
 ghost use Rattle.ick_runtime.specs.View.{array_names, array_of, scalar_names};
 ghost use Rattle.ick_machine.specs.Present.{present_program, present_state};
+ghost use Rattle.ick_machine.specs.RunIn.{CanGoOn};
 
 use ick_code::Code;
 use ick_machine::Present;
@@ -58,111 +59,119 @@ fn array_slot(code: &Code<'_>, name: Name) -> Option<u32>
     None
 }
 
+/// States that the memory can be read, that each slot is in it, and that no two slots have one name.
+fn law(present: &Present<'_, '_, '_>)
+    ensures ready { CanGoOn present.now.lowered.now present.now.memory.now }
+    ensures program { IsProgram present.now.lowered.now.code.now present.now.lowered.now.parts }
+{
+    present.law();
+    present.lowered.law();
+    present.lowered.code.law();
+}
+
 /// Returns the program counter: the number of the statement that is met next, or one more than the
 /// program has.
-#[tactic(auto, unfolding(ick_machine::specs::Present::present_state))]
 pub fn place(present: &Present<'_, '_, '_>) -> u32
     ensures { (present_state present.now).place ≡ result }
 {
-    present.memory.place(present.lowered)
+    present.memory.cursor.place
 }
 
 /// Returns the return addresses, the newest last.
-#[tactic(auto, unfolding(ick_machine::specs::Present::present_state))]
 pub fn return_addresses<'m>(present: &Present<'m, '_, '_>) -> &'m [u32]
     ensures { (present_state present.now).returns ≡ reverse result.now }
 {
     present.law();
-    present.memory.return_addresses(present.lowered)
+    &present.memory.returns[..present.memory.cursor.depth]
 }
 
 /// Returns the number of a variable.
-#[tactic(auto, unfolding(ick_machine::specs::Present::present_state))]
 pub fn number(present: &Present<'_, '_, '_>, name: Name) -> u32
     ensures { (present_state present.now).scalars name ≡ result }
 {
-    present.law();
+    law(present);
     match scalar_slot(present.lowered.code, name) {
-        Some(slot) => present.memory.number(present.lowered, slot),
+        Some(slot) => present.memory.registers[slot as usize],
         None => 0,
     }
 }
 
 /// Returns the dimensions of an array, none if it has none yet.
-#[tactic(auto, unfolding(ick_machine::specs::Present::present_state))]
 pub fn dimensions<'m>(present: &Present<'m, '_, '_>, name: Name) -> &'m [u32]
     ensures { ((present_state present.now).arrays name).dimensions ≡ result.now }
 {
-    present.law();
+    law(present);
     match array_slot(present.lowered.code, name) {
-        Some(slot) => present.memory.dimensions(present.lowered, slot),
+        Some(slot) => &present.memory.rest.arrays[slot as usize].dimensions,
         None => &[],
     }
 }
 
 /// Returns the numbers of all elements of an array, row by row.
-#[tactic(auto, unfolding(ick_machine::specs::Present::present_state))]
 pub fn elements<'m>(present: &Present<'m, '_, '_>, name: Name) -> &'m [u32]
     ensures { ((present_state present.now).arrays name).elements ≡ result.now }
 {
-    present.law();
+    law(present);
     match array_slot(present.lowered.code, name) {
-        Some(slot) => present.memory.elements(present.lowered, slot),
+        Some(slot) => &present.memory.rest.arrays[slot as usize].elements,
         None => &[],
     }
 }
 
 /// Returns whether a variable or an array is ignored.
-#[tactic(auto, unfolding(ick_machine::specs::Present::present_state))]
 pub fn is_ignored(present: &Present<'_, '_, '_>, name: Name) -> bool
     ensures { (present_state present.now).ignored name ≡ result }
 {
-    present.law();
+    law(present);
+    let memory = present.memory;
     if names_array(name) {
         return match array_slot(present.lowered.code, name) {
-            Some(slot) => present.memory.is_array_ignored(present.lowered, slot),
+            Some(slot) => memory.rest.arrays[slot as usize].hidden,
             None => false,
         };
     }
     match scalar_slot(present.lowered.code, name) {
-        Some(slot) => present.memory.is_scalar_ignored(present.lowered, slot),
+        Some(slot) => memory.home[slot as usize] as usize == memory.registers.len() - 1,
         None => false,
     }
 }
 
 /// Returns the numbers on the stash of a variable, the newest last.
-#[tactic(auto, unfolding(ick_machine::specs::Present::present_state))]
 pub fn stashed_numbers<'m>(present: &Present<'m, '_, '_>, name: Name) -> &'m [u32]
     ensures { (present_state present.now).stashed_scalars name ≡ reverse result.now }
 {
-    present.law();
+    law(present);
     match scalar_slot(present.lowered.code, name) {
-        Some(slot) => present.memory.stashed_numbers(present.lowered, slot),
+        Some(slot) => {
+            let stash = &present.memory.rest.scalar_stashes[slot as usize];
+            &stash.items[..stash.depth]
+        }
         None => &[],
     }
 }
 
 /// Returns the arrays on the stash of an array, the newest last.
-#[tactic(auto, unfolding(ick_machine::specs::Present::present_state))]
 pub fn stashed_arrays<'m>(present: &Present<'m, '_, '_>, name: Name) -> &'m [Array]
     ensures { (present_state present.now).stashed_arrays name
         ≡ reverse (map array_of result.now) }
 {
-    present.law();
+    law(present);
     match array_slot(present.lowered.code, name) {
-        Some(slot) => present.memory.stashed_arrays(present.lowered, slot),
+        Some(slot) => {
+            let stash = &present.memory.rest.array_stashes[slot as usize];
+            &stash.items[..stash.depth]
+        }
         None => &[],
     }
 }
 
 /// Returns whether a statement is abstained from. Its number is at most that of the last statement.
-#[tactic(auto, unfolding(ick_machine::specs::Present::present_state, ick_machine::specs::Present::present_program,))]
 pub fn is_abstained_from(present: &Present<'_, '_, '_>, statement: u32) -> bool
     requires { statement ≤ length (present_program present.now) }
     ensures { (present_state present.now).abstained statement ≡ result }
 {
     present.law();
-    present.memory.is_abstained_from(present.lowered, statement)
+    present.memory.statuses[statement as usize] >= 128
 }
 
 /// Returns what is left of a text behind its first `taken` bytes.
@@ -173,33 +182,29 @@ fn left(text: &[u8], taken: usize) -> &[u8]
 }
 
 /// Returns the input that is left.
-#[tactic(auto, unfolding(ick_machine::specs::Present::present_state))]
 pub fn input_left<'m>(present: &Present<'m, '_, '_>) -> &'m [u8]
     ensures { (present_state present.now).input ≡ result.now }
 {
-    left(present.input, present.memory.taken(present.lowered))
+    left(present.input, present.memory.rest.taken)
 }
 
 /// Returns the output.
-#[tactic(auto, unfolding(ick_machine::specs::Present::present_state))]
 pub fn output<'m>(present: &Present<'m, '_, '_>) -> &'m [u8]
     ensures { (present_state present.now).output ≡ result.now }
 {
-    present.memory.output(present.lowered)
+    &present.memory.rest.output
 }
 
 /// Returns the position of the tape that arrays are printed to.
-#[tactic(auto, unfolding(ick_machine::specs::Present::present_state))]
 pub fn last(present: &Present<'_, '_, '_>) -> u8
     ensures { (present_state present.now).last ≡ result }
 {
-    present.memory.last(present.lowered)
+    present.memory.rest.last
 }
 
 /// Returns the position of the tape that arrays are read from.
-#[tactic(auto, unfolding(ick_machine::specs::Present::present_state))]
 pub fn lastin(present: &Present<'_, '_, '_>) -> u8
     ensures { (present_state present.now).lastin ≡ result }
 {
-    present.memory.lastin(present.lowered)
+    present.memory.rest.lastin
 }

@@ -1,7 +1,7 @@
 -- A map from names, kept by slots.
-use Rattle.std.proofs.Common.{[], ap, arith, Bool, false, get_or, if◌then◌else◌, length, List, map, refl, rules, slice_get, slice_set, Some, suc, sym, true}
+use Rattle.std.proofs.Common.{[], ap, arith, Bool, false, get_or, if◌then◌else◌, length, List, map, refl, rules, slice_get, slice_set, Some, suc, true}
 use Rattle.std.proofs.Common.{zero, ℕ, ◌&&◌, ◌<◌, ◌∙◌, ◌∷◌, ◌≡◌, ◌≤◌}
-use Rattle.ick_runtime.proofs.Names.{array_names, both, Code, code_program, common_steps, fun_ext, get_or-map, length-map, map_of, Name, same_name}
+use Rattle.ick_runtime.proofs.Names.{array_names, both, Code, code_program, fun_ext, map_of, Name, same_name}
 use Rattle.ick_runtime.proofs.Names.{scalar_names, slice_get_within, with_entry}
 use Rattle.ick_code.proofs.SameNames.{same_name_is}
 use Rattle.ick_code.specs.{Compiled.IsCompiled, Names.is_array_name, Names.is_scalar_name}
@@ -58,14 +58,6 @@ pub map_of-set : {A : Type 0} (names : List Name) (xs : List A) (none : A) (slot
     map_of names (slice_set xs slot x) none ≡ with_entry (map_of names xs none) name x
 map_of-set names xs none slot name x once len at = search (rules, map_of-set_at)
 
--- what a name has, of a list that is mapped
-pub map_of-map : {A B : Type 0} (names : List Name) (f : B → A) (xs : List B) (none : A) (slot : ℕ) (name : Name) (x : B) →
-    IsDistinct same_name names → length names ≤ length (map f xs) → slice_get names slot ≡ Some name →
-    x ≡ get_or xs slot x → map_of names (map f xs) none name ≡ f x
-map_of-map names f xs none slot name x once long at is =
-    let within : slot < length xs = omega (arith, long, length-map xs f, slice_get_within names slot name at) in
-    map_of-get names (map f xs) none slot name none once long at ∙ get_or-map f xs slot x none within ∙ ap f (sym is)
-
 -- what stands behind the slots is no name's
 map_of-past_at : {A : Type 0} (names : List Name) (xs : List A) (none : A) (slot : ℕ) (other : Name) (x : A) →
     length names ≤ slot → map_of names (slice_set xs slot x) none other ≡ map_of names xs none other
@@ -107,6 +99,3 @@ scalar_slot code slot name is at = record {
 pub array_kind : (code : Code) (slot : ℕ) (name : Name) → IsCompiled (code_program code) code →
     slice_get (array_names code) slot ≡ Some name → is_array name.kind ≡ true
 array_kind code slot name is at = passes is_array_name (array_names code) slot name is.arrays_named at
-
--- for the parts of a state that a slot gives
-pub ruleset by_slots = (common_steps, map_of-get, map_of-map, array_kind)

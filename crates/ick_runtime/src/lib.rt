@@ -9,7 +9,6 @@
 //! - `hide`: arrays that are ignored
 //! - `returns`: how many return addresses there are
 //! - `halt`: why an instruction stops the run
-//! - `readers`: readers of the state
 //! - `change`, `notes`: what is noted of a change, and who notes it
 //! - `tracer`: who makes steps in place of the loop over instructions
 #![tactic(auto)]
@@ -23,7 +22,6 @@ mod halt;
 mod hide;
 mod memory;
 mod notes;
-mod readers;
 mod returns;
 mod stash;
 mod tracer;
