@@ -127,12 +127,6 @@ impl Notes for Trail {
 
     ghost Undoes = { UndoesBy };
 
-    #[tactic(auto, using(crate::proofs::Changes::count_history))]
-    #[inline(always)]
-    fn count(&self) -> usize {
-        self.entries.len()
-    }
-
     #[inline(always)]
     fn notes_changes(&self) -> bool {
         true

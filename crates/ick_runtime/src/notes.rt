@@ -2,14 +2,14 @@
 
 ghost use Rattle.std.specs.Bool.{MatchBool};
 ghost use Rattle.std.specs.Prelude.{◌≡◌, ◌+◌, ◌<◌, ◌≤◌, ◌^◌, ℕ, Bool, true, false, List, []};
-ghost use Rattle.std.specs.Prelude.{length, map, slice_set, OnErr, OnOk};
+ghost use Rattle.std.specs.Prelude.{length, map, OnErr, OnOk};
 ghost use Rattle.std.proofs.Common.{get_or};
 ghost use Rattle.ick_code.specs.meaning.State.{no_array};
 ghost use Rattle.ick_instructions.specs.Extends.{Extends};
-ghost use Rattle.ick_runtime.specs.Undo.{array_was, at_slot, change_of, put_on, stands_apart};
-ghost use Rattle.ick_runtime.specs.Undo.{register_was, statuses_were, Change, Fixed, HasPlace, KeepsUndoing};
-ghost use Rattle.ick_runtime.specs.Undo.{Like, Means, NotesChange, NotesElement, PartsLike};
-ghost use Rattle.ick_runtime.specs.{Noting.NotesOne, View.array_of, View.Parts, View.View};
+ghost use Rattle.ick_runtime.specs.Undo.{array_was, change_of, register_was, stands_apart};
+ghost use Rattle.ick_runtime.specs.Undo.{statuses_were, Change, Fixed, KeepsUndoing, Like, Means};
+ghost use Rattle.ick_runtime.specs.Undo.{NotesChange, NotesElement};
+ghost use Rattle.ick_runtime.specs.{Noting.NotesOne, View.array_of, View.View};
 
 use crate::change::{ArrayChange, Entry};
 use crate::memory::Array;
@@ -35,10 +35,6 @@ pub trait Notes: Drop {
 
     /// Undoing all changes but the first ones leads from a view to one like another.
     ghost Undoes: { Self → ℕ → View → View → Type 0 };
-
-    /// Returns how many changes were noted.
-    fn count(&self) -> usize
-        ensures { result ≡ length (changes self.now) };
 
     /// Returns whether changes are noted at all.
     fn notes_changes(&self) -> bool
@@ -136,11 +132,6 @@ impl Notes for Nobody {
     ghost changes = { λ _. [] };
 
     ghost Undoes = { λ _ _ _ _. Unit {0} };
-
-    #[inline(always)]
-    fn count(&self) -> usize {
-        0
-    }
 
     #[inline(always)]
     fn notes_changes(&self) -> bool {
