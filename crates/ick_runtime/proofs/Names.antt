@@ -23,7 +23,7 @@ pub use Rattle.ick_runtime.specs.Undo.{with_arrays, with_hidden, with_scalar_sta
 pub use Rattle.ick_runtime.specs.View.{array_names, array_of, arrays_of, both, dump_of, file_of, is_hidden, map_of, no_stash, numbers_of, Parts, scalar_names}
 pub use Rattle.ick_runtime.specs.View.{Stash, stash_in, state_of, text_of, used, View, view}
 pub use Rattle.ick_runtime.specs.{Calculations.ReadsWithin, declared.memory.Array.Array as Kept, declared.memory.Stash.Stash as KeptStash, Elements.IsFetched}
-pub use Rattle.ick_runtime.specs.{Elements.IsStored, Halts.Comes, Inputs.Input, Inputs.Leads, Returns.rupture_of, Sizes.sizes_fault, Traced.Proceeds, Walk.walk}
+pub use Rattle.ick_runtime.specs.{Elements.IsStored, Halts.Comes, Inputs.Input, Inputs.Leads, Returns.rupture_of, Sizes.sizes_fault, Traced.Proceeds}
 pub use Rattle.ick_syntax.specs.{declared.tree.Name.Name, declared.tree.UnaryOp.UnaryOp, StatementTree.StatementTree}
 pub use Rattle.std.proofs.lemmas.List.{get_or-map, get_or-set_other, get_or-set_same, get_or-take, length-drop, length-map, length-replicate, length-set}
 pub use Rattle.std.proofs.lemmas.List.{length-take-le, map-set, reverse-append, set-get_or, set-set, take-append-drop, take-take}

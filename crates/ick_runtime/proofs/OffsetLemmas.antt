@@ -3,13 +3,20 @@ use Rattle.std.proofs.Common.{[], add-mul, ap, ap₂, arith, bit_and, Bool, drop
 use Rattle.std.proofs.Common.{mul_assoc, nat_le, nat_lt, None, Option, option_and_then, option_map, refl, rules, Some, subst, suc, sym, true, zero, ℕ, ◌%◌}
 use Rattle.std.proofs.Common.{◌&&◌, ◌*◌, ◌+◌, ◌-◌, ◌<◌, ◌^◌, ◌∙◌, ◌∷◌, ◌≡◌, ◌≤◌}
 use Rattle.ick_runtime.proofs.Names.{Array, bound_of, common_steps, drop_of_length-le, element_offset, nat_tests, number_of, product}
-use Rattle.ick_runtime.proofs.Names.{sized, Value, walk}
+use Rattle.ick_runtime.proofs.Names.{sized, Value}
 use Rattle.ick_code.specs.meaning.Value.{offset_at}
 use Rattle.ick_runtime.proofs.Maps.{both_true}
-use Rattle.ick_runtime.specs.Walk.{stride}
+use Rattle.ick_runtime.specs.Elements.{stride}
 use Rattle.ick_syntax.specs.declared.tree.NameKind.TheVariants.{Hybrid, Onespot, Tail, Twospot}
 use Rattle.ick_syntax.specs.declared.tree.NameKind.{NameKind}
 use Rattle.std.proofs.lemmas.Nat.{and_mask}
+
+-- the offset behind all subscripts
+abbrev pub walk : ℕ → List ℕ → List Value → Option ℕ
+walk place [] [] = Some place
+walk place [] (v ∷ vs) = None
+walk place (d ∷ ds) [] = None
+walk place (d ∷ ds) (v ∷ vs) = option_and_then (λ next. walk next ds vs) (stride place d (number_of v))
 
 sum_of : (p d n P r : ℕ) → (p * d + n) * P + r ≡ p * (d * P) + (n * P + r)
 sum_of p d n P r = let e = add-mul (p * d) n P in let f = mul_assoc p d P in omega (arith, e, f)

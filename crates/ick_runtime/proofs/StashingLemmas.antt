@@ -1,10 +1,10 @@
 -- Values that are put on stashes and taken off.
 use Rattle.std.proofs.Common.{ap, arith, get_or, length, List, map, rules, sym, ℕ, ◌+◌, ◌-◌, ◌<◌, ◌∙◌, ◌≡◌}
 use Rattle.ick_runtime.proofs.Names.{Array, array_of, array_was, arrays_of, at_slot, ChangesAt, common_steps, Err, get_or-map, get_or-set_same, IsPutOn}
-use Rattle.ick_runtime.proofs.Names.{IsRestoredTo, IsTakenOff, Kept, KeptStash, length-map, length-set, Like, map-set, map-set_same, nat_lt, nat_tests, no_array, Ok, put_on}
+use Rattle.ick_runtime.proofs.Names.{IsTakenOff, Kept, KeptStash, length-map, length-set, Like, map-set, map-set_same, no_array, no_stash, Ok, put_on}
 use Rattle.ick_runtime.proofs.Names.{Result, set-get_or, set-set, slice_set, Stash, stash_in, StashLike, taken_off, undone, View, with_array_stashes}
 use Rattle.ick_runtime.proofs.Names.{with_arrays, with_scalar_stashes}
-use Rattle.ick_runtime.proofs.StashLemmas.{seen}
+use Rattle.ick_runtime.proofs.StashLemmas.{arrays_dropped}
 use Rattle.ick_runtime.specs.Undo.{StashesLike}
 use Rattle.std.specs.Prelude.{OnErr}
 use Rattle.ick_runtime.specs.declared.change.ArrayChange.TheVariants as now
@@ -24,6 +24,10 @@ pub changes_at : {A B : Type 0} (g : B → Stash A) (P : Stash A → Stash A →
     slot < length xs → old ≡ get_or xs slot old → P (g old) (g new) →
     ChangesAt slot P (map g xs) (map g (slice_set xs slot new))
 changes_at g P xs slot old new low is h = search (rules, get_or-map, get_or-set_same, length-map, map-set)
+
+changed_at : {A : Type 0} (P : Stash A → Stash A → Type 0) (xs : List (Stash A)) (slot : ℕ) (new : Stash A) →
+    slot < length xs → P (get_or xs slot no_stash) new → ChangesAt slot P xs (slice_set xs slot new)
+changed_at P xs slot new low h = search (rules, get_or-set_same)
 
 pub kept_at : {A B : Type 0} (g : B → A) (xs : List B) (slot : ℕ) (old new : B) (none : A) → slot < length xs →
     old ≡ get_or xs slot old → g new ≡ g old → map g (slice_set xs slot new) ≡ map g xs
@@ -56,25 +60,24 @@ pub on_err : {A E : Type 0} (r : Result A E) (P : Type 0) → P → OnErr r P
 on_err (Ok x) P h = tt
 on_err (Err e) P h = h
 
-any_default : {A : Type 0} (xs : List A) (k : ℕ) (d e : A) → k < length xs → get_or xs k d ≡ get_or xs k e
-any_default = grind (arith, common_steps)
-
 -- the newest array of the stash in a slot is taken off
-pub drops_at : (xs : List (KeptStash Kept)) (slot : ℕ) (stash met new : KeptStash Kept) (e : Kept) → slot < length xs →
-    stash ≡ get_or xs slot stash → met ≡ get_or xs slot met → stash_in new ≡ taken_off (stash_in met) →
+pub drops_at : (xs new : List (KeptStash Kept)) (slot : ℕ) (stash : KeptStash Kept) (e : Kept) → slot < length xs →
+    stash ≡ get_or xs slot stash → map stash_in new ≡ at_slot taken_off slot (map stash_in xs) →
     0 < stash.depth → e ≡ get_or stash.items.items (stash.depth - 1) e →
-    ChangesAt slot (IsTakenOff (array_of e)) (map arrays_of xs) (map arrays_of (slice_set xs slot new))
-drops_at xs slot stash met new e low is met_is new_is some e_is =
+    ChangesAt slot (IsTakenOff (array_of e)) (map arrays_of xs) (map arrays_of new)
+drops_at xs new slot stash e low is new_is some e_is =
     let x = array_of e in
     let at = stash.depth - 1 in
-    let same : met ≡ stash = met_is ∙ any_default xs slot met stash low ∙ sym is in
     let next : at + 1 ≡ stash.depth = omega (arith, some) in
     let inside : at < length stash.items.items = omega (arith, stash.there, some) in
     let inside' : at < length (map array_of stash.items.items) = omega (arith, inside, length-map stash.items.items array_of) in
-    changes_at arrays_of (IsTakenOff x) xs slot stash new low is
-    (rw (ap (seen array_of) new_is ∙ ap (λ s. taken_off (arrays_of s)) same)
-    (take_newest x (arrays_of stash) at next inside'
+    let was : get_or (map arrays_of xs) slot no_stash ≡ arrays_of stash =
+    get_or-map arrays_of xs slot stash no_stash low ∙ ap arrays_of (sym is) in
+    rw (arrays_dropped xs new slot new_is) (
+    changed_at (IsTakenOff x) (map arrays_of xs) slot _ (omega (arith, low, length-map xs arrays_of))
+    (rw was (take_newest x (arrays_of stash) at next inside'
     (ap array_of e_is ∙ sym (get_or-map array_of stash.items.items at e x inside))))
+    )
 
 -- an array that was exchanged for the newest one of its stash
 pub exchanged_like : (base low slot : ℕ) (v : View) (x : Array) (new : List (Stash Array)) → slot < length v.parts.arrays →

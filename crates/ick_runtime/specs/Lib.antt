@@ -6,7 +6,6 @@ pub mod Steady
 pub mod Returns
 pub mod Calculations
 pub mod Memory
-pub mod Walk
 pub mod Elements
 pub mod Undo
 pub mod Stashes

@@ -1,7 +1,7 @@
 //! Stashes of scalars and arrays.
 
-ghost use Rattle.std.specs.Prelude.{◌≡◌, ◌+◌, ◌<◌, ◌≤◌, ℕ, [], false, length, map, IfNone, IfSome};
-ghost use Rattle.std.specs.Prelude.{OnErr, OnOk};
+ghost use Rattle.std.specs.Prelude.{◌≡◌, ◌<◌, ℕ, [], false, length, map, IfNone, IfSome, OnErr};
+ghost use Rattle.std.specs.Prelude.{OnOk};
 ghost use Rattle.std.specs.Bool.{OnFalse, OnTrue};
 ghost use Rattle.std.proofs.Common.{get_or};
 ghost use Rattle.ick_runtime.specs.Undo.{at_slot, put_on, taken_off, with_array_stashes};
@@ -19,36 +19,28 @@ use crate::notes::Notes;
 use ick_bits::{FaultKind, NoMemory};
 use std::mem::swap;
 
+/// Copies numbers over the buffer of others. If memory runs out, no number is left there.
+fn copy_numbers(target: &mut Vec<u32>, numbers: &[u32]) -> Result<(), NoMemory>
+    ensures ok { OnOk result (target.new.items ≡ numbers.now) }
+    ensures err { OnErr result (target.new.items ≡ []) }
+{
+    // As many numbers, as there mostly are, are copied in half the instructions.
+    if target.len() == numbers.len() {
+        target.copy_from_slice(numbers);
+        return Ok(());
+    }
+    target.clear();
+    target.extend_from_slice(numbers)?;
+    Ok(())
+}
+
 /// Copies an array over the buffers of another one. If memory runs out, the other one may have any
 /// value.
 fn copy_into(target: &mut Array, array: &Array) -> Result<(), NoMemory>
     ensures { OnOk result (array_of target.new ≡ array_of array.now) }
 {
-    target.dimensions.clear();
-    target.elements.clear();
-    target.dimensions.extend_from_slice(&array.dimensions)?;
-    target.elements.extend_from_slice(&array.elements)?;
-    Ok(())
-}
-
-impl<T: Drop> Stash<T> {
-    /// Takes the newest value off, if there is one. Its room stays.
-    fn drop_newest(&mut self)
-        ensures { stash_in self.new ≡ taken_off (stash_in self.old) }
-    {
-        self.depth = self.depth.saturating_sub(1);
-    }
-
-    /// Puts a value back, if there is spare room.
-    fn put_back(&mut self, value: T)
-        ensures { stash_in self.new ≡ put_on value (stash_in self.old) }
-    {
-        if self.depth >= self.items.len() {
-            return;
-        }
-        self.items[self.depth] = value;
-        self.depth += 1;
-    }
+    copy_numbers(&mut target.dimensions, &array.dimensions)?;
+    copy_numbers(&mut target.elements, &array.elements)
 }
 
 impl Stash<u32> {
@@ -127,6 +119,7 @@ impl Stash<Array> {
 }
 
 /// Takes the newest value off the stash in a slot, if there is one. Its room stays.
+#[tactic(auto, using(crate::proofs::ArrayLists::items_mapped))]
 pub fn drop_at<T: Drop>(stashes: &mut Vec<Stash<T>>, slot: u32)
     ensures { map stash_in stashes.new.items
         ≡ at_slot taken_off slot (map stash_in stashes.old.items) }
@@ -134,10 +127,12 @@ pub fn drop_at<T: Drop>(stashes: &mut Vec<Stash<T>>, slot: u32)
     if slot as usize >= stashes.len() {
         return;
     }
-    stashes[slot as usize].drop_newest();
+    let stash = &mut stashes[slot as usize];
+    stash.depth = stash.depth.saturating_sub(1);
 }
 
 /// Puts a value back on the stash in a slot, if it has spare room.
+#[tactic(auto, using(crate::proofs::ArrayLists::items_mapped))]
 pub fn put_at<T: Drop>(stashes: &mut Vec<Stash<T>>, slot: u32, value: T)
     ensures { map stash_in stashes.new.items
         ≡ at_slot (put_on value) slot (map stash_in stashes.old.items) }
@@ -145,7 +140,11 @@ pub fn put_at<T: Drop>(stashes: &mut Vec<Stash<T>>, slot: u32, value: T)
     if slot as usize >= stashes.len() {
         return;
     }
-    stashes[slot as usize].put_back(value);
+    let stash = &mut stashes[slot as usize];
+    if stash.depth < stash.items.len() {
+        stash.items[stash.depth] = value;
+        stash.depth += 1;
+    }
 }
 
 /// Puts a number on the stash of the scalar in a slot, and notes that (Revised Manual, 4.4.5). If
@@ -276,7 +275,7 @@ pub fn restore_array<N: Notes>(
     if arrays[slot as usize].hidden {
         let newest = &stash.items[stash.depth - 1];
         notes.note_array(ArrayChange::Taken, slot, newest)?;
-        stashes[slot as usize].drop_newest();
+        drop_at(stashes, slot);
         return Ok(());
     }
     notes.note_array(ArrayChange::Restored, slot, &arrays[slot as usize])?;

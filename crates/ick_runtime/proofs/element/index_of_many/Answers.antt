@@ -1,6 +1,6 @@
 use Rattle.std.proofs.Common.{ap, arith, drop, get_or, length, List, option_and_then, refl, rules, Some, sym, ℕ, ◌+◌, ◌<◌, ◌∙◌, ◌≡◌}
-use Rattle.ick_runtime.proofs.Names.{array_of, element_offset, get_or-map, length-map, reg, values_of, walk, Wide}
-use Rattle.ick_runtime.proofs.OffsetLemmas.{beyond, inside, is_inside, is_outside, none_at, place_is, walk_done, walk_next}
+use Rattle.ick_runtime.proofs.Names.{array_of, element_offset, get_or-map, length-map, reg, values_of, Wide}
+use Rattle.ick_runtime.proofs.OffsetLemmas.{beyond, inside, is_inside, is_outside, none_at, place_is, walk, walk_done, walk_next}
 use Rattle.ick_runtime.proofs.element.index_of_many.Goals.{After-loop-at}
 use Rattle.ick_runtime.proofs.element.index_of_many.Goals as goal
 
@@ -14,16 +14,17 @@ value_at subscripts regs at low =
     sym (get_or-map (λ r. Wide (reg regs r)) subscripts at 0 (Wide (reg regs (get_or subscripts at 0))) low)
 
 pub returns-then-len-subscripts-clause-index : goal.returns-then-len-subscripts-clause-index
-returns-then-len-subscripts-clause-index c = search (rules, count_is, inside, none_at)
+returns-then-len-subscripts-clause-index c = search (rules, count_is, none_at)
 
-pub returns-in_default-clause-index : goal.returns-in_default-clause-index
-returns-in_default-clause-index c =
+pub returns-in_err-offset-clause-index : goal.returns-in_err-offset-clause-index
+returns-in_err-offset-clause-index c =
     let a = array_of c.args.array.now in
     let subs = values_of c.args.subscripts.now c.args.registers.now in
     let at = c.loop-at.at in
     let r = get_or c.args.subscripts.now c.loop-at.at 0 in
-    ap (λ o. inside (length a.elements)
-    (option_and_then (λ next. walk next (drop (at + 1) a.dimensions) (drop (at + 1) subs)) o)) (sym c.in_default.is ∙ c.step.ensures)
+    c.from_residual.ensures
+    ∙ ap (λ o. inside (length a.elements)
+    (option_and_then (λ next. walk next (drop (at + 1) a.dimensions) (drop (at + 1) subs)) o)) (sym c.in_err-offset.was ∙ c.step.ensures)
     ∙ ap (inside (length a.elements))
     (walk_next a.dimensions subs c.loop-at.offset at c.index.result.now (reg c.args.registers.now r) (Wide (reg c.args.registers.now r))
     (omega (arith, c.loop-at-test.true, c.if-len-subscripts.false, c.len.ensures, c.args.array.now.dimensions.ok.0))
@@ -49,7 +50,7 @@ loop-at-preserved c =
     let ds = drop (at + 1) a.dimensions in
     let r = get_or c.args.subscripts.now c.loop-at.at 0 in
     record {
-      walked = ap (option_and_then (λ next. walk next ds (drop (at + 1) subs))) (sym c.in-Some.is ∙ c.step.ensures)
+      walked = ap (option_and_then (λ next. walk next ds (drop (at + 1) subs))) (sym c.in_ok-offset.was ∙ c.step.ensures)
           ∙ walk_next a.dimensions subs c.loop-at.offset at c.index.result.now (reg c.args.registers.now r) (Wide (reg c.args.registers.now r))
           (omega (arith, c.loop-at-test.true, c.if-len-subscripts.false, c.len.ensures, c.args.array.now.dimensions.ok.0))
           (omega (arith, c.loop-at-test.true, count_is c.args.subscripts.now c.args.registers.now)) c.index.ensures

@@ -15,9 +15,8 @@ returns-then-index-clause-retrieved g c =
     rw hidden (
       (
         array_of c.index-newest.result.now,
-        drops_at stashes slot c.index-stash.result.now c.index_mut.result.now c.drop_newest.new.self
-            c.index-newest.result.now c.requires.slot c.index-stash.ensures c.index_mut.ensures.value c.drop_newest.ensures
-            (omega arith) c.index-newest.ensures,
+        drops_at stashes c.drop_at.new.stashes.items slot c.index-stash.result.now c.index-newest.result.now
+            c.requires.slot c.index-stash.ensures c.drop_at.ensures (omega arith) c.index-newest.ensures,
       ),
       refl,
     )
@@ -25,12 +24,11 @@ returns-then-index-clause-retrieved g c =
 pub returns-then-index-clause-notes : goal.returns-then-index-clause-notes
 returns-then-index-clause-notes g c = λ k v m arrays same h.
     let old = map arrays_of c.args.stashes.now.items in
-    let new = map arrays_of (slice_set c.args.stashes.now.items c.args.slot c.drop_newest.new.self) in
+    let new = map arrays_of c.drop_at.new.stashes.items in
     let x = array_of c.index-newest.result.now in
     let at : ChangesAt c.args.slot (IsTakenOff x) old new =
-    drops_at c.args.stashes.now.items c.args.slot c.index-stash.result.now c.index_mut.result.now c.drop_newest.new.self
-    c.index-newest.result.now c.requires.slot c.index-stash.ensures c.index_mut.ensures.value c.drop_newest.ensures
-    (omega arith) c.index-newest.ensures in
+    drops_at c.args.stashes.now.items c.drop_at.new.stashes.items c.args.slot c.index-stash.result.now
+    c.index-newest.result.now c.requires.slot c.index-stash.ensures c.drop_at.ensures (omega arith) c.index-newest.ensures in
     rw (← arrays) (c.in_ok-note_array.ensures.notes k (with_array_stashes new v) m at.here.place
     (c.law.ensures.alike k v _ m (like_arrays _ _ v _ (taken_like x c.args.slot _ old new same at)) h))
 
@@ -45,8 +43,8 @@ returns-clause-retrieved g c =
     rw shown (record {
       array = array_of x;
       taken =
-          changes_at arrays_of (IsTakenOff (array_of x)) stashes slot c.index_mut-2.result.now c.exchange.new.self
-          c.requires.slot c.index_mut-2.ensures.value c.exchange.ensures.taken;
+          changes_at arrays_of (IsTakenOff (array_of x)) stashes slot c.index_mut.result.now c.exchange.new.self
+          c.requires.slot c.index_mut.ensures.value c.exchange.ensures.taken;
       arrays_are = map-set array_of arrays slot x;
     })
 
@@ -60,8 +58,8 @@ returns-clause-notes g c = λ k v m same_arrays same h.
     let base = (g.N.Notes.fixed c.args.notes.now).base in
     let low = g.N.Notes.low c.args.notes.now in
     let at : ChangesAt slot (IsTakenOff x) v.parts.array_stashes new =
-    rw same (changes_at arrays_of (IsTakenOff x) c.args.stashes.now.items slot c.index_mut-2.result.now c.exchange.new.self
-    c.requires.slot c.index_mut-2.ensures.value c.exchange.ensures.taken) in
+    rw same (changes_at arrays_of (IsTakenOff x) c.args.stashes.now.items slot c.index_mut.result.now c.exchange.new.self
+    c.requires.slot c.index_mut.ensures.value c.exchange.ensures.taken) in
     let there : slot < length v.parts.arrays =
     omega (arith, c.requires.array, length-map arrays array_of, ap length same_arrays) in
     let was : get_or v.parts.arrays slot no_array ≡ array_of c.index-2.result.now =
