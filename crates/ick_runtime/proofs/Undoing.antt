@@ -4,9 +4,9 @@ use Rattle.ick_runtime.proofs.Names.{Array, array_was, at_slot, Change, common_s
 use Rattle.ick_runtime.proofs.Names.{no_array, Parts, PartsLike, put_on, reverse-append, set-get_or, set-set, slice_set, take-append-drop, undone, View}
 use Rattle.ick_runtime.proofs.Names.{with_arrays}
 use Rattle.ick_runtime.proofs.StashLemmas.{arrays_alike, parts_refl, scalars_alike, taken_off_like}
-use Rattle.ick_runtime.specs.Undo.{array_saved, element_was, hidden_was, home_was, IsUndoable, last_was, lastin_was, no_change, output_was, register_was}
-use Rattle.ick_runtime.specs.Undo.{return_was, Rewinds, rewound, SameFirst, scalar_restored, scalar_saved, scalar_taken, status_was, statuses_were, taken_was}
-use Rattle.ick_runtime.specs.Undo.{with_number}
+use Rattle.ick_runtime.specs.Undo.{change_of, home_was, IsUndoable, no_change, register_was, return_was, Rewinds, rewound, SameFirst, status_was}
+use Rattle.ick_runtime.specs.Undo.{statuses_were, with_number}
+use Rattle.ick_runtime.specs.declared.change.Entry.TheVariants as entry
 use Rattle.std.proofs.lemmas.List.{drop-append-le}
 use Rattle.std.specs.Prelude.{reverse}
 
@@ -59,29 +59,31 @@ noted base changes low low' k change u v m h back = grind (arith, common_steps)
 
 -- a change is none of a register from a number on
 abbrev pub IsBelow : (base : ℕ) → Change → Type 0
-IsBelow base (register_was at old) = at < base
-IsBelow base (scalar_restored slot number old) = slot < base
+IsBelow base (change_of (entry.Register at old)) = at < base
+IsBelow base (change_of (entry.ScalarRestored slot number old)) = slot < base
 IsBelow base other = Unit {0}
 
 -- views that are alike are so after a change of both is undone
 pub undone_like : (base low : ℕ) (change : Change) (v w : View) → IsBelow base change → IsUndoable change v → Like base low v w →
     Like base low (undone change v) (undone change w)
-undone_like base low (register_was at old) v w below can l = grind (arith, common_steps)
-undone_like base low (home_was at old) v w below can l = search rules
-undone_like base low (status_was at old) v w below can l = search rules
-undone_like base low (return_was at old) v w below can l = grind (arith, common_steps)
-undone_like base low (element_was slot at old) v w below can l = search rules
-undone_like base low (hidden_was slot old) v w below can l = search rules
-undone_like base low (scalar_saved slot) v w below can l = grind (arith, common_steps, scalars_alike, taken_off_like, with_parts)
-undone_like base low (scalar_taken slot number) v w below can l = grind (arith, common_steps)
-undone_like base low (scalar_restored slot number old) v w below can l = grind (arith, common_steps)
-undone_like base low (array_saved slot) v w below can l = grind (arith, common_steps, arrays_alike, taken_off_like, with_parts)
+undone_like base low (change_of (entry.Register at old)) v w below can l = grind (arith, common_steps)
+undone_like base low (change_of (entry.Home at old)) v w below can l = search rules
+undone_like base low (change_of (entry.Status at old)) v w below can l = search rules
+undone_like base low (change_of (entry.Return at old)) v w below can l = grind (arith, common_steps)
+undone_like base low (change_of (entry.Element slot at old)) v w below can l = search rules
+undone_like base low (change_of (entry.Hidden slot old)) v w below can l = search rules
+undone_like base low (change_of (entry.ScalarSaved slot)) v w below can l = grind (arith, common_steps, scalars_alike, taken_off_like, with_parts)
+undone_like base low (change_of (entry.ScalarTaken slot number)) v w below can l = grind (arith, common_steps)
+undone_like base low (change_of (entry.ScalarRestored slot number old)) v w below can l = grind (arith, common_steps)
+undone_like base low (change_of (entry.ArraySaved slot)) v w below can l = grind (arith, common_steps, arrays_alike, taken_off_like, with_parts)
 undone_like base low (array_was change slot old) v w below can l = grind (arith, common_steps)
 undone_like base low (statuses_were old) v w below can l = alike l.registers l.home refl l.parts l.returns
-undone_like base low (taken_was old) v w below can l = search rules
-undone_like base low (output_was count) v w below can l = search rules
-undone_like base low (last_was old) v w below can l = search rules
-undone_like base low (lastin_was old) v w below can l = search rules
+undone_like base low (change_of (entry.Taken old)) v w below can l = search rules
+undone_like base low (change_of (entry.Output count)) v w below can l = search rules
+undone_like base low (change_of (entry.Last old)) v w below can l = search rules
+undone_like base low (change_of (entry.LastIn old)) v w below can l = search rules
+undone_like base low (change_of (entry.Array change slot)) v w below can l = l
+undone_like base low (change_of entry.Statuses) v w below can l = l
 undone_like base low no_change v w below can l = l
 
 undone_high : (base : ℕ) (change : Change) (w : View) → IsBelow base change → HighSame base w (undone change w)
@@ -114,7 +116,7 @@ status_back at number v = ap {A = List ℕ} (λ l. record v { statuses = l }) (p
 pub restored_back : (base low slot number : ℕ) (registers after : List ℕ) (v : View) (p : Parts) →
     v.registers ≡ registers → slice_set after slot (get_or registers slot 0) ≡ registers →
     PartsLike v.parts (record p { scalar_stashes = at_slot (put_on number) slot p.scalar_stashes }) →
-    Like base low v (undone (scalar_restored slot number (get_or registers slot 0)) (record v { registers = after; parts = p }))
+    Like base low v (undone (change_of (entry.ScalarRestored slot number (get_or registers slot 0))) (record v { registers = after; parts = p }))
 restored_back base low slot number registers after v p same back parts = grind (arith, common_steps)
 
 -- a register that is never restored stays as it is
@@ -122,7 +124,7 @@ pub register_left : (base low at old : ℕ) (v : View) → base ≤ at → Like 
 register_left base low at old v above = search rules
 
 pub restored_left : (base low slot number old : ℕ) (v : View) → base ≤ slot →
-    Like base low (undone (scalar_restored slot number old) v) (undone (scalar_taken slot number) v)
+    Like base low (undone (change_of (entry.ScalarRestored slot number old)) v) (undone (change_of (entry.ScalarTaken slot number)) v)
 restored_left base low slot number old v above = grind (arith, common_steps)
 
 -- a register of which the newest change was noted
@@ -160,7 +162,7 @@ element_same arrays slot at number there = search (rules, get_or-set_same, put_b
 
 pub element_back : (slot at number : ℕ) (arrays : List Array) (v : View) → v.parts.arrays ≡ arrays →
     slot < length arrays →
-    undone (element_was slot at (get_or (get_or arrays slot no_array).elements at 0))
+    undone (change_of (entry.Element slot at (get_or (get_or arrays slot no_array).elements at 0)))
     (with_arrays (with_number arrays slot at number) v) ≡ v
 element_back slot at number arrays v same there = search (rules, element_same)
 

@@ -40,24 +40,11 @@ taken_off s = record { items = s.items; depth = s.depth - 1 }
 abbrev pub at_slot : {A : Type 0} → (Stash A → Stash A) → ℕ → List (Stash A) → List (Stash A)
 at_slot f slot stashes = slice_set stashes slot (f (get_or stashes slot no_stash))
 
--- a change that was noted: a part, and its value before the change
+-- a change that was noted: that of an entry by itself, of an array or of all statuses, or none
 pub data Change : Type 0 where
-  register_was : (at old : ℕ) → Change
-  home_was : (at old : ℕ) → Change
-  status_was : (at old : ℕ) → Change
-  return_was : (at old : ℕ) → Change
-  element_was : (slot at old : ℕ) → Change
-  hidden_was : (slot : ℕ) (old : Bool) → Change
-  scalar_saved : (slot : ℕ) → Change
-  scalar_taken : (slot number : ℕ) → Change
-  scalar_restored : (slot number old : ℕ) → Change
-  array_saved : (slot : ℕ) → Change
+  change_of : Entry → Change
   array_was : ArrayChange → (slot : ℕ) (old : Array) → Change
   statuses_were : (old : List ℕ) → Change
-  taken_was : (old : ℕ) → Change
-  output_was : (count : ℕ) → Change
-  last_was : (old : ℕ) → Change
-  lastin_was : (old : ℕ) → Change
   no_change : Change
 
 -- whether the old value of an entry is kept apart from it
@@ -66,24 +53,17 @@ stands_apart (entry.Array change slot) = true
 stands_apart entry.Statuses = true
 stands_apart e = false
 
--- the change that an entry notes by itself
-abbrev pub change_of : Entry → Change
-change_of (entry.Register at old) = register_was at old
-change_of (entry.Home at old) = home_was at old
-change_of (entry.Status at old) = status_was at old
-change_of (entry.Return at old) = return_was at old
-change_of (entry.Element slot at old) = element_was slot at old
-change_of (entry.Hidden slot old) = hidden_was slot old
-change_of (entry.ScalarSaved slot) = scalar_saved slot
-change_of (entry.ScalarTaken slot number) = scalar_taken slot number
-change_of (entry.ScalarRestored slot number old) = scalar_restored slot number old
-change_of (entry.ArraySaved slot) = array_saved slot
-change_of (entry.Array change slot) = no_change
-change_of entry.Statuses = no_change
-change_of (entry.Taken old) = taken_was old
-change_of (entry.Output count) = output_was count
-change_of (entry.Last old) = last_was old
-change_of (entry.LastIn old) = lastin_was old
+abbrev pub register_was : (at old : ℕ) → Change
+register_was at old = change_of (entry.Register at old)
+
+abbrev pub home_was : (at old : ℕ) → Change
+home_was at old = change_of (entry.Home at old)
+
+abbrev pub status_was : (at old : ℕ) → Change
+status_was at old = change_of (entry.Status at old)
+
+abbrev pub return_was : (at old : ℕ) → Change
+return_was at old = change_of (entry.Return at old)
 
 -- the changes that entries note, with the arrays and statuses that are kept apart; the newest first
 abbrev pub changes_of : List Entry → List Array → List (List ℕ) → List Change
@@ -92,6 +72,8 @@ changes_of (entry.Array change slot ∷ entries) (array ∷ arrays) statuses =
     array_was change slot array ∷ changes_of entries arrays statuses
 changes_of (entry.Statuses ∷ entries) arrays (old ∷ statuses) =
     statuses_were old ∷ changes_of entries arrays statuses
+changes_of (entry.Array change slot ∷ entries) [] statuses = no_change ∷ changes_of entries [] statuses
+changes_of (entry.Statuses ∷ entries) arrays [] = no_change ∷ changes_of entries arrays []
 changes_of (e ∷ entries) arrays statuses = change_of e ∷ changes_of entries arrays statuses
 
 -- the parts before an array was changed. One that was retrieved goes back to the stash, if there is such a slot
@@ -107,25 +89,25 @@ undone_array now.Restored slot old p =
 
 -- the view before a change
 abbrev pub undone : Change → View → View
-undone (register_was at old) v = record v { registers = slice_set v.registers at old }
-undone (home_was at old) v = record v { home = slice_set v.home at old }
-undone (status_was at old) v = record v { statuses = slice_set v.statuses at old }
-undone (return_was at old) v = record v { returns = slice_set v.returns at old }
-undone (element_was slot at old) v = with_arrays (with_number v.parts.arrays slot at old) v
-undone (hidden_was slot old) v = with_hidden (slice_set v.parts.hidden slot old) v
-undone (scalar_saved slot) v = with_scalar_stashes (at_slot taken_off slot v.parts.scalar_stashes) v
-undone (scalar_taken slot number) v =
+undone (change_of (entry.Register at old)) v = record v { registers = slice_set v.registers at old }
+undone (change_of (entry.Home at old)) v = record v { home = slice_set v.home at old }
+undone (change_of (entry.Status at old)) v = record v { statuses = slice_set v.statuses at old }
+undone (change_of (entry.Return at old)) v = record v { returns = slice_set v.returns at old }
+undone (change_of (entry.Element slot at old)) v = with_arrays (with_number v.parts.arrays slot at old) v
+undone (change_of (entry.Hidden slot old)) v = with_hidden (slice_set v.parts.hidden slot old) v
+undone (change_of (entry.ScalarSaved slot)) v = with_scalar_stashes (at_slot taken_off slot v.parts.scalar_stashes) v
+undone (change_of (entry.ScalarTaken slot number)) v =
     with_scalar_stashes (at_slot (put_on number) slot v.parts.scalar_stashes) v
-undone (scalar_restored slot number old) v = with_scalar_stashes
+undone (change_of (entry.ScalarRestored slot number old)) v = with_scalar_stashes
     (at_slot (put_on number) slot v.parts.scalar_stashes) (record v { registers = slice_set v.registers slot old })
-undone (array_saved slot) v = with_array_stashes (at_slot taken_off slot v.parts.array_stashes) v
+undone (change_of (entry.ArraySaved slot)) v = with_array_stashes (at_slot taken_off slot v.parts.array_stashes) v
 undone (array_was change slot old) v = record v { parts = undone_array change slot old v.parts }
 undone (statuses_were old) v = record v { statuses = old }
-undone (taken_was old) v = record v { parts = record v.parts { taken = old } }
-undone (output_was count) v = record v { parts = record v.parts { output = take count v.parts.output } }
-undone (last_was old) v = record v { parts = record v.parts { last = old } }
-undone (lastin_was old) v = record v { parts = record v.parts { lastin = old } }
-undone no_change v = v
+undone (change_of (entry.Taken old)) v = record v { parts = record v.parts { taken = old } }
+undone (change_of (entry.Output count)) v = record v { parts = record v.parts { output = take count v.parts.output } }
+undone (change_of (entry.Last old)) v = record v { parts = record v.parts { last = old } }
+undone (change_of (entry.LastIn old)) v = record v { parts = record v.parts { lastin = old } }
+undone other v = v
 
 -- changes undone one after another
 abbrev pub rewound : List Change → View → View
@@ -138,8 +120,8 @@ HasPlace stashes slot = (get_or stashes slot no_stash).depth < length (get_or st
 
 -- the value before a change can be put back
 abbrev pub IsUndoable : Change → View → Type 0
-IsUndoable (scalar_taken slot number) v = HasPlace v.parts.scalar_stashes slot
-IsUndoable (scalar_restored slot number old) v = HasPlace v.parts.scalar_stashes slot
+IsUndoable (change_of (entry.ScalarTaken slot number)) v = HasPlace v.parts.scalar_stashes slot
+IsUndoable (change_of (entry.ScalarRestored slot number old)) v = HasPlace v.parts.scalar_stashes slot
 IsUndoable (array_was now.Taken slot old) v = HasPlace v.parts.array_stashes slot
 IsUndoable (array_was now.Restored slot old) v = HasPlace v.parts.array_stashes slot
 IsUndoable other v = Unit {0}
