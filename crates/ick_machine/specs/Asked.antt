@@ -2,10 +2,10 @@
 use Rattle.std.specs.Prelude.{ℕ, ◌-◌, ◌&&◌, nat_lt, Bool, if◌then◌else◌}
 use Rattle.ick_code.specs.meaning.Move.{Asking, plain, choice}
 
--- a choice is asked at a status
+-- whether a choice is asked at a status
 abbrev pub is_open : ℕ → Bool
 is_open status = nat_lt 0 status && nat_lt status 100
 
--- what is asked at a status: a choice at the chance that isn't lacking to 100, or nothing
+-- what is asked at a status: a choice, whose chance is 100 less the status, or nothing
 abbrev pub asked_by : ℕ → Asking
 asked_by status = if is_open status then choice (100 - status) else plain

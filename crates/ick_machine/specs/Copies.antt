@@ -1,4 +1,4 @@
--- Copies of states, which marks are kept by.
+-- Marks that are copies of states.
 use Rattle.std.specs.Prelude.{List}
 use Rattle.std.specs.List.{All}
 use Rattle.ick_code.specs.declared.code.Code.{Code}

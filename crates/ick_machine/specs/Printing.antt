@@ -34,26 +34,27 @@ abbrev pub run_reads : Result ℕ RunFault → ℕ
 run_reads (Ok steps) = 0
 run_reads (Err fault) = failed_reads fault
 
--- at most so many steps lead to a state, before each of which the run went on by itself
+-- the run comes to this state within the limit, and goes on by itself before each step
 pub record Reaches (program : Program) (s : State) (limit : ℕ) (u : State) : Type 0 where
   pub steps : ℕ
   pub within : steps ≤ limit
   pub runs : RunsOn IsPlain program s steps u
 
--- a prefix of the output of such a state is written, of so many bytes
+-- the run comes to a state within the limit, and the first bytes of its output are written, `count` of them
 pub record HasLeft (program : Program) (s : State) (limit : ℕ) (written written' : List ℕ) (count : ℕ) : Type 0 where
   pub state : State
   pub reaches : Reaches program s limit state
   pub within : count ≤ length state.output
   pub text : written' ≡ written ++ take count state.output
 
--- so many steps lead to a state, before each of which the run went on by itself, and all output of the state is written
+-- the run comes to a state by this number of steps, and goes on by itself before each. All its output is written
 pub record Writes (told : Bool) (program : Program) (s : State) (steps : ℕ) (written written' : List ℕ) : Type 0 where
   pub state : State
   pub runs : RunsOn IsPlain program s steps state
   pub text : told ≡ true → written' ≡ written ++ state.output
 
--- the run made the answered number of steps, and holds no output any more; or a prefix of its output is written
+-- after a number, the run made that many steps, and all output is written and no longer held. After an error, a prefix
+-- of the run's output is written
 abbrev pub Prints : {E : Type 0} → (told : Bool) → Program → State → (limit : ℕ) → (now : State) →
     (written written' : List ℕ) → Result ℕ E → Type 0
 Prints told program s limit now written written' (Ok steps) =
@@ -61,7 +62,7 @@ Prints told program s limit now written written' (Ok steps) =
 Prints told program s limit now written written' (Err error) =
     told ≡ true → ∥ ((count : ℕ) × HasLeft program s limit written written' count) ∥₁
 
--- the run has come to a WRITE IN within the limit, and exactly the output of the steps before it is written
+-- the run comes to a WRITE IN within the limit, and exactly the output of the steps before it is written
 pub record IsAtInput (told : Bool) (program : Program) (s : State) (limit : ℕ) (written written' : List ℕ) : Type 0
   where
     pub steps : ℕ
@@ -70,7 +71,7 @@ pub record IsAtInput (told : Bool) (program : Program) (s : State) (limit : ℕ)
     pub plain : IsPlain program all.state
     pub meets : MeetsInput program all.state
 
--- a machine has made so many steps, and no further step is due
+-- the machine stopped after this number of steps at the limit, at a choice, or at the end
 pub record IsDone (limit steps : ℕ) (machine : LiveMachine) : Type 0 where
   pub within : steps ≤ limit
   pub rests : Rests IsPlain machine.program limit steps machine.state
@@ -79,19 +80,20 @@ abbrev pub is_error : {T E : Type 0} → Result T E → Bool
 is_error (Ok value) = false
 is_error (Err error) = true
 
--- a machine has its program and holds no output. It has failed exactly after an error
+-- the machine keeps its program and holds no output. It has failed exactly after an error
 pub record Leaves {T E : Type 0} (old new : LiveMachine) (result : Result T E) : Type 0 where
   pub program : new.program ≡ old.program
   pub empty : new.state.output ≡ []
   pub failed : new.failed ≡ is_error result
 
--- so many steps of a machine lead to a state, if the feed is told, and exactly what the machine then holds is written
+-- the machine made this number of steps, and exactly the output that it then holds is written. `told` and `tells` say
+-- whether the feed and the outlet are known
 pub record HasPrinted (told tells : Bool) (old new : LiveMachine) (left written written' : List ℕ) (steps : ℕ)
     : Type 0 where
   pub runs : told ≡ true → RunsOn IsPlain old.program (fed left old.state) steps (fed left new.state)
   pub text : told ≡ true → tells ≡ true → written' ≡ written ++ new.state.output
 
--- the run comes to this output
+-- the run comes to a state with this output within the limit
 pub record MayLeave (program : Program) (s : State) (limit : ℕ) (output : List ℕ) : Type 0 where
   pub state : State
   pub reaches : Reaches program s limit state

@@ -26,7 +26,7 @@ trailed_machine m = record {
 abbrev pub fixed_parts : Trailed → Lowered × List ℕ × ℕ
 fixed_parts m = (m.lowered, m.input.now, vec_len m.marks)
 
--- a machine's state was marked, of which nothing changed, and there is room for the changes of any statement
+-- the machine marked its state and changed nothing else of it, and there is room for the changes of any statement
 pub record IsStarted (old new : Trailed) (result : Result Mark NoMemory) : Type 0 where
   pub same : trailed_machine new ≡ trailed_machine old
   pub end : new.end ≡ old.end
@@ -36,7 +36,7 @@ pub record IsStarted (old new : Trailed) (result : Result Mark NoMemory) : Type 
   pub mark : IfOk result (λ mark. IsMarkOf new.trail (view_in new.memory) mark)
   pub room : OnOk result (new.lowered.parts.longest + 79 ≤ vec_capacity new.trail.entries - vec_len new.trail.entries)
 
--- a machine made steps, or is as before. Its marks stay
+-- the machine made steps. After an error its state is as before. Its marks stay
 pub record IsWhole (limit : ℕ) (answer : Option Bool) (old new : Trailed) (result : Result ℕ NoMemory) : Type 0 where
   pub rest : trailed_machine new ≡ record (trailed_machine old) { state = (trailed_machine new).state }
   pub fixed : fixed_parts new ≡ fixed_parts old

@@ -2,7 +2,8 @@ use Rattle.std.proofs.Common.{arith, rules}
 use Rattle.std.proofs.lemmas.Grind.{common_steps}
 use Rattle.std.proofs.{lemmas.Bool.Decides.nat_tests, lemmas.Option.slice_get_past}
 use Rattle.ick_machine.proofs.asking.end_of.Goals as goal
-use Rattle.ick_machine.proofs.asking.end_of.Goals.{in-Faulted, in-Unknown, then-statement-gt0, else-statement-gt0, then-is_there, else-is_there, in-Word}
+use Rattle.ick_machine.proofs.asking.end_of.Goals.{in-Faulted, in-Unknown, then-statement-gt0, else-statement-gt0}
+use Rattle.ick_machine.proofs.asking.end_of.Goals.{then-is_there, else-is_there, in-Word}
 
 pub returns : goal.returns
 returns c = elim c.match-ended.branch [

@@ -1,4 +1,5 @@
-use Rattle.std.proofs.Common.{◌≡◌, ◌+◌, ◌-◌, ◌<◌, ◌≤◌, ℕ, List, true, false, refl, inr, sym, ◌∙◌, ap, subst, arith, append-nil, rules}
+use Rattle.std.proofs.Common.{◌≡◌, ◌+◌, ◌-◌, ◌<◌, ◌≤◌, ℕ, List, true, false, refl, inr, sym, ◌∙◌, ap, subst, arith}
+use Rattle.std.proofs.Common.{append-nil, rules}
 use Rattle.std.specs.Prelude.{Ok, Err, [], ◌^◌}
 use mathlib.Core.Logic.{∥∥₁_map}
 use Rattle.ick_code.specs.meaning.State.{State}
@@ -12,7 +13,8 @@ use Rattle.ick_machine.specs.declared.live.Live.{Live}
 use Rattle.ick_machine.specs.declared.live_ask.LiveAsk.TheVariants.{Plain}
 use Rattle.ick_machine.specs.declared.outlet.RunFault.{RunFault}
 use Rattle.ick_machine.specs.declared.outlet.RunFault.TheVariants.{NoMemory, Read, Write}
-use Rattle.ick_machine.proofs.AlongLemmas.{IsAlong, along_start, along_further, along_step, along_done, along_part, along_cut}
+use Rattle.ick_machine.proofs.AlongLemmas.{IsAlong, along_start, along_further, along_step, along_done, along_part}
+use Rattle.ick_machine.proofs.AlongLemmas.{along_cut}
 use Rattle.ick_machine.proofs.AlongLemmas.{along_at_input, plain_fed, plain_here, plain_there}
 use Rattle.ick_machine.proofs.PrinterLemmas.{Kept, kept_first}
 use Rattle.ick_machine.proofs.live.Live.run.Given.{Over}
