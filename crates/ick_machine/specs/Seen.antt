@@ -1,17 +1,15 @@
 -- What contracts see of the machines with marks.
-use Rattle.std.specs.Prelude.{◌≡◌, ℕ, ◌+◌, ◌-◌, ◌<◌, ◌≤◌, Bool, List, length, map, reverse, Option, Some, None}
-use Rattle.std.specs.Prelude.{Result, IfOk, OnOk, OnErr, vec_len, vec_capacity}
+use Rattle.std.specs.Prelude.{◌≡◌, ℕ, ◌<◌, ◌≤◌, Bool, List, map, reverse, Option, Some, None}
+use Rattle.std.specs.Prelude.{Result, IfOk, OnOk, OnErr, vec_len}
 use Rattle.ick_bits.specs.declared.memory.NoMemory.{NoMemory}
 use Rattle.ick_code.specs.meaning.Move.{advance}
 use Rattle.ick_instructions.specs.declared.lowered.Lowered.{Lowered}
-use Rattle.ick_marks.specs.declared.marks.Mark.{Mark}
-use Rattle.ick_runtime.specs.{Memory.view_in, Inputs.input_of}
-use Rattle.ick_marks.specs.{TrailChanges.changes_in}
+use Rattle.ick_runtime.specs.Inputs.{input_of}
 use Rattle.ick_backtrack.specs.{Machine.Machine, Steps.IsPlain, Steps.RunsOn}
 use Rattle.ick_machine.specs.declared.trailed.Trailed.{Trailed}
 use Rattle.ick_machine.specs.declared.copied.Copied.{Copied}
 use Rattle.ick_machine.specs.Copies.{copied_state}
-use Rattle.ick_machine.specs.Marks.{IsMarkOf, marked_in}
+use Rattle.ick_machine.specs.Marks.{marked_in}
 use Rattle.ick_machine.specs.RunIn.{program_of, state_in}
 
 abbrev pub trailed_machine : Trailed → Machine
@@ -25,16 +23,6 @@ trailed_machine m = record {
 -- what no step changes: the program with its instructions, the input, and how many marks there are
 abbrev pub fixed_parts : Trailed → Lowered × List ℕ × ℕ
 fixed_parts m = (m.lowered, m.input.now, vec_len m.marks)
-
--- the machine marked its state and changed nothing else of it, and there is room for the changes of any statement
-pub record IsStarted (old new : Trailed) (result : Result Mark NoMemory) : Type 0 where
-  pub same : trailed_machine new ≡ trailed_machine old
-  pub end : new.end ≡ old.end
-  pub fixed : fixed_parts new ≡ fixed_parts old
-  pub low_is : new.trail.low ≡ new.memory.cursor.depth
-  pub kept_is : new.trail.kept ≡ length (changes_in new.trail)
-  pub mark : IfOk result (λ mark. IsMarkOf new.trail (view_in new.memory) mark)
-  pub room : OnOk result (new.lowered.parts.longest + 79 ≤ vec_capacity new.trail.entries - vec_len new.trail.entries)
 
 -- the machine made steps. After an error its state is as before. Its marks stay
 pub record IsWhole (limit : ℕ) (answer : Option Bool) (old new : Trailed) (result : Result ℕ NoMemory) : Type 0 where

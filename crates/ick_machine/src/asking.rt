@@ -2,9 +2,7 @@
 
 ghost use Rattle.std.specs.Prelude.{◌≡◌, Some, option_map};
 ghost use Rattle.ick_code.specs.{Compiled.code_program, meaning.Move.ask};
-ghost use Rattle.ick_runtime.specs.Memory.{view_in};
-ghost use Rattle.ick_runtime.specs.Steady.{IsReady};
-ghost use Rattle.ick_runtime.specs.Inputs.{input_of};
+ghost use Rattle.ick_runtime.specs.{Inputs.input_of, Memory.view_in, Steady.IsReady};
 ghost use Rattle.ick_machine.specs.{Asked.asked_by, Run.ending_of, Run.run_state};
 ghost use Rattle.ick_backtrack.specs.Asked.{asked_of, finish_of, finished};
 

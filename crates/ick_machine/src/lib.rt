@@ -10,8 +10,7 @@
 //! | `present` | the present state of a machine with marks, to be read |
 //! | `live_ask` | what a machine without marks asks |
 //! | `live` | a machine without marks, which takes its input from a feed |
-//! | `outlet` | where the output of such a machine goes while the run goes on |
-//! | `printer` | the reader by which it leaves |
+//! | `outlet` | where the output of such a machine goes, and the reader by which it leaves |
 #![tactic(auto)]
 
 mod asking;
@@ -20,7 +19,6 @@ mod live;
 mod live_ask;
 mod outlet;
 mod present;
-mod printer;
 mod steps;
 mod trailed;
 

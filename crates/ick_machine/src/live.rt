@@ -1,12 +1,12 @@
 //! A machine without marks, which takes its input from a feed.
 #![tactic(auto, unfolding(crate::specs::Live::seen))]
 
-ghost use Rattle.std.specs.Prelude.{◌≡◌, ◌+◌, ◌<◌, ◌≤◌, ◌^◌, ◌++◌, [], true, false, length, Err, None};
+ghost use Rattle.std.specs.Prelude.{◌≡◌, ◌+◌, ◌<◌, ◌≤◌, ◌^◌, ◌++◌, [], true, false, length, Err};
 ghost use Rattle.std.specs.Prelude.{IfOk, OnOk, OnErr, vec_len, vec_capacity};
 ghost use Rattle.ick_machine.specs.RunIn.{CanGoOn};
 
 use crate::asking::answer;
-use crate::printer::Printer;
+use crate::outlet::Printer;
 use crate::steps::stopped;
 use crate::{EndKind, LiveAsk, Outlet, RunFault, end_of, make_steps};
 use ick_backtrack::{Ask, End, FeedFault};
@@ -178,23 +178,21 @@ impl<'c, 'a> Live<'c, 'a> {
         let mut outlet = outlet;
         let mut made = 0;
         'on: loop {
-            let most = limit - made;
             let mut printer = Printer {
                 machine: Snapshot::of(&*self),
                 feed: Snapshot::of(&*feed),
-                limit: Snapshot::of(&most),
                 first: Snapshot::of(&outlet),
                 outlet,
+                limit: limit - made,
                 shown: 0,
                 broken: false,
             };
-            let ran = self.run_by(most, &mut printer);
+            let ran = self.run_by(&mut printer);
             self.clear_output();
-            let broken = printer.broken;
             outlet = printer.outlet;
             match ran {
                 Ok(more) => made += more,
-                Err(_) if broken => return (Err(RunFault::Write), outlet),
+                Err(_) if printer.broken => return (Err(RunFault::Write), outlet),
                 Err(_) => return (Err(RunFault::NoMemory), outlet),
             }
             let LiveAsk::Plain = self.asks() else {
@@ -215,22 +213,21 @@ impl<'c, 'a> Live<'c, 'a> {
     /// holds much output. All output leaves by a printer, first what the machine holds.
     fn run_by<F: Feed, O: Outlet>(
         &mut self,
-        limit: u32,
         printer: &mut Printer<'c, 'a, F, O>,
     ) -> Result<u32, NoMemory>
         requires sound { (seen self.old).failed ≡ false }
         requires machine { printer.old.machine.value ≡ self.old }
-        requires limit { printer.old.limit.value ≡ limit }
         ensures made { IfOk result (λ k. HasPrinted F.told O.told (seen self.old) (seen self.new)
             (F.left printer.old.feed.value) (O.written printer.old.first.value)
             (O.written printer.new.outlet) k) }
-        ensures within { IfOk result (λ k. k ≤ limit) }
+        ensures within { IfOk result (λ k. k ≤ printer.old.limit) }
         ensures sound { OnOk result (printer.new.broken ≡ false) }
         ensures program { (seen self.new).program ≡ (seen self.old).program }
         ensures failed { (seen self.new).failed ≡ is_error result }
         ensures held { let reader = ⟦<Printer<'c, 'a, F, O> as Reader>⟧ in
             reader.held printer.new ≡ reader.held printer.old }
     {
+        let limit = printer.limit;
         self.failed = true;
         let _ = printer.leave(self.output())?;
         let program = self.lowered.program();

@@ -1,7 +1,18 @@
-//! Where the output of a run goes while the run goes on.
+//! Where the output of a run goes while the run goes on, and the reader by which it leaves.
 
-ghost use Rattle.std.specs.Prelude.{◌≡◌, ◌+◌, ◌<◌, ◌≤◌, ◌^◌, ◌++◌, ℕ, List, Bool, true, OnOk, length, take};
+ghost use Rattle.std.specs.Prelude.{◌≡◌, ◌+◌, ◌<◌, ◌≤◌, ◌^◌, ◌++◌, ℕ, List, Bool, true, false};
+ghost use Rattle.std.specs.Prelude.{OnOk, length, take};
+ghost use Rattle.std.proofs.lemmas.Bool.{false≢true};
+ghost use Rattle.ick_runtime.specs.Inputs.{Leads};
+ghost use Rattle.ick_engine.specs.Feeds.{MayBeLeft, one_if, some_left};
+ghost use Rattle.ick_machine.specs.{Live.fed, Live.seen, Printing.HasLeft, Printing.MayLeave};
 ghost use Rattle.ick_machine.specs.Printing.{outlet_failures};
+ghost use Rattle.ick_machine.specs.declared.live.Live.{Live};
+
+use crate::Live;
+use ick_bits::NoMemory;
+use ick_engine::{Feed, Line, Reader};
+use std::snapshot::Snapshot;
 
 /// Tells that a text wasn't written whole.
 #[derive(Clone, Copy, Debug)]
@@ -43,4 +54,92 @@ pub trait Outlet: Drop {
             × (written self.new ≡ written self.old ++ take n text.now) }
         ensures count { failed self.new ≡ failed self.old + outlet_failures result }
         ensures held { held self.new ≡ held self.old };
+}
+
+/// How many bytes of output a memory holds at most before it is cleared, but for those of one
+/// statement.
+const MOST: usize = 4096;
+
+/// Lets the output of a machine leave while its run goes on. The run takes no input, and waits
+/// before each WRITE IN.
+///
+/// For contracts alone, it keeps the machine, its feed and the outlet as they were when the run
+/// began.
+#[derive(Drop)]
+pub(crate) struct Printer<'c, 'a, F: Feed, O: Outlet> {
+    pub(crate) outlet: O,
+    /// The limit on steps of the run.
+    pub(crate) limit: u32,
+    /// How many bytes of the machine's output have left.
+    pub(crate) shown: usize,
+    /// Whether a write has failed.
+    pub(crate) broken: bool,
+    pub(crate) machine: Snapshot<Live<'c, 'a>>,
+    pub(crate) feed: Snapshot<F>,
+    pub(crate) first: Snapshot<O>,
+    ghost room: { O.failed first.value + 1 < 2 ^ 64 },
+    ghost count: { O.failed outlet ≡ O.failed first.value + one_if broken },
+    ghost left: { ∥ (F.told ≡ true → O.told ≡ true → (n : ℕ) × (broken ≡ false → n ≡ shown)
+        × HasLeft (seen machine.value).program (fed (F.left feed.value) (seen machine.value).state)
+        limit (O.written first.value) (O.written outlet) n) ∥₁ },
+}
+
+impl<'c, 'a, F: Feed, O: Outlet> Reader for Printer<'c, 'a, F, O> {
+    ghost Has = { λ printer. MayBeLeft F.told false printer.machine.value.line.items
+        (F.left printer.feed.value) };
+
+    // What the outlet keeps, and how the run began.
+    ghost Held = { ℕ × Live × F × ℕ × O };
+
+    ghost held = { λ printer. (
+      O.held printer.outlet,
+      printer.machine.value,
+      printer.feed.value,
+      printer.limit,
+      printer.first.value,
+    ) };
+
+    ghost waits = { λ _. true };
+
+    ghost Prints = { λ held output. F.told ≡ true → MayLeave (seen held.1).program
+        (fed (F.left held.2) (seen held.1).state) held.3 output };
+
+    ghost some = { λ printer. some_left F.told false printer.machine.value.line.items
+        (F.left printer.feed.value) (λ e. absurd (false≢true e)) };
+
+    fn is_waiting(&self) -> bool {
+        true
+    }
+
+    fn leave(&mut self, output: &[u8]) -> Result<bool, NoMemory>
+        requires { let reader = ⟦<Printer<'c, 'a, F, O> as Reader>⟧ in
+            reader.Prints (reader.held self.old) output.now }
+        ensures input { Leads ⟦<Printer<'c, 'a, F, O> as Reader>⟧.Has self.old self.new
+            (λ before after. before ≡ after) }
+        ensures held { let reader = ⟦<Printer<'c, 'a, F, O> as Reader>⟧ in
+            reader.held self.new ≡ reader.held self.old }
+        ensures sound { OnOk result (self.new.broken ≡ false) }
+        ensures all { F.told ≡ true → O.told ≡ true → OnOk result
+            (O.written self.new.outlet ≡ O.written self.old.first.value ++ output.now) }
+    {
+        if self.broken || self.shown > output.len() {
+            return Err(NoMemory);
+        }
+        if self.shown < output.len() {
+            if let Err(_) = self.outlet.write(&output[self.shown..]) {
+                self.broken = true;
+                return Err(NoMemory);
+            }
+            self.shown = output.len();
+        }
+        Ok(self.shown > MOST)
+    }
+
+    fn line(&mut self, from: usize) -> Result<Line, NoMemory> {
+        Err(NoMemory)
+    }
+
+    fn byte(&mut self, from: usize) -> Result<Option<(u8, usize)>, NoMemory> {
+        Err(NoMemory)
+    }
 }

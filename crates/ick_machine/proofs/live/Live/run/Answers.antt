@@ -38,12 +38,13 @@ invariant_of-printer g c =
     let m = seen c.of.result.value in
     let s = fed (g.F.Feed.left c.of-in-on.result.value) m.state in
     record {
-      room = subst (λ o. g.O.Outlet.failed o + 1 < 2 ^ 64) (sym c.of-in-on-3.ensures)
+      room = subst (λ o. g.O.Outlet.failed o + 1 < 2 ^ 64) (sym c.of-in-on-2.ensures)
           (omega (arith, c.on.invariant.writes, c.requires.writes));
       count = search rules;
-      left = subst (λ o. Kept g.F.Feed.told g.O.Outlet.told m.program s c.of-in-on-2.result.value (g.O.Outlet.written o)
-          (g.O.Outlet.written c.on.outlet) 0 false) (sym c.of-in-on-3.ensures)
-          (kept_first g.F.Feed.told g.O.Outlet.told m.program s c.of-in-on-2.result.value (g.O.Outlet.written c.on.outlet));
+      left = subst (λ o. Kept g.F.Feed.told g.O.Outlet.told m.program s (c.args.limit - c.on.made)
+          (g.O.Outlet.written o) (g.O.Outlet.written c.on.outlet) 0 false) (sym c.of-in-on-2.ensures)
+          (kept_first g.F.Feed.told g.O.Outlet.told m.program s (c.args.limit - c.on.made)
+          (g.O.Outlet.written c.on.outlet));
     }
 
 module _ (g : Over) (c : After-clear_output g) where
@@ -82,11 +83,11 @@ module _ (g : Over) (c : After-clear_output g) where
   abbrev last : Held
   last =
       let n = c.run_by-ran.new.printer in
-      (g.O.Outlet.held n.outlet, n.machine.value, n.feed.value, n.limit.value, n.first.value)
+      (g.O.Outlet.held n.outlet, n.machine.value, n.feed.value, n.limit, n.first.value)
 
   -- what the printer kept
   kept : last ≡ (g.O.Outlet.held c.on.outlet, c.on.self, c.on.feed, c.args.limit - c.on.made, c.on.outlet)
-  kept = cc (c.run_by-ran.ensures.held, c.of.ensures, c.of-in-on.ensures, c.of-in-on-2.ensures, c.of-in-on-3.ensures)
+  kept = cc (c.run_by-ran.ensures.held, c.of.ensures, c.of-in-on.ensures, c.of-in-on-2.ensures)
 
   -- if the call fails, a prefix has left of the output of this run
   cut : (fault : RunFault) → g.F.Feed.told ≡ true →
@@ -117,7 +118,7 @@ module _ (g : Over) (c : In-Ok g) where
       let at : List ℕ → List ℕ → Type 0 = λ l w. HasPrinted g.F.Feed.told g.O.Outlet.told (seen c.on.self) new l w
       (after g stage) c.in-Ok.more in
       let printed = subst (λ f. at (left f) (g.O.Outlet.written c.on.outlet)) c.of-in-on.ensures
-      (subst (λ o. at (left c.of-in-on.result.value) (g.O.Outlet.written o)) c.of-in-on-3.ensures c.in-Ok.ensures.made) in
+      (subst (λ o. at (left c.of-in-on.result.value) (g.O.Outlet.written o)) c.of-in-on-2.ensures c.in-Ok.ensures.made) in
       along_further g.O.Outlet.told (first g stage).program (begin g stage) (c.on.invariant.along t) c.args.limit
       (here g stage) (after g stage) c.in-Ok.more (
         record {

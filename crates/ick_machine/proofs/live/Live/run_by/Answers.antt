@@ -29,7 +29,7 @@ module _ (g : Over) (c : Start g) where
     g.O.Outlet.held c.args.printer.now.outlet,
     live,
     c.args.printer.now.feed.value,
-    c.args.limit,
+    c.args.printer.now.limit,
     c.args.printer.now.first.value,
   )
 
@@ -37,13 +37,13 @@ module _ (g : Over) (c : Start g) where
     g.O.Outlet.held c.args.printer.now.outlet,
     c.args.printer.now.machine.value,
     c.args.printer.now.feed.value,
-    c.args.printer.now.limit.value,
+    c.args.printer.now.limit,
     c.args.printer.now.first.value,
   )
-  kept = cc (c.requires.machine, c.requires.limit)
+  kept = cc (c.requires.machine)
 
   -- the output of a state may leave to which the run comes
-  may : (h : Held g) → IsKept h → (made : ℕ) → made ≤ c.args.limit → (s : State) →
+  may : (h : Held g) → IsKept h → (made : ℕ) → made ≤ c.args.printer.now.limit → (s : State) →
       RunsOn IsPlain (seen live).program (fed left (seen live).state) made s → (o : List ℕ) → s.output ≡ o →
       MayLeave (seen h.1).program (fed (g.F.Feed.left h.2) (seen h.1).state) h.3 o
   may h same made within s runs o is =

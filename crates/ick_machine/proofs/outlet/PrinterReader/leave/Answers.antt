@@ -1,8 +1,8 @@
 use Rattle.std.proofs.Common.{◌≡◌, ◌+◌, Bool, refl, subst, arith}
 use Rattle.ick_engine.specs.Feeds.{one_if}
 use Rattle.ick_machine.proofs.PrinterLemmas.{kept_all, kept_more, kept_part}
-use Rattle.ick_machine.proofs.printer.PrinterReader.leave.Goals as goal
-use Rattle.ick_machine.proofs.printer.PrinterReader.leave.Goals.{then-self-output-2+in_default, else-self-output-2}
+use Rattle.ick_machine.proofs.outlet.PrinterReader.leave.Goals as goal
+use Rattle.ick_machine.proofs.outlet.PrinterReader.leave.Goals.{then-self-output-2+in_default, else-self-output-2}
 
 pub invariant_of-self : goal.invariant_of-self
 invariant_of-self g c =
