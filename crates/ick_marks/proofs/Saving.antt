@@ -1,4 +1,4 @@
--- Lists that are copied and compared, and states that are kept.
+-- Lists that are copied, and states that are kept.
 use Rattle.std.proofs.Common.{arith, drop, get_or, length, List, map, refl, rules, subst, suc, sym, take, zero, ℕ, ◌++◌, [], ap, ◌+◌, ◌<◌, ◌∙◌, ◌∷◌, ◌≡◌, ◌≤◌}
 use Rattle.ick_marks.proofs.Names.{common_steps, get_or-map, length-map, length-take-le, LoweredParts, map-set_same, arrays_on, HighSame, Input, is_hidden}
 use Rattle.ick_marks.proofs.Names.{IsProgram, numbers_on, saved_view, take-take, AreSame, array_of, IsLoaded, IsSteady, Parts, parts_of, restored, state_of}
@@ -11,7 +11,7 @@ use Rattle.ick_runtime.proofs.{Restoring.all_same, Restoring.state_by, Steadines
 use Rattle.ick_runtime.proofs.StashLemmas.{parts_same}
 
 -- one value more of the first ones
-one_more : {A B : Type 0} (f : A → B) (xs : List A) (at : ℕ) (x : A) → at < length xs → x ≡ get_or xs at x →
+pub one_more : {A B : Type 0} (f : A → B) (xs : List A) (at : ℕ) (x : A) → at < length xs → x ≡ get_or xs at x →
     take (at + 1) (map f xs) ≡ take at (map f xs) ++ f x ∷ []
 one_more f xs at x within read =
     let there : get_or (map f xs) at (f x) ≡ f x = get_or-map f xs at x (f x) within ∙ ap f (sym read) in
@@ -24,14 +24,6 @@ pub copied_next : {A B : Type 0} (f : A → B) (xs copies copies' : List A) (at 
     map f copies' ≡ take (at + 1) (map f xs)
 copied_next f xs copies copies' at x y within read pushed same done =
     cc (pushed, map-append f copies (x ∷ []), done, same, one_more f xs at y within read)
-
--- lists that are compared value by value
-pub compared_next : {A B : Type 0} (f : A → B) (xs ys : List A) (at : ℕ) (x y : A) → at < length xs →
-    length xs ≡ length ys → x ≡ get_or xs at x → y ≡ get_or ys at y → f x ≡ f y →
-    take at (map f xs) ≡ take at (map f ys) → take (at + 1) (map f xs) ≡ take (at + 1) (map f ys)
-compared_next f xs ys at x y within count read read' same done =
-    let other = one_more f ys at y (omega (arith, within, count)) read' in
-    cc (one_more f xs at x within read, other, same, done)
 
 -- numbers that were put in place of the first ones
 put_high : (xs ys : List ℕ) (r : ℕ) → length xs ≤ length ys → length xs ≤ r →
@@ -46,9 +38,6 @@ first_put : (n : ℕ) (xs old new : List ℕ) → new ≡ take n xs ++ drop (len
 first_put n xs old new is count long = grind (arith, common_steps)
 
 -- parts that differ in spare places alone
-pub same_parts_sym : {p q : Parts} → AreSame p q → AreSame q p
-same_parts_sym h = record { others = sym h.others; scalars = sym h.scalars; arrays = sym h.arrays }
-
 pub same_parts_refl : (p : Parts) → AreSame p p
 same_parts_refl p = record { others = refl; scalars = refl; arrays = refl }
 
@@ -145,8 +134,8 @@ module _ (code : Code) (lowered : LoweredParts) (is : IsProgram code lowered) wh
             restored code lowered is old m' new was.constants (ready_with m new.parts parts marked) like high place
             (depth ∙ used_count)
 
--- for lists that are copied or compared value by value
-pub ruleset value_by_value = (copied_next, compared_next, firsts, take-map, take-take)
+-- for lists that are copied value by value
+pub ruleset value_by_value = (copied_next, firsts, take-map, take-take)
 
 -- for an array that is replaced
 pub ruleset arrays_set = (map-set, map-set_same)

@@ -3,7 +3,7 @@
 //! - `trail`: changes that can be undone
 //! - `marks`: states that a trail leads back to
 //! - `saved`: states that are kept apart from a memory
-//! - `copy`: values that are copied and compared
+//! - `copy`: copies of what a state has
 #![tactic(auto)]
 
 mod copy;

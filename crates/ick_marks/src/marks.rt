@@ -112,7 +112,7 @@ fn undo(memory: &mut Memory, entry: Entry)
     }
 }
 
-/// Puts an array back, if there is such a slot. The present one is returned.
+/// Puts an array back. The present one is returned.
 #[tactic(auto, using(crate::proofs::Saving::arrays_set))]
 fn replace_array(arrays: &mut Vec<Array>, slot: u32, old: Array) -> Array
     requires { slot < length arrays.old.items }
@@ -133,16 +133,13 @@ fn undo_array(rest: &mut Rest, change: ArrayChange, slot: u32, old: Array)
 {
     match change {
         ArrayChange::Taken => put_at(&mut rest.array_stashes, slot, old),
+        _ if slot as usize >= rest.arrays.len() => {}
         ArrayChange::Replaced => {
-            if (slot as usize) < rest.arrays.len() {
-                let _ = replace_array(&mut rest.arrays, slot, old);
-            }
+            let _ = replace_array(&mut rest.arrays, slot, old);
         }
         ArrayChange::Restored => {
-            if (slot as usize) < rest.arrays.len() {
-                let present = replace_array(&mut rest.arrays, slot, old);
-                put_at(&mut rest.array_stashes, slot, present);
-            }
+            let present = replace_array(&mut rest.arrays, slot, old);
+            put_at(&mut rest.array_stashes, slot, present);
         }
     }
 }
@@ -169,8 +166,8 @@ fn undo_newest(trail: &mut Trail, memory: &mut Memory, entry: Entry)
     }
 }
 
-/// Undoes all changes behind the first ones, and takes them off the trail. The test whether there
-/// is any is another function, because going back from one choice to another often finds none.
+/// Undoes all changes behind the first ones, and takes them off the trail. `back` tests whether
+/// there is any, because going back from one choice to another often finds none.
 #[inline(never)]
 fn undo_changes(trail: &mut Trail, changes: usize, memory: &mut Memory)
     ensures { AreUndone trail.old trail.new changes (view_in memory.old) (view_in memory.new) }
@@ -182,17 +179,6 @@ fn undo_changes(trail: &mut Trail, changes: usize, memory: &mut Memory)
             undo_newest(trail, memory, entry);
         }
     }
-}
-
-/// Undoes all changes behind the first ones, if there are any, and takes them off the trail.
-#[inline(always)]
-fn undo_newer(trail: &mut Trail, changes: usize, memory: &mut Memory)
-    ensures { AreUndone trail.old trail.new changes (view_in memory.old) (view_in memory.new) }
-{
-    if trail.entries.len() <= changes {
-        return;
-    }
-    undo_changes(trail, changes, memory);
 }
 
 /// Goes back to a mark: undoes all changes noted since, and takes them off the trail. The mark
@@ -215,7 +201,9 @@ pub fn back(trail: &mut Trail, mark: Mark, memory: &mut Memory, program: &Lowere
     // `back` needs that the instructions are those of the code.
     program.law();
     program.code.law();
-    undo_newer(trail, mark.changes, memory);
+    if trail.entries.len() > mark.changes {
+        undo_changes(trail, mark.changes, memory);
+    }
     trail.kept = trail.entries.len();
     trail.newest = u32::MAX;
     trail.low = mark.depth;

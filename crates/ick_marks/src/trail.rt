@@ -8,19 +8,22 @@ use ick_bits::NoMemory;
 use ick_runtime::{Array, ArrayChange, Entry, Notes};
 use std::alloc::Global;
 
-/// Changes, the newest last, the least depth of the NEXT stack since the newest mark, the first
-/// temporary register, and how many changes were noted before the newest mark. Temporaries, and
-/// what is behind them, are never noted. Arrays and statuses are kept apart from their entries, so
-/// that an entry is small. Unless `newest` is `u32::MAX`, it is the register of the newest change,
-/// which is newer than the newest mark.
+/// A log of changes, from which a run goes back to its marks. Temporaries, and what is behind them,
+/// are never noted. Arrays and statuses are kept apart from their entries, so that an entry is
+/// small.
 #[derive(Drop)]
 pub struct Trail {
+    /// The changes, the newest last.
     pub(crate) entries: Vec<Entry>,
     pub(crate) arrays: Vec<Array>,
     pub(crate) statuses: Vec<Vec<u8>>,
+    /// The least depth of the NEXT stack since the newest mark.
     pub(crate) low: usize,
+    /// The first temporary register.
     pub(crate) base: u32,
+    /// How many changes were noted before the newest mark.
     pub(crate) kept: usize,
+    /// The register of the newest change, which is newer than the newest mark, or `u32::MAX`.
     pub(crate) newest: u32,
     pub ghost few: { kept ≤ length entries.items },
     pub ghost named: { newest ≢ 4294967295 → (kept < length entries.items)
@@ -28,12 +31,11 @@ pub struct Trail {
 }
 
 impl Trail {
-    ghost use Rattle.std.specs.Prelude.{◌≡◌, ◌+◌, ◌-◌, ◌≤◌, ℕ, true, [], length, OnOk, vec_len};
-    ghost use Rattle.std.specs.Prelude.{vec_capacity, List};
+    ghost use Rattle.std.specs.Prelude.{◌≡◌, ◌+◌, ◌-◌, ◌≤◌, ℕ, [], length};
+    ghost use Rattle.std.specs.Prelude.{vec_capacity, vec_len};
     ghost use Rattle.ick_instructions.specs.Extends.{Extends};
-    ghost use Rattle.ick_marks.specs.declared.trail.Trail.{Trail};
-    ghost use Rattle.ick_marks.specs.TrailChanges.{changes_in, fixed_by, IsNoted, UndoesBy};
-    ghost use Rattle.ick_runtime.specs.{Undo.Rewinds, View.View};
+    ghost use Rattle.ick_marks.specs.TrailChanges.{changes_in, fixed_by, UndoesBy};
+    ghost use Rattle.ick_runtime.specs.View.{View};
 
     /// Returns a trail without changes, of a program whose first temporary register is `base`.
     pub fn new(alloc: Global, base: u32) -> Trail
@@ -51,19 +53,6 @@ impl Trail {
             kept: 0,
             newest: u32::MAX,
         }
-    }
-
-    /// Makes room for so many changes. Nothing else changes, also if memory runs out.
-    pub fn reserve(&mut self, changes: usize) -> Result<(), NoMemory>
-        ensures changes { changes_in self.new ≡ changes_in self.old }
-        ensures low { self.new.low ≡ self.old.low }
-        ensures base { self.new.base ≡ self.old.base }
-        ensures kept { self.new.kept ≡ self.old.kept }
-        ensures room { OnOk result (changes ≤
-            vec_capacity self.new.entries - vec_len self.new.entries) }
-    {
-        self.entries.reserve(changes)?;
-        Ok(())
     }
 
     /// Forgets all changes and all marks. The room for changes stays.
@@ -94,12 +83,10 @@ impl Trail {
             ≤ vec_capacity self.new.entries - vec_len self.new.entries + 79 }
         ensures low { self.new.low ≤ depth }
         ensures lower { self.new.low ≤ self.old.low }
-        ensures base { self.new.base ≡ self.old.base }
-        ensures kept { self.new.kept ≡ self.old.kept }
+        ensures base { fixed_by self.new ≡ fixed_by self.old }
         ensures changes { Extends (changes_in self.old) (changes_in self.new) }
         ensures notes { (k : ℕ) (v m : View) → v.returns ≡ returns.now →
-            Rewinds self.old.base (changes_in self.old) self.old.low k v m →
-            Rewinds self.new.base (changes_in self.new) self.new.low k v m }
+            UndoesBy self.old k v m → UndoesBy self.new k v m }
     {
         self.newest = u32::MAX;
         'returns: while self.low > depth {
@@ -154,7 +141,6 @@ impl Notes for Trail {
         self.note(Entry::Element(slot, at, old));
     }
 
-    #[tactic(auto, using(crate::proofs::Changes::fixed_moved))]
     #[inline(always)]
     fn note_dropped(&mut self, returns: &[u32], depth: usize) {
         if depth < self.low {
@@ -165,22 +151,15 @@ impl Notes for Trail {
     #[tactic(auto, using(crate::proofs::Changes::noting))]
     #[inline(always)]
     fn note(&mut self, entry: Entry) {
-        match entry {
-            Entry::Register(at, _) => {
-                if at >= self.base {
-                    return;
-                }
-                self.newest = at;
+        let (newest, entry) = match entry {
+            Entry::Register(at, _) if at >= self.base => return,
+            Entry::Register(at, _) => (at, entry),
+            Entry::ScalarRestored(slot, number, _) if slot >= self.base => {
+                (u32::MAX, Entry::ScalarTaken(slot, number))
             }
-            Entry::ScalarRestored(slot, number, _) => {
-                self.newest = u32::MAX;
-                if slot >= self.base {
-                    self.entries.push_reserved(Entry::ScalarTaken(slot, number));
-                    return;
-                }
-            }
-            _ => self.newest = u32::MAX,
-        }
+            _ => (u32::MAX, entry),
+        };
+        self.newest = newest;
         self.entries.push_reserved(entry);
     }
 
@@ -188,7 +167,8 @@ impl Notes for Trail {
         let Some(places) = more.checked_add(79) else {
             return Err(NoMemory);
         };
-        self.reserve(places)
+        self.entries.reserve(places)?;
+        Ok(())
     }
 
     #[tactic(auto, using(crate::proofs::Changes::noting))]

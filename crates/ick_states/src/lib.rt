@@ -4,8 +4,14 @@
 //! | Module | Contents |
 //! |---|---|
 //! | `runs` | a program over its input, its states, and their steps |
+//! | `comparing` | kept states that are compared |
+//! | `hashing` | numbers by which kept states are looked up |
+//! | `renewing` | states that are kept in the buffers of others |
 #![tactic(auto)]
 
+mod comparing;
+mod hashing;
+mod renewing;
 mod runs;
 
 pub use runs::{KeptRun, Runs};

@@ -4,6 +4,9 @@ ghost use Rattle.std.specs.Prelude.{◌≡◌, IfOk};
 ghost use Rattle.ick_code.specs.meaning.Move.{first_state};
 ghost use Rattle.ick_code.specs.Compiled.{code_program};
 
+use crate::comparing::same;
+use crate::hashing::hash;
+use crate::renewing::renew;
 use ick_backtrack::Ask;
 use ick_bits::NoMemory;
 use ick_code::Code;
@@ -142,7 +145,7 @@ impl<'c, 'a> Runs<'c, 'a> {
         state.saved.exchange(memory, &self.lowered);
         let mut end = None;
         let made = self.step_in(memory, &mut end, done, limit)?;
-        state.saved.renew(memory, &self.lowered)?;
+        renew(&mut state.saved, memory, &self.lowered)?;
         // `runs` needs that the kept state is that of the memory.
         state.saved.law(&self.lowered);
         state.end = end;
@@ -164,12 +167,13 @@ impl<'c, 'a> States<'c> for Runs<'c, 'a> {
     ghost serves = { λ runs memory. CanServe runs.lowered memory };
 
     fn output<'s>(&self, state: &'s Box<KeptRun>) -> &'s [u8] {
-        state.saved.output()
+        &state.saved.rest.output
     }
 
     fn into_output(&self, state: Box<KeptRun>) -> Vec<u8> {
         let kept = Box::into_inner(state);
-        kept.saved.into_output()
+        let rest = kept.saved.rest;
+        rest.output
     }
 
     fn asks(&self, state: &Box<KeptRun>) -> Ask<'c> {
@@ -179,11 +183,11 @@ impl<'c, 'a> States<'c> for Runs<'c, 'a> {
         let saved = &state.saved;
         // What is asked needs which state is kept, since its status is that of the memory.
         saved.law(&self.lowered);
-        asked_at(saved.statuses()[saved.place() as usize])
+        asked_at(saved.statuses[saved.place as usize])
     }
 
     fn statement(&self, state: &Box<KeptRun>) -> u32 {
-        state.saved.place()
+        state.saved.place
     }
 
     fn step(
@@ -220,13 +224,13 @@ impl<'c, 'a> States<'c> for Runs<'c, 'a> {
 
     fn same(&self, one: &Box<KeptRun>, other: &Box<KeptRun>) -> bool {
         match (one.end, other.end) {
-            (None, None) => one.saved.same(&other.saved, &self.lowered),
+            (None, None) => same(&one.saved, &other.saved, &self.lowered),
             _ => false,
         }
     }
 
     fn hash(&self, state: &Box<KeptRun>) -> u64 {
-        state.saved.hash()
+        hash(&state.saved)
     }
 }
 

@@ -1,6 +1,6 @@
 use Rattle.std.proofs.Common.{[], ap, arith, get_or, length, refl, subst, sym, ◌++◌, ◌+◌, ◌-◌, ◌<◌, ◌∙◌, ◌∷◌, ◌≡◌}
 use Rattle.ick_runtime.specs.{declared.change.Entry.TheVariants.Return, Undo.return_was}
-use Rattle.ick_marks.proofs.{Changes.grown, Changes.newest_alone, Names.changes_in, Names.Rewinds}
+use Rattle.ick_marks.proofs.{Changes.fixed_moved, Changes.grown, Changes.newest_alone, Names.changes_in, Names.Rewinds}
 use Rattle.ick_instructions.proofs.Extends.{extends_trans}
 use Rattle.ick_runtime.proofs.Undoing.{notes_return}
 use Rattle.ick_marks.proofs.trail.Trail.keep_returns.Goals as goal
@@ -30,7 +30,14 @@ returns-preserved c =
           (old.notes k v m same h));
     }
 
+pub returns-clause-base : goal.returns-clause-base
+returns-clause-base c =
+    let inv = c.returns.invariant in
+    fixed_moved c.args.self.now c.returns.self inv.base inv.kept inv.changes
+
 pub returns-clause-notes : goal.returns-clause-notes
 returns-clause-notes c = λ k v m same h.
-    let inv = c.returns.invariant in
-    subst (λ b. Rewinds b (changes_in c.returns.self) c.returns.self.low k v m) (sym inv.base) (inv.notes k v m same h)
+    let inv = c.returns.invariant in (
+      omega (arith, inv.kept, h.0),
+      subst (λ b. Rewinds b (changes_in c.returns.self) c.returns.self.low k v m) (sym inv.base) (inv.notes k v m same h.1),
+    )

@@ -24,7 +24,7 @@ returns-clause-runs c =
     let none = goes_on code parts input view old.end c.requires.going in
     let before = run_same code parts input (view_in c.exchange.new.memory) view None
     (c.exchange.ensures.loaded.states input) ∙ ap (run_state code parts input view) (sym none) in
-    let after = run_same code parts input (saved_view c.renew.new.self) (view_in c.step_in.new.memory)
+    let after = run_same code parts input (saved_view c.renew.new.saved) (view_in c.step_in.new.memory)
     c.step_in.new.end (c.law.ensures (view_in c.step_in.new.memory) c.in_ok-renew.ensures.saved input) in
     same_steps program _ _ _ _ c.in_ok-made.made (ap (λ s. advance program s c.args.done) before) after
     c.in_ok-made.ensures.runs

@@ -1,4 +1,5 @@
-use Rattle.std.proofs.Common.{◌≡◌, Some, None, ap, subst, sym, ◌∙◌, get_or, length, arith}
+use Rattle.std.proofs.Common.{◌≡◌, Some, None, ap, subst, sym, ◌∙◌, arith}
+use Rattle.std.proofs.lemmas.Grind.{get_or_default_zero}
 use Rattle.ick_backtrack.specs.Asked.{asked_of, finish_of}
 use Rattle.ick_marks.specs.Saved.{saved_view}
 use Rattle.ick_runtime.specs.Inputs.{input_of}
@@ -22,14 +23,12 @@ returns-in-Some c =
 kept : (c : After-deref-2) → CanGoOnFrom c.args.self.now.lowered c.deref-2.result.now.saved
 kept c = subst (λ (run : KeptRun). CanGoOnFrom c.args.self.now.lowered run.saved) (sym c.deref-2.ensures) c.requires
 
-pub bounds-statuses-place : goal.bounds-statuses-place
-bounds-statuses-place c =
+pub index-requires : goal.index-requires
+index-requires c =
     let lowered = c.args.self.now.lowered in
     let low = status_there lowered.code.now lowered.parts c.deref-2.result.now.saved
-    (kept (goal.at.bounds-statuses-place c).After-deref-2) in
-    let place = c.place.ensures in
-    let statuses = ap length c.statuses.ensures in
-    omega (arith, low, place, statuses)
+    (kept (goal.at.index-requires c).After-deref-2) in
+    omega (arith, low)
 
 pub returns : goal.returns
 returns c =
@@ -37,12 +36,13 @@ returns c =
     let input = input_of c.args.self.now.input.now in
     let saved = c.deref-2.result.now.saved in
     let run = c.args.state.now.value in
+    let is_kept = kept (goal.at.returns c).After-deref-2 in
+    let status = c.index.result.now in
+    let low = status_there lowered.code.now lowered.parts saved is_kept in
     asks_on lowered.code.now lowered.parts input (saved_view run.saved) run.end (asked_of c.asked_at.result)
     (ap (λ (run : KeptRun). run.end) (sym c.deref.ensures) ∙ c.in_default.is)
     (subst (λ (run : KeptRun). asked_of c.asked_at.result
     ≡ Some (ask (program_of lowered) (kept_state lowered input run.saved None))) c.deref-2.ensures
     (c.asked_at.ensures
-    ∙ ap Some (asked_there lowered.code.now lowered.parts saved (kept (goal.at.returns c).After-deref-2) c.law.ensures
-    (get_or c.statuses.result.now c.place.result 0)
-    (ap (λ l. get_or l c.place.result 0) c.statuses.ensures
-    ∙ ap (λ n. get_or saved.statuses.items n 0) c.place.ensures) input)))
+    ∙ ap Some (asked_there lowered.code.now lowered.parts saved is_kept c.law.ensures status
+    (c.index.ensures ∙ get_or_default_zero saved.statuses.items saved.place status low) input)))

@@ -1,6 +1,6 @@
 use Rattle.std.proofs.Common.{refl, sym}
 use Rattle.ick_marks.proofs.Saving.{rest_same}
-use Rattle.ick_marks.proofs.copy.same_rest.Goals as goal
+use Rattle.ick_states.proofs.comparing.same_rest.Goals as goal
 
 pub returns : goal.returns
 returns c = λ same.
