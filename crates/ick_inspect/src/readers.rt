@@ -59,7 +59,8 @@ fn array_slot(code: &Code<'_>, name: Name) -> Option<u32>
     None
 }
 
-/// States that the memory can be read, that each slot is in it, and that no two slots have one name.
+/// States that the memory can be read, that each slot is in it, and that no two slots have one
+/// name.
 fn law(present: &Present<'_, '_, '_>)
     ensures ready { CanGoOn present.now.lowered.now present.now.memory.now }
     ensures program { IsProgram present.now.lowered.now.code.now present.now.lowered.now.parts }

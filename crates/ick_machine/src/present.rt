@@ -9,7 +9,7 @@ use ick_instructions::Lowered;
 use ick_runtime::Memory;
 
 /// The parts that represent the present state of a machine: the memory, the end of the run, if
-/// there is one, and the whole input. Its type says that the readers of the memory may be called.
+/// there is one, and the whole input. Its type says that the memory can be read.
 #[derive(Clone, Copy)]
 pub struct Present<'m, 'c, 'a> {
     pub lowered: &'m Lowered<'c, 'a>,
@@ -20,7 +20,7 @@ pub struct Present<'m, 'c, 'a> {
 }
 
 impl<'m, 'c, 'a> Present<'m, 'c, 'a> {
-    /// States that the readers of the memory may be called.
+    /// States that the memory can be read.
     pub fn law(&self)
         ensures { CanGoOn self.now.lowered.now self.now.memory.now }
     {}
