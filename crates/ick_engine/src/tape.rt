@@ -1,6 +1,6 @@
 //! Arrays that are printed and read as bytes.
 
-ghost use Rattle.std.specs.Prelude.{◌≡◌, ◌+◌, ◌<◌, ◌≤◌, ◌++◌, length, take, IfOk, OnOk};
+ghost use Rattle.std.specs.Prelude.{◌≡◌, ◌+◌, ◌<◌, ◌≤◌, ◌++◌, length, IfOk, OnOk};
 ghost use Rattle.std.specs.Prelude.{OnErr, slice_set, if◌then◌else◌};
 ghost use Rattle.ick_code.specs.meaning.Tape.{tape_bytes, tape_after};
 ghost use Rattle.ick_runtime.specs.{Halts.Took, Noting.NotesBefore, Noting.NotesParts};
@@ -31,21 +31,6 @@ fn append_elements(output: &mut Vec<u8>, last: u8, elements: &Vec<u32>) -> Resul
     Ok(position)
 }
 
-/// Notes the output and its tape, and makes room for a whole statement.
-fn note_printing<N: Notes>(rest: &Rest, notes: &mut N, longest: usize) -> Result<(), NoMemory>
-    requires room { 2 ≤ N.room notes.old }
-    ensures room { OnOk result (longest + 79 ≤ N.room notes.new) }
-    ensures notes { NotesBefore N.Undoes N.low N.fixed N.changes notes.old notes.new
-        (λ p. record p {
-          output = take (length rest.now.output.items) p.output;
-          last = rest.now.last;
-        }) }
-{
-    notes.note(Entry::Output(rest.output.len()));
-    notes.note(Entry::Last(rest.last));
-    notes.make_room(longest)
-}
-
 /// Prints the elements of an array of one dimension as bytes (Revised Manual, 5.2). If memory runs
 /// out, nothing changes.
 #[inline(never)]
@@ -66,8 +51,9 @@ pub fn print_array<N: Notes>(
     if array.dimensions.len() != 1 {
         return Err(Halt::Fault(FaultKind::Hyperspace));
     }
-    note_printing(rest, notes, longest)?;
-    let array = &rest.arrays[slot as usize];
+    notes.note(Entry::Output(rest.output.len()));
+    notes.note(Entry::Last(rest.last));
+    notes.make_room(longest)?;
     rest.last = append_elements(&mut rest.output, rest.last, &array.elements)?;
     Ok(())
 }
