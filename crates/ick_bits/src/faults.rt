@@ -56,49 +56,43 @@ pub enum FaultKind {
     OffTheEdge,
 }
 
+/// The table of faults: for each kind, in their order, its number, and its text before the subject.
+static TABLE: [(u16, &[u8]); 20] = [
+    (0, b""),
+    (17, b"DO YOU EXPECT ME TO FIGURE THIS OUT?"),
+    (79, b"PROGRAMMER IS INSUFFICIENTLY POLITE"),
+    (99, b"PROGRAMMER IS OVERLY POLITE"),
+    (123, b"PROGRAM HAS DISAPPEARED INTO THE BLACK LAGOON"),
+    (129, b"PROGRAM HAS GOTTEN LOST"),
+    (139, b"I WASN'T PLANNING TO GO THERE ANYWAY"),
+    (182, b"YOU MUST LIKE THIS LABEL A LOT!"),
+    (197, b"SO! 65535 LABELS AREN'T ENOUGH FOR YOU?"),
+    (200, b"NOTHING VENTURED, NOTHING GAINED"),
+    (240, b"ERROR HANDLER PRINTED SNIDE REMARK"),
+    (241, b"VARIABLES MAY NOT BE STORED IN WEST HYPERSPACE"),
+    (275, b"DON'T BYTE OFF MORE THAN YOU CAN CHEW"),
+    (436, b"THROW STICK BEFORE RETRIEVING!"),
+    (533, b"YOU WANT MAYBE WE SHOULD IMPLEMENT 64-BIT VARIABLES?"),
+    (562, b"I DO NOT COMPUTE"),
+    (579, b"WHAT BASE AND/OR LANGUAGE INCLUDES "),
+    (621, b"ERROR TYPE 621 ENCOUNTERED"),
+    (
+        632,
+        b"THE NEXT STACK RUPTURES.  ALL DIE.  OH, THE EMBARRASSMENT!",
+    ),
+    (
+        633,
+        b"PROGRAM FELL OFF THE EDGE ON THE WAY TO THE NEW WORLD.",
+    ),
+];
+
 impl FaultKind {
     /// Returns the number that the message prints with three digits. It is below 1000.
     pub fn number(self) -> u16
         ensures value { result ≡ fault_number self }
         ensures short { result < 1000 }
     {
-        self.entry().0
-    }
-
-    /// Returns the kind's row in the table of faults: its number, and its text before the subject.
-    fn entry(self) -> (u16, &'static [u8])
-        ensures number { result.0 ≡ fault_number self }
-        ensures short { result.0 < 1000 }
-        ensures text { result.1.now ≡ table_text self }
-    {
-        match self {
-            FaultKind::Unrecognised => (0, b""),
-            FaultKind::MeshTooLarge => (17, b"DO YOU EXPECT ME TO FIGURE THIS OUT?"),
-            FaultKind::Impolite => (79, b"PROGRAMMER IS INSUFFICIENTLY POLITE"),
-            FaultKind::Fawning => (99, b"PROGRAMMER IS OVERLY POLITE"),
-            FaultKind::NextDepth => (123, b"PROGRAM HAS DISAPPEARED INTO THE BLACK LAGOON"),
-            FaultKind::NoNextLabel => (129, b"PROGRAM HAS GOTTEN LOST"),
-            FaultKind::NoAbstainLabel => (139, b"I WASN'T PLANNING TO GO THERE ANYWAY"),
-            FaultKind::SameLabel => (182, b"YOU MUST LIKE THIS LABEL A LOT!"),
-            FaultKind::LabelRange => (197, b"SO! 65535 LABELS AREN'T ENOUGH FOR YOU?"),
-            FaultKind::NameRange => (200, b"NOTHING VENTURED, NOTHING GAINED"),
-            FaultKind::ZeroDimension => (240, b"ERROR HANDLER PRINTED SNIDE REMARK"),
-            FaultKind::Hyperspace => (241, b"VARIABLES MAY NOT BE STORED IN WEST HYPERSPACE"),
-            FaultKind::TooWide => (275, b"DON'T BYTE OFF MORE THAN YOU CAN CHEW"),
-            FaultKind::NothingStashed => (436, b"THROW STICK BEFORE RETRIEVING!"),
-            FaultKind::SixtyFour => (533, b"YOU WANT MAYBE WE SHOULD IMPLEMENT 64-BIT VARIABLES?"),
-            FaultKind::NoInput => (562, b"I DO NOT COMPUTE"),
-            FaultKind::NoDigit => (579, b"WHAT BASE AND/OR LANGUAGE INCLUDES "),
-            FaultKind::ResumeZero => (621, b"ERROR TYPE 621 ENCOUNTERED"),
-            FaultKind::Rupture => (
-                632,
-                b"THE NEXT STACK RUPTURES.  ALL DIE.  OH, THE EMBARRASSMENT!",
-            ),
-            FaultKind::OffTheEdge => (
-                633,
-                b"PROGRAM FELL OFF THE EDGE ON THE WAY TO THE NEW WORLD.",
-            ),
-        }
+        TABLE[self as usize].0
     }
 
     /// Returns the three decimal digits of the number, as ASCII bytes.
@@ -119,7 +113,7 @@ impl FaultKind {
         ensures { let pieces = result.before.now ++ result.subject.now ++ result.after.now in
             pieces ≡ text_of self subject.now }
     {
-        let before = self.entry().1;
+        let before = TABLE[self as usize].1;
         match self {
             FaultKind::Unrecognised => Text {
                 before,

@@ -51,6 +51,22 @@ pub enum Gerund {
     ReadingOut,
 }
 
+/// For each gerund, in their order, its word, or the first of its two words.
+static WORDS: [&[u8]; 12] = [
+    b"CALCULATING",
+    b"NEXTING",
+    b"FORGETTING",
+    b"RESUMING",
+    b"STASHING",
+    b"RETRIEVING",
+    b"IGNORING",
+    b"REMEMBERING",
+    b"ABSTAINING",
+    b"REINSTATING",
+    b"WRITING",
+    b"READING",
+];
+
 impl Gerund {
     /// Lists all gerunds, each once.
     pub const ALL: [Gerund; 12] = [
@@ -72,20 +88,7 @@ impl Gerund {
     pub fn word(self) -> &'static [u8]
         ensures { result.now ≡ gerund_word self }
     {
-        match self {
-            Gerund::Calculating => b"CALCULATING",
-            Gerund::Nexting => b"NEXTING",
-            Gerund::Forgetting => b"FORGETTING",
-            Gerund::Resuming => b"RESUMING",
-            Gerund::Stashing => b"STASHING",
-            Gerund::Retrieving => b"RETRIEVING",
-            Gerund::Ignoring => b"IGNORING",
-            Gerund::Remembering => b"REMEMBERING",
-            Gerund::Abstaining => b"ABSTAINING",
-            Gerund::Reinstating => b"REINSTATING",
-            Gerund::WritingIn => b"WRITING",
-            Gerund::ReadingOut => b"READING",
-        }
+        WORDS[self as usize]
     }
 
     /// Returns the second of the gerund's two words, or `None` if it has one word.

@@ -26,27 +26,30 @@ pub enum Kind {
     Unrecognised,
 }
 
+/// The words for the kinds in a listing of statements, in the order of the kinds.
+static WORDS: [&[u8]; 14] = [
+    b"CALCULATE",
+    b"NEXT",
+    b"FORGET",
+    b"RESUME",
+    b"STASH",
+    b"RETRIEVE",
+    b"IGNORE",
+    b"REMEMBER",
+    b"ABSTAIN",
+    b"REINSTATE",
+    b"GIVE-UP",
+    b"WRITE-IN",
+    b"READ-OUT",
+    b"UNRECOGNISED",
+];
+
 impl Kind {
     /// Returns the word for the kind in a listing of statements (this profile).
     pub fn word(self) -> &'static [u8]
         ensures { result.now ≡ kind_word self }
     {
-        match self {
-            Kind::Calculate => b"CALCULATE",
-            Kind::Next => b"NEXT",
-            Kind::Forget => b"FORGET",
-            Kind::Resume => b"RESUME",
-            Kind::Stash => b"STASH",
-            Kind::Retrieve => b"RETRIEVE",
-            Kind::Ignore => b"IGNORE",
-            Kind::Remember => b"REMEMBER",
-            Kind::Abstain => b"ABSTAIN",
-            Kind::Reinstate => b"REINSTATE",
-            Kind::GiveUp => b"GIVE-UP",
-            Kind::WriteIn => b"WRITE-IN",
-            Kind::ReadOut => b"READ-OUT",
-            Kind::Unrecognised => b"UNRECOGNISED",
-        }
+        WORDS[self as usize]
     }
 }
 
