@@ -7,7 +7,7 @@ ghost use Rattle.ick_syntax.specs.Kinds.{kind_of, kind_word, named_kind};
 use crate::body::{Body, Gerund};
 
 /// The kind of a statement (Revised Manual, 4.4).
-#[derive(Clone, Copy, Debug, PartialEq, Eq)]
+#[derive(Clone, Copy, Debug)]
 pub enum Kind {
     /// Stores a value, or gives an array its dimensions.
     Calculate,

@@ -35,7 +35,7 @@ pub enum UnaryOp {
 }
 
 /// The binary operators (Revised Manual, 3.4.1).
-#[derive(Clone, Copy, Debug, PartialEq, Eq)]
+#[derive(Clone, Copy, Debug)]
 pub enum BinaryOp {
     /// `$`
     Mingle,
