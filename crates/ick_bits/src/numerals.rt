@@ -98,15 +98,9 @@ fn push_digit(symbols: &mut ArrayVec<Symbol, 39>, letters: Letters, digit: u8)
 {
     let Letters { one, five, ten } = letters;
     match digit {
-        0 => {}
-        1 => push_all(symbols, &[one]),
-        2 => push_all(symbols, &[one, one]),
-        3 => push_all(symbols, &[one, one, one]),
+        0..=3 => push_all(symbols, &[one, one, one][..usize::from(digit)]),
         4 => push_all(symbols, &[one, five]),
-        5 => push_all(symbols, &[five]),
-        6 => push_all(symbols, &[five, one]),
-        7 => push_all(symbols, &[five, one, one]),
-        8 => push_all(symbols, &[five, one, one, one]),
+        5..=8 => push_all(symbols, &[five, one, one, one][..usize::from(digit - 4)]),
         _ => push_all(symbols, &[one, ten]),
     }
 }
