@@ -22,17 +22,17 @@ pub fn append_quoted(out: &mut Vec<u8>, text: &[u8]) -> Result<(), NoMemory>
     ensures capacity { vec_capacity out.old ≤ vec_capacity out.new }
 {
     let start = out.len();
-    let appended = push_quoted(out, text);
-    if appended.is_err() {
+    if push_quoted(out, text).is_err() {
         out.truncate(start);
+        return Err(NoMemory);
     }
-    appended
+    Ok(())
 }
 
 /// Appends the quoted text, or a prefix of it if memory is refused. Copies stretches of plain bytes
 /// at once, which is faster than byte by byte.
 #[tactic(auto, unfolding(crate::specs::Quoted::quoted))]
-fn push_quoted(out: &mut Vec<u8>, text: &[u8]) -> Result<(), NoMemory>
+fn push_quoted(out: &mut Vec<u8>, text: &[u8]) -> Result<(), AllocError>
     ensures ok { OnOk result (out.new.items ≡ out.old.items ++ quoted text.now) }
     ensures err { OnErr result (take (vec_len out.old) out.new.items ≡ out.old.items) }
     ensures full { let whole = quoted text.now in
@@ -44,13 +44,12 @@ fn push_quoted(out: &mut Vec<u8>, text: &[u8]) -> Result<(), NoMemory>
     while done < text.len() {
         done += push_stretch(out, &text[done..])?;
     }
-    out.extend_from_slice(b"\"")?;
-    Ok(())
+    out.extend_from_slice(b"\"")
 }
 
 /// Appends the escapes of the first bytes of `rest`, or nothing if memory is refused. Returns their
 /// number: all bytes up to one that may not be plain, or that byte alone.
-fn push_stretch(out: &mut Vec<u8>, rest: &[u8]) -> Result<usize, NoMemory>
+fn push_stretch(out: &mut Vec<u8>, rest: &[u8]) -> Result<usize, AllocError>
     requires { 0 < length rest.now }
     ensures some { IfOk result (λ count. 0 < count) }
     ensures within { IfOk result (λ count. count ≤ length rest.now) }
