@@ -163,7 +163,14 @@ fn emit_places(draft: &mut Draft, table: &Table, places: &[Place])
         draft.old draft.new }
 {
     for place in places {
-        emit_read(draft, table, place);
+        match place {
+            Place::Scalar(name) => draft.push(Op::ReadTo(table.scalars.slot(*name))),
+            Place::Element(element) => {
+                let count = emit_exprs(draft, table, &element.subs);
+                draft.push(Op::ReadAt(table.arrays.slot(element.array), count))
+            }
+            Place::Array(name) => draft.push(Op::ReadArray(table.arrays.slot(*name))),
+        }
     }
 }
 
@@ -174,7 +181,16 @@ fn emit_items(draft: &mut Draft, table: &Table, items: &[Item])
         draft.old draft.new }
 {
     for item in items {
-        emit_print(draft, table, item);
+        match item {
+            Item::Scalar(name) => draft.push(Op::Load(table.scalars.slot(*name))),
+            Item::Element(element) => emit_fetch(draft, table, element),
+            Item::Mesh(number) => draft.push(Op::Constant(*number)),
+            Item::Array(name) => {
+                draft.push(Op::PrintArray(table.arrays.slot(*name)));
+                continue;
+            }
+        }
+        draft.push(Op::Print);
     }
 }
 
@@ -190,35 +206,6 @@ fn emit_store(draft: &mut Draft, table: &Table, target: &Target)
             draft.push(Op::StoreAt(table.arrays.slot(element.array), count))
         }
     }
-}
-
-/// Appends the operations that read input for a place.
-fn emit_read(draft: &mut Draft, table: &Table, place: &Place)
-    requires { is_item_kinded (place_tree place.now) ≡ true }
-    ensures { Emits (read_ops (table_slots table.now) place.now) draft.old draft.new }
-{
-    match place {
-        Place::Scalar(name) => draft.push(Op::ReadTo(table.scalars.slot(*name))),
-        Place::Element(element) => {
-            let count = emit_exprs(draft, table, &element.subs);
-            draft.push(Op::ReadAt(table.arrays.slot(element.array), count))
-        }
-        Place::Array(name) => draft.push(Op::ReadArray(table.arrays.slot(*name))),
-    }
-}
-
-/// Appends the operations that print an item.
-fn emit_print(draft: &mut Draft, table: &Table, item: &Item)
-    requires { is_item_kinded (item_tree item.now) ≡ true }
-    ensures { Emits (print_ops (table_slots table.now) item.now) draft.old draft.new }
-{
-    match item {
-        Item::Scalar(name) => draft.push(Op::Load(table.scalars.slot(*name))),
-        Item::Element(element) => emit_fetch(draft, table, element),
-        Item::Mesh(number) => draft.push(Op::Constant(*number)),
-        Item::Array(name) => return draft.push(Op::PrintArray(table.arrays.slot(*name))),
-    }
-    draft.push(Op::Print);
 }
 
 /// Appends the operations of an element.

@@ -133,37 +133,16 @@ impl Table {
         }
     }
 
-    /// Gives slots to the names of an item.
-    #[tactic(auto, using(crate::proofs::TableLemmas::names_steps))]
-    fn add_item(&mut self, item: &Item)
-        ensures { Adds (names_of_item (item_tree item.now)) self.old self.new }
-    {
-        match item {
-            Item::Scalar(name) => self.add(*name),
-            Item::Element(element) => self.add_element(element),
-            Item::Mesh(_) => {}
-            Item::Array(name) => self.add(*name),
-        }
-    }
-
-    /// Gives slots to the names of a place.
-    #[tactic(auto, using(crate::proofs::TableLemmas::names_steps))]
-    fn add_place(&mut self, place: &Place)
-        ensures { Adds (names_of_item (place_tree place.now)) self.old self.new }
-    {
-        match place {
-            Place::Scalar(name) | Place::Array(name) => self.add(*name),
-            Place::Element(element) => self.add_element(element),
-        }
-    }
-
     /// Gives slots to the names of places, in their order.
     #[tactic(auto, using(crate::proofs::TableLemmas::names_none))]
     fn add_places(&mut self, places: &[Place])
         ensures { Adds (flat_map names_of_item (map place_tree places.now)) self.old self.new }
     {
         for place in places {
-            self.add_place(place);
+            match place {
+                Place::Scalar(name) | Place::Array(name) => self.add(*name),
+                Place::Element(element) => self.add_element(element),
+            }
         }
     }
 
@@ -173,7 +152,11 @@ impl Table {
         ensures { Adds (flat_map names_of_item (map item_tree items.now)) self.old self.new }
     {
         for item in items {
-            self.add_item(item);
+            match item {
+                Item::Scalar(name) | Item::Array(name) => self.add(*name),
+                Item::Element(element) => self.add_element(element),
+                Item::Mesh(_) => {}
+            }
         }
     }
 
