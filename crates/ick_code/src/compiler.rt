@@ -1,13 +1,8 @@
 //! Compiles programs: gives each name a slot first, and then each statement its operations.
 
-ghost use Rattle.std.specs.Prelude.{◌≡◌, ◌++◌, true, [], OnOk, IfOk};
-ghost use Rattle.ick_syntax.specs.NameKinds.{is_body_kinded};
+ghost use Rattle.std.specs.Prelude.{◌≡◌, [], IfOk};
 ghost use Rattle.ick_syntax.specs.Programs.{trees_of};
-ghost use Rattle.ick_syntax.specs.BodyTree.{body_tree_of};
 ghost use Rattle.ick_code.specs.Tables.{table_slots};
-ghost use Rattle.ick_code.specs.Labels.{place_in};
-ghost use Rattle.ick_code.specs.Operations.{ops_of_body};
-ghost use Rattle.ick_code.specs.Emitted.{IsEmitted};
 ghost use Rattle.ick_code.specs.Names.{slots_of};
 ghost use Rattle.ick_code.specs.Code.{IsCode};
 ghost use Rattle.ick_code.specs.Compiled.{IsCompiled};
@@ -18,7 +13,7 @@ use crate::emit::{Draft, emit_body};
 use crate::labels::Labels;
 use crate::table::Table;
 use ick_bits::NoMemory;
-use ick_syntax::{Kind, Program, Statement};
+use ick_syntax::{Kind, Program};
 use std::alloc::Global;
 
 /// Compiles a program: each statement becomes a flat list of operations, with slots for names and
@@ -69,39 +64,21 @@ fn compile_all<'a>(
     let labels = Labels::new(alloc, statements)?;
     let mut operands = 0usize;
     for statement in statements {
-        let one = compile_statement(draft, table, &labels, statement)?;
-        operands = operands.max(most_operands(&draft.ops[one.from..one.to]));
-        compiled.push(one)?;
+        let from = draft.ops.len();
+        emit_body(draft, table, &labels, &statement.body);
+        if draft.refused {
+            return Err(NoMemory);
+        }
+        let to = draft.ops.len();
+        operands = operands.max(most_operands(&draft.ops[from..to]));
+        compiled.push(CompiledStatement {
+            from,
+            to,
+            chance: statement.chance,
+            abstained: statement.abstained,
+            text: statement.text,
+        })?;
         kinds.push(statement.body.kind())?;
     }
     Ok(operands)
-}
-
-/// Appends the operations of a statement, and returns the compiled statement.
-fn compile_statement<'a>(
-    draft: &mut Draft,
-    table: &Table,
-    labels: &Labels,
-    statement: &Statement<'a>,
-) -> Result<CompiledStatement<'a>, NoMemory>
-    requires { is_body_kinded (body_tree_of statement.now.body) ≡ true }
-    ensures ops { OnOk result (draft.new.ops.items ≡
-        draft.old.ops.items
-        ++ ops_of_body (place_in labels.now) (table_slots table.now) statement.now.body) }
-    ensures statement { IfOk result (λ compiled.
-        IsEmitted (place_in labels.now) (table_slots table.now)
-        draft.new.ops.items compiled statement.now) }
-{
-    let from = draft.ops.len();
-    emit_body(draft, table, labels, &statement.body);
-    if draft.refused {
-        return Err(NoMemory);
-    }
-    Ok(CompiledStatement {
-        from,
-        to: draft.ops.len(),
-        chance: statement.chance,
-        abstained: statement.abstained,
-        text: statement.text,
-    })
 }
