@@ -1,11 +1,9 @@
 //! The statement numbers of labels.
 
-ghost use Rattle.std.specs.Prelude.{◌≡◌, ℕ, ◌≤◌, length, map, OnOk, IfOk};
-ghost use Rattle.std.specs.BTreeMap.{get};
-ghost use Rattle.std.specs.Ordering.{nat_cmp};
+ghost use Rattle.std.specs.Prelude.{◌≡◌, ℕ, ◌≤◌, length, map, IfOk};
 ghost use Rattle.ick_syntax.specs.StatementTree.{statement_tree_of};
-ghost use Rattle.ick_code.specs.meaning.Control.{is_label, place_of};
-ghost use Rattle.ick_code.specs.Labels.{with_place, place_in};
+ghost use Rattle.ick_code.specs.meaning.Control.{place_of};
+ghost use Rattle.ick_code.specs.Labels.{place_in};
 ghost use Rattle.ick_syntax.specs.StatementTree.{most_statements};
 
 use ick_bits::NoMemory;
@@ -31,7 +29,11 @@ impl Labels {
         let mut places = BTreeMap::new(alloc);
         let mut past = 1;
         for statement in statements {
-            note(&mut places, statement.label, past)?;
+            if let Some(label) = statement.label {
+                if !places.contains_key(&label) {
+                    places.insert(label, past)?;
+                }
+            }
             past += 1;
         }
         Ok(Labels { places, past })
@@ -44,19 +46,4 @@ impl Labels {
     {
         self.places.get(&label).copied().unwrap_or(self.past)
     }
-}
-
-/// Maps a label to a statement number, unless the map has the label.
-fn note(places: &mut BTreeMap<u16, u32>, label: Option<u16>, place: u32) -> Result<(), NoMemory>
-    ensures { OnOk result ((q : ℕ) → get nat_cmp places.new q ≡
-        with_place (get nat_cmp places.old q) (is_label q label) place) }
-{
-    let Some(label) = label else {
-        return Ok(());
-    };
-    if places.contains_key(&label) {
-        return Ok(());
-    }
-    places.insert(label, place)?;
-    Ok(())
 }
