@@ -10,7 +10,7 @@ ghost use Rattle.ick_syntax.specs.BodyTree.{target_tree, place_tree, item_tree, 
 ghost use Rattle.ick_code.specs.Names.{slot_in};
 ghost use Rattle.ick_code.specs.Tables.{table_slots};
 ghost use Rattle.ick_code.specs.Labels.{place_in};
-ghost use Rattle.ick_code.specs.Operations.{unary_op_of, binary_op_of, ops_of_tree, ops_of_trees};
+ghost use Rattle.ick_code.specs.Operations.{ops_of_tree, ops_of_trees};
 ghost use Rattle.ick_code.specs.Operations.{ops_at, store_ops, read_ops, print_ops, name_ops};
 ghost use Rattle.ick_code.specs.Operations.{gerund_ops, ops_of_body};
 ghost use Rattle.ick_code.specs.Forms.{on_name_of, on_gerund_of};
@@ -48,54 +48,11 @@ pub enum NameForm {
     Show,
 }
 
-impl NameForm {
-    fn on(self, name: SlotName) -> Op
-        ensures { result ≡ on_name_of self name }
-    {
-        match self {
-            NameForm::Save => Op::Save(name),
-            NameForm::Restore => Op::Restore(name),
-            NameForm::Hide => Op::Hide(name),
-            NameForm::Show => Op::Show(name),
-        }
-    }
-}
-
 /// The operation that a statement applies to other statements.
 #[derive(Clone, Copy)]
 pub enum Switch {
     Abstain,
     Reinstate,
-}
-
-impl Switch {
-    fn on_kind(self, gerund: Gerund) -> Op
-        ensures { result ≡ on_gerund_of self gerund }
-    {
-        match self {
-            Switch::Abstain => Op::AbstainKind(gerund),
-            Switch::Reinstate => Op::ReinstateKind(gerund),
-        }
-    }
-}
-
-fn unary_op(op: UnaryOp) -> Op
-    ensures { result ≡ unary_op_of op }
-{
-    match op {
-        UnaryOp::And => Op::And,
-        UnaryOp::Or => Op::Or,
-        UnaryOp::Xor => Op::Xor,
-    }
-}
-
-fn binary_op(op: BinaryOp) -> Op
-    ensures { result ≡ binary_op_of op }
-{
-    match op {
-        BinaryOp::Mingle => Op::Mingle,
-        BinaryOp::Select => Op::Select,
-    }
 }
 
 /// Appends the operations of a body.
@@ -143,7 +100,13 @@ fn emit_names(draft: &mut Draft, table: &Table, form: NameForm, names: &[Name])
         draft.old draft.new }
 {
     for name in names {
-        draft.push(form.on(table.slot(*name)));
+        let name = table.slot(*name);
+        draft.push(match form {
+            NameForm::Save => Op::Save(name),
+            NameForm::Restore => Op::Restore(name),
+            NameForm::Hide => Op::Hide(name),
+            NameForm::Show => Op::Show(name),
+        });
     }
 }
 
@@ -152,7 +115,10 @@ fn emit_gerunds(draft: &mut Draft, switch: Switch, gerunds: &[Gerund])
     ensures { Emits (gerund_ops (on_gerund_of switch) gerunds.now) draft.old draft.new }
 {
     for gerund in gerunds {
-        draft.push(switch.on_kind(*gerund));
+        draft.push(match switch {
+            Switch::Abstain => Op::AbstainKind(*gerund),
+            Switch::Reinstate => Op::ReinstateKind(*gerund),
+        });
     }
 }
 
@@ -233,12 +199,19 @@ fn emit_expr(draft: &mut Draft, table: &Table, e: &Expr)
         Expr::Element(element) => emit_fetch(draft, table, element),
         Expr::Unary(op, inner) => {
             emit_expr(draft, table, inner);
-            draft.push(unary_op(*op))
+            draft.push(match op {
+                UnaryOp::And => Op::And,
+                UnaryOp::Or => Op::Or,
+                UnaryOp::Xor => Op::Xor,
+            })
         }
         Expr::Binary(op, left, right) => {
             emit_expr(draft, table, left);
             emit_expr(draft, table, right);
-            draft.push(binary_op(*op))
+            draft.push(match op {
+                BinaryOp::Mingle => Op::Mingle,
+                BinaryOp::Select => Op::Select,
+            })
         }
     }
 }
