@@ -75,10 +75,7 @@ impl Expr {
     {
         match self {
             Expr::Element(element) => Some(element),
-            Expr::Mesh(_) => None,
-            Expr::Scalar(_) => None,
-            Expr::Unary(_, _) => None,
-            Expr::Binary(_, _, _) => None,
+            _ => None,
         }
     }
 }
