@@ -1,6 +1,6 @@
 -- What a feed gives is what the input begins with.
 use Rattle.std.proofs.Common.{◌≡◌, ◌≢◌, ℕ, ◌+◌, ◌==◌, Bool, true, false, List, [], ◌∷◌, ◌++◌, length, take, rules}
-use Rattle.std.proofs.Common.{drop, Some, None, Result, Ok, Err, refl, sym, ap, ◌∙◌, arith}
+use Rattle.std.proofs.Common.{drop, Option, Some, None, Result, Ok, Err, refl, sym, ap, ◌∙◌, arith}
 use Rattle.std.specs.{Prelude.slice_range, List.position_or_len}
 use Rattle.std.proofs.Math.Seq.{take-append_seam, drop-append-add, get_or-append_seam}
 use Rattle.std.proofs.lemmas.Bool.{false≢true}
@@ -12,10 +12,10 @@ use Rattle.ick_bits.specs.declared.digits.DigitFault.TheVariants.{Word, TooLarge
 use Rattle.ick_code.specs.{meaning.State.State, meaning.Completion.Completion, meaning.Completion.faults}
 use Rattle.ick_code.specs.meaning.InputOutput.{with_input, with_number, first_line, later_lines}
 use Rattle.ick_runtime.specs.{Inputs.Input}
-use Rattle.ick_engine.specs.{declared.reader.Line.TheVariants.Nothing}
-use Rattle.ick_engine.specs.Reads.{IsNext, IsByte, line_outcome}
+use Rattle.ick_engine.specs.{declared.reader.Line.Line}
+use Rattle.ick_engine.specs.Reads.{IsNext, IsByte, line_outcome, number_outcome}
 use Rattle.ick_backtrack.specs.declared.feed_fault.FeedFault.{FeedFault}
-use Rattle.ick_engine.specs.Feeds.{has_ended, input_after, line_with, MayBeLeft}
+use Rattle.ick_engine.specs.Feeds.{has_ended, input_after, MayBeLeft}
 
 -- a line without an end in it is the first line of itself, an end and more
 module _ (line rest : List ℕ) (one : first_line line ≡ line) where
@@ -40,19 +40,23 @@ not_empty : (line rest : List ℕ) → line ++ 10 ∷ rest ≢ []
 not_empty [] rest e = cc
 not_empty (b ∷ line) rest e = cc
 
--- what comes of a line that was taken
+-- a line that was taken, after which the input goes on at a position
+abbrev pub taken : List ℕ → ℕ → Option Line
+taken line from = Some (record { number = line_answer line; next = from })
+
+-- what comes of it
 module _ (after : Input) (line : List ℕ) (from : ℕ)
     (word : (begin end : ℕ) → after.word begin end ≡ slice_range line begin end) (s : State)
     (go : ℕ → State → Completion) where
   by_answer : (answer : Result ℕ DigitFault) → with_number line answer (record s { input = after.left from }) go
-      ≡ line_outcome (line_with answer from) after from s go
+      ≡ number_outcome answer after (record s { input = after.left from }) go
   by_answer (Ok n) = refl
   by_answer (Err (Word begin end)) =
       ap (λ w. faults NoDigit w (record s { input = after.left from })) (sym (word begin end))
   by_answer (Err TooLarge) = refl
 
   line_taken : (left : List ℕ) → left ≢ [] → line ≡ first_line left → after.left from ≡ later_lines left →
-      with_input left s go ≡ line_outcome (line_with (line_answer line) from) after from s go
+      with_input left s go ≡ line_outcome (taken line from) after from s go
   line_taken [] some is rest = absurd (some refl)
   line_taken (b ∷ bs) some is rest = search (rules, by_answer)
 
@@ -60,10 +64,10 @@ module _ (before after : Input) (from : ℕ) where
   next_line : (line : List ℕ) → ((begin end : ℕ) → after.word begin end ≡ slice_range line begin end) →
       before.left from ≢ [] → line ≡ first_line (before.left from) →
       after.left from ≡ later_lines (before.left from) →
-      IsNext (line_with (line_answer line) from) from before after
+      IsNext (taken line from) from before after
   next_line line word some is rest = search (rules, line_taken)
 
-  next_nothing : before.left from ≡ [] → after.left from ≡ [] → IsNext Nothing from before after
+  next_nothing : before.left from ≡ [] → after.left from ≡ [] → IsNext None from before after
   next_nothing none none_after = search rules
 
 -- an input that a feed may have had before, where this was read and some may be left after it
@@ -89,11 +93,11 @@ module _ {told ended : Bool} (goes_on : ended ≡ false) {old_line line old new 
   pub read_line : first_line line ≡ line →
       (told ≡ true → (old ≢ []) × (line ≡ first_line old) × (new ≡ later_lines old)) →
       (after : Input) → MayBeLeft told ended line new after →
-      Before told ended old_line old (λ before. IsNext (line_with (line_answer line) from) from before after)
+      Before told ended old_line old (λ before. IsNext (taken line from) from before after)
   read_line one gave after may = cases told refl
     where
       cases : (tells : Bool) → told ≡ tells →
-          Before told ended old_line old (λ before. IsNext (line_with (line_answer line) from) from before after)
+          Before told ended old_line old (λ before. IsNext (taken line from) from before after)
       cases true e =
           let is = gave e in
           let rest = may.told_left e from ∙ is.2 in (
@@ -132,6 +136,6 @@ module _ {told ended : Bool} (goes_on : ended ≡ false) {old_line line old new 
 
   pub read_nothing : (told ≡ true → (old ≡ []) × (new ≡ [])) →
       (after : Input) → MayBeLeft told true line new after →
-      Before told ended old_line old (λ before. IsNext Nothing from before after)
+      Before told ended old_line old (λ before. IsNext None from before after)
   read_nothing gave after may =
       let end = read_no_byte gave after may in (end.0, end.1, next_nothing end.0 after from end.2.0 end.2.1)

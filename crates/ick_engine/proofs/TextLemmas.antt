@@ -1,5 +1,5 @@
 -- A line of a text.
-use Rattle.std.proofs.Common.{◌≡◌, ℕ, ◌+◌, ◌-◌, ◌==◌, ◌<◌, ◌≤◌, List, length, take, drop, sym, ap, ◌∙◌, arith, length-drop, rules, Err, slice_range}
+use Rattle.std.proofs.Common.{◌≡◌, ℕ, ◌+◌, ◌-◌, ◌==◌, ◌<◌, ◌≤◌, List, length, take, drop, sym, ap, ◌∙◌, arith, length-drop, rules, Ok, Err, Some, slice_range}
 use Rattle.std.proofs.lemmas.Grind.{common_steps}
 use Rattle.std.specs.List.{position_or_len}
 use Rattle.std.proofs.lemmas.List.{drop-take, take-take, drop-drop, length-take}
@@ -8,7 +8,7 @@ use Rattle.ick_bits.specs.Digits.{line_answer}
 use Rattle.ick_bits.specs.declared.digits.DigitFault.TheVariants as digit
 use Rattle.ick_code.specs.{meaning.State.State, meaning.Completion.Completion, meaning.InputOutput.with_input, meaning.InputOutput.with_number}
 use Rattle.ick_runtime.specs.Inputs.{input_of}
-use Rattle.ick_engine.specs.{declared.reader.Line.TheVariants.BadWord, Reads.IsNext}
+use Rattle.ick_engine.specs.Reads.{IsNext}
 
 pub rest_of : (text : List ℕ) (from : ℕ) → take (length text - from) (drop from text) ≡ drop from text
 rest_of text from = ap (λ n. take n (drop from text)) (sym (length-drop from text)) ∙ take-length (drop from text)
@@ -31,5 +31,14 @@ module _ (text rest : List ℕ) (from n : ℕ) (is : rest ≡ drop from text) (s
 
   pub word_line : (begin end : ℕ) → Err (digit.Word begin end) ≡ line_answer (take n rest) → begin < end →
       end ≤ length (take n rest) →
-      IsNext (BadWord (from + begin) (from + end) (from + n + 1)) from (input_of text) (input_of text)
+      IsNext (Some (record { number = Err (digit.Word (from + begin) (from + end)); next = from + n + 1 })) from
+      (input_of text) (input_of text)
   word_line begin end bad more within = search (rules, line_taken, word_of)
+
+  pub number_line : (k : ℕ) → Ok k ≡ line_answer (take n rest) →
+      IsNext (Some (record { number = Ok k; next = from + n + 1 })) from (input_of text) (input_of text)
+  number_line k good = search (rules, line_taken)
+
+  pub large_line : Err digit.TooLarge ≡ line_answer (take n rest) →
+      IsNext (Some (record { number = Err digit.TooLarge; next = from + n + 1 })) from (input_of text) (input_of text)
+  large_line large = search (rules, line_taken)

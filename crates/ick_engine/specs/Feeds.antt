@@ -2,11 +2,7 @@
 use Rattle.std.specs.Prelude.{ℕ, ◌≡◌, Bool, true, List, [], slice_range, if◌then◌else◌, Result, Ok, Err}
 use Rattle.std.proofs.Common.{false, refl, sym}
 use Rattle.std.proofs.lemmas.Bool.{false≢true}
-use Rattle.ick_bits.specs.declared.digits.DigitFault.{DigitFault}
-use Rattle.ick_bits.specs.declared.digits.DigitFault.TheVariants.{Word, TooLarge as TooLargeNumber}
 use Rattle.ick_runtime.specs.Inputs.{Input}
-use Rattle.ick_engine.specs.declared.reader.Line.{Line}
-use Rattle.ick_engine.specs.declared.reader.Line.TheVariants.{Number, TooLarge, BadWord}
 use Rattle.ick_backtrack.specs.declared.feed_fault.FeedFault.{FeedFault}
 use Rattle.ick_backtrack.specs.declared.feed_fault.FeedFault.TheVariants.{NoMemory, Read}
 
@@ -25,12 +21,6 @@ abbrev pub has_ended : Result Bool FeedFault → Bool
 has_ended (Ok true) = false
 has_ended (Ok false) = true
 has_ended (Err fault) = false
-
--- a line with this answer, after which the input goes on at a position
-abbrev pub line_with : Result ℕ DigitFault → ℕ → Line
-line_with (Ok number) to = Number number to
-line_with (Err (Word from end)) to = BadWord from end to
-line_with (Err TooLargeNumber) to = TooLarge to
 
 -- the input that a feed has left after its last line, wherever it is asked for
 abbrev pub input_after : List ℕ → List ℕ → Input

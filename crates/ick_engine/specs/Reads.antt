@@ -1,23 +1,27 @@
 -- What readers of input have read.
-use Rattle.std.specs.Prelude.{ℕ, ◌≡◌, Bool, List, [], ◌∷◌, ◌++◌, drop, Option, Some, None, if◌then◌else◌}
+use Rattle.std.specs.Prelude.{ℕ, ◌≡◌, Bool, List, [], ◌∷◌, ◌++◌, drop, Option, Some, None, Result, Ok, Err, if◌then◌else◌}
 use Rattle.ick_bits.specs.declared.faults.FaultKind.TheVariants.{NoDigit, NoInput, SixtyFour}
-use Rattle.ick_bits.specs.Tape.{tape_difference}
+use Rattle.ick_bits.specs.{Tape.tape_difference, declared.digits.DigitFault.DigitFault}
+use Rattle.ick_bits.specs.declared.digits.DigitFault.TheVariants.{Word, TooLarge}
 use Rattle.ick_code.specs.{meaning.State.State, meaning.Completion.Completion, meaning.Completion.faults}
 use Rattle.ick_code.specs.{meaning.InputOutput.with_input, meaning.Tape.tape_numbers, meaning.Tape.last_read}
 use Rattle.ick_runtime.specs.Inputs.{Input}
 use Rattle.ick_engine.specs.declared.reader.Line.{Line}
-use Rattle.ick_engine.specs.declared.reader.Line.TheVariants.{Nothing, Number, TooLarge, BadWord}
 
--- what comes of a line that was taken at a position
-abbrev pub line_outcome : Line → Input → ℕ → State → (ℕ → State → Completion) → Completion
-line_outcome Nothing input from s go = faults NoInput [] (record s { input = input.left from })
-line_outcome (Number n to) input from s go = go n (record s { input = input.left to })
-line_outcome (BadWord begin end to) input from s go =
-    faults NoDigit (input.word begin end) (record s { input = input.left to })
-line_outcome (TooLarge to) input from s go = faults SixtyFour [] (record s { input = input.left to })
+-- what comes of the number of a line
+abbrev pub number_outcome : Result ℕ DigitFault → Input → State → (ℕ → State → Completion) → Completion
+number_outcome (Ok n) input s go = go n s
+number_outcome (Err (Word begin end)) input s go = faults NoDigit (input.word begin end) s
+number_outcome (Err TooLarge) input s go = faults SixtyFour [] s
+
+-- what comes of a line that was taken at a position, or of the end of the input
+abbrev pub line_outcome : Option Line → Input → ℕ → State → (ℕ → State → Completion) → Completion
+line_outcome None input from s go = faults NoInput [] (record s { input = input.left from })
+line_outcome (Some line) input from s go =
+    number_outcome line.number input (record s { input = input.left line.next }) go
 
 -- the next line from a position on
-abbrev pub IsNext : Line → ℕ → Input → Input → Type 0
+abbrev pub IsNext : Option Line → ℕ → Input → Input → Type 0
 IsNext line from before after =
     (s : State) (go : ℕ → State → Completion) → s.input ≡ before.left from →
     with_input s.input s go ≡ line_outcome line after from s go

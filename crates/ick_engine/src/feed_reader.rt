@@ -2,14 +2,12 @@
 
 ghost use Rattle.std.specs.Prelude.{◌≡◌, ◌+◌, ◌-◌, ◌<◌, ◌^◌, ◌∷◌, ℕ, List, []};
 ghost use Rattle.std.specs.Prelude.{true, false, Ok, Err, IsOk, OnOk};
-ghost use Rattle.ick_bits.specs.Digits.{line_answer};
-ghost use Rattle.ick_engine.specs.Feeds.{MayBeLeft, feed_failures, has_ended, some_left};
-ghost use Rattle.ick_engine.specs.Feeds.{line_with, one_if};
+ghost use Rattle.ick_engine.specs.Feeds.{MayBeLeft, feed_failures, has_ended, one_if, some_left};
 
 use crate::feed::Feed;
 use crate::reader::{Line, Reader};
 use ick_backtrack::FeedFault;
-use ick_bits::{DigitFault, NoMemory, digits_value};
+use ick_bits::{NoMemory, digits_value};
 
 /// Reads the input of a step from a feed. Once no input was left, or a read has failed, the feed
 /// isn't asked again. It is never asked unless the step meets a WRITE IN.
@@ -68,16 +66,19 @@ impl<F: Feed> Reader for FeedReader<'_, F> {
         Ok(false)
     }
 
-    fn line(&mut self, from: usize) -> Result<Line, NoMemory> {
+    fn line(&mut self, from: usize) -> Result<Option<Line>, NoMemory> {
         match self.last {
             Ok(true) if self.allowed => {}
-            Ok(false) => return Ok(Line::Nothing),
+            Ok(false) => return Ok(None),
             _ => return Err(NoMemory),
         }
         self.last = self.feed.line(self.line);
         match self.last {
-            Ok(true) => Ok(taken(self.line, from)),
-            Ok(false) => Ok(Line::Nothing),
+            Ok(true) => Ok(Some(Line {
+                number: digits_value(self.line),
+                next: from,
+            })),
+            Ok(false) => Ok(None),
             Err(_) => Err(NoMemory),
         }
     }
@@ -99,16 +100,5 @@ impl<F: Feed> Reader for FeedReader<'_, F> {
                 Err(NoMemory)
             }
         }
-    }
-}
-
-/// Returns what a line says that was taken. `to` is the position at which the input goes on.
-fn taken(line: &[u8], to: usize) -> Line
-    ensures { result ≡ line_with (line_answer line.now) to }
-{
-    match digits_value(line) {
-        Ok(number) => Line::Number(number, to),
-        Err(DigitFault::Word { from, to: end }) => Line::BadWord(from, end, to),
-        Err(DigitFault::TooLarge) => Line::TooLarge(to),
     }
 }

@@ -4,19 +4,15 @@ ghost use Rattle.std.specs.Prelude.{◌≡◌, ℕ, List, Bool, true, Ok, IfOk};
 ghost use Rattle.ick_engine.specs.Reads.{IsNext, IsByte};
 ghost use Rattle.ick_runtime.specs.Inputs.{Leads, Input};
 
-use ick_bits::NoMemory;
+use ick_bits::{DigitFault, NoMemory};
 
 /// A line of input that was read.
 #[derive(Clone, Copy)]
-pub enum Line {
-    /// No input was left.
-    Nothing,
-    /// The number of the line, and the position of the next line.
-    Number(u32, usize),
-    /// The ends of the first word that is no digit name, and the position of the next line.
-    BadWord(usize, usize, usize),
-    /// The number of the line is too large. And the position of the next line.
-    TooLarge(usize),
+pub struct Line {
+    /// Its number, or why it has none. The ends of a word are positions of the input.
+    pub number: Result<u32, DigitFault>,
+    /// The position of the next line.
+    pub next: usize,
 }
 
 /// Reads the input of a run. If the source is a text, only one input may be left. Otherwise any
@@ -54,8 +50,8 @@ pub trait Reader: Drop {
         ensures held { held self.new ≡ held self.old }
         ensures stops { result ≡ Ok true → waits (held self.old) ≡ true };
 
-    /// Reads the line that begins at a position.
-    fn line(&mut self, from: usize) -> Result<Line, NoMemory>
+    /// Reads the line that begins at a position, if there is one.
+    fn line(&mut self, from: usize) -> Result<Option<Line>, NoMemory>
         ensures next { IfOk result (λ line. Leads Has self.old self.new (IsNext line from)) }
         ensures held { held self.new ≡ held self.old };
 

@@ -44,23 +44,24 @@ impl<'c> Reader for TextReader<'c> {
     }
 
     #[tactic(auto, using(crate::proofs::TextLemmas::rest_of, crate::proofs::TextLemmas::word_line))]
-    fn line(&mut self, from: usize) -> Result<Line, NoMemory> {
+    fn line(&mut self, from: usize) -> Result<Option<Line>, NoMemory> {
         if from >= self.text.len() {
-            return Ok(Line::Nothing);
+            return Ok(None);
         }
         let rest = &self.text[from..];
         let length = line_length(rest);
-        let to = from + length + 1;
-        match digits_value(&rest[..length]) {
-            Ok(number) => Ok(Line::Number(number, to)),
-            Err(
-                DigitFault::Word {
-                    from: begin,
-                    to: end,
-                },
-            ) => { Ok(Line::BadWord(from + begin, from + end, to)) }
-            Err(DigitFault::TooLarge) => Ok(Line::TooLarge(to)),
-        }
+        let number = match digits_value(&rest[..length]) {
+            Ok(number) => Ok(number),
+            Err(DigitFault::Word { from: begin, to }) => Err(DigitFault::Word {
+                from: from + begin,
+                to: from + to,
+            }),
+            Err(DigitFault::TooLarge) => Err(DigitFault::TooLarge),
+        };
+        Ok(Some(Line {
+            number,
+            next: from + length + 1,
+        }))
     }
 
     fn byte(&mut self, from: usize) -> Result<Option<(u8, usize)>, NoMemory> {

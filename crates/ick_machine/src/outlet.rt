@@ -135,7 +135,7 @@ impl<'c, 'a, F: Feed, O: Outlet> Reader for Printer<'c, 'a, F, O> {
         Ok(self.shown > MOST)
     }
 
-    fn line(&mut self, from: usize) -> Result<Line, NoMemory> {
+    fn line(&mut self, from: usize) -> Result<Option<Line>, NoMemory> {
         Err(NoMemory)
     }
 
