@@ -3,7 +3,7 @@ use Rattle.std.proofs.Common.{[], add-mul, ap, ap₂, arith, bit_and, Bool, drop
 use Rattle.std.proofs.Common.{mul_assoc, nat_le, nat_lt, None, Option, option_and_then, option_map, refl, rules, Some, subst, suc, sym, true, zero, ℕ, ◌%◌}
 use Rattle.std.proofs.Common.{◌&&◌, ◌*◌, ◌+◌, ◌-◌, ◌<◌, ◌^◌, ◌∙◌, ◌∷◌, ◌≡◌, ◌≤◌}
 use Rattle.ick_runtime.proofs.Names.{Array, bound_of, common_steps, drop_of_length-le, element_offset, nat_tests, number_of, product}
-use Rattle.ick_runtime.proofs.Names.{sized, Value}
+use Rattle.ick_runtime.proofs.Names.{length-map, reg, sized, Value, values_of, Wide}
 use Rattle.ick_code.specs.meaning.Value.{offset_at}
 use Rattle.ick_runtime.proofs.Maps.{both_true}
 use Rattle.ick_runtime.specs.Elements.{stride}
@@ -77,6 +77,9 @@ beyond p (d ∷ ds) (v ∷ vs) count le = cases (nat_le 1 (number_of v) && nat_l
         let parts = both_true (nat_le 1 (number_of v)) (nat_le (number_of v) d) e in
         let grown = more d (omega (arith, leb-true 1 (number_of v) parts.0, leb-true (number_of v) d parts.1)) in
         rest (omega (arith, le, grown))
+
+pub count_is : (subscripts regs : List ℕ) → length (values_of subscripts regs) ≡ length subscripts
+count_is subscripts regs = length-map subscripts (λ r. Wide (reg regs r))
 
 pub none_at : (ds : List ℕ) (vs : List Value) → (length ds ≡ length vs → ⊥) → offset_at ds vs ≡ None
 none_at [] [] differ = absurd (differ refl)

@@ -1,18 +1,10 @@
-//! The NEXT stack: how many return addresses there are.
+//! The NEXT stack: whether return addresses can be popped.
 
-ghost use Rattle.std.specs.Prelude.{◌≡◌, ◌-◌, ◌<◌, ◌≤◌, ◌⊎◌};
+ghost use Rattle.std.specs.Prelude.{◌≡◌, ◌<◌, ◌≤◌, ◌⊎◌};
 ghost use Rattle.std.specs.Bool.{MatchBool};
 ghost use Rattle.ick_runtime.specs.Returns.{rupture_of};
 
 use ick_bits::FaultKind;
-
-/// Returns how many are left if some are dropped.
-#[inline(always)]
-pub fn dropped(depth: usize, number: u32) -> usize
-    ensures { result ≡ depth - number }
-{
-    depth.saturating_sub(number as usize)
-}
 
 /// Returns whether so many can be popped, and at least one.
 #[inline(always)]

@@ -1,11 +1,8 @@
 use Rattle.std.proofs.Common.{ap, arith, drop, get_or, length, List, option_and_then, refl, rules, Some, sym, ℕ, ◌+◌, ◌<◌, ◌∙◌, ◌≡◌}
-use Rattle.ick_runtime.proofs.Names.{array_of, element_offset, get_or-map, length-map, reg, values_of, Wide}
-use Rattle.ick_runtime.proofs.OffsetLemmas.{beyond, inside, is_inside, is_outside, none_at, place_is, walk, walk_done, walk_next}
-use Rattle.ick_runtime.proofs.element.index_of_many.Goals.{After-loop-at}
-use Rattle.ick_runtime.proofs.element.index_of_many.Goals as goal
-
-count_is : (subscripts regs : List ℕ) → length (values_of subscripts regs) ≡ length subscripts
-count_is subscripts regs = length-map subscripts (λ r. Wide (reg regs r))
+use Rattle.ick_runtime.proofs.Names.{array_of, element_offset, get_or-map, reg, values_of, Wide}
+use Rattle.ick_runtime.proofs.OffsetLemmas.{beyond, count_is, inside, is_inside, is_outside, none_at, place_is, walk, walk_done, walk_next}
+use Rattle.ick_runtime.proofs.array.index_of_many.Goals.{After-loop-at}
+use Rattle.ick_runtime.proofs.array.index_of_many.Goals as goal
 
 value_at : (subscripts regs : List ℕ) (at : ℕ) → at < length subscripts →
     Wide (reg regs (get_or subscripts at 0))

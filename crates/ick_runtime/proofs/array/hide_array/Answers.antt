@@ -1,7 +1,7 @@
 use Rattle.std.proofs.Common.{ap, false, get_or, map, slice_set, subst, sym, ◌∙◌, ◌≡◌}
 use Rattle.ick_runtime.proofs.Names.{get_or-map, is_hidden, with_hidden}
 use Rattle.ick_runtime.proofs.Hiding.{hidden_back}
-use Rattle.ick_runtime.proofs.hide.hide_array.Goals as goal
+use Rattle.ick_runtime.proofs.array.hide_array.Goals as goal
 
 pub returns-clause-notes : goal.returns-clause-notes
 returns-clause-notes g c = λ k v m same h.
