@@ -1,9 +1,9 @@
 -- States that are kept, and their copies.
-use Rattle.std.proofs.Common.{ap, drop, length, rules, sym, ◌++◌, ◌∙◌, ◌≡◌}
+use Rattle.std.proofs.Common.{ap, drop, length, rules, sym, ◌++◌, ◌∙◌, ◌≡◌, ◌≤◌}
 use Rattle.ick_marks.proofs.Names.{AreSame, IsLoaded, IsProgram, LoweredParts, parts_of, saved_view, state_of, ∥∥₁_elim, Code, Input, IsReady, IsSaved}
 use Rattle.ick_marks.proofs.Names.{IsSteady, props, Saved, View}
 use Rattle.ick_marks.{proofs.Readiness.ready_of, proofs.Readiness.state_of_both, specs.Saved.IsKept}
-use Rattle.ick_marks.proofs.Saving.{kept_state, loaded, same_parts_trans}
+use Rattle.ick_marks.proofs.Saving.{first_low, kept_state, loaded, same_parts_trans, used_low}
 
 -- a kept state has the same lists as another one, but for spare room of stashes
 pub record IsCopy (one copy : Saved) : Type 0 where
@@ -33,6 +33,25 @@ copy_kept code lowered one copy is kept = ∥∥₁_elim kept (hlevel props) (λ
 pub copy_state : (code : Code) (lowered : LoweredParts) (one copy : Saved) → IsCopy one copy → (input : Input) →
     state_of code lowered input (saved_view copy) ≡ state_of code lowered input (saved_view one)
 copy_state code lowered one copy is input = search rules
+
+-- the lists of a kept state fit into a memory of its program
+pub record Fits (saved : Saved) (v : View) : Type 0 where
+  pub numbers : length saved.numbers.items ≤ length v.registers
+  pub returns : length saved.returns.items ≤ length v.returns
+  pub home : length v.home ≡ length saved.home.items
+  pub statuses : length v.statuses ≡ length saved.statuses.items
+
+pub kept_fits : (code : Code) (lowered : LoweredParts) (saved : Saved) (v : View) → IsProgram code lowered →
+    IsKept code lowered saved → IsSteady code lowered v → Fits saved v
+kept_fits code lowered saved v is kept steady = ∥∥₁_elim kept (hlevel props) (λ h.
+    let was = h.2 in
+    let there = h.1.steady in
+    record {
+      numbers = rw was.numbers_kept (first_low code lowered is v h.0 steady h.1);
+      returns = rw was.returns_kept (used_low code lowered is v h.0 steady h.1);
+      home = steady.home ∙ sym (ap length was.home_kept ∙ there.home);
+      statuses = steady.statuses.count ∙ sym (ap length was.statuses_kept ∙ there.statuses.count);
+    })
 
 -- a kept state that was put into a memory
 pub kept_loaded : (code : Code) (lowered : LoweredParts) (saved : Saved) (old new : View) → IsProgram code lowered →

@@ -1,8 +1,8 @@
 -- Lists that are copied, and states that are kept.
-use Rattle.std.proofs.Common.{arith, drop, get_or, length, List, map, refl, rules, subst, suc, sym, take, zero, ℕ, ◌++◌, [], ap, ◌+◌, ◌<◌, ◌∙◌, ◌∷◌, ◌≡◌, ◌≤◌}
+use Rattle.std.proofs.Common.{arith, drop, get_or, length, List, map, refl, rules, subst, suc, sym, take, take_all, zero, ℕ, ◌++◌, [], ap, ◌+◌, ◌<◌, ◌∙◌, ◌∷◌, ◌≡◌, ◌≤◌}
 use Rattle.ick_marks.proofs.Names.{common_steps, get_or-map, length-map, length-take-le, LoweredParts, map-set_same, arrays_on, HighSame, Input, is_hidden}
 use Rattle.ick_marks.proofs.Names.{IsProgram, numbers_on, saved_view, take-take, AreSame, array_of, IsLoaded, IsSteady, Parts, parts_of, restored, state_of}
-use Rattle.ick_marks.proofs.Names.{take-map, Code, IsReady, IsSaved, Like, map-map, Name, Saved, View}
+use Rattle.ick_marks.proofs.Names.{take-append-le, take-map, Code, IsReady, IsSaved, Like, map-map, Name, Saved, View}
 use Rattle.std.proofs.lemmas.List.{length-append, length-drop, map-append, map-set, take_more}
 use Rattle.ick_marks.specs.Saved.{flagged}
 use Rattle.ick_runtime.specs.{declared.memory.Array.Array as Kept, declared.memory.Rest.Rest, Undo.IsRestored, Undo.SameFirst}
@@ -32,6 +32,14 @@ put_high = grind (arith, common_steps)
 
 put_count : (xs ys : List ℕ) → length xs ≤ length ys → length (xs ++ drop (length xs) ys) ≡ length ys
 put_count xs ys count = omega (arith, length-append xs (drop (length xs) ys), length-drop (length xs) ys, count)
+
+pub put_all : (xs ys new : List ℕ) (n : ℕ) → new ≡ xs ++ drop (length xs) ys → length xs ≤ length ys → n ≡ length ys →
+    take n (new ++ drop (length new) ys) ≡ xs ++ drop (length xs) ys
+put_all xs ys new n is fits count =
+    let all = xs ++ drop (length xs) ys in
+    let long = put_count xs ys fits in
+    rw is (
+    take-append-le n all (drop (length all) ys) (omega (arith, long, count)) ∙ take_all n all (omega (arith, long, count)))
 
 first_put : (n : ℕ) (xs old new : List ℕ) → new ≡ take n xs ++ drop (length (take n xs)) old →
     length (take n xs ++ drop (length (take n xs)) old) ≡ length xs → length (take n xs) ≡ n → SameFirst n xs new

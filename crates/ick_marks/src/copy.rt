@@ -32,8 +32,8 @@ impl Part for Array {
 
     fn copied(&self, alloc: Global) -> Result<Array, NoMemory> {
         Ok(Array {
-            dimensions: copy_list(alloc, &self.dimensions)?,
-            elements: copy_list(alloc, &self.elements)?,
+            dimensions: Vec::from_slice(alloc, &self.dimensions)?,
+            elements: Vec::from_slice(alloc, &self.elements)?,
             hidden: self.hidden,
         })
     }
@@ -50,7 +50,7 @@ impl Part for Stash<u32> {
 
     fn copied(&self, alloc: Global) -> Result<Stash<u32>, NoMemory> {
         Ok(Stash {
-            items: copy_list(alloc, &self.items[..self.depth])?,
+            items: Vec::from_slice(alloc, &self.items[..self.depth])?,
             depth: self.depth,
         })
     }
@@ -97,17 +97,8 @@ pub fn copy_rest(alloc: Global, rest: &Rest) -> Result<Rest, NoMemory>
         scalar_stashes: copy_all(alloc, &rest.scalar_stashes)?,
         array_stashes: copy_all(alloc, &rest.array_stashes)?,
         taken: rest.taken,
-        output: copy_list(alloc, &rest.output)?,
+        output: Vec::from_slice(alloc, &rest.output)?,
         last: rest.last,
         lastin: rest.lastin,
     })
-}
-
-/// Copies a list.
-pub fn copy_list<T: Copy>(alloc: Global, items: &[T]) -> Result<Vec<T>, NoMemory>
-    ensures { IfOk result (λ copy. copy.items ≡ items.now) }
-{
-    let mut copy = Vec::new(alloc);
-    copy.extend_from_slice(items)?;
-    Ok(copy)
 }

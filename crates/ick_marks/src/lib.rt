@@ -11,6 +11,6 @@ mod marks;
 mod saved;
 mod trail;
 
-pub use marks::{Mark, back, drop_mark, make_mark};
+pub use marks::{Mark, back, make_mark};
 pub use saved::Saved;
 pub use trail::Trail;

@@ -210,16 +210,3 @@ pub fn back(trail: &mut Trail, mark: Mark, memory: &mut Memory, program: &Lowere
     memory.cursor.place = mark.place;
     memory.cursor.depth = mark.depth;
 }
-
-/// Drops the newest mark: the changes noted since belong to the next older mark. `kept` is how many
-/// changes were noted before that mark, and 0 if there is none. A run can go back to an older mark
-/// from the present state, if it could from the state of the newest mark.
-pub fn drop_mark(trail: &mut Trail, kept: usize)
-    requires { kept ≤ trail.old.kept }
-    ensures changes { changes_in trail.new ≡ changes_in trail.old }
-    ensures low { trail.new.low ≡ trail.old.low }
-    ensures base { trail.new.base ≡ trail.old.base }
-    ensures kept { trail.new.kept ≡ kept }
-{
-    trail.kept = kept;
-}

@@ -2,7 +2,7 @@
 
 ghost use Rattle.std.specs.Prelude.{◌≡◌, ◌++◌, ◌≤◌, drop, length};
 
-use crate::copy::{copy_list, copy_rest};
+use crate::copy::copy_rest;
 use ick_bits::NoMemory;
 use ick_instructions::Lowered;
 use ick_runtime::{Memory, Rest};
@@ -57,10 +57,10 @@ impl Saved {
         program.law();
         Ok(Saved {
             place: memory.cursor.place,
-            numbers: copy_list(alloc, &memory.registers[..program.layout().base as usize])?,
-            home: copy_list(alloc, &memory.home)?,
-            statuses: copy_list(alloc, &memory.statuses)?,
-            returns: copy_list(alloc, &memory.returns[..memory.cursor.depth])?,
+            numbers: Vec::from_slice(alloc, &memory.registers[..program.layout().base as usize])?,
+            home: Vec::from_slice(alloc, &memory.home)?,
+            statuses: Vec::from_slice(alloc, &memory.statuses)?,
+            returns: Vec::from_slice(alloc, &memory.returns[..memory.cursor.depth])?,
             rest: copy_rest(alloc, &memory.rest)?,
         })
     }
@@ -79,7 +79,12 @@ impl Saved {
         // `loaded` needs that the instructions are those of the code.
         program.law();
         program.code.law();
-        self.put_lists(memory);
+        put_first(memory.registers.as_mut_slice(), &self.numbers);
+        put_first(memory.returns.as_mut_slice(), &self.returns);
+        memory.home.copy_from_slice(&self.home);
+        memory.statuses.copy_from_slice(&self.statuses);
+        memory.cursor.place = self.place;
+        memory.cursor.depth = self.returns.len();
         swap(&mut memory.rest, &mut self.rest);
     }
 
@@ -93,30 +98,6 @@ impl Saved {
     {
         let mut saved = self;
         saved.exchange(memory, program);
-    }
-
-    /// Puts all but the parts that few instructions change into a memory.
-    fn put_lists(&self, memory: &mut Memory)
-        requires registers { length self.now.numbers.items ≤ length memory.old.registers.items }
-        requires returns { length self.now.returns.items ≤ length memory.old.returns.items }
-        requires home { length self.now.home.items ≡ length memory.old.home.items }
-        requires statuses { length self.now.statuses.items ≡ length memory.old.statuses.items }
-        ensures registers { memory.new.registers.items ≡ self.now.numbers.items
-            ++ drop (length self.now.numbers.items) memory.old.registers.items }
-        ensures returns { memory.new.returns.items ≡ self.now.returns.items
-            ++ drop (length self.now.returns.items) memory.old.returns.items }
-        ensures home { memory.new.home.items ≡ self.now.home.items }
-        ensures statuses { memory.new.statuses.items ≡ self.now.statuses.items }
-        ensures place { memory.new.cursor.place ≡ self.now.place }
-        ensures depth { memory.new.cursor.depth ≡ length self.now.returns.items }
-        ensures rest { memory.new.rest ≡ memory.old.rest }
-    {
-        put_first(memory.registers.as_mut_slice(), &self.numbers);
-        put_first(memory.returns.as_mut_slice(), &self.returns);
-        memory.home.copy_from_slice(&self.home);
-        memory.statuses.copy_from_slice(&self.statuses);
-        memory.cursor.place = self.place;
-        memory.cursor.depth = self.returns.len();
     }
 
     /// States which state is kept: that of the memory which was saved.
@@ -141,10 +122,10 @@ impl Saved {
     {
         Ok(Saved {
             place: self.place,
-            numbers: copy_list(alloc, &self.numbers)?,
-            home: copy_list(alloc, &self.home)?,
-            statuses: copy_list(alloc, &self.statuses)?,
-            returns: copy_list(alloc, &self.returns)?,
+            numbers: Vec::from_slice(alloc, &self.numbers)?,
+            home: Vec::from_slice(alloc, &self.home)?,
+            statuses: Vec::from_slice(alloc, &self.statuses)?,
+            returns: Vec::from_slice(alloc, &self.returns)?,
             rest: copy_rest(alloc, &self.rest)?,
         })
     }

@@ -3,7 +3,7 @@
 ghost use Rattle.std.specs.Prelude.{◌≡◌, ◌≢◌, ◌<◌, ◌≤◌, length, reverse, Some};
 ghost use Rattle.ick_marks.specs.Newest.{register_first};
 
-use crate::copy::{Part, copy_list};
+use crate::copy::Part;
 use ick_bits::NoMemory;
 use ick_runtime::{Array, ArrayChange, Entry, Notes};
 use std::alloc::Global;
@@ -188,7 +188,7 @@ impl Notes for Trail {
     #[tactic(auto, using(crate::proofs::Changes::noting))]
     fn note_statuses(&mut self, statuses: &[u8]) -> Result<(), NoMemory> {
         let alloc = *self.entries.allocator();
-        self.statuses.push(copy_list(alloc, statuses)?)?;
+        self.statuses.push(Vec::from_slice(alloc, statuses)?)?;
         self.newest = u32::MAX;
         self.entries.push_reserved(Entry::Statuses);
         Ok(())

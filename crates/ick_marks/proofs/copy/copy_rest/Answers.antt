@@ -9,10 +9,10 @@ returns c =
       scalar_stashes = c.in_ok-copy_all-2.field-0;
       array_stashes = c.in_ok-copy_all-3.field-0;
       taken = c.args.rest.now.taken;
-      output = c.in_ok-copy_list.field-0;
+      output = c.in_ok-from_slice.field-0;
       last = c.args.rest.now.last;
       lastin = c.args.rest.now.lastin;
     }) (c.in_ok-copy_all.ensures ∙ ap (map flagged) c.deref.ensures.value)
     (c.in_ok-copy_all-2.ensures ∙ ap (map numbers_on) c.deref-2.ensures.value)
     (c.in_ok-copy_all-3.ensures ∙ ap (map arrays_on) c.deref-3.ensures.value) refl
-    (c.in_ok-copy_list.ensures ∙ c.deref-4.ensures.value) refl refl
+    (c.in_ok-from_slice.ensures.items ∙ c.deref-4.ensures.value) refl refl
