@@ -164,10 +164,7 @@ impl Notes for Trail {
     }
 
     fn make_room(&mut self, more: usize) -> Result<(), NoMemory> {
-        let Some(places) = more.checked_add(79) else {
-            return Err(NoMemory);
-        };
-        self.entries.reserve(places)?;
+        self.entries.reserve(more.saturating_add(79))?;
         Ok(())
     }
 
