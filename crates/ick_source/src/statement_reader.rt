@@ -7,16 +7,15 @@ ghost use Rattle.ick_source.specs.Boundaries.{IsStart};
 ghost use Rattle.ick_syntax.specs.StatementTree.{StatementTree};
 ghost use Rattle.ick_source.specs.Statements.{IsTrimmed, IsStatement};
 ghost use Rattle.ick_source.specs.HeadAnswers.{ReadsLabel};
-ghost use Rattle.ick_source.specs.StatementAnswers.{AnswersRecognised, EndsAt, ClampsLabel};
-ghost use Rattle.ick_source.specs.StatementAnswers.{ReadsStatement};
+ghost use Rattle.ick_source.specs.StatementAnswers.{ClampsLabel, ReadsStatement};
 
-use crate::body_bytes::body_in;
-use crate::boundaries::{is_boundary, next_boundary, opening_at};
-use crate::bytes::{after_white, byte_at};
-use crate::parsed::{Parsed, Unread};
+use crate::body_bytes::ending_at;
+use crate::boundaries::opening_at;
+use crate::bytes::byte_at;
+use crate::parsed::Parsed;
 use crate::qualifiers::qualifiers_at;
 use ick_bits::is_white;
-use ick_syntax::{Body, Faults, Statement, clamped_number};
+use ick_syntax::{Faults, Statement, clamped_number};
 use std::alloc::{AllocError, Global};
 
 /// The label of a statement, clamped, and its faults.
@@ -54,38 +53,6 @@ pub fn trimmed(text: &[u8], from: usize, to: usize) -> &[u8]
         last -= 1;
     }
     &text[from..last + 1]
-}
-
-/// Reads the body at `at`, if it and any white bytes after it end at a boundary. Returns that
-/// boundary as its end.
-fn recognised_at(alloc: Global, text: &[u8], at: usize) -> Result<Parsed<Body, usize>, Unread>
-    requires { at ≤ length text.now }
-    ensures { AnswersRecognised text.now at result }
-{
-    let mut body = body_in(alloc, text, at)?;
-    body.to = after_white(text, body.to);
-    if !is_boundary(text, body.to) {
-        drop(body);
-        return Err(Unread::Absent);
-    }
-    Ok(body)
-}
-
-/// Reads the rest of a statement after its head. An unrecognised body ends at the next boundary.
-fn ending_at(alloc: Global, text: &[u8], head: usize) -> Result<Parsed<Body, usize>, AllocError>
-    requires { head ≤ length text.now }
-    ensures { IfOk result (EndsAt text.now head) }
-{
-    let begin = after_white(text, head);
-    match recognised_at(alloc, text, begin) {
-        Ok(body) => Ok(body),
-        Err(Unread::Absent) => Ok(Parsed {
-            value: Body::Unrecognised,
-            to: next_boundary(text, head),
-            faults: Faults::NONE,
-        }),
-        Err(Unread::NoMemory) => Err(AllocError),
-    }
 }
 
 /// Reads the statement that starts at `at`, and the position after it. Returns `None` if no
