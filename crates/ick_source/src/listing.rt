@@ -24,25 +24,12 @@ pub fn append_listing(out: &mut Vec<u8>, program: &Program<'_>) -> Result<(), No
     ensures capacity { vec_capacity out.old ≤ vec_capacity out.new }
 {
     let start = out.len();
-    let appended = push_lines(out, program.statements());
-    if appended.is_err() {
-        out.truncate(start);
-    }
-    appended
-}
-
-/// Appends the lines, or a prefix of them when out of memory.
-fn push_lines(out: &mut Vec<u8>, statements: &[Statement<'_>]) -> Result<(), NoMemory>
-    requires { AreNumbered statements.now }
-    ensures ok { let text = listing (statement_trees statements.now) in
-        OnOk result (out.new.items ≡ out.old.items ++ text) }
-    ensures err { OnErr result (take (vec_len out.old) out.new.items ≡ out.old.items) }
-    ensures full { let text = listing (statement_trees statements.now) in
-        OnErr result (vec_capacity out.old < vec_len out.old + length text) }
-    ensures capacity { vec_capacity out.old ≤ vec_capacity out.new }
-{
+    let statements = program.statements();
     for statement in statements {
-        push_line(out, statement)?;
+        let Ok(()) = push_line(out, statement) else {
+            out.truncate(start);
+            return Err(NoMemory);
+        };
     }
     Ok(())
 }
@@ -58,8 +45,7 @@ fn push_line(out: &mut Vec<u8>, statement: &Statement<'_>) -> Result<(), NoMemor
 {
     push_front(out, statement)?;
     append_quoted(out, statement.text)?;
-    out.extend_from_slice(b"\n")?;
-    Ok(())
+    append_all(out, &[b"\n"])
 }
 
 /// Appends all that precedes a statement's text in its line, or nothing when out of memory.
