@@ -2,7 +2,7 @@ use Rattle.std.proofs.Common.{refl, sym, ◌∙◌, arith}
 use Rattle.ick_syntax.specs.StatementTree.{StatementTree}
 use Rattle.ick_source.proofs.BoundaryLemmas.{opening_longer, opening_solid}
 use Rattle.ick_source.proofs.ClampedWhole.{left_fine, right_fine}
-use Rattle.ick_source.proofs.QualifierLemmas.{qualifiers_order}
+use Rattle.ick_source.proofs.QualifierLemmas.{qualifiers_most, qualifiers_order}
 use Rattle.ick_source.proofs.StatementLemmas.{both_same, ends_inside, ends_order, same_tree}
 use Rattle.ick_source.proofs.statement_reader.statement_at.Goals as goal
 
@@ -24,6 +24,11 @@ trimmed-requires-clause-within c = ends_inside c.in_ok-body.ensures.ends
 
 pub trimmed-requires-clause-solid : goal.trimmed-requires-clause-solid
 trimmed-requires-clause-solid c = opening_solid c.in-Some.ensures.opening.1
+
+pub invariant_of-statement : goal.invariant_of-statement
+invariant_of-statement c =
+    let qualifiers = c.qualifiers_at-qualifiers.ensures.qualifiers in
+    record { percentage = omega (arith, qualifiers.chance, qualifiers_most qualifiers.stand) }
 
 pub returns : goal.returns
 returns c =
