@@ -4,10 +4,10 @@
 ghost use Rattle.std.specs.Prelude.{◌≡◌, ◌<◌, MatchResult, IsTrue, ◌↔◌};
 ghost use Rattle.ick_source.specs.declared.parsed.Unread.TheVariants.{NoMemory};
 ghost use Rattle.ick_source.specs.Position.{left_at};
-ghost use Rattle.ick_syntax.specs.Tree.{tree_of, trees_in, scalar, mesh, element};
+ghost use Rattle.ick_syntax.specs.Tree.{tree_of, trees_in};
 ghost use Rattle.ick_source.specs.Expression.{IsExpr, IsOperand, IsElement, IsSubs, begins_sub};
 ghost use Rattle.ick_source.specs.ExpressionAnswers.{AnswersTree, AnswersTrees, IsNumbered};
-ghost use Rattle.ick_source.specs.ExpressionAnswers.{IsGroup, IsApplied, IsJoined};
+ghost use Rattle.ick_source.specs.ExpressionAnswers.{IsGroup, IsApplied, IsJoined, leaf};
 
 use crate::lead::{Delimiter, Lead};
 use crate::parsed::{Measured, Unread};
@@ -35,55 +35,40 @@ fn applied(
     }
 }
 
-/// Makes the element of the array at these subscripts.
-fn indexed(array: Name, subs: Vec<Expr>) -> Expr
-    ensures { tree_of result ≡ element array (trees_in subs.items) }
-{
-    Expr::Element(Element { array, subs })
-}
-
-/// Reads a variable of 16 or 32 bits after its sigil.
-fn spot_at(
+/// Reads a variable of this kind after its sigil, or a mesh if no kind is given.
+fn leaf_at(
     alloc: Global,
     text: &[u8],
-    kind: NameKind,
+    kind: Option<NameKind>,
     past: Position,
 ) -> Result<Measured<Expr>, Unread>
-    ensures { AnswersTree (IsNumbered (λ n. scalar (record { kind = kind; number = n }))
-        (left_at text.now past)) 1 text.now result }
+    ensures { AnswersTree (IsNumbered (leaf kind) (left_at text.now past)) 1 text.now result }
 {
     let prefix = prefix_at(text, past);
     let Some(found) = number_at(text, prefix.to) else {
         return Err(Unread::Absent);
     };
-    let name = Name {
-        kind,
-        number: clamped_number(found.value),
-    };
-    let variable = Measured {
-        value: Expr::Scalar(name),
-        height: 1,
-        to: found.to,
-        faults: Faults::of_name(found.value),
-    };
-    applied(alloc, prefix.value, variable)
-}
-
-/// Reads a mesh after its sigil.
-fn constant_at(alloc: Global, text: &[u8], past: Position) -> Result<Measured<Expr>, Unread>
-    ensures { AnswersTree (IsNumbered mesh (left_at text.now past)) 1 text.now result }
-{
-    let prefix = prefix_at(text, past);
-    let Some(found) = number_at(text, prefix.to) else {
-        return Err(Unread::Absent);
-    };
-    let constant = Measured {
-        value: Expr::Mesh(clamped_number(found.value)),
-        height: 1,
-        to: found.to,
-        faults: Faults::of_mesh(found.value),
-    };
-    applied(alloc, prefix.value, constant)
+    let number = clamped_number(found.value);
+    match kind {
+        None => {
+            let mesh = Measured {
+                value: Expr::Mesh(number),
+                height: 1,
+                to: found.to,
+                faults: Faults::of_mesh(found.value),
+            };
+            applied(alloc, prefix.value, mesh)
+        }
+        Some(kind) => {
+            let variable = Measured {
+                value: Expr::Scalar(Name { kind, number }),
+                height: 1,
+                to: found.to,
+                faults: Faults::of_name(found.value),
+            };
+            applied(alloc, prefix.value, variable)
+        }
+    }
 }
 
 /// Reads a group after its opening delimiter: an expression, and the delimiter that closes it.
@@ -143,7 +128,10 @@ pub fn element_at(
     match subs_at(alloc, text, delimiter, limit - 1, later) {
         Err(unread) => Err(unread),
         Ok(all) => Ok(Measured {
-            value: indexed(array, all.value),
+            value: Expr::Element(Element {
+                array,
+                subs: all.value,
+            }),
             height: all.height + 1,
             to: all.to,
             faults: Faults::of_name(found.value).union(all.faults),
@@ -171,7 +159,9 @@ fn subs_at(
     'subs: loop {
         let begins = lead_at(text, all.to).value;
         let one = operand_at(alloc, text, delimiter, limit, all.to)?;
-        all.value.push(one.value)?;
+        let Ok(()) = all.value.push(one.value) else {
+            return Err(Unread::NoMemory);
+        };
         all.height = all.height.max(one.height);
         all.to = one.to;
         all.faults = all.faults.union(one.faults);
@@ -201,8 +191,8 @@ fn operand_at(
     let next = lead_at(text, from);
     match next.value {
         Lead::Array(_) => element_at(alloc, text, delimiter, limit, from),
-        Lead::Spot(kind) => spot_at(alloc, text, kind, next.to),
-        Lead::Hash => constant_at(alloc, text, next.to),
+        Lead::Spot(kind) => leaf_at(alloc, text, Some(kind), next.to),
+        Lead::Hash => leaf_at(alloc, text, None, next.to),
         Lead::Group(opened) => group_at(alloc, text, opened, limit, next.to),
         _ => Err(Unread::Absent),
     }
@@ -266,7 +256,8 @@ fn closes(delimiter: Delimiter, begins: Lead) -> bool
     ensures { IsTrue result ↔ (begins ≡ Lead.Group delimiter) }
 {
     match begins {
-        Lead::Group(other) => other == delimiter,
+        Lead::Group(Delimiter::Spark) => matches!(delimiter, Delimiter::Spark),
+        Lead::Group(Delimiter::Ears) => matches!(delimiter, Delimiter::Ears),
         _ => false,
     }
 }
@@ -277,7 +268,10 @@ fn may_begin_sub(delimiter: Option<Delimiter>, begins: Lead) -> bool
 {
     match begins {
         Lead::Spot(_) | Lead::Array(_) | Lead::Hash => true,
-        Lead::Group(other) => delimiter != Some(other),
+        Lead::Group(_) => match delimiter {
+            None => true,
+            Some(open) => !closes(open, begins),
+        },
         _ => false,
     }
 }

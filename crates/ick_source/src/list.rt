@@ -29,7 +29,9 @@ pub fn list_at<P: Part>(
     let mut to = from;
     'more: loop {
         let one = P::read_at(alloc, text, to)?;
-        value.push(one.value)?;
+        let Ok(()) = value.push(one.value) else {
+            return Err(Unread::NoMemory);
+        };
         faults = faults.union(one.faults);
         let Some(later) = word_at(text, one.to, separator) else {
             return Ok(Parsed {

@@ -3,7 +3,7 @@ use Rattle.std.proofs.lemmas.Result.{err_from_is_err_and}
 use Rattle.ick_source.specs.declared.lead.Lead.TheVariants.{Array, Group}
 use Rattle.ick_syntax.specs.declared.tree.NameKind.{NameKind}
 use Rattle.ick_syntax.specs.Tree.{trees_in}
-use Rattle.ick_syntax.proofs.TreeLemmas.{trees_in-append}
+use Rattle.ick_syntax.proofs.TreeLemmas.{tree_of-element, trees_in-append}
 use Rattle.ick_source.specs.Position.{next_lead, left_at}
 use Rattle.ick_source.specs.Expression.{begins_sub}
 use Rattle.ick_source.proofs.ExpressionReadings.{operand_of_element, operand_of_simple, simple_of_spot, simple_of_mesh}
@@ -27,13 +27,13 @@ pub operand_at-returns-in-Spot : goal.operand_at-returns-in-Spot
 operand_at-returns-in-Spot t c =
     let leads = sym c.lead_at-next.ensures.lead ∙ c.in-Spot.is in
     operand_of_simple _ _ _ _ _ (λ k e. let f = sym leads ∙ e in cc)
-    (simple_of_spot _ _ _ _ _ _ leads c.lead_at-next.ensures.to (omega arith) c.spot_at.ensures)
+    (simple_of_spot _ _ _ _ _ _ leads c.lead_at-next.ensures.to (omega arith) c.leaf_at.ensures)
 
 pub operand_at-returns-in-Hash : goal.operand_at-returns-in-Hash
 operand_at-returns-in-Hash t c =
     let leads = sym c.lead_at-next.ensures.lead ∙ c.in-Hash.is in
     operand_of_simple _ _ _ _ _ (λ k e. let f = sym leads ∙ e in cc)
-    (simple_of_mesh _ _ _ _ _ leads c.lead_at-next.ensures.to (omega arith) c.constant_at.ensures)
+    (simple_of_mesh _ _ _ _ _ leads c.lead_at-next.ensures.to (omega arith) c.leaf_at-in-Hash.ensures)
 
 pub operand_at-returns-in-Group : goal.operand_at-returns-in-Group
 operand_at-returns-in-Group t c =
@@ -90,7 +90,7 @@ pub element_at-returns-in-Ok : goal.element_at-returns-in-Ok
 element_at-returns-in-Ok t c =
     element_stands _ _ _ _ _ _ _ _ _ _ _ _ _ _ _ _ (sym c.lead_at-next.ensures.lead ∙ c.in-Array.is)
     c.lead_at-next.ensures.to c.in-Some.ensures c.in-Some-word_at.ensures c.requires
-    c.in-Ok.ensures c.indexed.ensures c.clamped_number.ensures c.of_name.ensures c.union.ensures
+    c.in-Ok.ensures (tree_of-element (record { array = _; subs = c.in-Ok.all.value })) c.clamped_number.ensures c.of_name.ensures c.union.ensures
 
 pub subs_at-subs-init : goal.subs_at-subs-init
 subs_at-subs-init t c = rw c.new.ensures.items (goes_on-start _ _ _)
@@ -105,30 +105,30 @@ subs_at-returns-in-Array t c =
     let leads = sym c.lead_at-begins.ensures.lead ∙ c.in-Array.is in
     let w = element_of_operand _ _ _ _ _ _ _ _ leads c.in_ok-one.ensures in
     goes_on-last _ _ _ _ _ _ _ _ _ _ _ _ _ _ c.subs.invariant w
-    (ap trees_in c.in_ok-push.ensures.items ∙ trees_in-append _ _) c.max.ensures c.union-all.ensures
+    (ap trees_in c.in-Ok.ensures.items ∙ trees_in-append _ _) c.max.ensures c.union-all.ensures
 
 pub subs_at-returns-then-not-may_begin_sub : goal.subs_at-returns-then-not-may_begin_sub
 subs_at-returns-then-not-may_begin_sub t c =
     let other : (k : NameKind) → next_lead (left_at c.args.text.now c.subs.all.to) ≢ Array k =
-    λ k e. c.in_default.not-Array k (c.lead_at-begins.ensures.lead ∙ e) in
+    λ k e. c.in_default-begins.not-Array k (c.lead_at-begins.ensures.lead ∙ e) in
     let w = simple_of_operand _ _ _ _ _ _ _ other c.in_ok-one.ensures in
     let b : begins_sub c.args.delimiter c.lead_at.result.value ≡ false = cc in
     goes_on-ends _ _ _ _ _ _ _ _ _ _ _ _ _ _ c.subs.invariant w
     (ap (begins_sub c.args.delimiter) (sym c.lead_at.ensures.lead) ∙ b)
-    (ap trees_in c.in_ok-push.ensures.items ∙ trees_in-append _ _) c.max.ensures c.union-all.ensures
+    (ap trees_in c.in-Ok.ensures.items ∙ trees_in-append _ _) c.max.ensures c.union-all.ensures
 
 pub subs_at-subs-preserved : goal.subs_at-subs-preserved
 subs_at-subs-preserved t c =
     let other : (k : NameKind) → next_lead (left_at c.args.text.now c.subs.all.to) ≢ Array k =
-    λ k e. c.in_default.not-Array k (c.lead_at-begins.ensures.lead ∙ e) in
+    λ k e. c.in_default-begins.not-Array k (c.lead_at-begins.ensures.lead ∙ e) in
     let w = simple_of_operand _ _ _ _ _ _ _ other c.in_ok-one.ensures in
     let b : begins_sub c.args.delimiter c.lead_at.result.value ≡ true = cc in
     goes_on-further _ _ _ _ _ _ _ _ _ _ _ _ _ _ c.subs.invariant w
     (ap (begins_sub c.args.delimiter) (sym c.lead_at.ensures.lead) ∙ b) other
-    (ap trees_in c.in_ok-push.ensures.items ∙ trees_in-append _ _) c.max.ensures c.union-all.ensures
+    (ap trees_in c.in-Ok.ensures.items ∙ trees_in-append _ _) c.max.ensures c.union-all.ensures
 
 pub subs_at-subs-smaller : goal.subs_at-subs-smaller
 subs_at-subs-smaller t c =
-    let w = simple_of_operand _ _ _ _ _ _ _ (λ k e. c.in_default.not-Array k (c.lead_at-begins.ensures.lead ∙ e))
+    let w = simple_of_operand _ _ _ _ _ _ _ (λ k e. c.in_default-begins.not-Array k (c.lead_at-begins.ensures.lead ∙ e))
     c.in_ok-one.ensures in
     simple-shorter w.stands

@@ -11,10 +11,10 @@ returns-in_err-one g c =
     let p = err_from_is_err_and c.from_residual.result c.from_residual.ensures.1 in
     rw (p.1, p.2) (λ absent. so_far-no_part _ _ _ _ _ _ c.more.invariant (c.in_err-one.ensures absent))
 
-pub returns-in_default : goal.returns-in_default
-returns-in_default g c =
-    so_far-ends _ _ _ _ _ _ _ _ _ _ _ c.more.invariant c.in_ok-one.ensures c.in_default.ensures
-    (map-push g.P.Part.seen _ _ _ c.in_ok-push.ensures.items) c.union-faults.ensures
+pub returns-in_default-word_at : goal.returns-in_default-word_at
+returns-in_default-word_at g c =
+    so_far-ends _ _ _ _ _ _ _ _ _ _ _ c.more.invariant c.in_ok-one.ensures c.in_default-word_at.ensures
+    (map-push g.P.Part.seen _ _ _ c.in-Ok.ensures.items) c.union-faults.ensures
 
 pub more-smaller : goal.more-smaller
 more-smaller g c =
@@ -23,4 +23,4 @@ more-smaller g c =
 pub more-preserved : goal.more-preserved
 more-preserved g c =
     so_far-more _ _ c.requires.once _ _ _ _ _ _ _ _ _ _ c.more.invariant c.in_ok-one.ensures c.in-Some.ensures
-    (map-push g.P.Part.seen _ _ _ c.in_ok-push.ensures.items) c.union-faults.ensures
+    (map-push g.P.Part.seen _ _ _ c.in-Ok.ensures.items) c.union-faults.ensures
