@@ -142,16 +142,15 @@ abstain_label_made from mid later w o =
       faults = λ x. refl;
     }
 
--- after ABSTAIN FROM, where none stands
+-- after ABSTAIN FROM, where no label stands
 no_faults_along : (gs : List Gerund) → no_faults ≡ faults_along (λ g. no_faults) gs
 no_faults_along [] = refl
 no_faults_along (g ∷ gs) = ap (both_faults no_faults) (no_faults_along gs)
 
 abstain_kinds_back : {from mid to : List ℕ} {b : BodyTree} →
-    IsWord (codes "FROM") from mid → ((later : List ℕ) → IsWord (codes "(") mid later → ⊥) →
+    IsWord (codes "FROM") from mid → ((to : List ℕ) (n : ℕ) → IsLabel mid to n → ⊥) →
     IsAfter Abstain from to b → (gs : List Gerund) × AreGerunds mid to gs
-abstain_kinds_back w o (abstains_label v p) = let q = label_there (word_unique (codes "FROM") refl w v) p in
-    absurd (o q.inner q.opens)
+abstain_kinds_back w o (abstains_label v p) = absurd (o _ _ (label_there (word_unique (codes "FROM") refl w v) p))
 abstain_kinds_back w o (abstains_kinds {gs = gs} v p) = (gs, gerunds_there (word_unique (codes "FROM") refl w v) p)
 
 pub map_same : {A : Type 0} (xs : List A) → map (λ x. x) xs ≡ xs
@@ -159,7 +158,7 @@ map_same [] = refl
 map_same (x ∷ xs) = ap (λ l. x ∷ l) (map_same xs)
 
 pub abstain_kinds_made : (from mid : List ℕ) →
-    IsWord (codes "FROM") from mid → ((later : List ℕ) → IsWord (codes "(") mid later → ⊥) →
+    IsWord (codes "FROM") from mid → ((to : List ℕ) (n : ℕ) → IsLabel mid to n → ⊥) →
     Makes (listed gerunds (codes "+")) (after Abstain) abstain_kinds (λ gs. Some (abstain_kinds gs)) mid from
 abstain_kinds_made from mid w o = record {
   there = λ to x p. abstains_kinds w p;
@@ -184,13 +183,12 @@ reinstate_label_made from later o =
       faults = λ x. refl;
     }
 
-reinstate_kinds_back : {from to : List ℕ} {b : BodyTree} → ((later : List ℕ) →
-    IsWord (codes "(") from later → ⊥) → IsAfter Reinstate from to b →
-    (gs : List Gerund) × AreGerunds from to gs
-reinstate_kinds_back o (reinstates_label p) = absurd (o p.inner p.opens)
+reinstate_kinds_back : {from to : List ℕ} {b : BodyTree} → ((to : List ℕ) (n : ℕ) → IsLabel from to n → ⊥) →
+    IsAfter Reinstate from to b → (gs : List Gerund) × AreGerunds from to gs
+reinstate_kinds_back o (reinstates_label p) = absurd (o _ _ p)
 reinstate_kinds_back o (reinstates_kinds {gs = gs} p) = (gs, p)
 
-pub reinstate_kinds_made : (from : List ℕ) → ((later : List ℕ) → IsWord (codes "(") from later → ⊥) →
+pub reinstate_kinds_made : (from : List ℕ) → ((to : List ℕ) (n : ℕ) → IsLabel from to n → ⊥) →
     Makes (listed gerunds (codes "+")) (after Reinstate) reinstate_kinds (λ gs. Some (reinstate_kinds gs)) from from
 reinstate_kinds_made from o = record {
   there = λ to x p. reinstates_kinds p;
@@ -221,7 +219,7 @@ label_made (abstains_from w) o = abstain_label_made _ _ _ w o
 label_made reinstates o = reinstate_label_made _ _ o
 
 pub kinds_made : {v : Verb} {from mid : List ℕ} → IsGated v from mid →
-    ((later : List ℕ) → IsWord (codes "(") mid later → ⊥) →
+    ((to : List ℕ) (n : ℕ) → IsLabel mid to n → ⊥) →
     Makes (listed gerunds (codes "+")) (after v) (kinds_tree v) (λ gs. Some (kinds_tree v gs)) mid from
 kinds_made (abstains_from w) o = abstain_kinds_made _ _ w o
 kinds_made reinstates o = reinstate_kinds_made _ o

@@ -15,7 +15,8 @@ use Rattle.ick_source.specs.declared.position.Position.{Position}
 use Rattle.ick_source.specs.Position.{left_at, next_lead, past_lead}
 use Rattle.ick_source.specs.Token.{IsNumber, IsWord, CappedNumber}
 use Rattle.ick_syntax.specs.Tree.{Tree, Trees, mesh, scalar, element}
-use Rattle.ick_syntax.specs.Clamped.{clamped, clamped_tree, clamped_name, clamped_trees, name_faults, faults_of}
+use Rattle.ick_syntax.specs.Clamped.{clamped, clamped_tree, clamped_name, clamped_trees, mesh_faults, name_faults}
+use Rattle.ick_syntax.specs.Clamped.{faults_of}
 use Rattle.ick_source.specs.Expression.{IsElement, indexed}
 use Rattle.ick_syntax.specs.BodyTree.{ItemTree, single, whole}
 use Rattle.ick_source.specs.BodyGrammar.{IsName, a_spot, an_array, IsTarget, to_spot, to_element, IsTail, IsPlace}
@@ -23,7 +24,7 @@ use Rattle.ick_source.specs.BodyGrammar.{to_target, to_array, IsItem, of_place, 
 use Rattle.ick_source.specs.Nonterminal.{Nonterminal, elements, names, targets, tails, places, items, numbers, labels}
 use Rattle.ick_source.specs.ExpressionAnswers.{Stands}
 use Rattle.ick_source.specs.Answers.{IsParsed, IsAbsent, Answers, AnswersRead}
-use Rattle.ick_source.proofs.ClampedLemmas.{clamped-capped, name_faults-capped}
+use Rattle.ick_source.proofs.ClampedLemmas.{clamped-capped, mesh_faults-capped, name_faults-capped}
 use Rattle.ick_source.proofs.ExpressionUnique.{number_unique}
 use Rattle.ick_source.proofs.WordUnique.{word_unique}
 use Rattle.ick_source.proofs.PartUnique.{spot_is_no_array, name_unique, element_leads, target_is_no_tail}
@@ -71,6 +72,18 @@ name_found from past to k v n f leads p number clamped_is f_is =
       is_clamped =
           ap (λ z. record { kind = k; number = z }) (clamped_is ∙ ap clamped number.capped ∙ clamped-capped x);
       are_faults = f_is ∙ ap name_faults number.capped ∙ name_faults-capped x;
+    }
+
+-- the number of a mesh that was read
+pub mesh_found : {past to : List ℕ} {v n : ℕ} {f : Faults} → CappedNumber past to v → n ≡ clamped v →
+    f ≡ mesh_faults v → IsParsed numbers past to (single (mesh n)) f
+mesh_found number clamped_is f_is =
+    let x = number.number in
+    record {
+      value = x;
+      stands = number.is;
+      is_clamped = ap (λ m. single (mesh m)) (clamped_is ∙ ap clamped number.capped ∙ clamped-capped x);
+      are_faults = f_is ∙ ap mesh_faults number.capped ∙ mesh_faults-capped x;
     }
 
 -- an element that was read is seen as one

@@ -1,7 +1,7 @@
 //! Readers of bodies. Each body has one form, which its first characters decide.
 
 ghost use Rattle.std.specs.Prelude.{◌≡◌, ℕ, List, Some, true};
-ghost use Rattle.ick_source.specs.Answers.{Answers, AnswersRead};
+ghost use Rattle.ick_source.specs.Answers.{AnswersRead};
 ghost use Rattle.ick_syntax.specs.BodyTree.{body_tree_of};
 ghost use Rattle.ick_source.specs.Gating.{IsGated, kinds_tree, label_tree, naming_tree};
 ghost use Rattle.ick_source.specs.Gating.{takes_names};
@@ -102,15 +102,12 @@ fn gating_at(
     ensures { (before : List ℕ) → IsGated verb before (left_at text.now from) →
         AnswersRead (after verb) body_tree_of text.now before result }
 {
-    if word_at(text, from, b"(").is_some() {
-        return match label_at(text, from) {
-            None => Err(Unread::Absent),
-            Some(label) => Ok(Parsed {
-                value: gating_label(verb, label.value),
-                to: label.to,
-                faults: label.faults,
-            }),
-        };
+    if let Some(label) = label_at(text, from) {
+        return Ok(Parsed {
+            value: gating_label(verb, label.value),
+            to: label.to,
+            faults: label.faults,
+        });
     }
     match list_at::<Gerund>(alloc, text, b"+", from) {
         Err(unread) => Err(unread),
@@ -217,23 +214,6 @@ fn dimensioning_at(
     }
 }
 
-/// Reads a label and NEXT (Revised Manual, 4.4.2).
-fn call_at(text: &[u8], from: Position) -> Option<Parsed<Body, Position>>
-    ensures { Answers (formed Form.Call) body_tree_of text.now (left_at text.now from) result }
-{
-    let Some(label) = label_at(text, from) else {
-        return None;
-    };
-    let Some(to) = word_at(text, label.to, b"NEXT") else {
-        return None;
-    };
-    Some(Parsed {
-        value: Body::Next(label.value),
-        to,
-        faults: label.faults,
-    })
-}
-
 /// Reads the body at the position, and the position after it (Revised Manual, 4.4).
 ///
 /// The next character decides which part is read, so nothing is read twice. The answer is
@@ -244,7 +224,20 @@ pub fn body_at(alloc: Global, text: &[u8], from: Position) -> Result<Parsed<Body
     match form_at(text, from) {
         Form::Calculation => calculation_at(alloc, text, from),
         Form::Dimensioning => dimensioning_at(alloc, text, from),
-        Form::Call => call_at(text, from).ok_or(Unread::Absent),
+        Form::Call => {
+            // A label and NEXT (4.4.2).
+            let Some(label) = label_at(text, from) else {
+                return Err(Unread::Absent);
+            };
+            match word_at(text, label.to, b"NEXT") {
+                None => Err(Unread::Absent),
+                Some(to) => Ok(Parsed {
+                    value: Body::Next(label.value),
+                    to,
+                    faults: label.faults,
+                }),
+            }
+        }
         Form::Action => match verb_at(text, from) {
             None => Err(Unread::Absent),
             Some(verb) => after_verb_at(alloc, text, verb.value, verb.to),

@@ -6,7 +6,7 @@ ghost use Rattle.ick_source.specs.Answers.{Answers, AnswersRead};
 ghost use Rattle.ick_syntax.specs.BodyTree.{item_tree, place_tree, single, target_tree};
 ghost use Rattle.ick_syntax.specs.Gerund.{gerund_word};
 ghost use Rattle.ick_source.specs.Nonterminal.{Nonterminal, elements, gerunds, items, labels};
-ghost use Rattle.ick_source.specs.Nonterminal.{names, numbers, places, tails, targets, wholes};
+ghost use Rattle.ick_source.specs.Nonterminal.{names, places, tails, targets, wholes};
 ghost use Rattle.ick_source.specs.Position.{left_at};
 ghost use Rattle.ick_source.specs.Token.{IsWord};
 ghost use Rattle.ick_syntax.specs.Tree.{tree_of};
@@ -122,20 +122,6 @@ fn stored(target: Target) -> Place
         Target::Scalar(name) => Place::Scalar(name),
         Target::Element(element) => Place::Element(element),
     }
-}
-
-/// Reads a mesh after its sigil, as an item.
-fn mesh_item_at(text: &[u8], past: Position) -> Option<Parsed<Item, Position>>
-    ensures { Answers numbers item_tree text.now (left_at text.now past) result }
-{
-    let Some(found) = number_at(text, past) else {
-        return None;
-    };
-    Some(Parsed {
-        value: Item::Mesh(clamped_number(found.value)),
-        to: found.to,
-        faults: Faults::of_mesh(found.value),
-    })
 }
 
 /// Returns the place as an item of READ OUT.
@@ -263,7 +249,14 @@ impl Part for Item {
     ) -> Result<Parsed<Self, Position>, Unread> {
         let next = lead_at(text, from);
         if let Lead::Hash = next.value {
-            return mesh_item_at(text, next.to).ok_or(Unread::Absent);
+            let Some(found) = number_at(text, next.to) else {
+                return Err(Unread::Absent);
+            };
+            return Ok(Parsed {
+                value: Item::Mesh(clamped_number(found.value)),
+                to: found.to,
+                faults: Faults::of_mesh(found.value),
+            });
         }
         match Place::read_at(alloc, text, from) {
             Err(unread) => Err(unread),

@@ -1,14 +1,16 @@
-use Rattle.std.proofs.Common.{refl, sym, ◌∙◌}
-use Rattle.ick_syntax.specs.BodyTree.{item_tree}
-use Rattle.ick_source.specs.Nonterminal.{items}
-use Rattle.ick_source.proofs.PartReadings.{items_by_numbers, items_by_places, answers_as, found_as, read_or_absent}
+use Rattle.std.proofs.Common.{sym, ◌∙◌}
+use Rattle.ick_source.proofs.PartReadings.{absent_as, found_as, items_by_numbers, items_by_places, mesh_found}
 use Rattle.ick_source.proofs.part.ItemPart.read_at.Goals as goal
+
+pub returns-in_default-number_at : goal.returns-in_default-number_at
+returns-in_default-number_at c =
+    λ absent. absent_as (items_by_numbers _ _ (sym c.lead_at-next.ensures.lead ∙ c.in-Hash.is) c.lead_at-next.ensures.to)
+    (record { nothing = c.in_default-number_at.ensures })
 
 pub returns-in-Hash : goal.returns-in-Hash
 returns-in-Hash c =
-    read_or_absent items item_tree _ _ _ _ c.ok_or.ensures.value
-    (answers_as (items_by_numbers _ _ (sym c.lead_at-next.ensures.lead ∙ c.in-Hash.is) c.lead_at-next.ensures.to)
-    item_tree item_tree (λ v. refl) c.args.text.now c.mesh_item_at.result c.mesh_item_at.ensures)
+    found_as (items_by_numbers _ _ (sym c.lead_at-next.ensures.lead ∙ c.in-Hash.is) c.lead_at-next.ensures.to)
+    (mesh_found c.in-Some.ensures c.clamped_number.ensures c.of_mesh.ensures)
 
 pub returns-in-Ok : goal.returns-in-Ok
 returns-in-Ok c =
