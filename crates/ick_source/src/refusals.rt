@@ -4,7 +4,7 @@ ghost use Rattle.std.specs.Prelude.{◌≡◌};
 ghost use Rattle.ick_source.specs.declared.refusals.Refusal.TheVariants.{NoMemory};
 
 use ick_bits::FaultKind;
-use std::alloc::{AllocError, AllocFailed};
+use std::alloc::AllocError;
 use thiserror::Error;
 
 /// The reason why `read_source` refuses a source text.
@@ -27,14 +27,6 @@ impl From<AllocError> for Refusal {
     ghost from_gives = { λ _ e. e ≡ NoMemory };
 
     fn from(_refused: AllocError) -> Refusal {
-        Refusal::NoMemory
-    }
-}
-
-impl<T: Drop> From<AllocFailed<T>> for Refusal {
-    ghost from_gives = { λ _ e. e ≡ NoMemory };
-
-    fn from(_refused: AllocFailed<T>) -> Refusal {
         Refusal::NoMemory
     }
 }

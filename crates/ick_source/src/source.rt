@@ -109,7 +109,7 @@ fn program_of(alloc: Global, text: &[u8]) -> Result<Program<'_>, Refusal>
         statements: Vec::new(alloc),
         count: 0,
         polite: 0,
-        out_of_range: OutOfRange::new(),
+        out_of_range: OutOfRange::NONE,
     };
     match read_whole(alloc, text, &mut reader) {
         Err(refusal) => Err(refusal),
