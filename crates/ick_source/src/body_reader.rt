@@ -167,7 +167,10 @@ fn calculation_at(
     ensures { AnswersRead (formed Form.Calculation) body_tree_of
         text.now (left_at text.now from) result }
 {
-    let target = target_at(alloc, text, from)?;
+    let target = match target_at(alloc, text, from) {
+        Err(unread) => return Err(unread),
+        Ok(target) => target,
+    };
     let Some(later) = word_at(text, target.to, b"<-") else {
         drop(target);
         return Err(Unread::Absent);

@@ -84,7 +84,10 @@ fn group_at(
     ensures { AnswersTree (IsGroup delimiter (left_at text.now past)) limit text.now result }
 {
     let prefix = prefix_at(text, past);
-    let inner = expr_at(alloc, text, Some(delimiter), limit - 1, prefix.to)?;
+    let inner = match expr_at(alloc, text, Some(delimiter), limit - 1, prefix.to) {
+        Err(unread) => return Err(unread),
+        Ok(inner) => inner,
+    };
     let close = lead_at(text, inner.to);
     if !closes(delimiter, close.value) {
         drop(inner);
@@ -158,7 +161,10 @@ fn subs_at(
     };
     'subs: loop {
         let begins = lead_at(text, all.to).value;
-        let one = operand_at(alloc, text, delimiter, limit, all.to)?;
+        let one = match operand_at(alloc, text, delimiter, limit, all.to) {
+            Err(unread) => return Err(unread),
+            Ok(one) => one,
+        };
         let Ok(()) = all.value.push(one.value) else {
             return Err(Unread::NoMemory);
         };
@@ -212,7 +218,10 @@ pub fn expr_at(
 ) -> Result<Measured<Expr>, Unread>
     ensures { AnswersTree (IsExpr delimiter (left_at text.now from)) limit text.now result }
 {
-    let left = operand_at(alloc, text, delimiter, limit, from)?;
+    let left = match operand_at(alloc, text, delimiter, limit, from) {
+        Err(unread) => return Err(unread),
+        Ok(left) => left,
+    };
     let next = lead_at(text, left.to);
     let Lead::Binary(op) = next.value else {
         return Ok(left);

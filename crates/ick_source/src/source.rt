@@ -90,12 +90,24 @@ fn read_whole<'a>(alloc: Global, text: &'a [u8], reader: &mut Reader<'a>) -> Res
     ensures count { OnOk result (2 * reader.new.count ≤ length text.now + 1) }
     ensures err { IfErr result (RefusesFitting text.now) }
 {
-    let mut at = read_front(reader, text)?;
-    while let Some(statement) = statement_at(alloc, text, at, reader.count + 1)? {
-        reader.add(statement.value, statement.faults)?;
+    let Ok(mut at) = read_front(reader, text) else {
+        return Err(Refusal::NoMemory);
+    };
+    'statements: loop {
+        let Ok(next) = statement_at(alloc, text, at, reader.count + 1) else {
+            return Err(Refusal::NoMemory);
+        };
+        let Some(statement) = next else {
+            break;
+        };
+        let Ok(()) = reader.add(statement.value, statement.faults) else {
+            return Err(Refusal::NoMemory);
+        };
         at = statement.to;
     }
-    reader.out_of_range.check()?;
+    if let Err(refusal) = reader.out_of_range.check() {
+        return Err(refusal);
+    }
     check_statements(alloc, &reader.statements, reader.polite)
 }
 

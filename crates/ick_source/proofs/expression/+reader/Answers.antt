@@ -1,5 +1,4 @@
 use Rattle.std.proofs.Common.{◌≡◌, ◌≢◌, ◌<◌, true, false, refl, sym, ap, ◌∙◌, arith}
-use Rattle.std.proofs.lemmas.Result.{err_from_is_err_and}
 use Rattle.ick_source.specs.declared.lead.Lead.TheVariants.{Array, Group}
 use Rattle.ick_syntax.specs.declared.tree.NameKind.{NameKind}
 use Rattle.ick_syntax.specs.Tree.{trees_in}
@@ -43,38 +42,38 @@ operand_at-returns-in-Group t c =
 
 pub group_at-returns-then-not-closes : goal.group_at-returns-then-not-closes
 group_at-returns-then-not-closes t c =
-    let open_still : next_lead (left_at c.args.text.now c.in_ok-inner.inner.to) ≢ Group c.args.delimiter =
+    let open_still : next_lead (left_at c.args.text.now c.in-Ok.inner.to) ≢ Group c.args.delimiter =
     λ e. let yes = c.if-not-closes.ensures.1 (c.lead_at-close.ensures.lead ∙ e) in cc in
-    λ absent. group_stays_open _ _ _ _ _ _ _ _ c.prefix_at-prefix.ensures.to c.in_ok-inner.ensures open_still
+    λ absent. group_stays_open _ _ _ _ _ _ _ _ c.prefix_at-prefix.ensures.to c.in-Ok.ensures open_still
 
 pub group_at-returns : goal.group_at-returns
 group_at-returns t c =
-    let close : next_lead (left_at c.args.text.now c.in_ok-inner.inner.to) ≡ Group c.args.delimiter =
+    let close : next_lead (left_at c.args.text.now c.in-Ok.inner.to) ≡ Group c.args.delimiter =
     sym c.lead_at-close.ensures.lead ∙ c.if-not-closes.ensures.0 refl in
     made_answers _ _ _ c.applied.ensures (λ s w. rw (w.height, w.to, w.faults)
     (group_closes _ _ _ _ _ _ _ _ _ _ _ c.prefix_at-prefix.ensures.op c.prefix_at-prefix.ensures.to c.requires
-    c.in_ok-inner.ensures close c.lead_at-close.ensures.to w.tree))
+    c.in-Ok.ensures close c.lead_at-close.ensures.to w.tree))
 
 pub expr_at-returns-in_default : goal.expr_at-returns-in_default
 expr_at-returns-in_default t c =
-    expr_alone _ _ _ _ _ _ _ c.in_ok-left.ensures (λ o e. c.in_default.not-Binary o (c.lead_at-next.ensures.lead ∙ e))
+    expr_alone _ _ _ _ _ _ _ c.in-Ok.ensures (λ o e. c.in_default.not-Binary o (c.lead_at-next.ensures.lead ∙ e))
 
 pub expr_at-returns-then-left-limit : goal.expr_at-returns-then-left-limit
 expr_at-returns-then-left-limit t c =
-    λ absent. expr_too_high _ _ _ _ _ _ _ _ _ c.in_ok-left.ensures (sym c.lead_at-next.ensures.lead ∙ c.in-Binary.is)
+    λ absent. expr_too_high _ _ _ _ _ _ _ _ _ c.in-Ok.ensures (sym c.lead_at-next.ensures.lead ∙ c.in-Binary.is)
     c.if-left-limit.true
 
-pub expr_at-returns-in-Err : goal.expr_at-returns-in-Err
-expr_at-returns-in-Err t c =
-    λ absent. expr_no_right _ _ _ _ _ _ _ _ _ _ c.in_ok-left.ensures (sym c.lead_at-next.ensures.lead ∙ c.in-Binary.is)
-    c.lead_at-next.ensures.to (c.in-Err.ensures absent)
+pub expr_at-returns-in-Err-expr_at : goal.expr_at-returns-in-Err-expr_at
+expr_at-returns-in-Err-expr_at t c =
+    λ absent. expr_no_right _ _ _ _ _ _ _ _ _ _ c.in-Ok.ensures (sym c.lead_at-next.ensures.lead ∙ c.in-Binary.is)
+    c.lead_at-next.ensures.to (c.in-Err-expr_at.ensures absent)
 
-pub expr_at-returns-in-Ok : goal.expr_at-returns-in-Ok
-expr_at-returns-in-Ok t c =
-    let low : c.in_ok-left.left.height < c.args.limit = omega arith in
+pub expr_at-returns-in-Ok-expr_at : goal.expr_at-returns-in-Ok-expr_at
+expr_at-returns-in-Ok-expr_at t c =
+    let low : c.in-Ok.left.height < c.args.limit = omega arith in
     made_answers _ _ _ c.joined.ensures (λ s w. rw w.to
-    (expr_joined _ _ _ _ _ _ _ _ _ _ _ _ _ _ _ _ _ c.in_ok-left.ensures
-    (sym c.lead_at-next.ensures.lead ∙ c.in-Binary.is) c.lead_at-next.ensures.to c.in-Ok.ensures low
+    (expr_joined _ _ _ _ _ _ _ _ _ _ _ _ _ _ _ _ _ c.in-Ok.ensures
+    (sym c.lead_at-next.ensures.lead ∙ c.in-Binary.is) c.lead_at-next.ensures.to c.in-Ok-expr_at.ensures low
     w.tree w.height w.faults))
 
 pub element_at-returns-in_default-word_at : goal.element_at-returns-in_default-word_at
@@ -95,40 +94,38 @@ element_at-returns-in-Ok t c =
 pub subs_at-subs-init : goal.subs_at-subs-init
 subs_at-subs-init t c = rw c.new.ensures.items (goes_on-start _ _ _)
 
-pub subs_at-returns-in_err-one : goal.subs_at-returns-in_err-one
-subs_at-returns-in_err-one t c =
-    let p = err_from_is_err_and c.from_residual.result c.from_residual.ensures.1 in
-    rw (p.1, p.2) (λ absent. goes_on-no_operand _ _ _ _ _ _ _ c.subs.invariant (c.in_err-one.ensures absent))
+pub subs_at-returns-in-Err : goal.subs_at-returns-in-Err
+subs_at-returns-in-Err t c = λ absent. goes_on-no_operand _ _ _ _ _ _ _ c.subs.invariant (c.in-Err.ensures absent)
 
 pub subs_at-returns-in-Array : goal.subs_at-returns-in-Array
 subs_at-returns-in-Array t c =
     let leads = sym c.lead_at-begins.ensures.lead ∙ c.in-Array.is in
-    let w = element_of_operand _ _ _ _ _ _ _ _ leads c.in_ok-one.ensures in
+    let w = element_of_operand _ _ _ _ _ _ _ _ leads c.in-Ok.ensures in
     goes_on-last _ _ _ _ _ _ _ _ _ _ _ _ _ _ c.subs.invariant w
-    (ap trees_in c.in-Ok.ensures.items ∙ trees_in-append _ _) c.max.ensures c.union-all.ensures
+    (ap trees_in c.in-Ok-push.ensures.items ∙ trees_in-append _ _) c.max.ensures c.union-all.ensures
 
 pub subs_at-returns-then-not-may_begin_sub : goal.subs_at-returns-then-not-may_begin_sub
 subs_at-returns-then-not-may_begin_sub t c =
     let other : (k : NameKind) → next_lead (left_at c.args.text.now c.subs.all.to) ≢ Array k =
     λ k e. c.in_default-begins.not-Array k (c.lead_at-begins.ensures.lead ∙ e) in
-    let w = simple_of_operand _ _ _ _ _ _ _ other c.in_ok-one.ensures in
+    let w = simple_of_operand _ _ _ _ _ _ _ other c.in-Ok.ensures in
     let b : begins_sub c.args.delimiter c.lead_at.result.value ≡ false = cc in
     goes_on-ends _ _ _ _ _ _ _ _ _ _ _ _ _ _ c.subs.invariant w
     (ap (begins_sub c.args.delimiter) (sym c.lead_at.ensures.lead) ∙ b)
-    (ap trees_in c.in-Ok.ensures.items ∙ trees_in-append _ _) c.max.ensures c.union-all.ensures
+    (ap trees_in c.in-Ok-push.ensures.items ∙ trees_in-append _ _) c.max.ensures c.union-all.ensures
 
 pub subs_at-subs-preserved : goal.subs_at-subs-preserved
 subs_at-subs-preserved t c =
     let other : (k : NameKind) → next_lead (left_at c.args.text.now c.subs.all.to) ≢ Array k =
     λ k e. c.in_default-begins.not-Array k (c.lead_at-begins.ensures.lead ∙ e) in
-    let w = simple_of_operand _ _ _ _ _ _ _ other c.in_ok-one.ensures in
+    let w = simple_of_operand _ _ _ _ _ _ _ other c.in-Ok.ensures in
     let b : begins_sub c.args.delimiter c.lead_at.result.value ≡ true = cc in
     goes_on-further _ _ _ _ _ _ _ _ _ _ _ _ _ _ c.subs.invariant w
     (ap (begins_sub c.args.delimiter) (sym c.lead_at.ensures.lead) ∙ b) other
-    (ap trees_in c.in-Ok.ensures.items ∙ trees_in-append _ _) c.max.ensures c.union-all.ensures
+    (ap trees_in c.in-Ok-push.ensures.items ∙ trees_in-append _ _) c.max.ensures c.union-all.ensures
 
 pub subs_at-subs-smaller : goal.subs_at-subs-smaller
 subs_at-subs-smaller t c =
     let w = simple_of_operand _ _ _ _ _ _ _ (λ k e. c.in_default-begins.not-Array k (c.lead_at-begins.ensures.lead ∙ e))
-    c.in_ok-one.ensures in
+    c.in-Ok.ensures in
     simple-shorter w.stands
