@@ -1,19 +1,17 @@
 //! Readers of the parts of bodies: names, targets, places, items, gerunds, labels, and expressions
 //! outside groups.
 
-ghost use Rattle.std.specs.Prelude.{◌≡◌, ℕ, List, MatchOption};
+ghost use Rattle.std.specs.Prelude.{◌≡◌};
 ghost use Rattle.ick_source.specs.Answers.{Answers, AnswersRead};
 ghost use Rattle.ick_syntax.specs.BodyTree.{item_tree, place_tree, single, target_tree};
-ghost use Rattle.ick_syntax.specs.Gerund.{gerund_word};
-ghost use Rattle.ick_source.specs.Nonterminal.{Nonterminal, elements, gerunds, items, labels};
+ghost use Rattle.ick_source.specs.Nonterminal.{Nonterminal, gerunds, items, labels};
 ghost use Rattle.ick_source.specs.Nonterminal.{names, places, tails, targets, wholes};
 ghost use Rattle.ick_source.specs.Position.{left_at};
-ghost use Rattle.ick_source.specs.Token.{IsWord};
 ghost use Rattle.ick_syntax.specs.Tree.{tree_of};
 
 use crate::expression::{element_at, expr_at};
 use crate::lead::Lead;
-use crate::parsed::{Parsed, Scanned, Unread};
+use crate::parsed::{Parsed, Unread};
 use crate::position::{Position, lead_at};
 use crate::token::{number_at, word_at};
 use ick_syntax::{Expr, Faults, Gerund, Item, Name, NameKind, Place, Target, clamped_number};
@@ -31,27 +29,6 @@ pub trait Part: Drop {
     /// Reads the part at the position, and the position after it.
     fn read_at(alloc: Global, text: &[u8], from: Position) -> Result<Parsed<Self, Position>, Unread>
         ensures { AnswersRead nonterminal seen text.now (left_at text.now from) result };
-}
-
-/// Reads the element at the position, outside groups (Revised Manual, 3.3).
-pub fn whole_element_at(
-    alloc: Global,
-    text: &[u8],
-    from: Position,
-) -> Result<Parsed<Target, Position>, Unread>
-    ensures { AnswersRead elements target_tree text.now (left_at text.now from) result }
-{
-    match element_at(alloc, text, None, MAX_HEIGHT, from) {
-        Err(unread) => Err(unread),
-        Ok(found) => match found.value.into_element() {
-            None => Err(Unread::Absent),
-            Some(element) => Ok(Parsed {
-                value: Target::Element(element),
-                to: found.to,
-                faults: found.faults,
-            }),
-        },
-    }
 }
 
 /// Reads the name of a variable or an array at the position (Revised Manual, 3.1 and 3.3).
@@ -77,7 +54,8 @@ pub fn name_at(text: &[u8], from: Position) -> Option<Parsed<Name, Position>>
     })
 }
 
-/// Reads the target at the position: a variable or an element (Revised Manual, 4.4.1).
+/// Reads the target at the position: a variable, or an element outside groups (Revised Manual, 3.3
+/// and 4.4.1).
 pub fn target_at(
     alloc: Global,
     text: &[u8],
@@ -86,7 +64,17 @@ pub fn target_at(
     ensures { AnswersRead targets target_tree text.now (left_at text.now from) result }
 {
     if let Lead::Array(_) = lead_at(text, from).value {
-        return whole_element_at(alloc, text, from);
+        return match element_at(alloc, text, None, MAX_HEIGHT, from) {
+            Err(unread) => Err(unread),
+            Ok(found) => match found.value.into_element() {
+                None => Err(Unread::Absent),
+                Some(element) => Ok(Parsed {
+                    value: Target::Element(element),
+                    to: found.to,
+                    faults: found.faults,
+                }),
+            },
+        };
     }
     let Some(found) = name_at(text, from) else {
         return Err(Unread::Absent);
@@ -133,20 +121,6 @@ fn printed(place: Place) -> Item
         Place::Element(element) => Item::Element(element),
         Place::Array(name) => Item::Array(name),
     }
-}
-
-/// Reads the first word of a gerund at the position, and the position after it.
-fn gerund_word_at(text: &[u8], from: Position) -> Option<Scanned<Gerund, Position>>
-    ensures { MatchOption result
-        ((g : Gerund) (to : List ℕ) → IsWord (gerund_word g) (left_at text.now from) to → ⊥)
-        (λ r. IsWord (gerund_word r.value) (left_at text.now from) (left_at text.now r.to)) }
-{
-    for gerund in Gerund::ALL {
-        if let Some(to) = word_at(text, from, gerund.word()) {
-            return Some(Scanned { value: gerund, to });
-        }
-    }
-    None
 }
 
 /// Reads the label at the position, in its parentheses (Revised Manual, 4.2).
@@ -281,23 +255,26 @@ impl Part for Gerund {
         text: &[u8],
         from: Position,
     ) -> Result<Parsed<Self, Position>, Unread> {
-        let Some(first) = gerund_word_at(text, from) else {
-            return Err(Unread::Absent);
-        };
-        match first.value.second_word() {
-            None => Ok(Parsed {
-                value: first.value,
-                to: first.to,
-                faults: Faults::NONE,
-            }),
-            Some(word) => match word_at(text, first.to, word) {
+        for gerund in Gerund::ALL {
+            let Some(first) = word_at(text, from, gerund.word()) else {
+                continue;
+            };
+            let Some(word) = gerund.second_word() else {
+                return Ok(Parsed {
+                    value: gerund,
+                    to: first,
+                    faults: Faults::NONE,
+                });
+            };
+            return match word_at(text, first, word) {
                 None => Err(Unread::Absent),
                 Some(to) => Ok(Parsed {
-                    value: first.value,
+                    value: gerund,
                     to,
                     faults: Faults::NONE,
                 }),
-            },
+            };
         }
+        Err(Unread::Absent)
     }
 }
