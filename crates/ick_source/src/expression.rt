@@ -36,6 +36,7 @@ fn applied(
 }
 
 /// Reads a variable of this kind after its sigil, or a mesh if no kind is given.
+#[inline(always)]
 fn leaf_at(
     alloc: Global,
     text: &[u8],
@@ -165,9 +166,7 @@ fn subs_at(
             Err(unread) => return Err(unread),
             Ok(one) => one,
         };
-        let Ok(()) = all.value.push(one.value) else {
-            return Err(Unread::NoMemory);
-        };
+        all.value.push(one.value)?;
         all.height = all.height.max(one.height);
         all.to = one.to;
         all.faults = all.faults.union(one.faults);
