@@ -52,7 +52,7 @@ fn naming(verb: Verb, names: Vec<Name>) -> Body
 
 /// Reads the rest of a STASH, RETRIEVE, IGNORE or REMEMBER statement, after that word (Revised
 /// Manual, 4.4.5 to 4.4.8).
-fn naming_at(
+fn names_at(
     alloc: Global,
     text: &[u8],
     verb: Verb,
@@ -93,7 +93,7 @@ fn gating_kinds(verb: Verb, gerunds: Vec<Gerund>) -> Body
 
 /// Reads the rest of an ABSTAIN or REINSTATE statement, after `ABSTAIN FROM` or `REINSTATE`
 /// (Revised Manual, 4.4.9 and 4.4.10).
-fn gating_at(
+fn label_or_gerunds_at(
     alloc: Global,
     text: &[u8],
     verb: Verb,
@@ -132,13 +132,13 @@ fn after_verb_at(
         Verb::Forget => made(Expr::read_at(alloc, text, from), Body::Forget),
         Verb::Resume => made(Expr::read_at(alloc, text, from), Body::Resume),
         Verb::Stash | Verb::Retrieve | Verb::Ignore | Verb::Remember => {
-            naming_at(alloc, text, verb, from)
+            names_at(alloc, text, verb, from)
         }
         Verb::Abstain => match word_at(text, from, b"FROM") {
             None => Err(Unread::Absent),
-            Some(from) => gating_at(alloc, text, verb, from),
+            Some(from) => label_or_gerunds_at(alloc, text, verb, from),
         },
-        Verb::Reinstate => gating_at(alloc, text, verb, from),
+        Verb::Reinstate => label_or_gerunds_at(alloc, text, verb, from),
         Verb::Give => match word_at(text, from, b"UP") {
             None => Err(Unread::Absent),
             Some(to) => Ok(Parsed {

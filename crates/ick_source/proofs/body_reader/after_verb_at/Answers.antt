@@ -19,10 +19,10 @@ returns-in-Resume c =
     c.made-in-Resume.ensures c.read_at-in-Resume.ensures)
 
 pub returns-in-Reinstate : goal.returns-in-Reinstate
-returns-in-Reinstate c = c.gating_at-in-Reinstate.ensures _ (rw c.in-Reinstate.is reinstates)
+returns-in-Reinstate c = c.label_or_gerunds_at-in-Reinstate.ensures _ (rw c.in-Reinstate.is reinstates)
 
 pub returns-in-Some : goal.returns-in-Some
-returns-in-Some c = c.gating_at.ensures _ (rw c.in-Abstain.is (abstains_from c.in-Some.ensures))
+returns-in-Some c = c.label_or_gerunds_at.ensures _ (rw c.in-Abstain.is (abstains_from c.in-Some.ensures))
 
 pub returns-in-Some-word_at : goal.returns-in-Some-word_at
 returns-in-Some-word_at c =

@@ -1,7 +1,7 @@
 use Rattle.ick_source.proofs.PartUnique.{gerund_unique, gerund-shorter}
 use Rattle.ick_source.proofs.PartReadings.{absent_as, found_as}
 use Rattle.ick_source.proofs.BodyReadings.{map_same, label_made, kinds_made}
-use Rattle.ick_source.proofs.body_reader.gating_at.Goals as goal
+use Rattle.ick_source.proofs.body_reader.label_or_gerunds_at.Goals as goal
 
 pub list_at-requires-clause-once : goal.list_at-requires-clause-once
 list_at-requires-clause-once c = gerund_unique

@@ -1,7 +1,7 @@
 use Rattle.ick_source.proofs.PartUnique.{name_unique, name-shorter}
 use Rattle.ick_source.proofs.PartReadings.{absent_as, found_as}
 use Rattle.ick_source.proofs.BodyReadings.{map_same, naming_made}
-use Rattle.ick_source.proofs.body_reader.naming_at.Goals as goal
+use Rattle.ick_source.proofs.body_reader.names_at.Goals as goal
 
 pub list_at-requires-clause-once : goal.list_at-requires-clause-once
 list_at-requires-clause-once c = name_unique
