@@ -1,5 +1,5 @@
 -- The answers of the readers of expressions and of their parts.
-use Rattle.std.specs.Prelude.{ℕ, suc, max, ◌≡◌, ◌≤◌, List, Option, Some, None, Result, Ok, Err}
+use Rattle.std.specs.Prelude.{ℕ, suc, max, ◌≡◌, ◌≤◌, List, Option, Some, Result, Ok, Err}
 use Rattle.std.specs.Global.{Vec}
 use Rattle.ick_syntax.specs.declared.faults.Faults.{Faults}
 use Rattle.ick_source.specs.declared.lead.Delimiter.{Delimiter}
@@ -9,11 +9,10 @@ use Rattle.ick_source.specs.declared.parsed.Unread.{Unread}
 use Rattle.ick_source.specs.declared.parsed.Unread.TheVariants.{Absent}
 use Rattle.ick_syntax.specs.declared.tree.BinaryOp.{BinaryOp}
 use Rattle.ick_syntax.specs.declared.tree.Expr.{Expr}
-use Rattle.ick_syntax.specs.declared.tree.NameKind.{NameKind}
 use Rattle.ick_syntax.specs.declared.tree.UnaryOp.{UnaryOp}
 use Rattle.ick_source.specs.Position.{left_at, next_lead, past_lead}
 use Rattle.ick_source.specs.Token.{IsNumber, unary_at, past_unary}
-use Rattle.ick_syntax.specs.Tree.{Tree, Trees, under, binary, scalar, mesh, tree_of, trees_in}
+use Rattle.ick_syntax.specs.Tree.{Tree, Trees, under, binary, tree_of, trees_in}
 use Rattle.ick_syntax.specs.Clamped.{clamped_tree, clamped_trees, faults_of, faults_in, both_faults}
 use Rattle.ick_source.specs.Expression.{IsExpr}
 
@@ -37,11 +36,6 @@ pub record HasNoTree (R : Reading) (limit : ℕ) : Type 0 where
 abbrev pub AnswersTree : Reading → ℕ → List ℕ → Result (Measured Expr) Unread → Type 0
 AnswersTree R limit text (Ok s) = Stands R limit (left_at text s.to) (tree_of s.value) s.height s.faults
 AnswersTree R limit text (Err e) = e ≡ Absent → HasNoTree R limit
-
--- the tree of a number: the variable of this kind, or a mesh if there is no kind
-abbrev pub leaf : Option NameKind → ℕ → Tree
-leaf None = mesh
-leaf (Some kind) = λ n. scalar (record { kind = kind; number = n })
 
 -- a number after the sigil, and the tree that it makes
 pub record IsNumbered (leaf : ℕ → Tree) (past to : List ℕ) (t : Tree) (h : ℕ) : Type 0 where
