@@ -20,8 +20,7 @@ pub use commands::ended;
 pub use driver::serve;
 pub use ick_job::{
     Files, JobEnd, LONGEST, MOST_CHOICES, Message, Notice, Status, WordsFault, answer_words,
-    bug_argument, choices_argument, choices_of, file_argument, finish, flag_value, limit_argument,
-    long_number_value, number_value, read_file, read_front, read_input, read_named, refuse_words,
-    refused, report, seed_argument, send, text_value,
+    choices_of, finish, read_file, read_front, read_input, read_named, refuse_words, refused,
+    report, send,
 };
 pub use laws::one_answer;

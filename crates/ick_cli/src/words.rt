@@ -1,6 +1,6 @@
 //! The command line: its commands, and the job that arguments ask for.
 
-mod command;
+mod commands;
 mod help;
 mod job;
 

@@ -1,6 +1,7 @@
 pub mod Answer
 pub mod Built
 pub mod Choices
+pub mod Descriptions
 pub mod Input
 pub mod JobEnd
 pub mod Notice

@@ -2,7 +2,7 @@
 //! reported. The command lines of all programs rest on it.
 //!
 //! - `files`: files that are opened by name
-//! - `words`: the arguments of the commands, and the values that are given for them
+//! - `words`: descriptions of commands, their arguments, and the values that are given for them
 //! - `choices`: the choices that a text has
 //! - `notice`: error texts
 //! - `job_end`: how a job ends
@@ -42,7 +42,7 @@ pub use status::Status;
 pub use stopped::{Stop, stopped_run};
 pub use usage::answer_words;
 pub use words::{
-    bug_argument, choices_argument, count_argument, file_argument, flag_value, from_argument,
-    limit_argument, long_number_value, number_value, seed_argument, text_value,
+    ASKED, Argument, BUG, CHOICES, COUNT, Description, EXACT, FILE, FROM, Form, INPUT, LIMIT, MOST,
+    SEED, TOTAL, TRACE, Values, values_given,
 };
 pub use words_fault::{WordsFault, refuse_words};

@@ -1,10 +1,14 @@
-//! The arguments of the commands, and the values that are given for them.
+//! Descriptions of commands, their arguments, and the values that are given for them.
 
+mod argument;
 mod arguments;
+mod description;
+mod given;
 mod values;
 
+pub use argument::{Argument, Form};
 pub use arguments::{
-    bug_argument, choices_argument, count_argument, file_argument, from_argument, limit_argument,
-    seed_argument,
+    ASKED, BUG, CHOICES, COUNT, EXACT, FILE, FROM, INPUT, LIMIT, MOST, SEED, TOTAL, TRACE,
 };
-pub use values::{flag_value, long_number_value, number_value, text_value};
+pub use description::Description;
+pub use given::{Values, values_given};

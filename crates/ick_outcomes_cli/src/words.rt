@@ -1,6 +1,5 @@
 //! The command line: its options, and the job that arguments ask for.
 
-mod arguments;
 mod command;
 mod help;
 mod job;

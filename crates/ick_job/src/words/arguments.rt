@@ -1,86 +1,96 @@
-//! The arguments of the commands, each with the rule that a parse reads it by.
-ghost use Rattle.std.specs.Prelude.{◌≡◌, false};
-ghost use Rattle.clap.specs.Words.{rule_of};
-ghost use Rattle.ick_job.specs.Words.{bug_rule, choices_rule, count_rule, file_rule, from_rule};
-ghost use Rattle.ick_job.specs.Words.{limit_rule, seed_rule};
+//! The arguments of the commands, each with its help.
 
-use clap::{Arg, ArgAction, value_parser};
-use std::alloc::Global;
+use crate::words::argument::{Argument, Form};
+use clap::builder::ValueParser;
 
-/// Returns the argument FILE, which names the source.
-pub fn file_argument<'a>(alloc: Global) -> Arg<'a>
-    ensures rule { rule_of result ≡ file_rule }
-    ensures local { result.global ≡ false }
-{
-    Arg::new(alloc, "file")
-        .value_name("FILE")
-        .help("The source; standard input if none is given")
-}
+/// FILE, which names the source.
+pub const FILE: Argument<'static> = Argument {
+    name: "file",
+    form: Form::Place("FILE"),
+    help: "The source; standard input if none is given",
+};
 
-/// Returns the option `-b`, which changes nothing.
-pub fn bug_argument<'a>(alloc: Global) -> Arg<'a>
-    ensures rule { rule_of result ≡ bug_rule }
-    ensures local { result.global ≡ false }
-{
-    Arg::new(alloc, "bug")
-        .short('b')
-        .action(ArgAction::SetTrue)
-        .help("Changes nothing: there is no random compiler bug to switch off")
-}
+/// The option `-b`, which changes nothing.
+pub const BUG: Argument<'static> = Argument {
+    name: "bug",
+    form: Form::Letter('b'),
+    help: "Changes nothing: there is no random compiler bug to switch off",
+};
 
-/// Returns the option for the choices of a run.
-pub fn choices_argument<'a>(alloc: Global) -> Arg<'a>
-    ensures rule { rule_of result ≡ choices_rule }
-    ensures local { result.global ≡ false }
-{
-    Arg::new(alloc, "choices")
-        .long("choices")
-        .value_name("C")
-        .help("The choices of the run, as in a listing: --choices=- for none")
-}
+/// The option for the choices of a run.
+pub const CHOICES: Argument<'static> = Argument {
+    name: "choices",
+    form: Form::Text("C"),
+    help: "The choices of the run, as in a listing: --choices=- for none",
+};
 
-/// Returns the option for the run after which a listing begins.
-pub fn from_argument<'a>(alloc: Global) -> Arg<'a>
-    ensures rule { rule_of result ≡ from_rule }
-    ensures local { result.global ≡ false }
-{
-    Arg::new(alloc, "from").long("from").value_name("C").help(
-        "The run to go on after, by its choices: --from=- for none",
-    )
-}
+/// The option for the run after which a listing begins.
+pub const FROM: Argument<'static> = Argument {
+    name: "from",
+    form: Form::Text("C"),
+    help: "The run to go on after, by its choices: --from=- for none",
+};
 
-/// Returns the option for the seed that draws the choices of a run.
-pub fn seed_argument<'a>(alloc: Global) -> Arg<'a>
-    ensures rule { rule_of result ≡ seed_rule }
-    ensures local { result.global ≡ false }
-{
-    Arg::new(alloc, "seed")
-        .long("seed")
-        .value_name("N")
-        .value_parser(value_parser!(u64))
-        .help("Draws the choices of the run by this seed")
-}
+/// The option for the seed that draws the choices of a run.
+pub const SEED: Argument<'static> = Argument {
+    name: "seed",
+    form: Form::Number(ValueParser::Unsigned(0, 18_446_744_073_709_551_615)),
+    help: "Draws the choices of the run by this seed",
+};
 
-/// Returns the option for the limit on the steps of a run.
-pub fn limit_argument<'a>(alloc: Global) -> Arg<'a>
-    ensures rule { rule_of result ≡ limit_rule }
-    ensures local { result.global ≡ false }
-{
-    Arg::new(alloc, "limit")
-        .long("limit")
-        .value_name("N")
-        .value_parser(value_parser!(u32))
-        .help("The steps after which a run is cut short")
-}
+/// The option for the limit on the steps of a run.
+pub const LIMIT: Argument<'static> = Argument {
+    name: "limit",
+    form: Form::Number(ValueParser::Signed(0, 4_294_967_295)),
+    help: "The steps after which a run is cut short",
+};
 
-/// Returns the option for how many runs a listing shows.
-pub fn count_argument<'a>(alloc: Global) -> Arg<'a>
-    ensures rule { rule_of result ≡ count_rule }
-    ensures local { result.global ≡ false }
-{
-    Arg::new(alloc, "count")
-        .long("count")
-        .value_name("N")
-        .value_parser(value_parser!(u32).range(1..=1_000_000))
-        .help("How many runs are shown at most, from 1 to 1000000; 1000 if none is given")
-}
+/// The option for how many runs a listing shows.
+pub const COUNT: Argument<'static> = Argument {
+    name: "count",
+    form: Form::Number(ValueParser::Signed(1, 1_000_000)),
+    help: "How many runs are shown at most, from 1 to 1000000; 1000 if none is given",
+};
+
+/// The option for the file that has the input.
+pub const INPUT: Argument<'static> = Argument {
+    name: "input",
+    form: Form::Text("FILE"),
+    help: "The file with the input of the run; the input is empty if none is given",
+};
+
+/// The option by which a line is printed for each step.
+pub const TRACE: Argument<'static> = Argument {
+    name: "trace",
+    form: Form::Flag,
+    help: "Prints a line for each step and what it changed, and reads no commands",
+};
+
+/// The option for the number of states that are kept at a time.
+pub const MOST: Argument<'static> = Argument {
+    name: "most",
+    form: Form::Number(ValueParser::Signed(1, 4_294_967_295)),
+    help: "How many states are kept at a time; 1000000 if none is given",
+};
+
+/// The option by which weights are exact.
+pub const EXACT: Argument<'static> = Argument {
+    name: "exact",
+    form: Form::Flag,
+    help: "Prints all digits of each weight",
+};
+
+/// The option by which only the numbers of outcomes and of runs are printed.
+pub const TOTAL: Argument<'static> = Argument {
+    name: "total",
+    form: Form::Flag,
+    help: "Prints only how many outcomes and how many runs there are",
+};
+
+/// The option for the listing whose choices are explained.
+pub const ASKED: Argument<'static> = Argument {
+    name: "asked",
+    form: Form::Text("LISTING"),
+    help: "Prints which statements asked in each run of LISTING, a file that `ick runs` wrote, \
+           and no outcomes",
+};

@@ -1,15 +1,16 @@
 //! The job that arguments ask for.
 
-ghost use Rattle.std.specs.Prelude.{◌≡◌, IfOk};
+ghost use Rattle.std.specs.Prelude.{◌≡◌, IfOk, List};
 ghost use Rattle.clap.specs.Kinds.{FailsBy};
 ghost use Rattle.clap.specs.Walk.{texts};
-ghost use Rattle.clap.specs.Words.{fault_of, found_of, rows_of};
+ghost use Rattle.clap.specs.Words.{Row, fault_of};
+ghost use Rattle.ick_job.specs.Values.{AreValues};
 ghost use Rattle.ick_outcomes_cli.specs.Job.{job_of, wanted, wanted_in};
 ghost use Rattle.ick_outcomes_cli.specs.Words.{outcomes_app};
 
-use crate::words::command::outcomes_command;
-use clap::{ArgMatches, Error};
-use ick_job::{flag_value, number_value, text_value};
+use crate::words::command::OUTCOMES;
+use clap::Error;
+use ick_job::{Values, values_given};
 use std::alloc::Global;
 
 /// What is to be found out of the outcomes of a program.
@@ -38,25 +39,24 @@ pub fn read_job<'a>(alloc: Global, words: &'a [&'a str]) -> Result<Job<'a>, Erro
     ensures job { IfOk result (λ job. wanted job ≡ job_of (texts words.entry.now)) }
     ensures law { FailsBy (fault_of outcomes_app (texts words.entry.now)) result }
 {
-    let command = outcomes_command(alloc)?;
-    match command.try_get_matches_from(words) {
-        Ok(matches) => Ok(job_in(&matches)),
+    match values_given(alloc, &OUTCOMES, &[], words) {
+        Ok(values) => Ok(job_by(&values)),
         Err(error) => Err(error),
     }
 }
 
-/// Returns the job that parsed arguments ask for.
-fn job_in<'a>(matches: &ArgMatches<'a>) -> Job<'a>
-    ensures { wanted result ≡ wanted_in (rows_of (found_of matches.now)) }
+/// Returns the job that values ask for.
+fn job_by<'a>(values: &Values<'a>) -> Job<'a>
+    ensures { (rows : List Row) → AreValues rows values.now → wanted result ≡ wanted_in rows }
 {
     Job {
         question: Question {
-            most: number_value(matches, "most").unwrap_or(1_000_000),
-            exact: flag_value(matches, "exact"),
-            total: flag_value(matches, "total"),
+            most: values.most.unwrap_or(1_000_000),
+            exact: values.exact,
+            total: values.total,
         },
-        limit: number_value(matches, "limit").unwrap_or(10_000),
-        listing: text_value(matches, "asked"),
-        file: text_value(matches, "file"),
+        limit: values.limit.unwrap_or(10_000),
+        listing: values.asked,
+        file: values.file,
     }
 }

@@ -1,27 +1,18 @@
-use Rattle.std.proofs.Common.{◌≡◌, ◌∙◌, [], ap, true, refl}
-use Rattle.clap.specs.Kinds.{HasKind, Kinds}
-use Rattle.clap.specs.Words.{is_simple, is_simple_and_free}
+use Rattle.std.proofs.Common.{◌≡◌, true, refl}
+use Rattle.clap.specs.Words.{is_simple_and_free}
 use Rattle.clap.proofs.OnLiterals.{clap_on_literals}
-use Rattle.ick_job.proofs.Builders.{faulted, matched}
 use Rattle.ick_cli.specs.Words.{ick_app}
-use Rattle.ick_cli.specs.Job.{asked_in}
 use Rattle.ick_cli.proofs.words.job.read_job.Goals as goal
-
-simple : is_simple ick_app ≡ true
-unfolding clap_on_literals
-simple = refl
 
 free : is_simple_and_free ick_app ≡ true
 unfolding clap_on_literals
 free = refl
 
 pub returns-in-Ok-clause-job : goal.returns-in-Ok-clause-job
-returns-in-Ok-clause-job c =
-    c.job_in.ensures ∙ ap asked_in (matched _ _ _ c.in-Ok.matches c.in_ok-command.ensures simple c.in-Ok.ensures.matches).1
+returns-in-Ok-clause-job c = c.job_by.ensures _ _ (c.in-Ok.ensures.given free)
 
 pub returns-in-Ok-clause-law : goal.returns-in-Ok-clause-law
-returns-in-Ok-clause-law c = faulted (λ (k : Kinds). k ≡ []) _ _ _ c.in_ok-command.ensures free c.in-Ok.ensures.kinds
+returns-in-Ok-clause-law c = c.in-Ok.ensures.law free
 
 pub returns-in-Err-clause-law : goal.returns-in-Err-clause-law
-returns-in-Err-clause-law c =
-    faulted (λ (k : Kinds). HasKind k c.in-Err.error) _ _ _ c.in_ok-command.ensures free c.in-Err.ensures.kinds
+returns-in-Err-clause-law c = c.in-Err.ensures.law free
