@@ -80,15 +80,16 @@ all_kept digits kept n c b lt h =
     let more = length_push c b in
     h.stretched ∙ ap stretches (take_all n (c ++ b ∷ []) (omega (arith, more, lt)))
 
-pub kept_unstretched : (digits : List ℕ) (kept kept' : List Stretch) (n : ℕ) (c : List Bool) (b : Bool) →
-    length c < n → kept' ≡ stretches c → KeepsText digits kept n (c ++ b ∷ []) → KeepsText digits kept' (n - 1) c
-kept_unstretched digits kept kept' n c b lt e h =
-    let more = length_push c b in
-    let w = h.within in
+pub kept_unstretched : (digits : List ℕ) (kept kept' : List Stretch) (n at : ℕ) (c : List Bool) (b : Bool) →
+    at ≡ length c → at < n →
+    ((d : List Bool) (x : Bool) → kept ≡ stretches (d ++ x ∷ []) → kept' ≡ stretches d) →
+    KeepsText digits kept n (c ++ b ∷ []) → KeepsText digits kept' at c
+kept_unstretched digits kept kept' n at c b is lt shorter h =
+    let off = shorter c b (all_kept digits kept n c b (omega (arith, is, lt)) h) in
     record {
       plain = plain_shorter digits c b h.plain;
-      within = omega (arith, more, w);
-      stretched = e ∙ ap stretches (sym (take_all (n - 1) c (omega (arith, lt))));
+      within = omega (arith, is);
+      stretched = off ∙ (ap stretches (sym (take-length c)) ∙ ap (λ k. stretches (take k c)) (sym is));
     }
 
 -- with the stretches of the whole list, or with none

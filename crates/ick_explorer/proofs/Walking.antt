@@ -285,14 +285,14 @@ turn_walks s l m pre points n h = record {
 }
 
 -- back, and the statement done
-pub turned_back : (l : ℕ) (m m₁ m₂ : Machine) (c pre c' : List Bool) (points points₁ points' : List ℕ)
-    (n : ℕ) → IsMarked l m c points → TurnsAt c pre → points ≡ points₁ ++ n ∷ [] →
+pub turned_back : (l : ℕ) (m m₁ m₂ : Machine) (c pre c' : List Bool) (points points₁ : List ℕ) (n : ℕ) →
+    IsMarked l m c points → TurnsAt c pre → points ≡ points₁ ++ n ∷ [] →
     m ≡ record m₁ { state = m.state; marks = m₁.marks ++ m₁.state ∷ [] } →
-    c' ≡ pre ++ true ∷ [] → Moves l m₁ pre points₁ n m₂ c' points' (n + 1) →
-    TurnsBack l m c points m₂ c' points' (n + 1)
-turned_back l m m₁ m₂ c pre c' points points₁ points' n h turn e b d on =
+    c' ≡ pre ++ true ∷ [] → m₂ ≡ after_step true m₁ → TurnsBack l m c points m₂ c' points₁ (n + 1)
+turned_back l m m₁ m₂ c pre c' points points₁ n h turn e b d made =
     let q : m.program ≡ m₁.program = ap (λ x. x.program) b in
     let below = unmarked l m m₁ c pre points points₁ n b e turn h in
+    let on = chose_one l m₁ m₂ pre c' points₁ n true refl below.below below.choosing made d in
     let at : (s : State) → StandsAfter m.program s l c m.marks points →
     AtTurn m₁.program s l pre m₁.state n m₁.marks points₁ =
     λ s k. at_turn m₁.program s l c pre m₁.marks points₁ m₁.state n

@@ -33,3 +33,7 @@ AllZeros (true ∷ c) = ⊥
 -- the last zero of c comes just after the prefix pre
 abbrev pub TurnsAt : List Bool → List Bool → Type 0
 TurnsAt c pre = (ones : List Bool) × AllOnes ones × (c ≡ pre ++ false ∷ ones)
+
+-- d is c up to its last zero, which is a one in d
+abbrev pub Turns : List Bool → List Bool → Type 0
+Turns c d = (pre : List Bool) × TurnsAt c pre × (d ≡ pre ++ true ∷ [])

@@ -55,10 +55,18 @@ pub record Goes (way : Way) (limit : ℕ) (old : Machine) (c : List Bool) (point
   pub moves : Moves limit old c points n new c' points' n'
   pub taken : (z : List Bool) × HasGiven way z × (c' ≡ c ++ z)
 
--- the machine asks a choice below the limit after n steps, and the way has none after these choices
-pub record IsStranded (way : Way) (limit : ℕ) (m : Machine) (c c' : List Bool) (n : ℕ) : Type 0 where
-  pub choosing : IsChoosing m
-  pub below : n < limit
+-- the machine moves so until its run is over
+pub record Ends (way : Way) (limit : ℕ) (old : Machine) (c : List Bool) (points : List ℕ) (n : ℕ)
+    (new : Machine) (c' : List Bool) (points' : List ℕ) (n' : ℕ) : Type 0 where
+  pub goes : Goes way limit old c points n new c' points' n'
+  pub over : IsOver limit new n'
+
+-- the machine moves so until it asks a choice below the limit, and the way has no further choice
+pub record IsStranded (way : Way) (limit : ℕ) (old : Machine) (c : List Bool) (points : List ℕ) (n : ℕ)
+    (new : Machine) (c' : List Bool) (points' : List ℕ) (n' : ℕ) : Type 0 where
+  pub goes : Goes way limit old c points n new c' points' n'
+  pub choosing : IsChoosing new
+  pub below : n' < limit
   pub none : given_by way (length c' - length c) ≡ None
 
 -- the machine is back at the last zero of c, which is now a one, after n steps

@@ -1,8 +1,9 @@
 //! Keeps a list of choices, and what its text is made of.
 
-ghost use Rattle.std.specs.Prelude.{◌≡◌, ◌↔◌, ◌<◌, ◌∷◌, ◌++◌, [], length, OnOk, OnErr, IsSome};
-ghost use Rattle.std.specs.Option.{option_to_list};
+ghost use Rattle.std.specs.Prelude.{◌≡◌, ◌<◌, ◌∷◌, ◌++◌, [], length, OnOk, OnErr};
 ghost use Rattle.ick_explorer.specs.ChoiceTexts.{choices_text};
+ghost use Rattle.ick_explorer.specs.Listings.{zeros_in};
+ghost use Rattle.ick_explorer.specs.Paths.{Turns};
 
 use crate::choice_texts::{MOST_PLAIN, digit, push_stretches};
 use crate::stretches::{Stretch, group, shorten};
@@ -69,21 +70,26 @@ impl Choices {
         Ok(())
     }
 
-    /// Removes the last choice and returns it. Returns `None` if the list is empty.
+    /// Turns the last zero into a one, and removes the ones after it. The list must have a zero.
     #[inline(always)]
-    pub(crate) fn pop(&mut self) -> Option<bool>
-        ensures items { self.old ≡ self.new ++ option_to_list result }
-        ensures variant { IsSome result ↔ (0 < length self.old) }
+    pub(crate) fn turn(&mut self)
+        requires { 0 < zeros_in self.old }
+        ensures { Turns self.old self.new }
     {
-        let Some(choice) = self.list.pop() else {
-            return None;
-        };
-        if self.grouped <= self.list.len() {
-            return Some(choice);
+        while let Some(done) = self.list.pop() {
+            let at = self.list.len();
+            if at < self.grouped {
+                shorten(&mut self.stretches);
+                self.grouped = at;
+            }
+            if !done {
+                self.list.push_reserved(true);
+                if at < MOST_PLAIN {
+                    self.digits[at] = digit(true);
+                }
+                return;
+            }
         }
-        shorten(&mut self.stretches);
-        self.grouped -= 1;
-        Some(choice)
     }
 
     /// Removes all choices.

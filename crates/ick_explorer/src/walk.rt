@@ -1,20 +1,16 @@
 //! Leads a machine from one run to the next.
 
-ghost use Rattle.std.specs.Prelude.{◌≡◌, false, true, ◌+◌, ◌-◌, ◌<◌};
+ghost use Rattle.std.specs.Prelude.{◌≡◌, false, true, ℕ, ◌+◌, ◌-◌, ◌<◌};
 ghost use Rattle.std.specs.Prelude.{◌≤◌, ◌^◌, [], ◌∷◌, ◌++◌};
-ghost use Rattle.std.specs.Prelude.{length, None, Some, IfOk, OnOk};
+ghost use Rattle.std.specs.Prelude.{length, None, Some, IfOk, IfSome, IfNone, OnOk};
 ghost use Rattle.ick_code.specs.meaning.State.{State};
 ghost use Rattle.ick_backtrack.specs.Asked.{Finish};
 ghost use Rattle.ick_explorer.specs.Runs.{IsWhole};
-ghost use Rattle.ick_explorer.specs.Listings.{zeros_in};
-ghost use Rattle.ick_explorer.specs.Paths.{TurnsAt};
 ghost use Rattle.ick_explorer.specs.Marked.{IsMarked};
 ghost use Rattle.ick_explorer.specs.Standing.{StandsFrom, position_of, has_failed};
-ghost use Rattle.ick_explorer.specs.Walks.{IsChoosing, IsOver, EndsHere, Moves, given_by, Goes};
+ghost use Rattle.ick_explorer.specs.Walks.{IsChoosing, IsOver, EndsHere, Moves, given_by, Ends};
 ghost use Rattle.ick_explorer.specs.Walks.{IsStranded, TurnsBack, Finds, Follows};
-ghost use Rattle.ick_explorer.specs.declared.walk.Way.TheVariants.{Down};
 
-use crate::choices::Choices;
 use crate::path::{Path, Progress};
 use ick_backtrack::{Ask, Asks, Backtrack};
 use ick_bits::NoMemory;
@@ -49,18 +45,6 @@ fn choose<M: Backtrack>(
     machine.step(false)
 }
 
-/// Drops the last zero and the ones after it. The list must have a zero.
-fn drop_last_zero(choices: &mut Choices)
-    requires { 0 < zeros_in choices.old }
-    ensures { TurnsAt choices.old choices.new }
-{
-    while let Some(done) = choices.pop() {
-        if !done {
-            return;
-        }
-    }
-}
-
 /// Sets the machine back to the last zero and does its statement. Returns the number of steps made
 /// from the start of the run. The path must have a zero.
 fn turn_back<M: Backtrack>(machine: &mut M, path: &mut Path, limit: u32) -> Result<u32, NoMemory>
@@ -73,10 +57,10 @@ fn turn_back<M: Backtrack>(machine: &mut M, path: &mut Path, limit: u32) -> Resu
         (M.seen machine.old) path.old.choices path.old.points.items
         (M.seen machine.new) path.new.choices path.new.points.items n) }
 {
-    drop_last_zero(&mut path.choices);
+    path.choices.turn();
     let steps = path.points.pop().unwrap();
     machine.back();
-    match choose(machine, path, limit, steps, true) {
+    match machine.step(true) {
         Ok(()) => Ok(steps + 1),
         Err(NoMemory) => Err(NoMemory),
     }
@@ -106,7 +90,7 @@ impl<'a> Way<'a> {
 
 /// Leads the machine until the run ends, or until a choice is asked that the way doesn't have.
 /// `start` counts the steps made before this call, and must be at most `limit`. Returns the number
-/// of steps made from the start of the run, and whether the run has ended.
+/// of steps made from the start of the run, or `None` if the run hasn't ended.
 #[inline(always)]
 fn lead<'c, M: Asks<'c>>(
     machine: &mut M,
@@ -114,62 +98,43 @@ fn lead<'c, M: Asks<'c>>(
     limit: u32,
     start: u32,
     way: Way<'_>,
-) -> Result<(u32, bool), NoMemory>
+) -> Result<Option<u32>, NoMemory>
     requires within { start ≤ limit }
     requires room { (M.seen machine.old).work + limit < 2 ^ 64 + start }
     ensures program { (M.seen machine.new).program ≡ (M.seen machine.old).program }
-    ensures goes { IfOk result (λ r. Goes way.entry limit
+    ensures over { IfOk result (λ found. IfSome found (λ steps. Ends way.entry limit
         (M.seen machine.old) path.old.choices path.old.points.items start
-        (M.seen machine.new) path.new.choices path.new.points.items r.0) }
-    ensures over { IfOk result (λ r. r.1 ≡ true → IsOver limit (M.seen machine.new) r.0) }
-    ensures stranded { IfOk result (λ r. r.1 ≡ false → IsStranded way.entry limit
-        (M.seen machine.new) path.old.choices path.new.choices r.0) }
+        (M.seen machine.new) path.new.choices path.new.points.items steps)) }
+    ensures stranded { IfOk result (λ found. IfNone found ((steps : ℕ) × IsStranded way.entry limit
+        (M.seen machine.old) path.old.choices path.old.points.items start
+        (M.seen machine.new) path.new.choices path.new.points.items steps)) }
 {
     let mut steps = start;
     let mut used = 0;
     'on: loop {
         let asked = machine.asks();
         if let Ask::Ended(_) = asked {
-            return Ok((steps, true));
+            return Ok(Some(steps));
         }
         if steps == limit {
-            return Ok((steps, true));
+            return Ok(Some(steps));
         }
         if let Ask::Choice(_) = asked {
             let Some(done) = way.at(used) else {
-                return Ok((steps, false));
+                return Ok(None);
             };
-            choose(machine, path, limit, steps, done)?;
+            match choose(machine, path, limit, steps, done) {
+                Ok(()) => {}
+                Err(NoMemory) => return Err(NoMemory),
+            }
             used += 1;
             steps += 1;
             continue;
         }
-        let made = machine.run(limit - steps)?;
-        steps += made;
-    }
-}
-
-/// Goes on with a zero at each choice until the run ends. `start` counts the steps made before this
-/// call, and must be at most `limit`. Returns the number of steps made from the start of the run.
-#[inline(always)]
-fn go_down<'c, M: Asks<'c>>(
-    machine: &mut M,
-    path: &mut Path,
-    limit: u32,
-    start: u32,
-) -> Result<u32, NoMemory>
-    requires within { start ≤ limit }
-    requires room { (M.seen machine.old).work + limit < 2 ^ 64 + start }
-    ensures program { (M.seen machine.new).program ≡ (M.seen machine.old).program }
-    ensures down { IfOk result (λ r. Goes Down limit
-        (M.seen machine.old) path.old.choices path.old.points.items start
-        (M.seen machine.new) path.new.choices path.new.points.items r) }
-    ensures over { IfOk result (IsOver limit (M.seen machine.new)) }
-{
-    match lead(machine, path, limit, start, Way::Down) {
-        Ok((steps, true)) => Ok(steps),
-        Ok((_, false)) => unreachable!(),
-        Err(NoMemory) => Err(NoMemory),
+        match machine.run(limit - steps) {
+            Ok(made) => steps += made,
+            Err(NoMemory) => return Err(NoMemory),
+        }
     }
 }
 
@@ -195,17 +160,10 @@ pub(crate) fn follow<'c, M: Asks<'c>>(
     ensures not_whole { IfOk result (λ whole. whole ≡ false →
         ¬ IsWhole (M.seen machine.old).program (M.seen machine.old).state limit choices.now) }
 {
-    let (_, ended) = lead(machine, path, limit, 0, Way::Along(choices))?;
-    Ok(ended && path.choices.as_slice().len() == choices.len())
-}
-
-/// Drops all marks.
-fn drop_marks<M: Backtrack>(machine: &mut M)
-    ensures none { (M.seen machine.new).marks ≡ [] }
-    ensures program { (M.seen machine.new).program ≡ (M.seen machine.old).program }
-{
-    while machine.marks() > 0 {
-        machine.drop_mark();
+    match lead(machine, path, limit, 0, Way::Along(choices)) {
+        Ok(Some(_)) => Ok(path.choices.as_slice().len() == choices.len()),
+        Ok(None) => Ok(false),
+        Err(NoMemory) => Err(NoMemory),
     }
 }
 
@@ -216,7 +174,9 @@ pub(crate) fn reset<M: Backtrack>(machine: &mut M, path: &mut Path)
     ensures points { path.new.points.items ≡ [] }
     ensures program { (M.seen machine.new).program ≡ (M.seen machine.old).program }
 {
-    drop_marks(machine);
+    while machine.marks() > 0 {
+        machine.drop_mark();
+    }
     path.choices.clear();
     path.points.clear();
 }
@@ -250,12 +210,17 @@ pub(crate) fn find<'c, M: Asks<'c>>(
         (M.seen machine.old) (M.seen machine.new) path.new.choices path.new.points.items
         r finish) }
 {
-    match progress {
-        Progress::Fresh => go_down(machine, path, limit, 0),
+    let start = match progress {
+        Progress::Fresh => 0,
         Progress::Given => match turn_back(machine, path, limit) {
-            Ok(turned) => go_down(machine, path, limit, turned),
-            Err(NoMemory) => Err(NoMemory),
+            Ok(turned) => turned,
+            Err(NoMemory) => return Err(NoMemory),
         },
         Progress::Spent => unreachable!(),
+    };
+    match lead(machine, path, limit, start, Way::Down) {
+        Ok(Some(steps)) => Ok(steps),
+        Ok(None) => unreachable!(),
+        Err(NoMemory) => Err(NoMemory),
     }
 }

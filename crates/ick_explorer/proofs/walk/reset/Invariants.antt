@@ -1,5 +1,5 @@
 use Rattle.std.proofs.Common.{◌≡◌, length}
-use Rattle.ick_explorer.proofs.walk.drop_marks.Given as goal
+use Rattle.ick_explorer.proofs.walk.reset.Given as goal
 
 abbrev pub invariant-loop-machine : goal.invariant-loop-machine
 invariant-loop-machine g l = (g.M.Backtrack.seen l.machine).program ≡ (g.M.Backtrack.seen l.initial.machine).program
