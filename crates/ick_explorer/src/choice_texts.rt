@@ -9,7 +9,7 @@ ghost use Rattle.ick_explorer.specs.Choices.{seen_stretches};
 ghost use Rattle.ick_explorer.specs.Printing.{StartsOther};
 
 use crate::stretches::Stretch;
-use ick_bits::{NoMemory, append_decimal};
+use ick_bits::{NoMemory, append_all, append_decimal};
 
 /// Limits the choices of a plain text, which has one digit a choice.
 pub(crate) const MOST_PLAIN: usize = 64;
@@ -21,15 +21,17 @@ pub(crate) fn digit(choice: bool) -> u8
     if choice { b'1' } else { b'0' }
 }
 
-/// Appends a digit for each choice. If `out` can't grow, only a prefix of the digits is appended.
+/// Appends a digit for each choice. The answer is `NoMemory` if `out` can't grow, and `out` is then
+/// unchanged.
 fn push_digits(out: &mut Vec<u8>, choices: &[bool]) -> Result<(), NoMemory>
     ensures ok { OnOk result (out.new.items ≡ out.old.items ++ map digit_of choices.now) }
-    ensures err { OnErr result (take (vec_len out.old) out.new.items ≡ out.old.items) }
+    ensures err { OnErr result (out.new.items ≡ out.old.items) }
     ensures full { OnErr result (vec_capacity out.old < vec_len out.old + length choices.now) }
     ensures capacity { vec_capacity out.old ≤ vec_capacity out.new }
 {
+    out.reserve(choices.len())?;
     for choice in choices {
-        out.push(digit(*choice))?;
+        out.push_reserved(digit(*choice));
     }
     Ok(())
 }
@@ -106,24 +108,6 @@ pub(crate) fn push_stretches(out: &mut Vec<u8>, kept: &[Stretch]) -> Result<(), 
     Ok(())
 }
 
-/// Appends the text of a list of choices, which must not be empty. If `out` can't grow, only a
-/// prefix of the text is appended.
-#[tactic(auto, unfolding(crate::specs::ChoiceTexts::choices_text))]
-fn push_choices(out: &mut Vec<u8>, choices: &[bool]) -> Result<(), NoMemory>
-    requires { 0 < length choices.now }
-    ensures ok { OnOk result (out.new.items ≡ out.old.items ++ choices_text choices.now) }
-    ensures err { OnErr result (take (vec_len out.old) out.new.items ≡ out.old.items) }
-    ensures full { OnErr result
-        (vec_capacity out.old < vec_len out.old + length (choices_text choices.now)) }
-    ensures capacity { vec_capacity out.old ≤ vec_capacity out.new }
-{
-    if choices.len() > MOST_PLAIN {
-        push_groups(out, choices)
-    } else {
-        push_digits(out, choices)
-    }
-}
-
 /// Appends the text of a list of choices. The answer is `NoMemory` if `out` can't grow, and `out`
 /// is then unchanged.
 #[tactic(auto, unfolding(crate::specs::ChoiceTexts::choices_text))]
@@ -135,11 +119,13 @@ pub fn append_choices(out: &mut Vec<u8>, choices: &[bool]) -> Result<(), NoMemor
     ensures capacity { vec_capacity out.old ≤ vec_capacity out.new }
 {
     if choices.is_empty() {
-        out.push(b'-')?;
-        return Ok(());
+        return append_all(out, &[b"-"]);
+    }
+    if choices.len() <= MOST_PLAIN {
+        return push_digits(out, choices);
     }
     let start = out.len();
-    let appended = push_choices(out, choices);
+    let appended = push_groups(out, choices);
     if appended.is_err() {
         out.truncate(start);
     }
