@@ -6,7 +6,7 @@ use Rattle.std.specs.Prelude.{Some, None, Result, Ok, Err, IfOk}
 use Rattle.ick_code.specs.meaning.State.{State}
 use Rattle.ick_backtrack.specs.Machine.{Program, Machine}
 use Rattle.ick_backtrack.specs.Asked.{Finish}
-use Rattle.ick_explorer.specs.Runs.{run, ends, IsEnd, IsWhole}
+use Rattle.ick_explorer.specs.Runs.{run, IsEnd, IsWhole}
 use Rattle.ick_explorer.specs.Listings.{IsLeastAfter, common, zeros_in}
 use Rattle.ick_explorer.specs.Paths.{Leads}
 use Rattle.ick_explorer.specs.Marked.{IsMarked}

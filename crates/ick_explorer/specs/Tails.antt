@@ -5,6 +5,11 @@ use Rattle.ick_backtrack.specs.declared.asking.End.{End}
 use Rattle.ick_backtrack.specs.Asked.{Finish, finish_of}
 use Rattle.ick_explorer.specs.Lines.{end_text}
 
+-- the line that was built last, and the tail that is kept
+pub record Built : Type 0 where
+  pub line : List ℕ
+  pub tail : List ℕ
+
 -- what follows the choices in a line
 abbrev pub tail_of : Finish → List ℕ → List ℕ
 tail_of finish output = codes " " ++ end_text finish ++ codes " " ++ quoted output ++ codes "\n"

@@ -334,7 +334,7 @@ impl<M: Backtrack> Explorer<M> {
         lines: &mut LineBuilder<'c>,
         end: End<'c>,
     ) -> Result<(), NoMemory>
-        ensures line { OnOk result (lines.new.line.items ≡ line_of self.old.path.choices
+        ensures line { OnOk result (lines.new.line ≡ line_of self.old.path.choices
             (finish_of end.entry) (explored self.old).present.output) }
         ensures same { explored self.new ≡ explored self.old }
     {

@@ -12,7 +12,7 @@
 //! | `run`, `path` | a run, and the position of an explorer |
 //! | `walk` | the machine's way from one run to the next |
 //! | `explorer` | the explorer |
-//! | `tail`, `lines`, `listing`, `writing` | a listing as text |
+//! | `lines`, `listing`, `writing` | a listing as text |
 //! | `laws` | laws of all runs, listings and texts |
 #![tactic(auto)]
 
@@ -30,7 +30,6 @@ mod path;
 mod reading;
 mod run;
 mod stretches;
-mod tail;
 mod walk;
 mod writing;
 

@@ -1,20 +1,63 @@
 //! Builds the lines of runs.
 
-ghost use Rattle.std.specs.Prelude.{◌≡◌, OnOk};
+ghost use Rattle.std.specs.Prelude.{◌≡◌, ◌∷◌, ◌++◌, true, OnOk};
 ghost use Rattle.ick_backtrack.specs.Asked.{finish_of};
-ghost use Rattle.ick_explorer.specs.Lines.{line_of};
+ghost use Rattle.ick_explorer.specs.Lines.{end_text, line_of};
+ghost use Rattle.ick_explorer.specs.Tails.{tail_of};
 
 use crate::choices::Choices;
-use crate::tail::Tail;
 use ick_backtrack::End;
-use ick_bits::NoMemory;
+use ick_bits::{NoMemory, append_all, append_decimal, append_quoted};
 use std::alloc::Global;
+use std::marker::Model;
 
-/// Holds the line that was built last. The memory is kept from line to line.
+/// Appends a space and the text of an end. If this call runs out of memory, it may have appended a
+/// prefix of the text.
+fn append_end(out: &mut Vec<u8>, end: End<'_>) -> Result<(), NoMemory>
+    ensures { OnOk result
+        (out.new.items ≡ out.old.items ++ 32 ∷ end_text (finish_of end.entry)) }
+{
+    match end {
+        End::GiveUp => append_all(out, &[b" GIVE-UP"]),
+        End::Limit => append_all(out, &[b" LIMIT"]),
+        End::Fault(fault) => {
+            append_all(out, &[b" E", &fault.kind.digits(), b"@"])?;
+            append_decimal(out, u64::from(fault.statement))
+        }
+    }
+}
+
+/// Returns whether both ends are the same end without a fault.
+fn end_alike(first: End<'_>, second: End<'_>) -> bool
+    ensures { result ≡ true → finish_of first.entry ≡ finish_of second.entry }
+{
+    match first {
+        End::GiveUp => matches!(second, End::GiveUp),
+        End::Limit => matches!(second, End::Limit),
+        End::Fault(_) => false,
+    }
+}
+
+/// Holds the line that was built last, and a tail, which is all that follows the choices in a line.
+/// Beside the tail are the end and the output that it tells. The next run often ends alike with the
+/// same output, and then has the same tail. The memory is kept from line to line. Contracts see the
+/// line and the tail.
 #[derive(Drop)]
 pub(crate) struct LineBuilder<'c> {
-    pub(crate) line: Vec<u8>,
-    tail: Tail<'c>,
+    line: Vec<u8>,
+    tail: Vec<u8>,
+    end: Option<End<'c>>,
+    output: Vec<u8>,
+}
+
+impl<'c> Model for LineBuilder<'c> {
+    ghost use Rattle.ick_explorer.specs.Tails.{Built, KeepsTail};
+
+    ghost Value = { Built };
+
+    ghost view = { λ b. record { line = b.line.items; tail = b.tail.items } };
+
+    ghost invariant = { λ b. KeepsTail b.tail.items b.end b.output.items };
 }
 
 impl<'c> LineBuilder<'c> {
@@ -22,8 +65,45 @@ impl<'c> LineBuilder<'c> {
     pub(crate) fn new(alloc: Global) -> LineBuilder<'c> {
         LineBuilder {
             line: Vec::new(alloc),
-            tail: Tail::new(alloc),
+            tail: Vec::new(alloc),
+            end: None,
+            output: Vec::new(alloc),
         }
+    }
+
+    /// Returns the line that was built last.
+    pub(crate) fn as_slice(&self) -> &[u8]
+        ensures { result.now ≡ self.now.line }
+    {
+        self.line.as_slice()
+    }
+
+    /// Returns whether the tail is that of a run with this end and this output.
+    fn tells(&self, end: End<'c>, output: &[u8]) -> bool
+        ensures { result ≡ true → self.now.tail ≡ tail_of (finish_of end.entry) output.now }
+    {
+        match self.end {
+            Some(last) => end_alike(last, end) && self.output.as_slice() == output,
+            None => false,
+        }
+    }
+
+    /// Makes the tail that of a run with this end and this output. If this call runs out of memory,
+    /// it is no run's tail.
+    #[inline(never)]
+    fn write_tail(&mut self, end: End<'c>, output: &[u8]) -> Result<(), NoMemory>
+        ensures { OnOk result (self.new.tail ≡ tail_of (finish_of end.entry) output.now) }
+    {
+        self.end = None;
+        self.output.clear();
+        self.output.extend_from_slice(output)?;
+        self.tail.clear();
+        append_end(&mut self.tail, end)?;
+        self.tail.push(b' ')?;
+        append_quoted(&mut self.tail, output)?;
+        self.tail.push(b'\n')?;
+        self.end = Some(end);
+        Ok(())
     }
 
     /// Builds the line of a run with these choices, this end and this output. If this call runs out
@@ -36,10 +116,12 @@ impl<'c> LineBuilder<'c> {
         output: &[u8],
     ) -> Result<(), NoMemory>
         ensures line { OnOk result
-            (self.new.line.items ≡ line_of choices.old (finish_of end.entry) output.now) }
+            (self.new.line ≡ line_of choices.old (finish_of end.entry) output.now) }
         ensures same { choices.new ≡ choices.old }
     {
-        self.tail.set(end, output)?;
+        if !self.tells(end, output) {
+            self.write_tail(end, output)?;
+        }
         self.line.clear();
         choices.append_text(&mut self.line)?;
         self.line.extend_from_slice(self.tail.as_slice())?;

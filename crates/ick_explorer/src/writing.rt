@@ -48,7 +48,7 @@ fn write_next<'c, M: Asks<'c>, W: ByteSink>(
         explorer.fail();
         return Err(RunsError::NoMemory);
     }
-    match write_whole(writer, lines.line.as_slice()) {
+    match write_whole(writer, lines.as_slice()) {
         Ok(()) => Ok(true),
         Err(_) => Err(RunsError::Write),
     }

@@ -23,7 +23,7 @@ line g c s h =
     let e = c.in-Ok-Some.ensures in
     found_line _ _ s _ _ _ _ _ _ _ c.in-Ok-Some.field-0-is e.over e.some c.end_here-end.ensures h e.program e.limit
     e.room
-    (c.as_slice.ensures.value
+    (c.as_slice.ensures
     ∙ on_ok c.build_line.result c.is_err.result c.is_err.ensures.value c.if-is_err.false c.build_line.ensures.line)
 
 pub returns-in-Ok-clause-next : goal.returns-in-Ok-clause-next

@@ -1,7 +1,6 @@
-use Rattle.std.proofs.Common.{◌≡◌, ◌<◌, ◌++◌, length, map, ap, sym, ◌∙◌, subst, arith}
-use Rattle.std.proofs.lemmas.Grind.{common_steps}
+use Rattle.std.proofs.Common.{◌≡◌, ◌<◌, ◌++◌, length, ap, sym, ◌∙◌, subst, arith}
 use Rattle.std.proofs.lemmas.List.{length-map}
-use Rattle.ick_explorer.specs.ChoiceTexts.{choices_text, group_of, groups_text, stretches}
+use Rattle.ick_explorer.specs.ChoiceTexts.{choices_text, group_of, stretches}
 use Rattle.ick_explorer.specs.Choices.{seen_stretch, seen_stretches}
 use Rattle.ick_explorer.proofs.GroupLaws.{some_groups}
 use Rattle.ick_explorer.proofs.KeptLaws.{on_ok, on_ok_map, text_of_stretches}
