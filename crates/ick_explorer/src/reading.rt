@@ -1,6 +1,6 @@
 //! Reads the text of a list of choices.
 
-ghost use Rattle.std.specs.Prelude.{◌≡◌, ◌<◌, ◌≤◌, ◌⊎◌, ◌==◌, List, Bool};
+ghost use Rattle.std.specs.Prelude.{◌≡◌, ◌≢◌, ◌<◌, ◌≤◌, ◌⊎◌, ◌==◌, List, [], ◌∷◌, Bool, true, false};
 ghost use Rattle.std.specs.Prelude.{length, map, Err, IfOk, IfErr};
 ghost use Rattle.std.specs.List.{list_all};
 ghost use Rattle.ick_explorer.specs.ChoiceTexts.{IsPlain, IsTextOf, is_digit};
@@ -9,16 +9,18 @@ use crate::errors::RunsError;
 use crate::groups::read_groups;
 use std::alloc::Global;
 
-/// Returns whether each byte is the digit of a choice.
+/// Returns whether the text has one or more bytes, and each is the digit of a choice.
 fn all_digits(text: &[u8]) -> bool
-    ensures { result ≡ list_all is_digit text.now }
+    ensures some { result ≡ true → 0 < length text.now }
+    ensures all { result ≡ true → list_all is_digit text.now ≡ true }
+    ensures none { result ≡ false → text.now ≢ 45 ∷ [] → (c : List Bool) → ¬ IsPlain text.now c }
 {
     for byte in text {
         if *byte != b'0' && *byte != b'1' {
             return false;
         }
     }
-    true
+    !text.is_empty()
 }
 
 /// Returns the choices of a text of digits. The answer is `NoMemory` if the list can't grow.
@@ -31,36 +33,6 @@ fn choices_of(alloc: Global, text: &[u8]) -> Result<Vec<bool>, RunsError>
         choices.push(*byte == b'1')?;
     }
     Ok(choices)
-}
-
-/// Reads a plain text of at most `limit` choices. The answer is `BadCursor` for any other text,
-/// else `NoSuchRun` if the text has more choices than `limit`. The answer is `NoMemory` if the list
-/// can't grow.
-fn read_plain(alloc: Global, text: &[u8], limit: u32) -> Result<Vec<bool>, RunsError>
-    ensures ok { IfOk result (λ choices.
-        IsPlain text.now choices.items × (length choices.items ≤ limit)) }
-    ensures bad_cursor { result ≡ Err RunsError.BadCursor →
-        (c : List Bool) → ¬ IsPlain text.now c }
-    ensures no_such_run { result ≡ Err RunsError.NoSuchRun →
-        (c : List Bool) × IsPlain text.now c × (limit < length c) }
-    ensures no_memory { result ≡ Err RunsError.NoMemory →
-        (c : List Bool) × IsPlain text.now c × (length c ≤ limit) }
-    ensures errors { IfErr result (λ e. (e ≡ RunsError.NoMemory)
-        ⊎ ((e ≡ RunsError.NoSuchRun) ⊎ (e ≡ RunsError.BadCursor))) }
-{
-    if text == b"-".as_slice() {
-        return Ok(Vec::new(alloc));
-    }
-    if text.is_empty() {
-        return Err(RunsError::BadCursor);
-    }
-    if !all_digits(text) {
-        return Err(RunsError::BadCursor);
-    }
-    if text.len() > limit as usize {
-        return Err(RunsError::NoSuchRun);
-    }
-    choices_of(alloc, text)
 }
 
 /// Reads the text of a list of at most `limit` choices. This call checks the whole text before it
@@ -83,8 +55,14 @@ pub(crate) fn read_choices(alloc: Global, text: &[u8], limit: u32) -> Result<Vec
     ensures errors { IfErr result (λ e. (e ≡ RunsError.NoMemory)
         ⊎ ((e ≡ RunsError.NoSuchRun) ⊎ (e ≡ RunsError.BadCursor))) }
 {
-    match read_plain(alloc, text, limit) {
-        Err(RunsError::BadCursor) => read_groups(alloc, text, limit),
-        answer => answer,
+    if text == b"-".as_slice() {
+        return Ok(Vec::new(alloc));
     }
+    if !all_digits(text) {
+        return read_groups(alloc, text, limit);
+    }
+    if text.len() > limit as usize {
+        return Err(RunsError::NoSuchRun);
+    }
+    choices_of(alloc, text)
 }
