@@ -445,7 +445,7 @@ move_refused old new Read sound failed full no_memory some = absurd (grind arith
 
 -- what a refused line says of the listing
 pub refused_errors : (old new : Explored) (e : RunsError) → Moves old new (Err e) →
-    (e ≡ NoMemory) ⊎ ((e ≡ WorkFull) ⊎ (e ≡ Write))
+    (e ≡ NoMemory) ⊎ ((e ≡ WorkFull) ⊎ ((e ≡ Write) ⊎ (e ≡ Failed)))
 refused_errors old new NoMemory h = grind arith
 refused_errors old new WorkFull h = grind arith
 refused_errors old new Write h = grind arith

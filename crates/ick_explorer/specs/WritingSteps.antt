@@ -9,7 +9,7 @@ use Rattle.ick_explorer.specs.declared.errors.RunsError.TheVariants.{Write}
 use Rattle.ick_explorer.specs.Listings.{IsListing}
 use Rattle.ick_explorer.specs.Standing.{Explored, HasFailed, IsFull}
 use Rattle.ick_explorer.specs.Lines.{run_lines, listed_of}
-use Rattle.ick_explorer.specs.Writes.{Gave, Writes}
+use Rattle.ick_explorer.specs.Writes.{Gave}
 use Rattle.ick_explorer.specs.declared.listing.Listed2.{Listed2}
 
 -- one more line is written, and xs is the listing from the position of old
@@ -91,9 +91,3 @@ pub record AtEnd (told : Bool) (s : State) (cs : List (List Bool)) (count : ℕ)
   pub gave : Gave s old (take count cs) now
   pub says : listed ≡ listed_of cs count
   pub text : told ≡ true → w' ≡ w ++ run_lines old.program s old.limit (take count cs)
-
--- the facts that hold after each answer, before the last line is written
-abbrev pub WritesLines : Bool → State → List (List Bool) → ℕ → Explored → Explored →
-    List ℕ → List ℕ → Result Listed2 RunsError → Type 0
-WritesLines told s cs count old new w w' (Ok listed) = AtEnd told s cs count old new w w' listed
-WritesLines told s cs count old new w w' (Err error) = Writes told s cs count old new w w' (Err error)

@@ -8,7 +8,7 @@ ghost use Rattle.ick_explorer.specs.Standing.{Stands, IsListingAt, HasFailed};
 ghost use Rattle.ick_explorer.specs.Explorers.{explored};
 ghost use Rattle.ick_explorer.specs.Lines.{last_line};
 ghost use Rattle.ick_explorer.specs.Writes.{Writes, write_failures};
-ghost use Rattle.ick_explorer.specs.WritingSteps.{Moves, WritesNext, WritesLines};
+ghost use Rattle.ick_explorer.specs.WritingSteps.{Moves, WritesNext};
 
 use crate::devices::{ByteSink, write_whole};
 use crate::errors::RunsError;
@@ -76,41 +76,6 @@ fn write_last<W: ByteSink>(writer: &mut W, listed: Listed2) -> Result<Listed2, R
     }
 }
 
-/// Writes the lines of the next `count` runs, or of all runs if fewer are left. Returns the last
-/// line that the listing then has. The answer is `WorkFull`, `NoMemory` or `Write` if that part
-/// fails. The explorer must not have failed.
-fn write_lines<'c, M: Asks<'c>, W: ByteSink>(
-    lines: &mut LineBuilder<'c>,
-    explorer: &mut Explorer<M>,
-    count: u32,
-    writer: &mut W,
-) -> Result<Listed2, RunsError>
-    requires sound { (explored explorer.old).failed ≡ false }
-    requires room { W.failed writer.old + 1 < 2 ^ 64 }
-    ensures errors { IfErr result (λ e. (e ≡ RunsError.NoMemory)
-        ⊎ ((e ≡ RunsError.WorkFull) ⊎ (e ≡ RunsError.Write))) }
-    ensures count { W.failed writer.new ≡ W.failed writer.old + write_failures result }
-    ensures no_memory { result ≡ Err RunsError.NoMemory → HasFailed (explored explorer.new) }
-    ensures enough { result ≡ Err RunsError.WorkFull →
-        2 ^ 64 ≤ (explored explorer.old).work + count * (explored explorer.old).limit }
-    ensures listing { (s : State) (cs : List (List Bool)) → Stands s (explored explorer.old) →
-        IsListingAt s (explored explorer.old) cs →
-        WritesLines W.told s cs count (explored explorer.old) (explored explorer.new)
-        (W.written writer.old) (W.written writer.new) result }
-{
-    'each: for _i in 0..count {
-        match write_next(lines, explorer, writer) {
-            Err(refused) => return Err(refused),
-            Ok(false) => return Ok(Listed2::Done),
-            Ok(true) => {}
-        }
-    }
-    if explorer.more() {
-        return Ok(Listed2::More);
-    }
-    Ok(Listed2::Done)
-}
-
 /// Writes the listing from the explorer's position (this profile). The listing has a line for each
 /// of the next `count` runs, or for all runs if fewer are left. Its last line is `MORE` if a
 /// further run exists, else `DONE`. Each line is written as soon as its run is found.
@@ -155,8 +120,15 @@ pub fn write_runs<'c, M: Asks<'c>, W: ByteSink>(
         return Err(RunsError::Failed);
     }
     let mut lines = LineBuilder::new(alloc);
-    match write_lines(&mut lines, explorer, count, writer) {
-        Err(refused) => Err(refused),
-        Ok(listed) => write_last(writer, listed),
+    'each: for _i in 0..count {
+        match write_next(&mut lines, explorer, writer) {
+            Err(refused) => return Err(refused),
+            Ok(false) => return write_last(writer, Listed2::Done),
+            Ok(true) => {}
+        }
     }
+    if explorer.more() {
+        return write_last(writer, Listed2::More);
+    }
+    write_last(writer, Listed2::Done)
 }

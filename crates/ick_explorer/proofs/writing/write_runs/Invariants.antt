@@ -4,7 +4,7 @@ use Rattle.ick_explorer.specs.Listings.{IsListing}
 use Rattle.ick_explorer.specs.Standing.{Stands}
 use Rattle.ick_explorer.specs.WritingSteps.{Along}
 use Rattle.ick_explorer.specs.Explorers.{explored}
-use Rattle.ick_explorer.proofs.writing.write_lines.Given as goal
+use Rattle.ick_explorer.proofs.writing.write_runs.Given as goal
 
 abbrev pub invariant-each : goal.invariant-each
 invariant-each g l = record {
