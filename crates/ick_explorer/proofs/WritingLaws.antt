@@ -272,37 +272,59 @@ along_end told s cs i count old now w w' listed h e f = record {
   text = λ t. h.text t ∙ ap (λ x. w ++ run_lines old.program s old.limit x) e;
 }
 
--- fewer than `count` lines, and nothing further
-pub end_short : (told : Bool) (s : State) (cs : List (List Bool)) (i count : ℕ) (old mid new : Explored)
-    (w w₁ w' : List ℕ) → i ≤ count → Along told s cs i old mid w w₁ →
-    WritesNone told (drop i cs) mid new w₁ w' → AtEnd told s cs count old new w w' Done
-end_short told s cs i count old mid new w w₁ w' le h k =
-    let size = drop_none i cs h.within k.none in
-    let a : AtEnd told s cs count old mid w w₁ Done = along_end told s cs i count old mid w w₁ Done h
-    (take_all_of i cs (omega arith) ∙ sym (take_all_of count cs (omega arith)))
-    (listed_done_of cs count (omega arith)) in
-    record {
-      gave = subst (λ x. Gave s old (take count cs) x) (sym k.same) a.gave;
-      says = a.says;
-      text = λ t. k.text t ∙ a.text t;
-    }
+-- `count` lines are written, or fewer if no run is left
+pub record Through (told : Bool) (s : State) (cs : List (List Bool)) (count : ℕ) (old now : Explored)
+    (w w' : List ℕ) : Type 0 where
+  pub lines : ℕ
+  pub within : lines ≤ count
+  pub along : Along told s cs lines old now w w'
+  pub all : 0 < length (drop lines cs) → lines ≡ count
 
--- `count` lines, and more
-pub end_more : (told : Bool) (s : State) (cs : List (List Bool)) (i count : ℕ) (old now : Explored)
-    (w w' : List ℕ) → i ≡ count → Along told s cs i old now w w' →
+pub through_all : (told : Bool) (s : State) (cs : List (List Bool)) (i count : ℕ) (old now : Explored)
+    (w w' : List ℕ) → i ≡ count → Along told s cs i old now w w' → Through told s cs count old now w w'
+through_all told s cs i count old now w w' e h =
+    record { lines = i; within = omega (arith, e); along = h; all = λ some. e }
+
+pub through_none : (told : Bool) (s : State) (cs : List (List Bool)) (i count : ℕ) (old mid new : Explored)
+    (w w₁ w' : List ℕ) → i ≤ count → Along told s cs i old mid w w₁ →
+    WritesNone told (drop i cs) mid new w₁ w' → Through told s cs count old new w w'
+through_none told s cs i count old mid new w w₁ w' le h k = record {
+  lines = i;
+  within = le;
+  along = record {
+    within = h.within;
+    gave = subst (λ x. Gave s old (take i cs) x) (sym k.same) h.gave;
+    rest = subst (λ x. IsListing x.program s x.limit x.from (drop i cs)) (sym k.same) h.rest;
+    text = λ t. k.text t ∙ h.text t;
+  };
+  all = λ some. let none : length (drop i cs) ≡ 0 = ap length k.none in absurd (omega (arith, none, some));
+}
+
+-- and more is left
+pub end_more : (told : Bool) (s : State) (cs : List (List Bool)) (count : ℕ) (old now : Explored)
+    (w w' : List ℕ) → (h : Through told s cs count old now w w') →
     (d : List Bool) × IsWhole now.program s now.limit d × IsAfter now.from d →
     AtEnd told s cs count old now w w' More
-end_more told s cs i count old now w w' e h m =
-    let some = drop-some i cs h.within (listing_some now.program s now.limit now.from (drop i cs) m h.rest) in
-    along_end told s cs i count old now w w' More h (ap (λ n. take n cs) e) (listed_more_of cs count (omega arith))
+end_more told s cs count old now w w' h m =
+    let i = h.lines in
+    let rest = listing_some now.program s now.limit now.from (drop i cs) m h.along.rest in
+    let some = drop-some i cs h.along.within rest in
+    let e = h.all rest in
+    along_end told s cs i count old now w w' More h.along (ap (λ n. take n cs) e)
+    (listed_more_of cs count (omega (arith, some, e)))
 
--- `count` lines, and no more
-pub end_done : (told : Bool) (s : State) (cs : List (List Bool)) (i count : ℕ) (old now : Explored)
-    (w w' : List ℕ) → i ≡ count → Along told s cs i old now w w' →
+-- and nothing is left
+pub end_done : (told : Bool) (s : State) (cs : List (List Bool)) (count : ℕ) (old now : Explored)
+    (w w' : List ℕ) → (h : Through told s cs count old now w w') →
     IsLast now.program s now.limit now.from → AtEnd told s cs count old now w w' Done
-end_done told s cs i count old now w w' e h m =
-    let size = drop_none i cs h.within (listing_none now.program s now.limit now.from (drop i cs) m h.rest) in
-    along_end told s cs i count old now w w' Done h (ap (λ n. take n cs) e) (listed_done_of cs count (omega arith))
+end_done told s cs count old now w w' h m =
+    let i = h.lines in
+    let le = h.within in
+    let size = drop_none i cs h.along.within
+    (listing_none now.program s now.limit now.from (drop i cs) m h.along.rest) in
+    along_end told s cs i count old now w w' Done h.along
+    (take_all_of i cs (omega (arith, size)) ∙ sym (take_all_of count cs (omega (arith, size, le))))
+    (listed_done_of cs count (omega (arith, size, le)))
 
 take_size : (n : ℕ) (cs : List (List Bool)) → take (length (take n cs)) cs ≡ take n cs
 take_size zero cs = refl

@@ -123,12 +123,14 @@ pub fn write_runs<'c, M: Asks<'c>, W: ByteSink>(
     'each: for _i in 0..count {
         match write_next(&mut lines, explorer, writer) {
             Err(refused) => return Err(refused),
-            Ok(false) => return write_last(writer, Listed2::Done),
+            Ok(false) => break 'each,
             Ok(true) => {}
         }
     }
-    if explorer.more() {
-        return write_last(writer, Listed2::More);
-    }
-    write_last(writer, Listed2::Done)
+    let listed = if explorer.more() {
+        Listed2::More
+    } else {
+        Listed2::Done
+    };
+    write_last(writer, listed)
 }

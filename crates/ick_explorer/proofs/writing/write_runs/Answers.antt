@@ -1,13 +1,14 @@
-use Rattle.std.proofs.Common.{◌≡◌, ◌<◌, ◌≤◌, rules, arith, ◌∙◌}
+use Rattle.std.proofs.Common.{◌≡◌, ◌<◌, ◌≤◌, rules, arith, sym, subst, ◌∙◌}
 use Rattle.std.proofs.lemmas.Grind.{common_steps}
 use Rattle.ick_explorer.specs.Lines.{last_line}
 use Rattle.ick_explorer.specs.Explorers.{explored}
 use Rattle.ick_explorer.specs.declared.errors.RunsError.TheVariants.{NoMemory, WorkFull}
-use Rattle.ick_explorer.specs.declared.listing.Listed2.TheVariants.{More, Done}
-use Rattle.ick_explorer.proofs.WritingLaws.{one_more_limit, along-on, end_short, end_more, end_done}
+use Rattle.ick_explorer.specs.WritingSteps.{AtEnd}
+use Rattle.ick_explorer.proofs.WritingLaws.{one_more_limit, along-on, Through, through_all, through_none}
 use Rattle.ick_explorer.proofs.WritingLaws.{next_refused, is_one, is_none, refused_errors, refused_memory, refused_full}
-use Rattle.ick_explorer.proofs.WritingLaws.{last_writes, told_beginning}
+use Rattle.ick_explorer.proofs.WritingLaws.{end_more, end_done, last_writes, told_beginning}
 use Rattle.ick_explorer.proofs.writing.write_runs.Goals as goal
+use Rattle.ick_explorer.proofs.writing.write_runs.Goals.{else-each-test, then-each-test+in-Ok-false, then-more, else-more}
 
 pub returns-in-Err-clause-listing : goal.returns-in-Err-clause-listing
 returns-in-Err-clause-listing g c = λ s cs h k.
@@ -18,24 +19,6 @@ returns-in-Err-clause-listing g c = λ s cs h k.
     (explored c.each.explorer) (explored c.write_next.new.explorer)
     (written c.args.writer.now) (written c.each.writer) (written c.write_next.new.writer) c.in-Err.refused lt a
     (c.in-Err.ensures.next s _ a.gave.stands a.rest)
-
-pub returns-in-Ok-false-clause-listing : goal.returns-in-Ok-false-clause-listing
-returns-in-Ok-false-clause-listing g c = λ s cs h k.
-    let told = g.W.ByteSink.told in
-    let written = g.W.ByteSink.written in
-    let a = c.each.invariant.along s cs h k in
-    let lt : c.each._i ≤ c.args.count = grind (arith, common_steps) in
-    let ends =
-    end_short told s cs c.each._i c.args.count (explored c.args.explorer.now) (explored c.each.explorer)
-    (explored c.write_next.new.explorer) (written c.args.writer.now) (written c.each.writer)
-    (written c.write_next.new.writer) lt a
-    (is_none told s _ _ _ _ _ c.in-Ok-false.field-0 c.in-Ok-false.field-0-test
-    (c.in-Ok-false.ensures.next s _ a.gave.stands a.rest)) in
-    last_writes told s cs c.args.count (explored c.args.explorer.now) (explored c.write_next.new.explorer)
-    (written c.args.writer.now) (written c.write_next.new.writer) (written c.write_last.new.writer) Done c.write_last.result ends
-    c.write_last.ensures.listed c.write_last.ensures.errors
-    (told_beginning told (written c.write_next.new.writer) (written c.write_last.new.writer) (last_line Done) c.write_last.ensures.beginning)
-    c.write_last.ensures.all
 
 pub each-preserved : goal.each-preserved
 each-preserved g c = record {
@@ -53,37 +36,46 @@ each-preserved g c = record {
       (c.in-Ok-true.ensures.next s _ a.gave.stands a.rest));
 }
 
-pub returns-then-more-clause-listing : goal.returns-then-more-clause-listing
-returns-then-more-clause-listing g c = λ s cs h k.
-    let told = g.W.ByteSink.told in
-    let written = g.W.ByteSink.written in
-    let a = c.each.invariant.along s cs h k in
-    let all : c.each._i ≡ c.args.count = grind (arith, common_steps) in
-    let ends =
-    end_more told s cs c.each._i c.args.count (explored c.args.explorer.now) (explored c.each.explorer)
-    (written c.args.writer.now) (written c.each.writer) all a
-    (c.more.ensures.further s a.gave.stands c.if-more.true) in
-    last_writes told s cs c.args.count (explored c.args.explorer.now) (explored c.each.explorer)
-    (written c.args.writer.now) (written c.each.writer) (written c.write_last-then-more.new.writer) More c.write_last-then-more.result ends
-    c.write_last-then-more.ensures.listed c.write_last-then-more.ensures.errors
-    (told_beginning told (written c.each.writer) (written c.write_last-then-more.new.writer) (last_line More) c.write_last-then-more.ensures.beginning)
-    c.write_last-then-more.ensures.all
-
 pub returns-clause-listing : goal.returns-clause-listing
 returns-clause-listing g c = λ s cs h k.
     let told = g.W.ByteSink.told in
     let written = g.W.ByteSink.written in
+    let count = c.args.count in
+    let old = explored c.args.explorer.now in
+    let now = explored c.each-test.explorer in
+    let before = written c.args.writer.now in
+    let after = written c.each-test.writer in
+    let last = written c.write_last.new.writer in
+    let listed = c.if-more.listed in
     let a = c.each.invariant.along s cs h k in
-    let all : c.each._i ≡ c.args.count = grind (arith, common_steps) in
-    let ends =
-    end_done told s cs c.each._i c.args.count (explored c.args.explorer.now) (explored c.each.explorer)
-    (written c.args.writer.now) (written c.each.writer) all a
-    (c.more.ensures.last s a.gave.stands c.if-more.false) in
-    last_writes told s cs c.args.count (explored c.args.explorer.now) (explored c.each.explorer)
-    (written c.args.writer.now) (written c.each.writer) (written c.write_last-2.new.writer) Done c.write_last-2.result ends
-    c.write_last-2.ensures.listed c.write_last-2.ensures.errors
-    (told_beginning told (written c.each.writer) (written c.write_last-2.new.writer) (last_line Done) c.write_last-2.ensures.beginning)
-    c.write_last-2.ensures.all
+    let through : Through told s cs count old now before after = elim c.each-test.branch [
+      | else-each-test w ↦
+          let all : c.each._i ≡ count = omega (arith, w.each-test.false, c.each.auto._i-end) in
+          subst (λ x. Through told s cs count old (explored x) before after) (sym w.explorer-is)
+          (subst (λ x. Through told s cs count old (explored c.each.explorer) before (written x)) (sym w.writer-is)
+          (through_all told s cs c.each._i count old (explored c.each.explorer) before (written c.each.writer) all a))
+      | then-each-test+in-Ok-false w ↦
+          let mid = w.write_next.new.explorer in
+          let lt : c.each._i ≤ count = omega (arith, w.each-test.true) in
+          subst (λ x. Through told s cs count old (explored x) before after) (sym w.explorer-is)
+          (subst (λ x. Through told s cs count old (explored mid) before (written x)) (sym w.writer-is)
+          (through_none told s cs c.each._i count old (explored c.each.explorer) (explored mid) before
+          (written c.each.writer) (written w.write_next.new.writer) lt a
+          (is_none told s _ _ _ _ _ w.in-Ok-false.field-0 w.in-Ok-false.field-0-test
+          (w.in-Ok-false.ensures.next s _ a.gave.stands a.rest))))
+    ] in
+    let stands = through.along.gave.stands in
+    let ends : AtEnd told s cs count old now before after listed = elim c.if-more.branch [
+      | then-more v ↦
+          subst (λ x. AtEnd told s cs count old now before after x) (sym v.listed-is)
+          (end_more told s cs count old now before after through (c.more.ensures.further s stands v.if-more.true))
+      | else-more v ↦
+          subst (λ x. AtEnd told s cs count old now before after x) (sym v.listed-is)
+          (end_done told s cs count old now before after through (c.more.ensures.last s stands v.if-more.false))
+    ] in
+    last_writes told s cs count old now before after last listed c.write_last.result ends
+    c.write_last.ensures.listed c.write_last.ensures.errors
+    (told_beginning told after last (last_line listed) c.write_last.ensures.beginning) c.write_last.ensures.all
 
 pub returns-in-Err-clause-errors : goal.returns-in-Err-clause-errors
 returns-in-Err-clause-errors g c =
