@@ -1,4 +1,4 @@
--- What a map of names has at a name, by the slots.
+-- The value of a map of names at a name, which is found by the slot of the name.
 use Rattle.std.proofs.Common.{◌≡◌, ◌≢◌, ◌<◌, ◌≤◌, ℕ, suc, Bool, true, false, List, [], ◌∷◌, Some, refl, ap, arith, sym, ◌∙◌}
 use Rattle.std.proofs.Common.{get_or, length, map}
 use Rattle.std.proofs.lemmas.List.{get_or-map, length-map}

@@ -20,7 +20,7 @@ abbrev pub marked_view : Mark → List Change → View → View
 marked_view mark changes v =
     record (rewound (reverse (drop mark.changes changes)) v) { place = mark.place; depth = mark.depth }
 
--- the states that marks stand for, the oldest first. The marks are listed with the newest first
+-- the states of a list of marks. The list begins with the newest mark, and the result with the oldest state
 abbrev pub marked_states : Code → LoweredParts → Input → List Change → View → List Marked → List State
 marked_states code lowered input changes v [] = []
 marked_states code lowered input changes v (newest ∷ older) =
@@ -48,7 +48,7 @@ pub record IsMarkOf (t : Trail) (v : View) (mark : Mark) : Type 0 where
   pub count : mark.changes ≡ length (changes_in t)
   pub rewinds : Rewinds t.base (changes_in t) t.low mark.changes v v
 
--- the mark stands for the view m, and undoing leads from v to a view like m
+-- m is the view that was marked: a run can go on from it, and undoing leads from v to a view like m
 pub record IsMark (code : Code) (lowered : LoweredParts) (changes : List Change) (low : ℕ) (v : View) (mark : Mark)
     (m : View) : Type 0 where
   pub place_is : m.place ≡ mark.place
@@ -71,7 +71,7 @@ abbrev pub marked_in : Code → LoweredParts → Input → Trail → Memory → 
 marked_in code lowered input trail memory marks =
     marked_states code lowered input (changes_in trail) (view_in memory) marks
 
--- all marks on the old trail are marks on the new trail, and stand for the same states
+-- every list of marks of the old trail is one of the new trail too, and its states are the same
 abbrev pub KeepsMarks : Code → LoweredParts → Trail → Memory → Trail → Memory → Type 0
 KeepsMarks code lowered old_trail old trail new =
     (marks : List Marked) → AreMarksIn code lowered old_trail old marks →
