@@ -105,7 +105,8 @@ impl<'c, 'a> Backtrack for Copied<'c, 'a> {
         machine.law();
         if let Some(Copy { saved, end }) = self.copies.pop() {
             machine.trail.clear();
-            saved.restore(&mut machine.memory, machine.lowered.program());
+            let mut saved = saved;
+            saved.exchange(&mut machine.memory, machine.lowered.program());
             machine.end = end;
         }
     }

@@ -88,18 +88,6 @@ impl Saved {
         swap(&mut memory.rest, &mut self.rest);
     }
 
-    /// Puts the state into a memory of the same program, and leaves none behind, so no memory is
-    /// allocated. The number of steps left and the answer stay.
-    pub fn restore(self, memory: &mut Memory, program: &Lowered<'_, '_>)
-        requires kept { IsKept program.now.code.now program.now.parts self }
-        requires steady { IsSteady program.now.code.now program.now.parts (view_in memory.old) }
-        ensures { IsLoaded program.now.code.now program.now.parts (saved_view self)
-            (view_in memory.new) }
-    {
-        let mut saved = self;
-        saved.exchange(memory, program);
-    }
-
     /// States which state is kept: that of the memory which was saved.
     #[tactic(auto, using(crate::proofs::Saving::kept_state))]
     pub fn law(&self, program: &Lowered<'_, '_>)

@@ -7,8 +7,8 @@ use Rattle.ick_machine.specs.{Copies.copied_state, Marks.AreMarksIn, Run.run_sta
 use Rattle.ick_machine.proofs.{CopyLemmas.one_less, FedLemmas.no_items, WholeLemmas.seen_at}
 use Rattle.ick_machine.proofs.copied.CopiedBacktrack.back.Goals as goal
 
-pub restore-requires-clause-kept : goal.restore-requires-clause-kept
-restore-requires-clause-kept c =
+pub exchange-requires-clause-kept : goal.exchange-requires-clause-kept
+exchange-requires-clause-kept c =
     rw c.program.ensures (
     let m = c.args.self.now in
     ∥∥₁_elim m.copied (hlevel) (λ are.
@@ -21,11 +21,11 @@ invariant_of-machine c =
     let none = no_items m.marks.items (sym m.marks.ok.0 ∙ c.args.self.now.unmarked) in
     record {
       can = ∣ record {
-        ready = rw (sym c.program.ensures) c.restore.ensures.ready;
+        ready = rw (sym c.program.ensures) c.exchange.ensures.loaded.ready;
         low = omega (arith, c.clear.ensures.low);
         base = c.clear.ensures.base ∙ c.law.ensures.can.base;
       } ∣₁;
-      marked = ∣ subst (AreMarksIn m.lowered.code.now m.lowered.parts c.clear.new.self c.restore.new.memory)
+      marked = ∣ subst (AreMarksIn m.lowered.code.now m.lowered.parts c.clear.new.self c.exchange.new.memory)
           (sym (ap reverse none)) tt ∣₁;
     }
 
@@ -52,4 +52,4 @@ returns-in-Some c =
     let older = c.pop.new.self.items in
     ap (λ marks. seen_at code s marks m.machine.work)
     (ap (map f) c.in-Some.ensures.items ∙ map-append f older (copy ∷ [])
-    ∙ ap (λ t. map f older ++ (record t { end = (f copy).end }) ∷ []) (sym (c.restore.ensures.states input))))
+    ∙ ap (λ t. map f older ++ (record t { end = (f copy).end }) ∷ []) (sym (c.exchange.ensures.loaded.states input))))
