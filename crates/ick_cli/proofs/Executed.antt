@@ -10,8 +10,8 @@ use Rattle.ick_backtrack.specs.Asked.{finished, at_limit}
 use Rattle.ick_backtrack.specs.Machine.{Program}
 use Rattle.ick_runs.specs.Draws.{IsDrawn, word_of}
 use Rattle.ick_explorer.specs.Runs.{Execution, Stop, ends, run, wants}
-use Rattle.ick_machine.specs.declared.live_ask.EndKind.{EndKind}
-use Rattle.ick_machine.specs.declared.live_ask.EndKind.TheVariants.{GiveUp, Fault, Limit, Wants}
+use Rattle.ick_machine.specs.declared.asking.EndKind.{EndKind}
+use Rattle.ick_machine.specs.declared.asking.EndKind.TheVariants.{GiveUp, Fault, Limit, Wants}
 use Rattle.ick_runs.specs.Streams.{HasStreamed, Streams, source_failures, stop_kind, stop_message}
 use Rattle.ick_explorer.specs.Writes.{write_failures}
 use Rattle.ick_explorer.specs.declared.errors.RunsError.{RunsError}

@@ -1,7 +1,7 @@
 -- What is said of a streamed run that stopped, and how work ends with it.
 use Rattle.std.specs.Prelude.{◌≡◌, ℕ, List, [], ◌++◌, Result, Ok, Err, codes, decimal}
-use Rattle.ick_machine.specs.declared.live_ask.EndKind.{EndKind}
-use Rattle.ick_machine.specs.declared.live_ask.EndKind.TheVariants.{GiveUp, Fault, Limit, Wants}
+use Rattle.ick_machine.specs.declared.asking.EndKind.{EndKind}
+use Rattle.ick_machine.specs.declared.asking.EndKind.TheVariants.{GiveUp, Fault, Limit, Wants}
 use Rattle.ick_explorer.specs.declared.errors.RunsError.{RunsError}
 use Rattle.ick_runs.specs.declared.streamed.Streamed.{Streamed}
 use Rattle.ick_job.specs.JobEnd.{EndsBy, refused_job_end}

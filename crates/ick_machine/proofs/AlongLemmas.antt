@@ -15,7 +15,7 @@ use Rattle.ick_backtrack.specs.Steps.{IsPlain, RunsOn, after_steps}
 use Rattle.ick_machine.specs.Feeds.{MeetsInput}
 use Rattle.ick_machine.specs.Live.{LiveMachine, cleared, live_ask}
 use Rattle.ick_machine.specs.LiveAsk.{live_asked}
-use Rattle.ick_machine.specs.declared.live_ask.LiveAsk.TheVariants.{Failed, Plain}
+use Rattle.ick_machine.specs.declared.asking.LiveAsk.TheVariants.{Failed, Plain}
 use Rattle.ick_machine.specs.declared.outlet.RunFault.{RunFault}
 use Rattle.ick_machine.specs.Printing.{IsAtInput, Prints}
 use Rattle.ick_machine.proofs.StepsLemmas.{no_step, one_more, steps_on}

@@ -4,8 +4,8 @@ use Rattle.std.specs.Prelude.{if◌then◌else◌}
 use Rattle.ick_code.specs.meaning.State.{State}
 use Rattle.ick_code.specs.meaning.Move.{ask}
 use Rattle.ick_machine.specs.declared.live.Live.{Live}
-use Rattle.ick_machine.specs.declared.live_ask.LiveAsk.{LiveAsk}
-use Rattle.ick_machine.specs.declared.live_ask.LiveAsk.TheVariants.{Failed}
+use Rattle.ick_machine.specs.declared.asking.LiveAsk.{LiveAsk}
+use Rattle.ick_machine.specs.declared.asking.LiveAsk.TheVariants.{Failed}
 use Rattle.ick_machine.specs.LiveAsk.{live_asked}
 use Rattle.ick_machine.specs.RunIn.{fed_state, program_of}
 use Rattle.ick_backtrack.specs.Machine.{Program}

@@ -1,10 +1,10 @@
 -- What the answers of a machine without marks stand for.
 use Rattle.ick_code.specs.meaning.State.{Ending, gave_up, faulted}
 use Rattle.ick_code.specs.meaning.Move.{Asking, plain, choice, ended}
-use Rattle.ick_machine.specs.declared.live_ask.EndKind.{EndKind}
-use Rattle.ick_machine.specs.declared.live_ask.EndKind.TheVariants.{GiveUp, Fault}
-use Rattle.ick_machine.specs.declared.live_ask.LiveAsk.{LiveAsk}
-use Rattle.ick_machine.specs.declared.live_ask.LiveAsk.TheVariants.{Plain, Choice, Ended}
+use Rattle.ick_machine.specs.declared.asking.EndKind.{EndKind}
+use Rattle.ick_machine.specs.declared.asking.EndKind.TheVariants.{GiveUp, Fault}
+use Rattle.ick_machine.specs.declared.asking.LiveAsk.{LiveAsk}
+use Rattle.ick_machine.specs.declared.asking.LiveAsk.TheVariants.{Plain, Choice, Ended}
 
 -- an end without its subject
 abbrev pub end_kind_of : Ending → EndKind

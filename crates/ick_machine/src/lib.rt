@@ -8,7 +8,6 @@
 //! | `trailed` | a machine with marks that notes each change |
 //! | `copied` | a machine with marks that copies its state |
 //! | `present` | the present state of a machine with marks, to be read |
-//! | `live_ask` | what a machine without marks asks |
 //! | `live` | a machine without marks, which takes its input from a feed |
 //! | `outlet` | where the output of such a machine goes, and the reader by which it leaves |
 #![tactic(auto)]
@@ -16,18 +15,16 @@
 mod asking;
 mod copied;
 mod live;
-mod live_ask;
 mod outlet;
 mod present;
 mod steps;
 mod trailed;
 
-pub use asking::{asked_at, end_of};
+pub use asking::{EndKind, LiveAsk, asked_at, end_of};
 pub use copied::Copied;
 pub use ick_backtrack::{Ask, Asks, Backtrack, End, FeedFault};
 pub use ick_engine::Feed;
 pub use live::Live;
-pub use live_ask::{EndKind, LiveAsk};
 pub use outlet::{Outlet, OutletFault, RunFault};
 pub use present::{Inspect, Present};
 pub use steps::make_steps;

@@ -24,10 +24,10 @@ use Rattle.ick_machine.specs.Feeds.{MeetsInput}
 use Rattle.ick_machine.specs.Live.{LiveMachine, fed, cleared, live_ask, fault_message}
 use Rattle.ick_machine.specs.Printing.{IsAtInput, IsDone, Prints}
 use Rattle.ick_machine.specs.Message.{asked_message}
-use Rattle.ick_machine.specs.declared.live_ask.LiveAsk.{LiveAsk}
-use Rattle.ick_machine.specs.declared.live_ask.LiveAsk.TheVariants.{Choice, Ended, Failed}
-use Rattle.ick_machine.specs.declared.live_ask.EndKind.{EndKind}
-use Rattle.ick_machine.specs.declared.live_ask.EndKind.TheVariants.{Wants, Limit}
+use Rattle.ick_machine.specs.declared.asking.LiveAsk.{LiveAsk}
+use Rattle.ick_machine.specs.declared.asking.LiveAsk.TheVariants.{Choice, Ended, Failed}
+use Rattle.ick_machine.specs.declared.asking.EndKind.{EndKind}
+use Rattle.ick_machine.specs.declared.asking.EndKind.TheVariants.{Wants, Limit}
 use Rattle.ick_explorer.specs.Runs.{ends, wants, run, run_at_limit, Execution}
 use Rattle.ick_explorer.specs.Paths.{Leads}
 use Rattle.ick_explorer.specs.Walks.{EndsHere}

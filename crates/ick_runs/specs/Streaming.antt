@@ -4,7 +4,7 @@ use Rattle.std.specs.Prelude.{take, get_or, Result, Ok, Err}
 use Rattle.ick_code.specs.meaning.State.{State}
 use Rattle.ick_code.specs.Laws.{after_output}
 use Rattle.ick_backtrack.specs.Machine.{Program}
-use Rattle.ick_machine.specs.declared.live_ask.EndKind.{EndKind}
+use Rattle.ick_machine.specs.declared.asking.EndKind.{EndKind}
 use Rattle.ick_explorer.specs.Paths.{Leads}
 use Rattle.ick_explorer.specs.Runs.{Execution}
 use Rattle.ick_runs.specs.Streams.{stop_kind, stop_message}

@@ -7,8 +7,8 @@ use Rattle.ick_backtrack.specs.Machine.{Program}
 use Rattle.ick_backtrack.specs.Asked.{Finish, finished, at_limit}
 use Rattle.ick_machine.specs.LiveAsk.{end_kind_of}
 use Rattle.ick_machine.specs.Message.{end_message}
-use Rattle.ick_machine.specs.declared.live_ask.EndKind.{EndKind}
-use Rattle.ick_machine.specs.declared.live_ask.EndKind.TheVariants.{Limit, Wants}
+use Rattle.ick_machine.specs.declared.asking.EndKind.{EndKind}
+use Rattle.ick_machine.specs.declared.asking.EndKind.TheVariants.{Limit, Wants}
 use Rattle.ick_explorer.specs.Runs.{Stop, ends, wants, Execution, run}
 use Rattle.ick_explorer.specs.declared.errors.RunsError.{RunsError}
 use Rattle.ick_explorer.specs.declared.errors.RunsError.TheVariants.{NoMemory, NoSuchRun, WorkFull, Failed}

@@ -4,7 +4,7 @@ use Rattle.ick_code.specs.{Compiled.code_program, meaning.Move.Asking, meaning.M
 use Rattle.ick_backtrack.specs.Asked.{asked_of}
 use Rattle.ick_runtime.specs.Memory.{view_in}
 use Rattle.ick_engine.specs.{Feeds.input_after}
-use Rattle.ick_machine.specs.{declared.live_ask.LiveAsk.TheVariants.Failed, Live.live_ask, Live.seen}
+use Rattle.ick_machine.specs.{declared.asking.LiveAsk.TheVariants.Failed, Live.live_ask, Live.seen}
 use Rattle.ick_machine.specs.{LiveAsk.live_asked, Run.run_state}
 use Rattle.ick_machine.proofs.{LiveLemmas.asks_same, Readiness.ready_unless}
 use Rattle.ick_machine.proofs.live.Live.asks.Goals as goal

@@ -10,7 +10,7 @@ use Rattle.ick_machine.specs.Live.{LiveMachine, fed, live_ask, seen}
 use Rattle.ick_engine.specs.Feeds.{one_if}
 use Rattle.ick_machine.specs.Printing.{HasLeft, HasPrinted, Prints, is_error}
 use Rattle.ick_machine.specs.declared.live.Live.{Live}
-use Rattle.ick_machine.specs.declared.live_ask.LiveAsk.TheVariants.{Plain}
+use Rattle.ick_machine.specs.declared.asking.LiveAsk.TheVariants.{Plain}
 use Rattle.ick_machine.specs.declared.outlet.RunFault.{RunFault}
 use Rattle.ick_machine.specs.declared.outlet.RunFault.TheVariants.{NoMemory, Read, Write}
 use Rattle.ick_machine.proofs.AlongLemmas.{IsAlong, along_start, along_further, along_step, along_done, along_part}
