@@ -1,5 +1,6 @@
 -- What readers of input have read.
-use Rattle.std.specs.Prelude.{ℕ, ◌≡◌, Bool, List, [], ◌∷◌, ◌++◌, drop, Option, Some, None, Result, Ok, Err, if◌then◌else◌}
+use Rattle.std.specs.Prelude.{ℕ, ◌≡◌, Bool, List, [], ◌∷◌, ◌++◌, drop, Option, Some, None, Result, Ok, Err}
+use Rattle.std.specs.Prelude.{if◌then◌else◌}
 use Rattle.ick_bits.specs.declared.faults.FaultKind.TheVariants.{NoDigit, NoInput, SixtyFour}
 use Rattle.ick_bits.specs.{Tape.tape_difference, declared.digits.DigitFault.DigitFault}
 use Rattle.ick_bits.specs.declared.digits.DigitFault.TheVariants.{Word, TooLarge}

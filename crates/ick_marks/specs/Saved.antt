@@ -2,8 +2,10 @@
 use Rattle.std.specs.Prelude.{ℕ, ◌≡◌, Bool, List, length, map, take}
 use Rattle.ick_code.specs.{meaning.State.Array, declared.code.Code.Code}
 use Rattle.ick_instructions.specs.declared.lowered.LoweredParts.{LoweredParts}
-use Rattle.ick_runtime.specs.View.{View, Parts, array_names, array_of, arrays_of, is_hidden, numbers_of, parts_of, scalar_names, state_of, used}
-use Rattle.ick_runtime.specs.{declared.memory.Array.Array as KeptArray, declared.memory.Stash.Stash, Steady.IsReady, Undo.but_stashes, Inputs.Input}
+use Rattle.ick_runtime.specs.View.{View, Parts, array_names, array_of, arrays_of, is_hidden, numbers_of, parts_of}
+use Rattle.ick_runtime.specs.View.{scalar_names, state_of, used}
+use Rattle.ick_runtime.specs.{declared.memory.Array.Array as KeptArray, declared.memory.Stash.Stash, Steady.IsReady}
+use Rattle.ick_runtime.specs.{Undo.but_stashes, Inputs.Input}
 use Rattle.ick_marks.specs.declared.saved.Saved.{Saved}
 
 -- the values on a stash

@@ -1,10 +1,13 @@
 -- Values that are put on stashes and taken off.
-use Rattle.std.specs.Prelude.{ℕ, ◌≡◌, ◌<◌, ◌==◌, Bool, true, false, List, [], ◌∷◌, ◌++◌, length, slice_set, if◌then◌else◌, Result, Ok, Err}
+use Rattle.std.specs.Prelude.{ℕ, ◌≡◌, ◌<◌, ◌==◌, Bool, true, false, List, [], ◌∷◌, ◌++◌, length, slice_set}
+use Rattle.std.specs.Prelude.{if◌then◌else◌, Result, Ok, Err}
 use Rattle.std.proofs.Common.{get_or}
 use Rattle.ick_bits.specs.declared.faults.FaultKind.TheVariants.{NothingStashed}
 use Rattle.ick_code.specs.meaning.State.{Array}
-use Rattle.ick_runtime.specs.{declared.halt.Halt.Halt, declared.halt.Halt.TheVariants.Fault, declared.halt.Halt.TheVariants.Word}
-use Rattle.ick_runtime.specs.{declared.halt.Halt.TheVariants.NoMemory, Undo.StashLike, Undo.put_on, Undo.taken_off, View.Stash, View.no_stash}
+use Rattle.ick_runtime.specs.{declared.halt.Halt.Halt, declared.halt.Halt.TheVariants.Fault}
+use Rattle.ick_runtime.specs.{declared.halt.Halt.TheVariants.Word}
+use Rattle.ick_runtime.specs.{declared.halt.Halt.TheVariants.NoMemory, Undo.StashLike, Undo.put_on, Undo.taken_off}
+use Rattle.ick_runtime.specs.{View.Stash, View.no_stash}
 use Rattle.ick_runtime.specs.{View.used}
 
 -- a value was put on a stash, and can be taken off again

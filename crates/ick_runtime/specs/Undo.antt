@@ -1,10 +1,12 @@
 -- Changes that can be undone.
-use Rattle.std.specs.Prelude.{ℕ, ◌+◌, ◌-◌, ◌≡◌, ◌<◌, ◌≤◌, nat_lt, Bool, true, false, List, [], ◌∷◌, length, drop, take, reverse, slice_set}
+use Rattle.std.specs.Prelude.{ℕ, ◌+◌, ◌-◌, ◌≡◌, ◌<◌, ◌≤◌, nat_lt, Bool, true, false, List, [], ◌∷◌, length, drop, take}
+use Rattle.std.specs.Prelude.{reverse, slice_set}
 use Rattle.std.specs.Prelude.{if◌then◌else◌}
 use Rattle.std.proofs.Common.{get_or}
 use Rattle.ick_code.specs.{meaning.State.Array, meaning.State.no_array, declared.code.Code.Code}
 use Rattle.ick_instructions.specs.declared.lowered.LoweredParts.{LoweredParts}
-use Rattle.ick_runtime.specs.{declared.change.ArrayChange.ArrayChange, declared.change.Entry.Entry, Elements.with_element, Steady.IsReady, View.View}
+use Rattle.ick_runtime.specs.{declared.change.ArrayChange.ArrayChange, declared.change.Entry.Entry}
+use Rattle.ick_runtime.specs.{Elements.with_element, Steady.IsReady, View.View}
 use Rattle.ick_runtime.specs.{View.Parts, View.Stash, View.no_stash, View.used, View.state_of, Inputs.Input}
 use Rattle.ick_runtime.specs.declared.change.ArrayChange.TheVariants as now
 use Rattle.ick_runtime.specs.declared.change.Entry.TheVariants as entry
