@@ -1,7 +1,6 @@
 //! Arrays that are printed and read as bytes.
 
-ghost use Rattle.std.specs.Prelude.{◌≡◌, ◌+◌, ◌<◌, ◌≤◌, ◌++◌, length, IfOk, OnOk};
-ghost use Rattle.std.specs.Prelude.{OnErr, slice_set, if◌then◌else◌};
+ghost use Rattle.std.specs.Prelude.{◌≡◌, ◌+◌, ◌<◌, ◌≤◌, ◌++◌, length, IfOk, OnOk, OnErr};
 ghost use Rattle.ick_code.specs.meaning.Tape.{tape_bytes, tape_after};
 ghost use Rattle.ick_runtime.specs.{Halts.Took, Noting.NotesBefore, Noting.NotesParts};
 ghost use Rattle.ick_runtime.specs.{Inputs.Leads, View.parts_of};
@@ -75,17 +74,6 @@ fn take(byte: Option<(u8, usize)>, to: &mut usize, last: &mut u8) -> u32
     number
 }
 
-/// Sets an element, unless it stays as it is.
-#[inline(always)]
-fn put_unless(stays: bool, elements: &mut [u32], at: usize, number: u32)
-    requires { at < length elements.old }
-    ensures { elements.new ≡ (if stays then elements.old else slice_set elements.old at number) }
-{
-    if !stays {
-        elements[at] = number;
-    }
-}
-
 /// Reads bytes of the input into elements, unless these stay as they are. The input begins at `to`,
 /// and `last` is the byte before it. If the reader fails, some elements have changed.
 fn read_bytes<R: Reader>(
@@ -103,7 +91,9 @@ fn read_bytes<R: Reader>(
     for at in 0..elements.len() {
         let byte = reader.byte(*to)?;
         let number = take(byte, to, last);
-        put_unless(stays, elements, at, number);
+        if !stays {
+            elements[at] = number;
+        }
     }
     Ok(())
 }
