@@ -4,10 +4,9 @@ ghost use Rattle.std.specs.Prelude.{◌≡◌, ◌<◌, ◌≤◌, ℕ, length, 
 ghost use Rattle.std.proofs.Common.{get_or};
 ghost use Rattle.ick_code.specs.meaning.State.{no_array};
 ghost use Rattle.ick_marks.specs.TrailChanges.{changes_in, AreUndone, IsUndone};
-ghost use Rattle.ick_runtime.specs.Undo.{change_of, undone, undone_array};
-ghost use Rattle.ick_runtime.specs.Undo.{with_number, IsRestored, Rewinds};
-ghost use Rattle.ick_runtime.specs.View.{View, array_of, is_hidden, parts_of};
-ghost use Rattle.ick_runtime.specs.{Memory.view_in, Steady.IsReady, Steady.IsSteady};
+ghost use Rattle.ick_runtime.specs.Undo.{change_of, undone, undone_array, with_number, IsRestored};
+ghost use Rattle.ick_runtime.specs.{Undo.Rewinds, View.{View, array_of, is_hidden, parts_of}};
+ghost use Rattle.ick_runtime.specs.{Memory.view_in, Steady.{IsReady, IsSteady}};
 
 use crate::trail::Trail;
 use ick_instructions::Lowered;

@@ -31,8 +31,7 @@ pub struct Trail {
 }
 
 impl Trail {
-    ghost use Rattle.std.specs.Prelude.{◌≡◌, ◌+◌, ◌-◌, ◌≤◌, ℕ, [], length};
-    ghost use Rattle.std.specs.Prelude.{vec_capacity, vec_len};
+    ghost use Rattle.std.specs.Prelude.{◌≡◌, ◌+◌, ◌-◌, ◌≤◌, ℕ, [], length, vec_capacity, vec_len};
     ghost use Rattle.ick_instructions.specs.Extends.{Extends};
     ghost use Rattle.ick_marks.specs.TrailChanges.{changes_in, fixed_by, UndoesBy};
     ghost use Rattle.ick_runtime.specs.View.{View};

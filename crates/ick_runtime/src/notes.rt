@@ -1,8 +1,7 @@
 //! Who notes changes.
 
-ghost use Rattle.std.specs.Bool.{MatchBool};
 ghost use Rattle.std.specs.Prelude.{◌≡◌, ◌+◌, ◌<◌, ◌≤◌, ◌^◌, ℕ, Bool, true, false, List, []};
-ghost use Rattle.std.specs.Prelude.{length, map, OnErr, OnOk};
+ghost use Rattle.std.specs.{Bool.MatchBool, Prelude.{length, map, OnErr, OnOk}};
 ghost use Rattle.std.proofs.Common.{get_or};
 ghost use Rattle.ick_code.specs.meaning.State.{no_array};
 ghost use Rattle.ick_instructions.specs.Extends.{Extends};

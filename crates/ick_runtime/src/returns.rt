@@ -1,7 +1,6 @@
 //! The NEXT stack: whether return addresses can be popped.
 
-ghost use Rattle.std.specs.Prelude.{◌≡◌, ◌<◌, ◌≤◌, ◌⊎◌};
-ghost use Rattle.std.specs.Bool.{MatchBool};
+ghost use Rattle.std.specs.{Prelude.{◌≡◌, ◌<◌, ◌≤◌, ◌⊎◌}, Bool.MatchBool};
 ghost use Rattle.ick_runtime.specs.Returns.{rupture_of};
 
 use ick_bits::FaultKind;

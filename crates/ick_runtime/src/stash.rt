@@ -1,9 +1,7 @@
 //! Stashes of scalars and arrays.
 
 ghost use Rattle.std.specs.Prelude.{◌≡◌, ◌<◌, ℕ, [], false, length, map, IfNone, IfSome, OnErr};
-ghost use Rattle.std.specs.Prelude.{OnOk};
-ghost use Rattle.std.specs.Bool.{OnFalse, OnTrue};
-ghost use Rattle.std.proofs.Common.{get_or};
+ghost use Rattle.std.{specs.{Prelude.OnOk, Bool.{OnFalse, OnTrue}}, proofs.Common.get_or};
 ghost use Rattle.ick_runtime.specs.Undo.{at_slot, put_on, taken_off, with_array_stashes};
 ghost use Rattle.ick_runtime.specs.Undo.{with_arrays, with_scalar_stashes, StashLike, StashesLike};
 ghost use Rattle.ick_runtime.specs.View.{View, array_of, arrays_of, is_hidden, no_stash};
