@@ -5,10 +5,8 @@ use Rattle.std.proofs.Math.Seq.{drop-cons, map-set_same}
 use Rattle.std.specs.List.{list_any}
 use Rattle.ick_bits.specs.declared.faults.FaultKind.TheVariants.{ZeroDimension, Hyperspace}
 use Rattle.ick_code.specs.meaning.Value.{product}
-use Rattle.ick_runtime.proofs.Names.{Array, array_of, get_or-map, is_hidden, reg}
-use Rattle.ick_runtime.proofs.DimensionLemmas.{sizes}
-use Rattle.ick_runtime.specs.declared.memory.Array.{Array as Kept}
-use Rattle.ick_runtime.specs.Sizes.{sizes_fault}
+use Rattle.ick_runtime.proofs.{Names.{Array, array_of, get_or-map, is_hidden, reg}, DimensionLemmas.sizes}
+use Rattle.ick_runtime.specs.{declared.memory.Array.Array as Kept, Sizes.sizes_fault}
 
 more : (p d : ℕ) → 1 ≤ d → p ≤ p * d
 more = search rules

@@ -1,21 +1,17 @@
 -- What a feed gives is what the input begins with.
-use Rattle.std.proofs.Common.{◌≡◌, ◌≢◌, ℕ, ◌+◌, ◌==◌, Bool, true, false, List, [], ◌∷◌, ◌++◌, length, take, rules}
-use Rattle.std.proofs.Common.{drop, Option, Some, None, Result, Ok, Err, refl, sym, ap, ◌∙◌, arith}
-use Rattle.std.specs.{Prelude.slice_range, List.position_or_len}
-use Rattle.std.proofs.Math.Seq.{take-append_seam, drop-append-add, get_or-append_seam}
-use Rattle.std.proofs.lemmas.Bool.{false≢true}
-use Rattle.std.proofs.lemmas.List.{length-append, length-take, get_or_append_left}
+use Rattle.std.proofs.Common.{◌≡◌, ◌≢◌, ℕ, ◌+◌, ◌==◌, Bool, true, false, List, [], ◌∷◌, ◌++◌, length, take, rules, drop}
+use Rattle.std.proofs.{Common.{Option, Some, None, Result, Ok, Err, refl, sym, ap, ◌∙◌, arith}, lemmas.Bool.false≢true}
+use Rattle.std.{proofs.Math.Seq.{take-append_seam, drop-append-add, get_or-append_seam}, specs.List.position_or_len}
+use Rattle.std.{proofs.lemmas.List.{length-append, length-take, get_or_append_left}, specs.Prelude.slice_range}
 use Rattle.std.proofs.lemmas.List.Sums.{position_or_len_is, fails_before_first}
-use Rattle.ick_bits.specs.{Digits.line_answer, declared.digits.DigitFault.DigitFault}
+use Rattle.ick_bits.specs.{Digits.line_answer, declared.digits.DigitFault.{DigitFault, TheVariants.{Word, TooLarge}}}
 use Rattle.ick_bits.specs.declared.faults.FaultKind.TheVariants.{NoDigit}
-use Rattle.ick_bits.specs.declared.digits.DigitFault.TheVariants.{Word, TooLarge}
 use Rattle.ick_code.specs.{meaning.State.State, meaning.Completion.Completion, meaning.Completion.faults}
 use Rattle.ick_code.specs.meaning.InputOutput.{with_input, with_number, first_line, later_lines}
 use Rattle.ick_runtime.specs.{Inputs.Input}
-use Rattle.ick_engine.specs.{declared.reader.Line.Line}
-use Rattle.ick_engine.specs.Reads.{IsNext, IsByte, line_outcome, number_outcome}
-use Rattle.ick_backtrack.specs.declared.feed_fault.FeedFault.{FeedFault}
+use Rattle.ick_engine.specs.{declared.reader.Line.Line, Reads.{IsNext, IsByte, line_outcome, number_outcome}}
 use Rattle.ick_engine.specs.Feeds.{has_ended, input_after, MayBeLeft}
+use Rattle.ick_backtrack.specs.declared.feed_fault.FeedFault.{FeedFault}
 
 -- a line without an end in it is the first line of itself, an end and more
 module _ (line rest : List ℕ) (one : first_line line ≡ line) where

@@ -1,6 +1,5 @@
 -- Changes of parts that were noted.
-use Rattle.std.proofs.Common.{◌≡◌, ℕ, Bool, List, rules, arith, slice_set}
-use Rattle.std.proofs.lemmas.Grind.{common_steps}
+use Rattle.std.proofs.{Common.{◌≡◌, ℕ, Bool, List, rules, arith, slice_set}, lemmas.Grind.common_steps}
 use Rattle.ick_code.specs.meaning.State.{Array}
 use Rattle.ick_runtime.specs.{declared.change.ArrayChange.TheVariants.Replaced, View.View, View.Parts}
 use Rattle.ick_runtime.specs.Noting.{KeepsNotes, NotesParts, NotesBefore}

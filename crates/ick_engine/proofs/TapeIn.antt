@@ -1,15 +1,11 @@
 -- Bytes that are read into elements.
-use Rattle.std.proofs.Common.{◌≡◌, ℕ, zero, suc, ◌+◌, ◌<◌, Bool, true, false, List, [], ◌∷◌, ◌++◌, slice_set, if◌then◌else◌}
-use Rattle.std.proofs.Common.{length, drop, get_or, map, Option, Some, None, refl, sym, ap, ap₂, ◌∙◌, arith, rules, length-drop}
-use Rattle.std.proofs.lemmas.Grind.{common_steps}
+use Rattle.std.proofs.Common.{◌≡◌, ℕ, zero, suc, ◌+◌, ◌<◌, Bool, true, false, List, [], ◌∷◌, ◌++◌, slice_set}
+use Rattle.std.proofs.Common.{if◌then◌else◌, length, drop, get_or, map, Option, Some, None, refl, sym, ap, ap₂, ◌∙◌}
+use Rattle.std.proofs.{Common.{arith, rules, length-drop}, lemmas.Grind.common_steps, Math.Seq.{drop-nil, map-set_same}}
 use Rattle.std.proofs.lemmas.List.{drop-drop, get_or-map, map-set}
-use Rattle.std.proofs.Math.Seq.{drop-nil, map-set_same}
 use Rattle.ick_bits.specs.Tape.{tape_difference}
-use Rattle.ick_code.specs.meaning.State.{no_array, Array}
-use Rattle.ick_code.specs.meaning.Tape.{tape_numbers, last_read, with_elements}
-use Rattle.ick_runtime.specs.declared.memory.Array.{Array as Kept}
-use Rattle.ick_runtime.specs.Inputs.{Input}
-use Rattle.ick_runtime.specs.View.{Parts, array_of, is_hidden}
+use Rattle.ick_code.specs.meaning.{State.{no_array, Array}, Tape.{tape_numbers, last_read, with_elements}}
+use Rattle.ick_runtime.specs.{declared.memory.Array.Array as Kept, Inputs.Input, View.{Parts, array_of, is_hidden}}
 use Rattle.ick_engine.specs.Reads.{IsByte, HasRead, number_read, last_after, position_after}
 
 -- one more byte, or the end

@@ -1,7 +1,6 @@
 -- Elements printed one after another.
 use Rattle.std.proofs.Common.{◌≡◌, ℕ, ◌+◌, ◌-◌, ◌%◌, ◌<◌, List, [], ◌∷◌, ◌++◌, length, take, get_or, refl, ap, arith}
-use Rattle.std.proofs.lemmas.Grind.{common_steps}
-use Rattle.std.proofs.lemmas.List.{append_assoc}
+use Rattle.std.proofs.lemmas.{Grind.common_steps, List.append_assoc}
 use Rattle.ick_bits.specs.Tape.{tape_position, reversed_byte}
 use Rattle.ick_code.specs.meaning.Tape.{tape_bytes, tape_after}
 

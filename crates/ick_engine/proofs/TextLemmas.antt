@@ -1,8 +1,7 @@
 -- A line of a text.
-use Rattle.std.proofs.Common.{◌≡◌, ℕ, ◌+◌, ◌-◌, ◌==◌, ◌<◌, ◌≤◌, List, length, take, drop, sym, ap, ◌∙◌, arith, length-drop, rules, Ok, Err, Some, slice_range}
-use Rattle.std.proofs.lemmas.Grind.{common_steps}
-use Rattle.std.specs.List.{position_or_len}
-use Rattle.std.proofs.lemmas.List.{drop-take, take-take, drop-drop, length-take}
+use Rattle.std.proofs.Common.{◌≡◌, ℕ, ◌+◌, ◌-◌, ◌==◌, ◌<◌, ◌≤◌, List, length, take, drop, sym, ap, ◌∙◌, arith}
+use Rattle.std.proofs.{Common.{length-drop, rules, Ok, Err, Some, slice_range}, lemmas.Grind.common_steps}
+use Rattle.std.{specs.List.position_or_len, proofs.lemmas.List.{drop-take, take-take, drop-drop, length-take}}
 use Rattle.std.proofs.Math.Seq.{take-length}
 use Rattle.ick_bits.specs.Digits.{line_answer}
 use Rattle.ick_bits.specs.declared.digits.DigitFault.TheVariants as digit

@@ -2,9 +2,8 @@ use Rattle.std.proofs.Common.{◌≡◌, ◌+◌, ◌<◌, ℕ, List, Option, So
 use Rattle.std.proofs.lemmas.List.{get_or-map, length-map}
 use Rattle.ick_code.specs.{meaning.State.no_array, meaning.Value.element_offset}
 use Rattle.ick_instructions.specs.Meaning.{values_of}
-use Rattle.ick_runtime.specs.{declared.memory.Array.Array}
-use Rattle.ick_runtime.specs.View.{Parts, array_of, is_hidden, parts_of}
-use Rattle.ick_runtime.proofs.{Fetching.stored_by_lists, Steadiness.steady_by, Steadiness.parts_kept}
+use Rattle.ick_runtime.specs.{declared.memory.Array.Array, View.{Parts, array_of, is_hidden, parts_of}}
+use Rattle.ick_runtime.proofs.{Fetching.stored_by_lists, Steadiness.{steady_by, parts_kept}}
 use Rattle.ick_engine.proofs.NotingLemmas.{noted_parts, arrays_noted}
 use Rattle.ick_engine.proofs.Reading.{reads_nowhere, read_at_stops, reads_at, took_by}
 use Rattle.ick_engine.proofs.input.read_at.Goals as goal

@@ -1,11 +1,7 @@
-use Rattle.std.proofs.Common.{ap, ap₂, arith}
-use Rattle.std.proofs.lemmas.Grind.{common_steps}
-use Rattle.std.proofs.Math.Seq.{map-set_same}
+use Rattle.std.proofs.{Common.{ap, ap₂, arith}, lemmas.Grind.common_steps, Math.Seq.map-set_same}
 use Rattle.std.proofs.lemmas.List.{get_or-map, with_items_is}
-use Rattle.ick_runtime.specs.View.{array_of, is_hidden, parts_of}
-use Rattle.ick_runtime.proofs.ArrayLists.{put_back, put_same}
-use Rattle.ick_engine.proofs.TapeIn.{array_filled, all_read}
-use Rattle.ick_engine.proofs.NotingLemmas.{noted_parts, array_noted}
+use Rattle.ick_runtime.{specs.View.{array_of, is_hidden, parts_of}, proofs.ArrayLists.{put_back, put_same}}
+use Rattle.ick_engine.proofs.{TapeIn.{array_filled, all_read}, NotingLemmas.{noted_parts, array_noted}}
 use Rattle.ick_engine.proofs.tape.read_array.Goals as goal
 
 pub returns-clause-read : goal.returns-clause-read

@@ -1,6 +1,5 @@
 use Rattle.std.proofs.Common.{◌≡◌, ◌<◌, length, ap, ◌∙◌, arith, slice_set, if◌then◌else◌, rules}
-use Rattle.ick_engine.proofs.TapeIn.{read_next}
-use Rattle.ick_engine.proofs.tape.read_bytes.Goals.{then-not-stays, else-not-stays}
+use Rattle.ick_engine.proofs.{TapeIn.read_next, tape.read_bytes.Goals.{then-not-stays, else-not-stays}}
 use Rattle.ick_engine.proofs.tape.read_bytes.Goals as goal
 
 pub loop-at-preserved : goal.loop-at-preserved

@@ -1,8 +1,5 @@
-use Rattle.std.proofs.Common.{◌==◌, arith, rules}
-use Rattle.std.proofs.lemmas.Grind.{common_steps}
-use Rattle.std.proofs.lemmas.List.Sums.{prefix_len-le-length}
-use Rattle.std.proofs.lemmas.Iterator.{YieldsList-from_slice}
-use Rattle.std.proofs.lemmas.Iterator.Search.{position_from_yields_List}
+use Rattle.std.proofs.{Common.{◌==◌, arith, rules}, lemmas.{Grind.common_steps, List.Sums.prefix_len-le-length}}
+use Rattle.std.proofs.lemmas.Iterator.{YieldsList-from_slice, Search.position_from_yields_List}
 use Rattle.ick_engine.proofs.text_reader.line_length.Goals as goal
 use borrow.Author.Tests.{tests}
 
