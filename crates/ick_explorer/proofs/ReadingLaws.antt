@@ -5,7 +5,8 @@ use Rattle.std.proofs.Common.{length, take, drop, get_or, refl, ap, sym, ◌∙�
 use Rattle.std.specs.Prelude.{Option, Some, None, replicate}
 use Rattle.std.specs.Char.{digit_value}
 use Rattle.std.specs.Str.Parse.{AllDigits, digits_value}
-use Rattle.std.proofs.lemmas.List.{append-nil, drop_more, length-append, length-replicate, take-append-drop, take_rest}
+use Rattle.std.proofs.lemmas.List.{append-nil, drop_more, length-append, length-replicate, take-append-drop, take_all}
+use Rattle.std.proofs.lemmas.List.{take_rest}
 use Rattle.std.proofs.Math.Seq.{drop-length}
 use Rattle.std.proofs.Math.Nat.{eq-or-lt_of_le}
 use Rattle.std.proofs.lemmas.Str.Parse.{digit_from_value}
@@ -238,10 +239,14 @@ pub great_size : (size number limit : ℕ) → IsCapped size number → limit < 
 great_size size number limit (inl (a, b)) lt = omega (arith, b, lt)
 great_size size number limit (inr (a, b)) lt = omega (arith, a, b, lt)
 
--- the choices after a group's stretch was added to them
-pub filled : (front choices : List Bool) (g : Group) (size : ℕ) → choices ≡ front ++ replicate size g.choice →
+-- the choices after they were filled up with a group's stretch
+pub filled : (front choices : List Bool) (g : Group) (size len total : ℕ) →
+    choices ≡ take total front ++ replicate (total - len) g.choice → len ≡ length front → total ≡ len + size →
     size ≡ digits_value 10 g.digits → choices ≡ front ++ stretch_of g
-filled front choices g size e f = e ∙ ap (λ n. front ++ replicate n g.choice) f
+filled front choices g size len total e n t f =
+    let more : total - len ≡ size = omega (arith, t) in
+    e ∙ (ap (λ x. x ++ replicate (total - len) g.choice) (take_all total front (omega (arith, n, t)))
+    ∙ ap (λ k. front ++ replicate k g.choice) (more ∙ f))
 
 -- the group at a place of a text, which ends at the place `after`
 pub record HasGroup (text : List ℕ) (last : Option Bool) (at after size : ℕ) (g : Group) : Type 0 where

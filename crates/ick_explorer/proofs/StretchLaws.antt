@@ -1,8 +1,9 @@
 -- How the stretches of a list change with its last choice.
 use Rattle.std.proofs.Common.{◌≡◌, ◌⊎◌, inl, inr, ℕ, ◌+◌, ◌-◌, ◌<◌, ◌≤◌, Bool, true, false, if◌then◌else◌}
-use Rattle.std.proofs.Common.{List, [], ◌∷◌, ◌++◌, length, take, get_or, refl, ap, sym, ◌∙◌, subst, arith}
+use Rattle.std.proofs.Common.{List, [], ◌∷◌, ◌++◌, length, take, set, get_or, refl, ap, sym, ◌∙◌, subst, arith}
 use Rattle.std.specs.Prelude.{Option, Some, None, replicate}
-use Rattle.std.proofs.lemmas.List.{length-append, length-replicate, map-append, take_more, same_from_push}
+use Rattle.std.proofs.lemmas.List.{length-append, length-replicate, length-set, map-append, take_all, take_more}
+use Rattle.std.proofs.lemmas.List.{take_more_set, same_from_push}
 use Rattle.ick_explorer.specs.declared.stretches.Stretch.{Stretch as KeptStretch}
 use Rattle.ick_explorer.specs.ChoiceTexts.{Stretch, is_same, with_choice, stretches}
 use Rattle.ick_explorer.specs.Choices.{seen_stretch, seen_stretches}
@@ -13,6 +14,22 @@ use Rattle.ick_explorer.proofs.GroupLaws.{same_or_other}
 pub seen_push : (kept : List KeptStretch) (s : KeptStretch) →
     seen_stretches (kept ++ s ∷ []) ≡ seen_stretches kept ++ seen_stretch s ∷ []
 seen_push kept s = map-append seen_stretch kept (s ∷ [])
+
+-- the stretches before the last, and the last
+pub seen_last : (kept : List KeptStretch) (n : ℕ) (s : KeptStretch) → n + 1 ≡ length kept → s ≡ get_or kept n s →
+    seen_stretches kept ≡ seen_stretches (take n kept) ++ seen_stretch s ∷ []
+seen_last kept n s e is =
+    ap seen_stretches (sym (take_all (n + 1) kept (omega (arith, e)))
+    ∙ (take_more kept n s (omega (arith, e)) ∙ ap (λ x. take n kept ++ x ∷ []) (sym is)))
+    ∙ seen_push (take n kept) s
+
+pub seen_set : (kept : List KeptStretch) (n : ℕ) (s : KeptStretch) → n + 1 ≡ length kept →
+    seen_stretches (set kept n s) ≡ seen_stretches (take n kept) ++ seen_stretch s ∷ []
+seen_set kept n s e =
+    let size = length-set kept n s in
+    ap seen_stretches (sym (take_all (n + 1) (set kept n s) (omega (arith, e, size)))
+    ∙ take_more_set kept n s (omega (arith, e)))
+    ∙ seen_push (take n kept) s
 
 abbrev pub one_of : Bool → Stretch
 one_of b = record { choice = b; size = 1 }

@@ -12,7 +12,7 @@ use crate::errors::RunsError;
 use crate::lines::LineBuilder;
 use crate::path::{Path, Progress};
 use crate::run::Run;
-use crate::walk;
+use crate::walk::{self, Way};
 use ick_backtrack::{Ask, Asks, Backtrack, End};
 use ick_bits::NoMemory;
 use std::alloc::Global;
@@ -113,17 +113,21 @@ impl<M: Backtrack> Explorer<M> {
             choices: Choices::new(alloc),
             points: Vec::new(alloc),
         };
-        match walk::follow(&mut machine, &mut path, limit, cursor.choices()) {
-            Ok(true) => Ok(Explorer {
-                machine,
-                limit,
-                path,
-                progress: Progress::Given,
-                alloc,
-            }),
-            Ok(false) => Err(RunsError::NoSuchRun),
-            Err(NoMemory) => Err(RunsError::NoMemory),
+        let choices = cursor.choices();
+        let led = match walk::lead(&mut machine, &mut path, limit, 0, Way::Along(choices)) {
+            Err(NoMemory) => return Err(RunsError::NoMemory),
+            Ok(led) => led,
+        };
+        if led.is_none() || path.choices.as_slice().len() != choices.len() {
+            return Err(RunsError::NoSuchRun);
         }
+        Ok(Explorer {
+            machine,
+            limit,
+            path,
+            progress: Progress::Given,
+            alloc,
+        })
     }
 
     /// Returns the machine's count of work: its first value plus the steps made since.

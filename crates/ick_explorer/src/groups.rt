@@ -46,41 +46,11 @@ fn read_digits(text: &[u8]) -> Digits
 {
     let mut value = 0;
     let mut count = 0;
-    while count < text.len() {
-        let byte = text[count];
-        if byte < b'0' {
-            return Digits { count, value };
-        }
-        if byte > b'9' {
-            return Digits { count, value };
-        }
-        value = capped(value * 10 + u64::from(byte - b'0'));
+    while count < text.len() && text[count].is_ascii_digit() {
+        value = capped(value * 10 + u64::from(text[count] - b'0'));
         count += 1;
     }
     Digits { count, value }
-}
-
-/// Returns the choice of a digit, or `None` for any other byte.
-fn choice_of(byte: u8) -> Option<bool>
-    ensures some { IfSome result (λ choice. byte ≡ digit_of choice) }
-    ensures none { result ≡ None → (choice : Bool) → byte ≡ digit_of choice → ⊥ }
-{
-    match byte {
-        b'0' => Some(false),
-        b'1' => Some(true),
-        _ => None,
-    }
-}
-
-/// Returns whether a choice is equal to the choice before it.
-fn repeats(last: Option<bool>, choice: bool) -> bool
-    ensures same { result ≡ true → last ≡ Some choice }
-    ensures other { result ≡ false → Differs last choice }
-{
-    match last {
-        None => false,
-        Some(before) => before == choice,
-    }
 }
 
 /// Reads the group at the front of a text, after the choice `last`. Returns `None` if no such group
@@ -93,12 +63,11 @@ fn read_front(text: &[u8], last: Option<bool>) -> Option<Front>
     if text.len() < 3 {
         return None;
     }
-    let Some(choice) = choice_of(text[0]) else {
-        return None;
+    let choice = match (text[0], last) {
+        (b'0', None | Some(true)) => false,
+        (b'1', None | Some(false)) => true,
+        _ => return None,
     };
-    if repeats(last, choice) {
-        return None;
-    }
     if text[1] != b'*' {
         return None;
     }
@@ -143,17 +112,6 @@ pub(crate) fn measure(text: &[u8]) -> Option<u64>
     }
 }
 
-/// Appends `choice` to `choices` `size` times. The answer is `NoMemory` if `choices` can't grow.
-fn push_stretch(choices: &mut Vec<bool>, choice: bool, size: u64) -> Result<(), RunsError>
-    ensures ok { OnOk result (choices.new.items ≡ choices.old.items ++ replicate size choice) }
-    ensures err { IfErr result (λ e. e ≡ RunsError.NoMemory) }
-{
-    for i in 0..size {
-        choices.push(choice)?;
-    }
-    Ok(())
-}
-
 /// Returns the choices of a text of groups, which must have fewer choices than the cap. The answer
 /// is `NoMemory` if the list can't grow.
 fn fill(alloc: Global, text: &[u8]) -> Result<Vec<bool>, RunsError>
@@ -168,7 +126,7 @@ fn fill(alloc: Global, text: &[u8]) -> Result<Vec<bool>, RunsError>
         let Some(front) = read_front(&text[at..], last) else {
             unreachable!();
         };
-        push_stretch(&mut choices, front.choice, front.size)?;
+        choices.resize(choices.len() + front.size as usize, front.choice)?;
         at += front.count + 2;
         if at == text.len() {
             return Ok(choices);

@@ -1,40 +1,31 @@
 //! Builds the lines of runs.
 
-ghost use Rattle.std.specs.Prelude.{◌≡◌, ◌∷◌, ◌++◌, true, OnOk};
+ghost use Rattle.std.specs.Prelude.{◌≡◌, ◌++◌, true, codes, OnOk};
 ghost use Rattle.ick_backtrack.specs.Asked.{finish_of};
 ghost use Rattle.ick_explorer.specs.Lines.{end_text, line_of};
 ghost use Rattle.ick_explorer.specs.Tails.{tail_of};
 
 use crate::choices::Choices;
 use ick_backtrack::End;
-use ick_bits::{NoMemory, append_all, append_decimal, append_quoted};
+use ick_bits::{NoMemory, append_all, append_quoted};
+use itoa::Buffer;
 use std::alloc::Global;
 use std::marker::Model;
 
-/// Appends a space and the text of an end. If this call runs out of memory, it may have appended a
-/// prefix of the text.
+/// Appends the text of an end, between two spaces. If this call runs out of memory, `out` is
+/// unchanged.
 fn append_end(out: &mut Vec<u8>, end: End<'_>) -> Result<(), NoMemory>
-    ensures { OnOk result
-        (out.new.items ≡ out.old.items ++ 32 ∷ end_text (finish_of end.entry)) }
+    ensures { OnOk result (out.new.items ≡
+        out.old.items ++ codes " " ++ end_text (finish_of end.entry) ++ codes " ") }
 {
     match end {
-        End::GiveUp => append_all(out, &[b" GIVE-UP"]),
-        End::Limit => append_all(out, &[b" LIMIT"]),
+        End::GiveUp => append_all(out, &[b" GIVE-UP "]),
+        End::Limit => append_all(out, &[b" LIMIT "]),
         End::Fault(fault) => {
-            append_all(out, &[b" E", &fault.kind.digits(), b"@"])?;
-            append_decimal(out, u64::from(fault.statement))
+            let mut statement = Buffer::new();
+            let statement = statement.format(u64::from(fault.statement)).as_bytes();
+            append_all(out, &[b" E", &fault.kind.digits(), b"@", statement, b" "])
         }
-    }
-}
-
-/// Returns whether both ends are the same end without a fault.
-fn end_alike(first: End<'_>, second: End<'_>) -> bool
-    ensures { result ≡ true → finish_of first.entry ≡ finish_of second.entry }
-{
-    match first {
-        End::GiveUp => matches!(second, End::GiveUp),
-        End::Limit => matches!(second, End::Limit),
-        End::Fault(_) => false,
     }
 }
 
@@ -82,9 +73,11 @@ impl<'c> LineBuilder<'c> {
     fn tells(&self, end: End<'c>, output: &[u8]) -> bool
         ensures { result ≡ true → self.now.tail ≡ tail_of (finish_of end.entry) output.now }
     {
-        match self.end {
-            Some(last) => end_alike(last, end) && self.output.as_slice() == output,
-            None => false,
+        match (self.end, end) {
+            (Some(End::GiveUp), End::GiveUp) | (Some(End::Limit), End::Limit) => {
+                self.output.as_slice() == output
+            }
+            _ => false,
         }
     }
 
@@ -99,7 +92,6 @@ impl<'c> LineBuilder<'c> {
         self.output.extend_from_slice(output)?;
         self.tail.clear();
         append_end(&mut self.tail, end)?;
-        self.tail.push(b' ')?;
         append_quoted(&mut self.tail, output)?;
         self.tail.push(b'\n')?;
         self.end = Some(end);

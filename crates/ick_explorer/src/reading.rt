@@ -29,9 +29,9 @@ fn choices_of(alloc: Global, text: &[u8]) -> Result<Vec<bool>, RunsError>
     ensures ok { IfOk result (λ choices. choices.items ≡ map (λ b. b == 49) text.now) }
     ensures err { IfErr result (λ e. e ≡ RunsError.NoMemory) }
 {
-    let mut choices = Vec::new(alloc);
+    let mut choices = Vec::with_capacity(alloc, text.len())?;
     for byte in text {
-        choices.push(*byte == b'1')?;
+        choices.push_reserved(*byte == b'1');
     }
     Ok(choices)
 }

@@ -14,31 +14,6 @@ pub(crate) struct Stretch {
     pub(crate) size: usize,
 }
 
-/// Adds the choice at `at` to the stretches of the choices before it. There must be room for one
-/// more stretch.
-#[inline(always)]
-fn lengthen(kept: &mut Vec<Stretch>, choices: &[bool], at: usize)
-    requires room { vec_len kept.old < vec_capacity kept.old }
-    requires within { at < length choices.now }
-    requires before { seen_stretches kept.old.items ≡ stretches (take at choices.now) }
-    ensures { seen_stretches kept.new.items ≡ stretches (take (at + 1) choices.now) }
-{
-    let choice = choices[at];
-    let Some(last) = kept.pop() else {
-        kept.push_reserved(Stretch { choice, size: 1 });
-        return;
-    };
-    if last.choice == choice {
-        kept.push_reserved(Stretch {
-            choice,
-            size: last.size + 1,
-        });
-        return;
-    }
-    kept.push_reserved(last);
-    kept.push_reserved(Stretch { choice, size: 1 });
-}
-
 /// Adds the choices from `from` on to the stretches of the choices before them. If this call runs
 /// out of memory, it may have added some of them.
 pub(crate) fn group(kept: &mut Vec<Stretch>, choices: &[bool], from: usize) -> Result<(), NoMemory>
@@ -48,8 +23,13 @@ pub(crate) fn group(kept: &mut Vec<Stretch>, choices: &[bool], from: usize) -> R
 {
     let mut at = from;
     while at < choices.len() {
-        kept.reserve(1)?;
-        lengthen(kept, choices, at);
+        let choice = choices[at];
+        let count = kept.len();
+        if count > 0 && kept[count - 1].choice == choice {
+            kept[count - 1].size += 1;
+        } else {
+            kept.push(Stretch { choice, size: 1 })?;
+        }
         at += 1;
     }
     Ok(())

@@ -9,7 +9,7 @@ ghost use Rattle.ick_explorer.specs.Runs.{IsWhole};
 ghost use Rattle.ick_explorer.specs.Marked.{IsMarked};
 ghost use Rattle.ick_explorer.specs.Standing.{StandsFrom, position_of, has_failed};
 ghost use Rattle.ick_explorer.specs.Walks.{IsChoosing, IsOver, EndsHere, Moves, given_by, Ends};
-ghost use Rattle.ick_explorer.specs.Walks.{IsStranded, TurnsBack, Finds, Follows};
+ghost use Rattle.ick_explorer.specs.Walks.{IsStranded, Finds, Follows};
 
 use crate::path::{Path, Progress};
 use ick_backtrack::{Ask, Asks, Backtrack};
@@ -37,38 +37,16 @@ fn choose<M: Backtrack>(
         (M.seen machine.new) path.new.choices path.new.points.items (steps + 1)) }
 {
     path.choices.push(done)?;
-    if done {
-        return machine.step(true);
+    if !done {
+        machine.mark()?;
+        path.points.push(steps)?;
     }
-    machine.mark()?;
-    path.points.push(steps)?;
-    machine.step(false)
-}
-
-/// Sets the machine back to the last zero and does its statement. Returns the number of steps made
-/// from the start of the run. The path must have a zero.
-fn turn_back<M: Backtrack>(machine: &mut M, path: &mut Path, limit: u32) -> Result<u32, NoMemory>
-    requires marked { IsMarked limit
-        (M.seen machine.old) path.old.choices path.old.points.items }
-    requires more { 0 < length path.old.points.items }
-    requires room { (M.seen machine.old).work + limit < 2 ^ 64 }
-    ensures program { (M.seen machine.new).program ≡ (M.seen machine.old).program }
-    ensures turns { IfOk result (λ n. TurnsBack limit
-        (M.seen machine.old) path.old.choices path.old.points.items
-        (M.seen machine.new) path.new.choices path.new.points.items n) }
-{
-    path.choices.turn();
-    let steps = path.points.pop().unwrap();
-    machine.back();
-    match machine.step(true) {
-        Ok(()) => Ok(steps + 1),
-        Err(NoMemory) => Err(NoMemory),
-    }
+    machine.step(done)
 }
 
 /// Where a machine is led from the state that it is in.
 #[derive(Clone, Copy)]
-enum Way<'a> {
+pub(crate) enum Way<'a> {
     /// By a zero at each choice.
     Down,
     /// By these choices.
@@ -92,7 +70,7 @@ impl<'a> Way<'a> {
 /// `start` counts the steps made before this call, and must be at most `limit`. Returns the number
 /// of steps made from the start of the run, or `None` if the run hasn't ended.
 #[inline(always)]
-fn lead<'c, M: Asks<'c>>(
+pub(crate) fn lead<'c, M: Asks<'c>>(
     machine: &mut M,
     path: &mut Path,
     limit: u32,
@@ -138,35 +116,6 @@ fn lead<'c, M: Asks<'c>>(
     }
 }
 
-/// Leads the machine from the start of a run along `choices`. The path must be empty. Returns
-/// whether these are exactly the choices of a run. The answer is `NoMemory` if this call runs out
-/// of memory.
-pub(crate) fn follow<'c, M: Asks<'c>>(
-    machine: &mut M,
-    path: &mut Path,
-    limit: u32,
-    choices: &[bool],
-) -> Result<bool, NoMemory>
-    requires marked { IsMarked limit
-        (M.seen machine.old) path.old.choices path.old.points.items }
-    requires none { path.old.choices ≡ [] }
-    requires room { (M.seen machine.old).work + limit < 2 ^ 64 }
-    ensures path { IfOk result
-        (λ whole. whole ≡ true → path.new.choices ≡ choices.now) }
-    ensures marked { IfOk result (λ _. IsMarked limit
-        (M.seen machine.new) path.new.choices path.new.points.items) }
-    ensures whole { IfOk result (λ whole. whole ≡ true → Follows limit
-        (M.seen machine.old) choices.now (M.seen machine.new) path.new.points.items) }
-    ensures not_whole { IfOk result (λ whole. whole ≡ false →
-        ¬ IsWhole (M.seen machine.old).program (M.seen machine.old).state limit choices.now) }
-{
-    match lead(machine, path, limit, 0, Way::Along(choices)) {
-        Ok(Some(_)) => Ok(path.choices.as_slice().len() == choices.len()),
-        Ok(None) => Ok(false),
-        Err(NoMemory) => Err(NoMemory),
-    }
-}
-
 /// Drops all marks and clears the path.
 pub(crate) fn reset<M: Backtrack>(machine: &mut M, path: &mut Path)
     ensures marks { (M.seen machine.new).marks ≡ [] }
@@ -181,8 +130,8 @@ pub(crate) fn reset<M: Backtrack>(machine: &mut M, path: &mut Path)
     path.points.clear();
 }
 
-/// Moves to the run after the explorer's position, and returns its number of steps. The explorer
-/// must not have failed, and a further run must exist. The answer is `NoMemory` if this call runs
+/// Moves to the run after the explorer's position, and returns its number of steps. Sets the machine
+/// back to the last zero of the run before, and does its statement. The explorer must not have failed, and a further run must exist. The answer is `NoMemory` if this call runs
 /// out of memory.
 pub(crate) fn find<'c, M: Asks<'c>>(
     machine: &mut M,
@@ -212,10 +161,15 @@ pub(crate) fn find<'c, M: Asks<'c>>(
 {
     let start = match progress {
         Progress::Fresh => 0,
-        Progress::Given => match turn_back(machine, path, limit) {
-            Ok(turned) => turned,
-            Err(NoMemory) => return Err(NoMemory),
-        },
+        Progress::Given => {
+            path.choices.turn();
+            let steps = path.points.pop().unwrap();
+            machine.back();
+            match machine.step(true) {
+                Ok(()) => steps + 1,
+                Err(NoMemory) => return Err(NoMemory),
+            }
+        }
         Progress::Spent => unreachable!(),
     };
     match lead(machine, path, limit, start, Way::Down) {

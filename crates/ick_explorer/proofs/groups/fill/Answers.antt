@@ -1,4 +1,4 @@
-use Rattle.std.proofs.Common.{◌<◌, ◌+◌, drop, length, refl, arith, sym, subst, ◌∙◌}
+use Rattle.std.proofs.Common.{◌<◌, ◌+◌, vec_len, drop, length, refl, arith, sym, subst, ◌∙◌}
 use Rattle.std.specs.Prelude.{Some, None}
 use Rattle.std.proofs.lemmas.Grind.{common_steps}
 use Rattle.std.proofs.lemmas.List.{take_rest}
@@ -23,7 +23,8 @@ returns-then-at-text-clause-ok c =
     let g = front_group f (drop c.groups.at c.args.text.now) in
     let h = group_at c.args.text.now c.groups.last c.groups.at f c.in-Some.ensures.some in
     subst (λ x. IsGrouped None c.args.text.now x)
-    (sym (filled c.groups.choices.items c.push_stretch.new.choices.items g f.size c.in_ok-push_stretch.ensures.ok
+    (sym (filled c.groups.choices.items c.resize.new.self.items g f.size (vec_len c.groups.choices) (c.len.result + f.size)
+    c.in_ok-resize.ensures.items (omega (arith, c.groups.choices.ok.0)) (grind (arith, common_steps))
     (size_exact h i.read valid.0 valid.1 valid.2)))
     (group_ends h i.read (grind (arith, common_steps)))
 
@@ -39,7 +40,8 @@ groups-preserved c =
     record {
       within = omega arith;
       read = subst (λ x. IsRead c.args.text.now (Some f.choice) (after + 1) x)
-          (sym (filled c.groups.choices.items c.push_stretch.new.choices.items g f.size c.in_ok-push_stretch.ensures.ok
+          (sym (filled c.groups.choices.items c.resize.new.self.items g f.size (vec_len c.groups.choices) (c.len.result + f.size)
+          c.in_ok-resize.ensures.items (omega (arith, c.groups.choices.ok.0)) (grind (arith, common_steps))
           (size_exact h i.read valid.0 valid.1 valid.2)))
           (group_goes_on h i.read some (comma_behind h i.read some valid.0 valid.1));
     }
