@@ -13,7 +13,6 @@ pub mod Labels
 pub mod Laws
 pub mod Lead
 pub mod Listing
-pub mod Made
 pub mod Nonterminal
 pub mod Position
 pub mod Qualifiers

@@ -1,11 +1,9 @@
 //! Readers of bodies. Each body has one form, which its first characters decide.
 
-ghost use Rattle.std.specs.Prelude.{◌≡◌, ℕ, List, Some, true};
+ghost use Rattle.std.specs.Prelude.{◌≡◌, ◌⊎◌, ℕ, List, true};
 ghost use Rattle.ick_source.specs.Answers.{AnswersRead};
 ghost use Rattle.ick_syntax.specs.BodyTree.{body_tree_of};
-ghost use Rattle.ick_source.specs.Gating.{IsGated, kinds_tree, label_tree, naming_tree};
-ghost use Rattle.ick_source.specs.Gating.{takes_names};
-ghost use Rattle.ick_source.specs.Made.{IsMade};
+ghost use Rattle.ick_source.specs.Gating.{IsGated, takes_names};
 ghost use Rattle.ick_source.specs.Nonterminal.{after, bodies, formed};
 ghost use Rattle.ick_source.specs.Position.{left_at};
 
@@ -20,33 +18,26 @@ use crate::verb::{Verb, verb_at};
 use ick_syntax::{Body, Expr, Faults, Gerund, Name};
 use std::alloc::Global;
 
-/// Makes a body of a part that was read. Returns the reason if no part was read.
-fn made<T: Drop, F: FnOnce(T) -> Body + Drop>(
-    part: Result<Parsed<T, Position>, Unread>,
-    make: F,
+/// Reads the rest of a FORGET or RESUME statement, after that word (Revised Manual, 4.4.3 and 4.4.4).
+fn count_at(
+    alloc: Global,
+    text: &[u8],
+    verb: Verb,
+    from: Position,
 ) -> Result<Parsed<Body, Position>, Unread>
-    requires { (x : _) → F.pre make x }
-    ensures { IsMade T (F.post make) part result }
+    requires { (verb ≡ Verb.Forget) ⊎ (verb ≡ Verb.Resume) }
+    ensures { AnswersRead (after verb) body_tree_of text.now (left_at text.now from) result }
 {
-    match part {
+    match Expr::read_at(alloc, text, from) {
         Err(unread) => Err(unread),
-        Ok(part) => Ok(Parsed {
-            value: make(part.value),
-            to: part.to,
-            faults: part.faults,
+        Ok(Parsed { value, to, faults }) => Ok(Parsed {
+            value: match verb {
+                Verb::Forget => Body::Forget(value),
+                _ => Body::Resume(value),
+            },
+            to,
+            faults,
         }),
-    }
-}
-
-/// Makes the body of STASH, RETRIEVE, IGNORE or REMEMBER.
-fn naming(verb: Verb, names: Vec<Name>) -> Body
-    ensures { body_tree_of result ≡ Some (naming_tree verb names.items) }
-{
-    match verb {
-        Verb::Retrieve => Body::Retrieve(names),
-        Verb::Ignore => Body::Ignore(names),
-        Verb::Remember => Body::Remember(names),
-        _ => Body::Stash(names),
     }
 }
 
@@ -63,31 +54,16 @@ fn names_at(
 {
     match list_at::<Name>(alloc, text, b"+", from) {
         Err(unread) => Err(unread),
-        Ok(names) => Ok(Parsed {
-            value: naming(verb, names.value),
-            to: names.to,
-            faults: names.faults,
+        Ok(Parsed { value, to, faults }) => Ok(Parsed {
+            value: match verb {
+                Verb::Retrieve => Body::Retrieve(value),
+                Verb::Ignore => Body::Ignore(value),
+                Verb::Remember => Body::Remember(value),
+                _ => Body::Stash(value),
+            },
+            to,
+            faults,
         }),
-    }
-}
-
-/// Makes the body of ABSTAIN or REINSTATE with a label.
-fn gating_label(verb: Verb, label: u16) -> Body
-    ensures { body_tree_of result ≡ Some (label_tree verb label) }
-{
-    match verb {
-        Verb::Abstain => Body::AbstainLabel(label),
-        _ => Body::ReinstateLabel(label),
-    }
-}
-
-/// Makes the body of ABSTAIN or REINSTATE with gerunds.
-fn gating_kinds(verb: Verb, gerunds: Vec<Gerund>) -> Body
-    ensures { body_tree_of result ≡ Some (kinds_tree verb gerunds.items) }
-{
-    match verb {
-        Verb::Abstain => Body::AbstainKinds(gerunds),
-        _ => Body::ReinstateKinds(gerunds),
     }
 }
 
@@ -104,17 +80,23 @@ fn label_or_gerunds_at(
 {
     if let Some(label) = label_at(text, from) {
         return Ok(Parsed {
-            value: gating_label(verb, label.value),
+            value: match verb {
+                Verb::Abstain => Body::AbstainLabel(label.value),
+                _ => Body::ReinstateLabel(label.value),
+            },
             to: label.to,
             faults: label.faults,
         });
     }
     match list_at::<Gerund>(alloc, text, b"+", from) {
         Err(unread) => Err(unread),
-        Ok(gerunds) => Ok(Parsed {
-            value: gating_kinds(verb, gerunds.value),
-            to: gerunds.to,
-            faults: gerunds.faults,
+        Ok(Parsed { value, to, faults }) => Ok(Parsed {
+            value: match verb {
+                Verb::Abstain => Body::AbstainKinds(value),
+                _ => Body::ReinstateKinds(value),
+            },
+            to,
+            faults,
         }),
     }
 }
@@ -129,8 +111,7 @@ fn after_verb_at(
     ensures { AnswersRead (after verb) body_tree_of text.now (left_at text.now from) result }
 {
     match verb {
-        Verb::Forget => made(Expr::read_at(alloc, text, from), Body::Forget),
-        Verb::Resume => made(Expr::read_at(alloc, text, from), Body::Resume),
+        Verb::Forget | Verb::Resume => count_at(alloc, text, verb, from),
         Verb::Stash | Verb::Retrieve | Verb::Ignore | Verb::Remember => {
             names_at(alloc, text, verb, from)
         }
@@ -149,11 +130,25 @@ fn after_verb_at(
         },
         Verb::Write => match word_at(text, from, b"IN") {
             None => Err(Unread::Absent),
-            Some(from) => made(list_at(alloc, text, b"+", from), Body::WriteIn),
+            Some(from) => match list_at(alloc, text, b"+", from) {
+                Err(unread) => Err(unread),
+                Ok(Parsed { value, to, faults }) => Ok(Parsed {
+                    value: Body::WriteIn(value),
+                    to,
+                    faults,
+                }),
+            },
         },
         Verb::Read => match word_at(text, from, b"OUT") {
             None => Err(Unread::Absent),
-            Some(from) => made(list_at(alloc, text, b"+", from), Body::ReadOut),
+            Some(from) => match list_at(alloc, text, b"+", from) {
+                Err(unread) => Err(unread),
+                Ok(Parsed { value, to, faults }) => Ok(Parsed {
+                    value: Body::ReadOut(value),
+                    to,
+                    faults,
+                }),
+            },
         },
     }
 }

@@ -4,9 +4,9 @@
 ghost use Rattle.std.specs.Prelude.{◌≡◌, ◌<◌, MatchResult, IsTrue, ◌↔◌};
 ghost use Rattle.ick_source.specs.declared.parsed.Unread.TheVariants.{NoMemory};
 ghost use Rattle.ick_source.specs.Position.{left_at};
-ghost use Rattle.ick_syntax.specs.Tree.{tree_of, trees_in, scalar, mesh};
+ghost use Rattle.ick_syntax.specs.Tree.{tree_of, trees_in};
 ghost use Rattle.ick_source.specs.Expression.{IsExpr, IsOperand, IsElement, IsSubs, begins_sub};
-ghost use Rattle.ick_source.specs.ExpressionAnswers.{AnswersTree, AnswersTrees, IsNumbered};
+ghost use Rattle.ick_source.specs.ExpressionAnswers.{AnswersTree, AnswersTrees, IsNumbered, leaf};
 ghost use Rattle.ick_source.specs.ExpressionAnswers.{IsGroup, IsApplied, IsJoined};
 
 use crate::lead::{Delimiter, Lead};
@@ -35,48 +35,34 @@ fn applied(
     }
 }
 
-/// Reads a variable of 16 or 32 bits after its sigil.
-fn spot_at(
+/// Reads a variable of this kind, or a mesh for no kind, after its sigil.
+fn leaf_at(
     alloc: Global,
     text: &[u8],
-    kind: NameKind,
+    kind: Option<NameKind>,
     past: Position,
 ) -> Result<Measured<Expr>, Unread>
-    ensures { AnswersTree (IsNumbered (λ n. scalar (record { kind = kind; number = n }))
-        (left_at text.now past)) 1 text.now result }
+    ensures { AnswersTree (IsNumbered (leaf kind) (left_at text.now past)) 1 text.now result }
 {
     let prefix = prefix_at(text, past);
     let Some(found) = number_at(text, prefix.to) else {
         return Err(Unread::Absent);
     };
-    let name = Name {
-        kind,
-        number: clamped_number(found.value),
+    let number = clamped_number(found.value);
+    let (value, faults) = match kind {
+        Some(kind) => (
+            Expr::Scalar(Name { kind, number }),
+            Faults::of_name(found.value),
+        ),
+        None => (Expr::Mesh(number), Faults::of_mesh(found.value)),
     };
-    let variable = Measured {
-        value: Expr::Scalar(name),
+    let plain = Measured {
+        value,
         height: 1,
         to: found.to,
-        faults: Faults::of_name(found.value),
+        faults,
     };
-    applied(alloc, prefix.value, variable)
-}
-
-/// Reads a mesh after its sigil.
-fn constant_at(alloc: Global, text: &[u8], past: Position) -> Result<Measured<Expr>, Unread>
-    ensures { AnswersTree (IsNumbered mesh (left_at text.now past)) 1 text.now result }
-{
-    let prefix = prefix_at(text, past);
-    let Some(found) = number_at(text, prefix.to) else {
-        return Err(Unread::Absent);
-    };
-    let constant = Measured {
-        value: Expr::Mesh(clamped_number(found.value)),
-        height: 1,
-        to: found.to,
-        faults: Faults::of_mesh(found.value),
-    };
-    applied(alloc, prefix.value, constant)
+    applied(alloc, prefix.value, plain)
 }
 
 /// Reads a group after its opening delimiter: an expression, and the delimiter that closes it.
@@ -203,8 +189,8 @@ fn operand_at(
     let next = lead_at(text, from);
     match next.value {
         Lead::Array(_) => element_at(alloc, text, delimiter, limit, from),
-        Lead::Spot(kind) => spot_at(alloc, text, kind, next.to),
-        Lead::Hash => constant_at(alloc, text, next.to),
+        Lead::Spot(kind) => leaf_at(alloc, text, Some(kind), next.to),
+        Lead::Hash => leaf_at(alloc, text, None, next.to),
         Lead::Group(opened) => group_at(alloc, text, opened, limit, next.to),
         _ => Err(Unread::Absent),
     }
