@@ -44,9 +44,9 @@ pub fn read_named<F: Files>(
         Leaves job_end (F.failed files.old) (F.failed files.new) 0 0 0 0) }
     ensures unopened { IfErr result EndsUnopened }
 {
-    if files.open_named(name).is_err() {
+    let Ok(()) = files.open_named(name) else {
         return Err(JobEnd::FileNotRead);
-    }
+    };
     match read_first(alloc, files, most) {
         Ok(text) => Ok(text),
         Err(ReadFault::NoMemory) => Err(JobEnd::NoMemory),

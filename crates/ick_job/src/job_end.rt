@@ -60,7 +60,11 @@ impl JobEnd {
         ensures { result.now ≡ job_end_text self.now }
     {
         match self {
-            JobEnd::Answered { message, .. } => message.bytes(),
+            JobEnd::Answered { message, .. } => match message {
+                Message::Nothing => &[],
+                Message::Notice(notice) => notice.text(),
+                Message::Text(text) => text.as_slice(),
+            },
             JobEnd::NoMemory => Notice::OutOfMemory.text(),
             JobEnd::InputTooLong => Notice::InputTooLong.text(),
             JobEnd::FileNotRead => Notice::FileNotRead.text(),

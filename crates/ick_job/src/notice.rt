@@ -1,6 +1,5 @@
 //! Error texts.
 ghost use Rattle.std.specs.Prelude.{◌≡◌};
-ghost use Rattle.ick_job.specs.JobEnd.{message_text};
 ghost use Rattle.ick_job.specs.Notice.{notice_text};
 
 /// A line that the program has itself, so that it takes no memory.
@@ -20,25 +19,28 @@ pub enum Notice {
     WordsNotRead,
 }
 
+/// The lines of the notices, in their order, each with its line end.
+static LINES: [&[u8]; 12] = [
+    b"CHOICES AND SEED TOGETHER\n",
+    b"BAD CURSOR\n",
+    b"NO SUCH RUN\n",
+    b"SOURCE TOO LONG\n",
+    b"INPUT TOO LONG\n",
+    b"LISTING TOO LONG\n",
+    b"TOO MANY STATES\n",
+    b"FILE NOT READ\n",
+    b"READ FAILED\n",
+    b"WRITE FAILED\n",
+    b"OUT OF MEMORY\n",
+    b"WORDS NOT READ\n",
+];
+
 impl Notice {
     /// Returns the line, with its line end.
     pub fn text(self) -> &'static [u8]
         ensures { result.now ≡ notice_text self }
     {
-        match self {
-            Notice::ChoicesAndSeed => b"CHOICES AND SEED TOGETHER\n",
-            Notice::BadCursor => b"BAD CURSOR\n",
-            Notice::NoSuchRun => b"NO SUCH RUN\n",
-            Notice::SourceTooLong => b"SOURCE TOO LONG\n",
-            Notice::InputTooLong => b"INPUT TOO LONG\n",
-            Notice::ListingTooLong => b"LISTING TOO LONG\n",
-            Notice::TooManyStates => b"TOO MANY STATES\n",
-            Notice::FileNotRead => b"FILE NOT READ\n",
-            Notice::ReadFailed => b"READ FAILED\n",
-            Notice::WriteFailed => b"WRITE FAILED\n",
-            Notice::OutOfMemory => b"OUT OF MEMORY\n",
-            Notice::WordsNotRead => b"WORDS NOT READ\n",
-        }
+        LINES[self as usize]
     }
 }
 
@@ -48,17 +50,4 @@ pub enum Message {
     Nothing,
     Notice(Notice),
     Text(Vec<u8>),
-}
-
-impl Message {
-    /// Returns the bytes of the text.
-    pub fn bytes(&self) -> &[u8]
-        ensures { result.now ≡ message_text self.now }
-    {
-        match self {
-            Message::Nothing => &[],
-            Message::Notice(notice) => notice.text(),
-            Message::Text(text) => text.as_slice(),
-        }
-    }
 }

@@ -25,7 +25,7 @@ pub fn finish<E: ByteSink>(status: u8, text: &[u8], errors: &mut E) -> Status
         (E.written errors.old) (E.written errors.new) result }
 {
     match write_whole(errors, text) {
-        Ok(()) => Status::new(status),
-        Err(_) => Status::new(4),
+        Ok(()) => Status { code: status },
+        Err(_) => Status { code: 4 },
     }
 }

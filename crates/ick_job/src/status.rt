@@ -6,7 +6,7 @@ use std::marker::Model;
 /// How a call of the program ends. Contracts see it as the exit status.
 #[derive(Clone, Copy, Debug)]
 pub struct Status {
-    code: u8,
+    pub(crate) code: u8,
 }
 
 impl Model for Status {
@@ -20,13 +20,6 @@ impl Model for Status {
 }
 
 impl Status {
-    /// Returns the status of this code.
-    pub(crate) fn new(code: u8) -> Status
-        ensures { result ≡ code }
-    {
-        Status { code }
-    }
-
     /// Returns the exit status (this profile):
     ///
     /// - 0 if all went well;

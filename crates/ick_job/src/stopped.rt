@@ -1,12 +1,11 @@
 //! How work ends with a run that has stopped.
-ghost use Rattle.std.specs.Prelude.{◌≡◌, ◌++◌, IfOk, codes, decimal};
-ghost use Rattle.ick_job.specs.JobEnd.{message_text};
-ghost use Rattle.ick_job.specs.Stopped.{EndsStopped, stopped_status, stopped_text};
+ghost use Rattle.std.specs.Prelude.{◌≡◌, IfOk, List, ℕ, string_bytes};
+ghost use Rattle.ick_job.specs.JobEnd.{EndsBy};
+ghost use Rattle.ick_job.specs.Stopped.{EndsStopped};
 
 use crate::job_end::JobEnd;
 use crate::notice::Message;
-use ick_bits::{NoMemory, append_decimal};
-use std::alloc::Global;
+use std::alloc::{AllocError, Global};
 
 /// How a run stopped.
 #[derive(Drop)]
@@ -21,53 +20,35 @@ pub enum Stop {
     Wants,
 }
 
-impl Stop {
-    /// Returns the exit status.
-    fn status(&self) -> u8
-        ensures { result ≡ stopped_status self.now }
-    {
-        match self {
-            Stop::GiveUp => 0,
-            Stop::Fault(_) => 1,
-            Stop::Limit => 3,
-            Stop::Wants => 3,
-        }
-    }
-}
-
 /// Returns how work ends with a run that has stopped after so many steps, and whose output is
 /// written. The error text is the message of the fault, or a line with the number of steps, or
 /// empty.
 pub fn stopped_run(alloc: Global, stop: Stop, steps: u32) -> JobEnd
     ensures { EndsStopped stop steps result }
 {
-    let status = stop.status();
-    match stop_message(alloc, stop, steps) {
-        Ok(message) => JobEnd::Answered { status, message },
-        Err(NoMemory) => JobEnd::NoMemory,
-    }
-}
-
-/// Returns the error text.
-fn stop_message(alloc: Global, stop: Stop, steps: u32) -> Result<Message, NoMemory>
-    ensures { IfOk result (λ message. message_text message ≡ stopped_text stop steps) }
-{
     match stop {
-        Stop::GiveUp => Ok(Message::Nothing),
-        Stop::Fault(message) => Ok(Message::Text(message)),
-        Stop::Limit => line(alloc, b"LIMIT REACHED AFTER ", steps),
-        Stop::Wants => line(alloc, b"CHOICE WANTED AFTER ", steps),
+        Stop::GiveUp => JobEnd::Answered {
+            status: 0,
+            message: Message::Nothing,
+        },
+        Stop::Fault(message) => JobEnd::Answered {
+            status: 1,
+            message: Message::Text(message),
+        },
+        Stop::Limit => cut_short(format!(in alloc; "LIMIT REACHED AFTER {steps} STEPS\n")),
+        Stop::Wants => cut_short(format!(in alloc; "CHOICE WANTED AFTER {steps} STEPS\n")),
     }
 }
 
-/// Returns a line of words and a number of steps.
-fn line(alloc: Global, words: &[u8], steps: u32) -> Result<Message, NoMemory>
-    ensures { IfOk result (λ message. message_text message
-        ≡ words.now ++ decimal steps ++ codes " STEPS\n") }
+/// Returns how work ends with a run that was cut short, as a line says.
+fn cut_short(line: Result<String, AllocError>) -> JobEnd
+    ensures { (text : List ℕ) → IfOk line (λ l. string_bytes l ≡ text) → EndsBy 3 text result }
 {
-    let mut text = Vec::new(alloc);
-    text.extend_from_slice(words)?;
-    append_decimal(&mut text, u64::from(steps))?;
-    text.extend_from_slice(b" STEPS\n")?;
-    Ok(Message::Text(text))
+    match line {
+        Ok(line) => JobEnd::Answered {
+            status: 3,
+            message: Message::Text(line.into_bytes()),
+        },
+        Err(AllocError) => JobEnd::NoMemory,
+    }
 }
