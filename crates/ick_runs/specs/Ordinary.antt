@@ -1,8 +1,9 @@
 -- Defines the answer of one run with given choices.
-use Rattle.std.specs.Prelude.{◌≡◌, ℕ, ◌≤◌, Bool, List, length, take, drop}
+use Rattle.std.specs.Prelude.{◌≡◌, ℕ, ◌≤◌, Bool, List, length, take, drop, Option, Some, None}
 use Rattle.ick_code.specs.meaning.State.{State}
 use Rattle.ick_backtrack.specs.Machine.{Program}
 use Rattle.ick_backtrack.specs.Asked.{Finish, finish_of}
+use Rattle.ick_backtrack.specs.declared.asking.End.{End}
 use Rattle.ick_explorer.specs.Runs.{Execution, ends, wants, run}
 use Rattle.ick_runs.specs.declared.ordinary.Ran.{Ran}
 use Rattle.ick_runs.specs.declared.ordinary.Ran.TheVariants.{Ended, Wants}
@@ -17,6 +18,11 @@ HasEnded output finish used steps (Wants o n) = ⊥
 abbrev pub IsWanting : List ℕ → ℕ → Ran → Type 0
 IsWanting output steps (Ended o e u n) = ⊥
 IsWanting output steps (Wants o n) = (o.items ≡ output) × (n ≡ steps)
+
+-- .. by this end, or because no choice was left
+abbrev pub HasStopped : List ℕ → Option End → ℕ → ℕ → Ran → Type 0
+HasStopped output (Some end) used steps r = HasEnded output (finish_of end) used steps r
+HasStopped output None used steps r = IsWanting output steps r
 
 -- the answer is the run x with the choices c: the choices after the first `used` are left over
 abbrev pub IsRan : List Bool → Execution → Ran → Type 0

@@ -3,7 +3,8 @@
 ghost use Rattle.std.specs.Prelude.{◌≡◌, ◌+◌, ◌<◌};
 ghost use Rattle.ick_runs.specs.Chosen.{Chosen, Picks, answer_of, chosen_of};
 
-use crate::draws::{drawn, generator};
+use crate::draws::drawn;
+use rand_core::SeedableRng;
 use rand_core::utils::NextWord;
 use rand_pcg::Pcg32;
 
@@ -30,7 +31,7 @@ impl<'a> Picker<'a> {
     {
         match chooser {
             Chooser::Listed(choices) => Picker::Listed(choices),
-            Chooser::Seeded(seed) => Picker::Seeded(generator(seed)),
+            Chooser::Seeded(seed) => Picker::Seeded(Pcg32::seed_from_u64(seed)),
         }
     }
 

@@ -1,7 +1,5 @@
 //! Feeds a machine's input from a source of bytes, and lets its output leave by a sink.
 
-ghost use Rattle.std.specs.Prelude.{◌≡◌};
-
 use ick_explorer::{ByteSink, ByteSource, write_whole};
 use ick_machine::{Feed, FeedFault, Outlet, OutletFault};
 
@@ -11,17 +9,7 @@ const BLOCK: usize = 64;
 /// Reads lines and bytes from a source, and no further byte.
 #[derive(Drop)]
 pub(crate) struct SourceFeed<'r, R: ByteSource> {
-    source: &'r mut R,
-}
-
-impl<'r, R: ByteSource> SourceFeed<'r, R> {
-    /// Returns a feed of the lines and bytes of `source`.
-    pub(crate) fn new(source: &'r mut R) -> SourceFeed<'r, R>
-        ensures held { result.source.ghost_name ≡ source.entry.ghost_name }
-        ensures now { result.source.now ≡ source.old }
-    {
-        SourceFeed { source }
-    }
+    pub(crate) source: &'r mut R,
 }
 
 impl<R: ByteSource> Feed for SourceFeed<'_, R> {
@@ -68,17 +56,7 @@ impl<R: ByteSource> Feed for SourceFeed<'_, R> {
 /// Writes a run's output to a sink.
 #[derive(Drop)]
 pub(crate) struct SinkOutlet<'w, W: ByteSink> {
-    sink: &'w mut W,
-}
-
-impl<'w, W: ByteSink> SinkOutlet<'w, W> {
-    /// Returns an outlet that writes to `sink`.
-    pub(crate) fn new(sink: &'w mut W) -> SinkOutlet<'w, W>
-        ensures held { result.sink.ghost_name ≡ sink.entry.ghost_name }
-        ensures now { result.sink.now ≡ sink.old }
-    {
-        SinkOutlet { sink }
-    }
+    pub(crate) sink: &'w mut W,
 }
 
 impl<W: ByteSink> Outlet for SinkOutlet<'_, W> {

@@ -3,9 +3,8 @@
 ghost use Rattle.std.specs.Prelude.{◌≡◌, ◌+◌, ◌<◌, ◌^◌, IfOk};
 ghost use Rattle.ick_code.specs.meaning.Move.{first_state};
 ghost use Rattle.ick_code.specs.Compiled.{code_program};
-ghost use Rattle.ick_backtrack.specs.Asked.{finish_of};
 ghost use Rattle.ick_explorer.specs.Runs.{run};
-ghost use Rattle.ick_runs.specs.Ordinary.{IsRan, IgnoresUnused, HasEnded, IsWanting};
+ghost use Rattle.ick_runs.specs.Ordinary.{IsRan, IgnoresUnused, HasStopped};
 
 use crate::chooser::Chooser;
 use crate::drive::drive;
@@ -31,32 +30,27 @@ pub enum Ran<'c> {
     },
 }
 
-/// Returns the result of the run that has ended in the machine's state.
-pub(crate) fn ended<'c, M: Backtrack>(
+/// Returns the result of the run that stopped in the machine's state: by an end, or because no choice
+/// was left.
+pub(crate) fn stopped<'c, M: Backtrack>(
     alloc: Global,
     machine: &M,
-    end: End<'c>,
+    end: Option<End<'c>>,
     used: usize,
     steps: u32,
 ) -> Result<Ran<'c>, NoMemory>
-    ensures { IfOk result (λ r.
-        HasEnded (M.seen machine.now).state.output (finish_of end.entry) used steps r) }
+    ensures { IfOk result (HasStopped (M.seen machine.now).state.output end.entry used steps) }
 {
     let output = Vec::from_slice(alloc, machine.output())?;
-    Ok(Ran::Ended {
-        output,
-        end,
-        used,
-        steps,
-    })
-}
-
-/// Returns the result of the run that wants a choice in the machine's state.
-fn wanting<'c, M: Backtrack>(alloc: Global, machine: &M, steps: u32) -> Result<Ran<'c>, NoMemory>
-    ensures { IfOk result (λ r. IsWanting (M.seen machine.now).state.output steps r) }
-{
-    let output = Vec::from_slice(alloc, machine.output())?;
-    Ok(Ran::Wants { output, steps })
+    match end {
+        Some(end) => Ok(Ran::Ended {
+            output,
+            end,
+            used,
+            steps,
+        }),
+        None => Ok(Ran::Wants { output, steps }),
+    }
 }
 
 /// Runs a machine from its state with given choices, for at most `limit` steps (this profile).
@@ -79,10 +73,7 @@ pub fn run_from<'c, M: Asks<'c>>(
     let mut machine = machine;
     let mut used = Vec::new(alloc);
     let (steps, end) = drive(&mut machine, limit, Chooser::Listed(choices), &mut used)?;
-    match end {
-        Some(end) => ended(alloc, &machine, end, used.len(), steps),
-        None => wanting(alloc, &machine, steps),
-    }
+    stopped(alloc, &machine, end, used.len(), steps)
 }
 
 /// Runs a program over an input with given choices, for at most `limit` steps (this profile).

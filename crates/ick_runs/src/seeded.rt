@@ -1,19 +1,18 @@
 //! Runs a program once with choices that a seed draws.
 
-ghost use Rattle.std.specs.Prelude.{◌≡◌, ◌+◌, ◌<◌, ◌^◌, length, IfOk};
+ghost use Rattle.std.specs.Prelude.{◌≡◌, ◌+◌, ◌<◌, ◌^◌, IfOk};
 ghost use Rattle.ick_code.specs.meaning.Move.{first_state};
 ghost use Rattle.ick_code.specs.Compiled.{code_program};
-ghost use Rattle.ick_backtrack.specs.Asked.{finish_of};
 ghost use Rattle.ick_explorer.specs.Runs.{run};
-ghost use Rattle.ick_runs.specs.Ordinary.{IsRan, HasEnded, UsesAll};
+ghost use Rattle.ick_runs.specs.Ordinary.{IsRan, UsesAll};
 ghost use Rattle.ick_runs.specs.Draws.{IsDrawn, word_of};
 
 use crate::chooser::Chooser;
 use crate::drive::drive;
-use crate::ordinary::{Ran, ended};
+use crate::ordinary::{Ran, stopped};
 use ick_bits::NoMemory;
 use ick_code::Code;
-use ick_machine::{Asks, Backtrack, End, Trailed};
+use ick_machine::{Asks, Trailed};
 use std::alloc::Global;
 
 /// Holds a run that ended, and the choices that a seed drew for it. The run used all of these
@@ -22,24 +21,6 @@ use std::alloc::Global;
 pub struct Drawn<'c> {
     pub choices: Vec<bool>,
     pub ran: Ran<'c>,
-}
-
-/// Returns the result of the run that has ended in the machine's state, with all choices that were
-/// drawn.
-fn drawn_run<'c, M: Backtrack>(
-    alloc: Global,
-    machine: &M,
-    end: End<'c>,
-    choices: Vec<bool>,
-    steps: u32,
-) -> Result<Drawn<'c>, NoMemory>
-    ensures choices { IfOk result (λ d. d.choices.items ≡ choices.items) }
-    ensures all { IfOk result (λ d. UsesAll d.choices.items d.ran) }
-    ensures ran { IfOk result (λ d. HasEnded (M.seen machine.now).state.output
-        (finish_of end.entry) (length choices.items) steps d.ran) }
-{
-    let ran = ended(alloc, machine, end, choices.len(), steps)?;
-    Ok(Drawn { choices, ran })
 }
 
 /// Runs a machine from its state with the choices that a seed draws, for at most `limit` steps
@@ -64,10 +45,8 @@ pub fn run_seeded_from<'c, M: Asks<'c>>(
     let mut machine = machine;
     let mut choices = Vec::new(alloc);
     let (steps, end) = drive(&mut machine, limit, Chooser::Seeded(seed), &mut choices)?;
-    match end {
-        Some(end) => drawn_run(alloc, &machine, end, choices, steps),
-        None => unreachable!(),
-    }
+    let ran = stopped(alloc, &machine, end, choices.len(), steps)?;
+    Ok(Drawn { choices, ran })
 }
 
 /// Runs a program over an input with the choices that a seed draws, for at most `limit` steps (this

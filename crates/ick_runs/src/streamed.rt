@@ -88,8 +88,8 @@ fn stride<R: ByteSource, W: ByteSink>(
     ensures errors { IfErr result (λ e. (e ≡ RunsError.NoMemory)
         ⊎ ((e ≡ RunsError.Read) ⊎ (e ≡ RunsError.Write))) }
 {
-    let mut feed = SourceFeed::new(reader);
-    let (made, _) = machine.run(limit, &mut feed, SinkOutlet::new(writer));
+    let mut feed = SourceFeed { source: reader };
+    let (made, _) = machine.run(limit, &mut feed, SinkOutlet { sink: writer });
     match made {
         Ok(made) => Ok(made),
         Err(RunFault::NoMemory) => Err(RunsError::NoMemory),
@@ -150,7 +150,7 @@ fn run_on<R: ByteSource, W: ByteSink>(
             return Ok((EndKind::Wants, steps));
         };
         choices.push(done)?;
-        machine.step(done, &mut SourceFeed::new(reader))?;
+        machine.step(done, &mut SourceFeed { source: reader })?;
         steps += 1;
     }
 }

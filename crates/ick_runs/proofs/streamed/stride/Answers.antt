@@ -26,11 +26,9 @@ module _ (g : Over) (c : After-run-made g) where
   ran t r is =
       let old = seen c.args.machine.now in
       let new = seen c.run-made.new.self in
-      let prints = subst (λ r. Prints g.W.ByteSink.told old.program
-      (fed (g.R.ByteSource.left c.new-feed.result.source.now) old.state) c.args.limit
-      (fed (g.R.ByteSource.left c.run-made.new.feed.source.now) new.state) (g.W.ByteSink.written c.new.result.sink.now)
-      (g.W.ByteSink.written c.run-made.result.1.sink.now) r) is (c.run-made.ensures.prints t) in
-      rw (c.new-feed.ensures.now, c.new.ensures.now) at prints
+      subst (λ r. Prints g.W.ByteSink.told old.program (fed (g.R.ByteSource.left c.args.reader.now) old.state) c.args.limit
+      (fed (g.R.ByteSource.left c.run-made.new.feed.source.now) new.state) (g.W.ByteSink.written c.args.writer.now)
+      (g.W.ByteSink.written c.run-made.result.1.sink.now) r) is (c.run-made.ensures.prints t)
 
 pub returns-in-Ok-clause-prints : goal.returns-in-Ok-clause-prints
 returns-in-Ok-clause-prints g c = λ t.
