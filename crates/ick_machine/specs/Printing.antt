@@ -1,12 +1,10 @@
 -- How output leaves while a run goes on.
-use Rattle.std.specs.Prelude.{ℕ, ◌≡◌, ◌<◌, ◌≤◌, ◌++◌, Bool, true, false, List, [], length, take, Result, Ok, Err}
+use Rattle.std.specs.Prelude.{ℕ, ◌≡◌, ◌<◌, ◌≤◌, ◌++◌, Bool, true, false, List, [], length, take}
+use Rattle.std.specs.Prelude.{Result, Ok, Err}
 use Rattle.ick_code.specs.meaning.State.{State}
-use Rattle.ick_backtrack.specs.Machine.{Program}
-use Rattle.ick_backtrack.specs.Steps.{IsPlain, Rests, RunsOn}
-use Rattle.ick_machine.specs.Feeds.{MeetsInput}
-use Rattle.ick_machine.specs.Live.{LiveMachine, cleared, fed}
-use Rattle.ick_machine.specs.declared.outlet.OutletFault.{OutletFault}
-use Rattle.ick_machine.specs.declared.outlet.RunFault.{RunFault}
+use Rattle.ick_backtrack.specs.{Machine.Program, Steps.IsPlain, Steps.Rests, Steps.RunsOn}
+use Rattle.ick_machine.specs.{Feeds.MeetsInput, Live.LiveMachine, Live.cleared, Live.fed}
+use Rattle.ick_machine.specs.declared.outlet.{OutletFault.OutletFault, RunFault.RunFault}
 use Rattle.ick_machine.specs.declared.outlet.RunFault.TheVariants.{NoMemory, Read, Write}
 
 -- how many writes failed in a call of an outlet
@@ -41,14 +39,16 @@ pub record Reaches (program : Program) (s : State) (limit : ℕ) (u : State) : T
   pub runs : RunsOn IsPlain program s steps u
 
 -- the run comes to a state within the limit, and the first bytes of its output are written, `count` of them
-pub record HasLeft (program : Program) (s : State) (limit : ℕ) (written written' : List ℕ) (count : ℕ) : Type 0 where
+pub record HasLeft (program : Program) (s : State) (limit : ℕ) (written written' : List ℕ) (count : ℕ)
+    : Type 0 where
   pub state : State
   pub reaches : Reaches program s limit state
   pub within : count ≤ length state.output
   pub text : written' ≡ written ++ take count state.output
 
 -- the run comes to a state by this number of steps, and goes on by itself before each. All its output is written
-pub record Writes (told : Bool) (program : Program) (s : State) (steps : ℕ) (written written' : List ℕ) : Type 0 where
+pub record Writes (told : Bool) (program : Program) (s : State) (steps : ℕ) (written written' : List ℕ)
+    : Type 0 where
   pub state : State
   pub runs : RunsOn IsPlain program s steps state
   pub text : told ≡ true → written' ≡ written ++ state.output

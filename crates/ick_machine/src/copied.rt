@@ -1,7 +1,6 @@
 //! A machine with marks that copies its state.
 
-ghost use Rattle.std.specs.Prelude.{◌≡◌, [], IfOk, vec_len};
-ghost use Rattle.ick_code.specs.{Compiled.code_program, meaning.Move.first_state};
+ghost use Rattle.std.specs.Prelude.{◌≡◌, IfOk, vec_len};
 ghost use Rattle.ick_machine.specs.Copies.{AreCopies};
 
 use crate::{Inspect, Present, Trailed};
@@ -32,7 +31,7 @@ pub struct Copied<'c, 'a> {
 
 impl<'c, 'a> Copied<'c, 'a> {
     ghost use Rattle.ick_machine.specs.Present.{present_program, present_state};
-    ghost use Rattle.ick_machine.specs.Seen.{copied_machine};
+    ghost use Rattle.ick_machine.specs.Seen.{copied_machine, first_machine};
 
     /// Returns a machine at the start of a run over an input. It has no marks, and its count of
     /// work begins at `work`. `NoMemory` is returned if a growth was refused, or if `lower` finds
@@ -43,13 +42,8 @@ impl<'c, 'a> Copied<'c, 'a> {
         input: &'c [u8],
         work: u64,
     ) -> Result<Copied<'c, 'a>, NoMemory>
-        ensures { IfOk result (λ machine.
-            ⟦<Copied<'c, 'a> as Backtrack>⟧.seen machine ≡ record {
-              program = code_program code.now;
-              state = first_state (code_program code.now) input.now;
-              marks = [];
-              work = work;
-            }) }
+        ensures { IfOk result (λ machine. ⟦<Copied<'c, 'a> as Backtrack>⟧.seen machine
+            ≡ first_machine code.now input.now work) }
     {
         Ok(Copied {
             alloc,
@@ -103,9 +97,8 @@ impl<'c, 'a> Backtrack for Copied<'c, 'a> {
     fn back(&mut self) {
         let machine = &mut self.machine;
         machine.law();
-        if let Some(Copy { saved, end }) = self.copies.pop() {
+        if let Some(Copy { mut saved, end }) = self.copies.pop() {
             machine.trail.clear();
-            let mut saved = saved;
             saved.exchange(&mut machine.memory, machine.lowered.program());
             machine.end = end;
         }

@@ -3,6 +3,9 @@
 
 ghost use Rattle.std.specs.Prelude.{◌≡◌, ◌+◌, ◌<◌, ◌≤◌, ◌^◌, ◌++◌, [], true, false, length, Err};
 ghost use Rattle.std.specs.Prelude.{IfOk, OnOk, OnErr, vec_len, vec_capacity};
+ghost use Rattle.ick_code.specs.{Compiled.code_program, meaning.Move.{advance, ask, first_state}};
+ghost use Rattle.ick_backtrack.specs.Asked.{IsGoing};
+ghost use Rattle.ick_engine.specs.Feeds.{feed_failures};
 ghost use Rattle.ick_machine.specs.RunIn.{CanGoOn};
 
 use crate::asking::answer;
@@ -37,14 +40,9 @@ pub struct Live<'c, 'a> {
 }
 
 impl<'c, 'a> Live<'c, 'a> {
-    ghost use Rattle.ick_code.specs.{Compiled.code_program, meaning.Move.ask};
-    ghost use Rattle.ick_code.specs.meaning.Move.{advance, first_state};
-    ghost use Rattle.ick_backtrack.specs.{Asked.IsGoing};
-    ghost use Rattle.ick_engine.specs.Feeds.{feed_failures};
-    ghost use Rattle.ick_machine.specs.Feeds.{MeetsInput};
     ghost use Rattle.ick_machine.specs.Live.{seen, fed, cleared, live_ask, fault_message};
-    ghost use Rattle.ick_machine.specs.Printing.{HasPrinted, IsAtInput, IsDone, Leaves, Prints};
-    ghost use Rattle.ick_machine.specs.Printing.{is_error, run_reads, run_writes};
+    ghost use Rattle.ick_machine.specs.{Feeds.MeetsInput, Printing.{HasPrinted, IsAtInput, IsDone}};
+    ghost use Rattle.ick_machine.specs.Printing.{Leaves, Prints, is_error, run_reads, run_writes};
 
     /// Returns a machine at the start of a program (Revised Manual, 3.1, 3.3). `NoMemory` is
     /// returned if a growth was refused, or if `lower` finds the program too large.
@@ -178,27 +176,27 @@ impl<'c, 'a> Live<'c, 'a> {
         let mut outlet = outlet;
         let mut made = 0;
         'on: loop {
-            let mut printer = Printer {
-                machine: Snapshot::of(&*self),
-                feed: Snapshot::of(&*feed),
-                first: Snapshot::of(&outlet),
-                outlet,
-                limit: limit - made,
-                shown: 0,
-                broken: false,
+            let (ran, is_broken) = {
+                let mut printer = Printer {
+                    machine: Snapshot::of(&*self),
+                    feed: Snapshot::of(&*feed),
+                    first: Snapshot::of(&outlet),
+                    outlet,
+                    limit: limit - made,
+                    shown: 0,
+                    broken: false,
+                };
+                let ran = self.run_by(&mut printer);
+                outlet = printer.outlet;
+                (ran, printer.broken)
             };
-            let ran = self.run_by(&mut printer);
             self.clear_output();
-            outlet = printer.outlet;
             match ran {
                 Ok(more) => made += more,
-                Err(_) if printer.broken => return (Err(RunFault::Write), outlet),
+                Err(_) if is_broken => return (Err(RunFault::Write), outlet),
                 Err(_) => return (Err(RunFault::NoMemory), outlet),
             }
-            let LiveAsk::Plain = self.asks() else {
-                return (Ok(made), outlet);
-            };
-            if made == limit {
+            if made == limit || !matches!(self.asks(), LiveAsk::Plain) {
                 return (Ok(made), outlet);
             }
             match self.step(false, feed) {
@@ -250,8 +248,7 @@ impl<'c, 'a> Live<'c, 'a> {
 
     /// Clears the output, and changes nothing else. It takes no memory.
     pub fn clear_output(&mut self)
-        ensures { seen self.new
-            ≡ record (seen self.old) { state = cleared (seen self.old).state } }
+        ensures { seen self.new ≡ record (seen self.old) { state = cleared (seen self.old).state } }
     {
         self.memory.rest.output.clear();
     }
@@ -262,8 +259,7 @@ impl<'c, 'a> Live<'c, 'a> {
     /// The answer is `NoMemory` only if `out` had no room for the whole message and couldn't grow.
     /// `out` is then unchanged.
     pub fn append_fault(&self, out: &mut Vec<u8>) -> Result<(), NoMemory>
-        ensures ok { OnOk result
-            (out.new.items ≡ out.old.items ++ fault_message (seen self.now)) }
+        ensures ok { OnOk result (out.new.items ≡ out.old.items ++ fault_message (seen self.now)) }
         ensures err { OnErr result (out.new.items ≡ out.old.items) }
         ensures full { OnErr result (vec_capacity out.old <
             vec_len out.old + length (fault_message (seen self.now))) }

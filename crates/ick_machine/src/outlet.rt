@@ -1,13 +1,10 @@
 //! Where the output of a run goes while the run goes on, and the reader by which it leaves.
 
-ghost use Rattle.std.specs.Prelude.{◌≡◌, ◌+◌, ◌<◌, ◌≤◌, ◌^◌, ◌++◌, ℕ, List, Bool, true, false};
-ghost use Rattle.std.specs.Prelude.{OnOk, length, take};
-ghost use Rattle.std.proofs.lemmas.Bool.{false≢true};
-ghost use Rattle.ick_runtime.specs.Inputs.{Leads};
+ghost use Rattle.std.{proofs.lemmas.Bool.false≢true, specs.Prelude.{◌≡◌, ◌+◌, ◌<◌, ◌≤◌, ◌^◌, ◌++◌}};
+ghost use Rattle.std.specs.Prelude.{ℕ, List, Bool, true, false, OnOk, length, take};
 ghost use Rattle.ick_engine.specs.Feeds.{MayBeLeft, one_if, some_left};
-ghost use Rattle.ick_machine.specs.{Live.fed, Live.seen, Printing.HasLeft, Printing.MayLeave};
-ghost use Rattle.ick_machine.specs.Printing.{outlet_failures};
-ghost use Rattle.ick_machine.specs.declared.live.Live.{Live};
+ghost use Rattle.ick_machine.specs.{Live.{fed, seen}, Printing.{HasLeft, MayLeave}};
+ghost use Rattle.ick_machine.specs.{Printing.outlet_failures, declared.live.Live.Live};
 
 use crate::Live;
 use ick_bits::NoMemory;
@@ -56,15 +53,13 @@ pub trait Outlet: Drop {
         ensures held { held self.new ≡ held self.old };
 }
 
-/// How many bytes of output a memory holds at most before it is cleared, but for those of one
-/// statement.
+/// How many bytes of output a memory holds before it is cleared, without the last statement's.
 const MOST: usize = 4096;
 
 /// Lets the output of a machine leave while its run goes on. The run takes no input, and waits
 /// before each WRITE IN.
 ///
-/// For contracts alone, it keeps the machine, its feed and the outlet as they were when the run
-/// began.
+/// For contracts alone, it keeps the machine, its feed and the outlet of the start of the run.
 #[derive(Drop)]
 pub(crate) struct Printer<'c, 'a, F: Feed, O: Outlet> {
     pub(crate) outlet: O,
@@ -85,27 +80,20 @@ pub(crate) struct Printer<'c, 'a, F: Feed, O: Outlet> {
 }
 
 impl<'c, 'a, F: Feed, O: Outlet> Reader for Printer<'c, 'a, F, O> {
-    ghost Has = { λ printer. MayBeLeft F.told false printer.machine.value.line.items
-        (F.left printer.feed.value) };
+    ghost Has = { λ p. MayBeLeft F.told false p.machine.value.line.items (F.left p.feed.value) };
 
     // What the outlet keeps, and how the run began.
     ghost Held = { ℕ × Live × F × ℕ × O };
 
-    ghost held = { λ printer. (
-      O.held printer.outlet,
-      printer.machine.value,
-      printer.feed.value,
-      printer.limit,
-      printer.first.value,
-    ) };
+    ghost held = { λ p. (O.held p.outlet, p.machine.value, p.feed.value, p.limit, p.first.value) };
 
     ghost waits = { λ _. true };
 
     ghost Prints = { λ held output. F.told ≡ true → MayLeave (seen held.1).program
         (fed (F.left held.2) (seen held.1).state) held.3 output };
 
-    ghost some = { λ printer. some_left F.told false printer.machine.value.line.items
-        (F.left printer.feed.value) (λ e. absurd (false≢true e)) };
+    ghost some = { λ p. some_left F.told false p.machine.value.line.items (F.left p.feed.value)
+        (λ e. absurd (false≢true e)) };
 
     fn is_waiting(&self) -> bool {
         true
@@ -114,8 +102,6 @@ impl<'c, 'a, F: Feed, O: Outlet> Reader for Printer<'c, 'a, F, O> {
     fn leave(&mut self, output: &[u8]) -> Result<bool, NoMemory>
         requires { let reader = ⟦<Printer<'c, 'a, F, O> as Reader>⟧ in
             reader.Prints (reader.held self.old) output.now }
-        ensures input { Leads ⟦<Printer<'c, 'a, F, O> as Reader>⟧.Has self.old self.new
-            (λ before after. before ≡ after) }
         ensures held { let reader = ⟦<Printer<'c, 'a, F, O> as Reader>⟧ in
             reader.held self.new ≡ reader.held self.old }
         ensures sound { OnOk result (self.new.broken ≡ false) }

@@ -1,6 +1,7 @@
-use Rattle.std.proofs.Common.{◌≡◌, ◌+◌, ◌-◌, ◌<◌, ◌≤◌, ℕ, List, true, false, refl, inr, sym, ◌∙◌, ap, subst, arith}
+use Rattle.std.proofs.Common.{◌≡◌, ◌+◌, ◌-◌, ◌<◌, ◌≤◌, ℕ, List, true, false, refl, inl, inr, sym, ◌∙◌, ap, subst, arith}
 use Rattle.std.proofs.Common.{append-nil, rules}
-use Rattle.std.specs.Prelude.{Ok, Err, [], ◌^◌}
+use Rattle.std.specs.Prelude.{Result, Ok, Err, IfOk, OnOk, [], ◌^◌}
+use Rattle.ick_bits.specs.declared.memory.NoMemory.{NoMemory as OutOfMemory}
 use mathlib.Core.Logic.{∥∥₁_map}
 use Rattle.ick_code.specs.meaning.State.{State}
 use Rattle.ick_code.specs.meaning.Move.{advance}
@@ -18,7 +19,9 @@ use Rattle.ick_machine.proofs.AlongLemmas.{along_cut}
 use Rattle.ick_machine.proofs.AlongLemmas.{along_at_input, plain_fed, plain_here, plain_there}
 use Rattle.ick_machine.proofs.PrinterLemmas.{Kept, kept_first}
 use Rattle.ick_machine.proofs.live.Live.run.Given.{Over}
-use Rattle.ick_machine.proofs.live.Live.run.Goals.{After-clear_output, In-Ok, After-step}
+use Rattle.ick_machine.proofs.live.Live.run.Goals.{After-clear_output, In-Ok, Else-not-matches, After-step}
+use Rattle.ick_machine.proofs.live.Live.run.Goals.{then-made-limit-via-then-made-limit, in-Plain, in_default}
+use Rattle.ick_machine.proofs.live.Live.run.Goals.{then-made-limit-via-else-made-limit+then-not-matches}
 use Rattle.ick_machine.proofs.live.Live.run.Goals as goal
 
 pub on-init : goal.on-init
@@ -106,8 +109,14 @@ module _ (g : Over) (c : In-Ok g) where
   abbrev stage : After-clear_output g
   stage = (goal.at.In-Ok g c).After-clear_output
 
+  -- what the call promises of the number of its steps
+  made_by : (P : ℕ → Type 0) → IfOk c.run_by-ran.result P → P c.in-Ok.more
+  made_by P = subst (λ (r : Result ℕ OutOfMemory). IfOk r P) c.in-Ok.is
+
   within : c.on.made + c.in-Ok.more ≤ c.args.limit
-  within = omega (arith, c.in-Ok.ensures.within, c.on.invariant.within)
+  within =
+      let few = made_by (λ k. k ≤ c.args.limit - c.on.made) c.run_by-ran.ensures.within in
+      omega (arith, few, c.on.invariant.within)
 
   -- what the call wrote
   gone_on : g.F.Feed.told ≡ true → IsAlong g.O.Outlet.told (first g stage).program (begin g stage) (here g stage)
@@ -117,8 +126,11 @@ module _ (g : Over) (c : In-Ok g) where
       let new = seen c.run_by-ran.new.self in
       let at : List ℕ → List ℕ → Type 0 = λ l w. HasPrinted g.F.Feed.told g.O.Outlet.told (seen c.on.self) new l w
       (after g stage) c.in-Ok.more in
+      let made = made_by (λ k. HasPrinted g.F.Feed.told g.O.Outlet.told (seen c.on.self) new
+      (left c.of-in-on.result.value) (g.O.Outlet.written c.of-in-on-2.result.value) (after g stage) k)
+      c.run_by-ran.ensures.made in
       let printed = subst (λ f. at (left f) (g.O.Outlet.written c.on.outlet)) c.of-in-on.ensures
-      (subst (λ o. at (left c.of-in-on.result.value) (g.O.Outlet.written o)) c.of-in-on-2.ensures c.in-Ok.ensures.made) in
+      (subst (λ o. at (left c.of-in-on.result.value) (g.O.Outlet.written o)) c.of-in-on-2.ensures made) in
       along_further g.O.Outlet.told (first g stage).program (begin g stage) (c.on.invariant.along t) c.args.limit
       (here g stage) (after g stage) c.in-Ok.more (
         record {
@@ -148,19 +160,33 @@ returns-in-Err-clause-prints g c = cut g (goal.at.returns-in-Err-clause-prints g
 pub returns-in-Err-2-clause-prints : goal.returns-in-Err-2-clause-prints
 returns-in-Err-2-clause-prints g c = cut g (goal.at.returns-in-Err-2-clause-prints g c).After-clear_output NoMemory
 
-pub returns-in_default-clause-prints : goal.returns-in_default-clause-prints
-returns-in_default-clause-prints g c = done g (goal.at.returns-in_default-clause-prints g c).In-Ok
-
-pub returns-in_default-clause-rests : goal.returns-in_default-clause-rests
-returns-in_default-clause-rests g c =
-    let ok = (goal.at.returns-in_default-clause-rests g c).In-Ok in
-    record {
-      within = within g ok;
-      rests = inr (λ plain. c.in_default.not-Plain (c.asks.ensures ∙ plain_there (now g (stage g ok)) (sound g ok) plain));
-    }
-
 pub returns-then-made-limit-clause-prints : goal.returns-then-made-limit-clause-prints
 returns-then-made-limit-clause-prints g c = done g (goal.at.returns-then-made-limit-clause-prints g c).In-Ok
+
+pub returns-then-made-limit-clause-rests : goal.returns-then-made-limit-clause-rests
+returns-then-made-limit-clause-rests g c =
+    let ok = (goal.at.returns-then-made-limit-clause-rests g c).In-Ok in
+    record {
+      within = within g ok;
+      rests = elim c.then-made-limit.branch [
+        | then-made-limit-via-then-made-limit w ↦ inl w.if-made-limit.true
+        | then-made-limit-via-else-made-limit+then-not-matches w ↦
+            inr (λ plain. elim w.match-matches.branch [
+              | in-Plain t ↦ absurd (cc (t.matches-is, w.if-not-matches.true))
+              | in_default t ↦
+                  t.in_default.not-Plain (w.asks.ensures ∙ plain_there (now g (stage g ok)) (sound g ok) plain)
+            ])
+      ];
+    }
+
+-- a step follows only if nothing is asked
+goes : (g : Over) (c : Else-not-matches g) →
+    let ok = (goal.at.Else-not-matches g c).In-Ok in
+    IsPlain (first g (stage g ok)).program (here g (stage g ok))
+goes g c = elim c.match-matches.branch [
+  | in-Plain w ↦ plain_now g (goal.at.Else-not-matches g c).In-Ok (sym w.in-Plain.is ∙ c.asks.ensures)
+  | in_default w ↦ absurd (cc (w.matches-is, c.if-not-matches.false))
+]
 
 -- nothing more is written if the step fails
 failed : (g : Over) (c : After-step g) → g.F.Feed.told ≡ true → (fault : RunFault) →
@@ -186,7 +212,7 @@ returns-in-Err-Read-clause-input g c = λ t _.
     let few = within g ok in
     let lt : c.on.made + c.in-Ok.more < c.args.limit = omega (arith, few, c.if-made-limit.false) in
     along_at_input g.O.Outlet.told _ _ (gone_on g ok t) c.args.limit lt (empty g (stage g ok))
-    (plain_now g ok (sym c.in-Plain.is ∙ c.asks.ensures))
+    (goes g (goal.at.returns-in-Err-Read-clause-input g c).Else-not-matches)
     (subst (λ q. MeetsInput q (now g (stage g ok)).state) (same_now g (stage g ok))
     (c.step.ensures.reads (c.in-Err-Read.is ∙ ap Err c.in-Err-Read.field-0-is)))
 
@@ -198,9 +224,11 @@ on-preserved g c =
     let n = c.run_by-ran.new.printer in
     let first_failed = ap (λ (h : Held g at). g.O.Outlet.failed h.4) (kept g at) in
     let few = within g ok in
+    let whole =
+    subst (λ (r : Result ℕ OutOfMemory). OnOk r (n.broken ≡ false)) c.in-Ok.is c.run_by-ran.ensures.sound in
     record {
       reads = omega (arith, c.in-Ok-step.ensures.count, i.reads);
-      writes = omega (arith, n.count, first_failed, ap one_if c.in-Ok.ensures.sound, i.writes);
+      writes = omega (arith, n.count, first_failed, ap one_if whole, i.writes);
       held = c.step.ensures.held ∙ i.held;
       given = ap (λ (h : Held g at). h.0) (kept g at) ∙ i.given;
       sound = c.in-Ok-step.ensures.ok;
@@ -208,7 +236,7 @@ on-preserved g c =
       within = omega (arith, few, c.if-made-limit.false);
       along = λ t. along_step g.O.Outlet.told _ _ (gone_on g ok t)
           (fed (g.F.Feed.left c.step.new.feed) (seen c.step.new.self).state)
-          (plain_now g ok (sym c.in-Plain.is ∙ c.asks.ensures))
+          (goes g (goal.at.on-preserved g c).Else-not-matches)
           (subst (λ q. fed (g.F.Feed.left c.step.new.feed) (seen c.step.new.self).state ≡ advance q (here g at) false)
           (same_now g at) (c.in-Ok-step.ensures.advances t));
     }
