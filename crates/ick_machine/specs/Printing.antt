@@ -88,8 +88,9 @@ pub record Leaves {T E : Type 0} (old new : LiveMachine) (result : Result T E) :
 
 -- the machine made this number of steps, and exactly the output that it then holds is written. `told` and `tells` say
 -- whether the feed and the outlet are known
-pub record HasPrinted (told tells : Bool) (old new : LiveMachine) (left written written' : List ℕ) (steps : ℕ)
+pub record HasPrinted (told tells : Bool) (old new : LiveMachine) (left written written' : List ℕ) (limit steps : ℕ)
     : Type 0 where
+  pub within : steps ≤ limit
   pub runs : told ≡ true → RunsOn IsPlain old.program (fed left old.state) steps (fed left new.state)
   pub text : told ≡ true → tells ≡ true → written' ≡ written ++ new.state.output
 

@@ -1,12 +1,12 @@
 //! A machine without marks, which takes its input from a feed.
 #![tactic(auto, unfolding(crate::specs::Live::seen))]
 
-ghost use Rattle.std.specs.Prelude.{◌≡◌, ◌+◌, ◌<◌, ◌≤◌, ◌^◌, ◌++◌, [], true, false, length, Err};
+ghost use Rattle.std.specs.Prelude.{◌≡◌, ◌+◌, ◌<◌, ◌≤◌, ◌^◌, ◌++◌, true, false, length, Err};
 ghost use Rattle.std.specs.Prelude.{IfOk, OnOk, OnErr, vec_len, vec_capacity};
-ghost use Rattle.ick_code.specs.{Compiled.code_program, meaning.Move.{advance, ask, first_state}};
+ghost use Rattle.ick_code.specs.{Compiled.code_program, meaning.Move.{advance, ask}};
 ghost use Rattle.ick_backtrack.specs.Asked.{IsGoing};
 ghost use Rattle.ick_engine.specs.Feeds.{feed_failures};
-ghost use Rattle.ick_machine.specs.RunIn.{CanGoOn};
+ghost use Rattle.ick_machine.specs.{Feeds.MeetsInput, RunIn.CanGoOn};
 
 use crate::asking::answer;
 use crate::outlet::Printer;
@@ -40,18 +40,14 @@ pub struct Live<'c, 'a> {
 }
 
 impl<'c, 'a> Live<'c, 'a> {
-    ghost use Rattle.ick_machine.specs.Live.{seen, fed, cleared, live_ask, fault_message};
-    ghost use Rattle.ick_machine.specs.{Feeds.MeetsInput, Printing.{HasPrinted, IsAtInput, IsDone}};
-    ghost use Rattle.ick_machine.specs.Printing.{Leaves, Prints, is_error, run_reads, run_writes};
+    ghost use Rattle.ick_machine.specs.Live.{seen, fed, first_live, live_ask, fault_message};
+    ghost use Rattle.ick_machine.specs.Printing.{HasPrinted, IsAtInput, IsDone, Leaves, Prints};
+    ghost use Rattle.ick_machine.specs.{Live.cleared, Printing.{is_error, run_reads, run_writes}};
 
     /// Returns a machine at the start of a program (Revised Manual, 3.1, 3.3). `NoMemory` is
     /// returned if a growth was refused, or if `lower` finds the program too large.
     pub fn new(alloc: Global, code: &'c Code<'a>) -> Result<Live<'c, 'a>, NoMemory>
-        ensures { IfOk result (λ live. seen live ≡ record {
-          program = code_program code.now;
-          state = first_state (code_program code.now) [];
-          failed = false;
-        }) }
+        ensures { IfOk result (λ live. seen live ≡ first_live (code_program code.now)) }
     {
         let lowered = lower(alloc, code)?;
         let mut memory = fresh_memory(alloc, &lowered)?;
@@ -217,8 +213,7 @@ impl<'c, 'a> Live<'c, 'a> {
         requires machine { printer.old.machine.value ≡ self.old }
         ensures made { IfOk result (λ k. HasPrinted F.told O.told (seen self.old) (seen self.new)
             (F.left printer.old.feed.value) (O.written printer.old.first.value)
-            (O.written printer.new.outlet) k) }
-        ensures within { IfOk result (λ k. k ≤ printer.old.limit) }
+            (O.written printer.new.outlet) printer.old.limit k) }
         ensures sound { OnOk result (printer.new.broken ≡ false) }
         ensures program { (seen self.new).program ≡ (seen self.old).program }
         ensures failed { (seen self.new).failed ≡ is_error result }

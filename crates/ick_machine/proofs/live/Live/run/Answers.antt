@@ -109,26 +109,26 @@ module _ (g : Over) (c : In-Ok g) where
   abbrev stage : After-clear_output g
   stage = (goal.at.In-Ok g c).After-clear_output
 
-  -- what the call promises of the number of its steps
-  made_by : (P : ℕ → Type 0) → IfOk c.run_by-ran.result P → P c.in-Ok.more
-  made_by P = subst (λ (r : Result ℕ OutOfMemory). IfOk r P) c.in-Ok.is
+  -- what the call made
+  made : HasPrinted g.F.Feed.told g.O.Outlet.told (seen c.on.self) (seen c.run_by-ran.new.self)
+      (g.F.Feed.left c.of-in-on.result.value) (g.O.Outlet.written c.of-in-on-2.result.value) (after g stage)
+      (c.args.limit - c.on.made) c.in-Ok.more
+  made = subst (λ (r : Result ℕ OutOfMemory). IfOk r (λ k.
+      HasPrinted g.F.Feed.told g.O.Outlet.told (seen c.on.self) (seen c.run_by-ran.new.self)
+      (g.F.Feed.left c.of-in-on.result.value) (g.O.Outlet.written c.of-in-on-2.result.value) (after g stage)
+      (c.args.limit - c.on.made) k)) c.in-Ok.is c.run_by-ran.ensures.made
 
   within : c.on.made + c.in-Ok.more ≤ c.args.limit
-  within =
-      let few = made_by (λ k. k ≤ c.args.limit - c.on.made) c.run_by-ran.ensures.within in
-      omega (arith, few, c.on.invariant.within)
+  within = omega (arith, made.within, c.on.invariant.within)
 
-  -- what the call wrote
+  -- and what it wrote
   gone_on : g.F.Feed.told ≡ true → IsAlong g.O.Outlet.told (first g stage).program (begin g stage) (here g stage)
       (written g stage) (after g stage) (c.on.made + c.in-Ok.more)
   gone_on t =
       let left = g.F.Feed.left in
       let new = seen c.run_by-ran.new.self in
       let at : List ℕ → List ℕ → Type 0 = λ l w. HasPrinted g.F.Feed.told g.O.Outlet.told (seen c.on.self) new l w
-      (after g stage) c.in-Ok.more in
-      let made = made_by (λ k. HasPrinted g.F.Feed.told g.O.Outlet.told (seen c.on.self) new
-      (left c.of-in-on.result.value) (g.O.Outlet.written c.of-in-on-2.result.value) (after g stage) k)
-      c.run_by-ran.ensures.made in
+      (after g stage) (c.args.limit - c.on.made) c.in-Ok.more in
       let printed = subst (λ f. at (left f) (g.O.Outlet.written c.on.outlet)) c.of-in-on.ensures
       (subst (λ o. at (left c.of-in-on.result.value) (g.O.Outlet.written o)) c.of-in-on-2.ensures made) in
       along_further g.O.Outlet.told (first g stage).program (begin g stage) (c.on.invariant.along t) c.args.limit

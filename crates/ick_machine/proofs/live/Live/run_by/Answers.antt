@@ -121,6 +121,7 @@ returns-clause-made g c =
     let left = g.F.Feed.left c.args.printer.now.feed.value in
     let same = c.make_steps.ensures.held_same ∙ c.in_ok-leave.ensures.held ∙ kept g at.Start in
     record {
+      within = c.in_ok-made.ensures.within;
       runs = λ tells. led g at.In_ok-made tells (input_after live.line.items left)
           (subst (λ (h : Held g). MayBeLeft g.F.Feed.told false h.1.line.items (g.F.Feed.left h.2)
           (input_after live.line.items left)) (sym same)
