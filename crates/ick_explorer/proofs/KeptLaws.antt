@@ -133,24 +133,30 @@ later_behind (x ∷ gs) g =
     ap (λ t. 44 ∷ t) (ap (λ t. group_text x ++ t) (later_behind gs g)
     ∙ sym (append_assoc (group_text x) (later_text gs) (44 ∷ group_text g)))
 
-groups_behind : (gs : List Group) (g : Group) → 0 < length gs →
-    groups_text (gs ++ g ∷ []) ≡ (groups_text gs ++ 44 ∷ []) ++ group_text g
-groups_behind [] g some = absurd (omega (arith, some))
-groups_behind (x ∷ gs) g some =
+-- what stands before a group that has this many groups before it
+abbrev pub comma : ℕ → List ℕ
+comma zero = []
+comma (suc n) = 44 ∷ []
+
+groups_behind : (gs : List Group) (g : Group) →
+    groups_text (gs ++ g ∷ []) ≡ groups_text gs ++ comma (length gs) ++ group_text g
+groups_behind [] g = append-nil (group_text g)
+groups_behind (x ∷ gs) g =
     ap (λ t. group_text x ++ t) (later_behind gs g)
     ∙ (sym (append_assoc (group_text x) (later_text gs) (44 ∷ group_text g))
     ∙ sym (append_assoc (group_text x ++ later_text gs) (44 ∷ []) (group_text g)))
 
 -- one more group behind those of the first stretches
-pub groups_more : (ss : List Stretch) (at : ℕ) (d : Stretch) → 0 < at → at < length ss →
-    (groups_text (map group_of (take at ss)) ++ 44 ∷ []) ++ group_text (group_of (get_or ss at d))
+pub groups_more : (ss : List Stretch) (at : ℕ) (d : Stretch) → at < length ss →
+    groups_text (map group_of (take at ss)) ++ comma at ++ group_text (group_of (get_or ss at d))
     ≡ groups_text (map group_of (take (at + 1) ss))
-groups_more ss at d some lt =
+groups_more ss at d lt =
     let front = map group_of (take at ss) in
+    let group = group_of (get_or ss at d) in
     let size : length front ≡ at = length-map (take at ss) group_of ∙ length-take-le at ss (omega (arith, lt)) in
     sym (ap (λ x. groups_text (map group_of x)) (take_more ss at d lt)
     ∙ (ap groups_text (map-append group_of (take at ss) (get_or ss at d ∷ []))
-    ∙ groups_behind front (group_of (get_or ss at d)) (omega (arith, size, some))))
+    ∙ (groups_behind front group ∙ ap (λ n. groups_text front ++ comma n ++ group_text group) size)))
 
 -- what holds of an answer that is no error
 pub on_ok : {T E P : Type 0} (r : Result T E) (b : Bool) → b ≡ is_err r → b ≡ false → OnOk r P → P

@@ -35,45 +35,39 @@ pushed_last old out out' choices rest at n b r text same some other e all =
     sym (append-nil out') ∙ (ap (λ x. out' ++ later_text (map group_of (stretches x))) (sym none)
     ∙ pushed old out out' choices rest at n b r text same some other e)
 
-pub pushed_on : (old out out' out'' : List ℕ) (choices rest : List Bool) (at n : ℕ) (b : Bool) →
+pub pushed_on : (old out out' : List ℕ) (choices rest : List Bool) (at n : ℕ) (b : Bool) →
     rest ≡ drop at choices → out ++ grouped_text (drop at choices) ≡ old ++ grouped_text choices →
     take n rest ≡ replicate n b → 0 < n → StartsOther b (drop n rest) →
     out' ≡ out ++ group_text (group_of (record { choice = b; size = n })) → at + n < length choices →
-    out'' ≡ out' ++ 44 ∷ [] →
-    out'' ++ grouped_text (drop (at + n) choices) ≡ old ++ grouped_text choices
-pushed_on old out out' out'' choices rest at n b r text same some other e more f =
+    out' ++ (44 ∷ []) ++ grouped_text (drop (at + n) choices) ≡ old ++ grouped_text choices
+pushed_on old out out' choices rest at n b r text same some other e more =
     let size = length-drop (at + n) choices in
     let some_left : 0 < length (drop (at + n) choices) = omega (arith, size, more) in
-    ap (λ x. x ++ grouped_text (drop (at + n) choices)) f
-    ∙ (append_assoc out' (44 ∷ []) (grouped_text (drop (at + n) choices))
+    append_assoc out' (44 ∷ []) (grouped_text (drop (at + n) choices))
     ∙ (ap (λ x. out' ++ x) (sym (later_by (drop (at + n) choices) some_left))
-    ∙ pushed old out out' choices rest at n b r text same some other e))
+    ∙ pushed old out out' choices rest at n b r text same some other e)
 
 -- there was room for no more than the whole text
-pub group_fits : (old out : List ℕ) (choices rest : List Bool) (at n : ℕ) (b : Bool) →
-    rest ≡ drop at choices → out ++ grouped_text (drop at choices) ≡ old ++ grouped_text choices →
+pub group_fits : (old out before : List ℕ) (choices rest : List Bool) (at n : ℕ) (b : Bool) →
+    rest ≡ drop at choices → out ++ before ++ grouped_text (drop at choices) ≡ old ++ grouped_text choices →
     take n rest ≡ replicate n b → 0 < n → StartsOther b (drop n rest) →
-    length out + length (group_text (group_of (record { choice = b; size = n })))
+    length out + length (before ++ group_text (group_of (record { choice = b; size = n })))
     ≤ length old + length (grouped_text choices)
-group_fits old out choices rest at n b r text same some other =
+group_fits old out before choices rest at n b r text same some other =
     let group = group_text (group_of (record { choice = b; size = n })) in
     let later = later_text (map group_of (stretches (drop (at + n) choices))) in
-    let all = ap length (pushed old out (out ++ group) choices rest at n b r text same some other refl) in
-    let x = length-append (out ++ group) later in
-    let y = length-append out group in
+    let front = out ++ before in
+    let all = ap length (pushed old front (front ++ group) choices rest at n b r text same some other refl) in
+    let x = length-append (front ++ group) later in
+    let y = length-append front group in
     let z = length-append old (grouped_text choices) in
-    omega (arith, all, x, y, z)
+    let u = length-append out before in
+    let v = length-append before group in
+    omega (arith, all, x, y, z, u, v)
 
-pub comma_fits : (old out out' : List ℕ) (choices rest : List Bool) (at n : ℕ) (b : Bool) →
-    rest ≡ drop at choices → out ++ grouped_text (drop at choices) ≡ old ++ grouped_text choices →
-    take n rest ≡ replicate n b → 0 < n → StartsOther b (drop n rest) →
-    out' ≡ out ++ group_text (group_of (record { choice = b; size = n })) → at + n < length choices →
-    length out' + 1 ≤ length old + length (grouped_text choices)
-comma_fits old out out' choices rest at n b r text same some other e more =
-    let left = grouped_text (drop (at + n) choices) in
-    let all =
-    ap length (pushed_on old out out' (out' ++ 44 ∷ []) choices rest at n b r text same some other e more refl) in
-    let x = length-append (out' ++ 44 ∷ []) left in
-    let y = length-append out' (44 ∷ []) in
-    let z = length-append old (grouped_text choices) in
-    omega (arith, all, x, y, z)
+pub longer_by : (out out' before group : List ℕ) → out' ≡ out ++ before ++ group → length out ≤ length out'
+longer_by out out' before group e =
+    let x = length-append (out ++ before) group in
+    let y = length-append out before in
+    let z = ap length e in
+    omega (arith, x, y, z)

@@ -1,12 +1,13 @@
 -- How a text of groups is read from its front.
 use Rattle.std.proofs.Common.{◌≡◌, ◌≢◌, inl, inr, ℕ, zero, suc, ◌+◌, ◌*◌, ◌-◌, ◌^◌}
-use Rattle.std.proofs.Common.{◌<◌, ◌≤◌, Bool, List, [], ◌∷◌, ◌++◌}
+use Rattle.std.proofs.Common.{◌<◌, ◌≤◌, min, Bool, List, [], ◌∷◌, ◌++◌}
 use Rattle.std.proofs.Common.{length, take, drop, get_or, refl, ap, sym, ◌∙◌, subst, arith, append_assoc}
 use Rattle.std.specs.Prelude.{Option, Some, None, replicate}
 use Rattle.std.specs.Char.{digit_value}
 use Rattle.std.specs.Str.Parse.{AllDigits, digits_value}
 use Rattle.std.proofs.lemmas.List.{append-nil, drop_more, length-append, length-replicate, take-append-drop, take_all}
 use Rattle.std.proofs.lemmas.List.{take_rest}
+use Rattle.std.proofs.lemmas.Bool.{cases_lt}
 use Rattle.std.proofs.Math.Seq.{drop-length}
 use Rattle.std.proofs.Math.Nat.{eq-or-lt_of_le}
 use Rattle.std.proofs.lemmas.Str.Parse.{digit_from_value}
@@ -18,6 +19,12 @@ use Rattle.ick_explorer.proofs.DropLaws.{drop_twice}
 use Rattle.ick_explorer.proofs.GroupLaws.{front_one, later_is, later_no_digit, same_stretch}
 
 -- numbers up to the cap
+pub capped_min : (value number : ℕ) → value ≡ min number (2 ^ 32) → IsCapped value number
+capped_min value number e = elim (cases_lt number (2 ^ 32)) [
+  | inl lt ↦ inl (lt, omega (arith, e, lt))
+  | inr le ↦ inr (le, omega (arith, e, le))
+]
+
 pub capped_more : (value number byte digit after next : ℕ) → IsCapped value number → digit + 48 ≡ byte →
     IsCapped after (value * 10 + (byte - 48)) → next ≡ number * 10 + digit → IsCapped after next
 capped_more value number byte digit after next (inl (a, b)) d (inl (x, y)) e =

@@ -4,12 +4,11 @@ ghost use Rattle.std.specs.Prelude.{◌≡◌, ◌+◌, ◌<◌, ◌≤◌, ◌+
 ghost use Rattle.std.specs.Prelude.{false, length, take};
 ghost use Rattle.std.specs.Prelude.{drop, get_or, replicate, vec_len, vec_capacity, map};
 ghost use Rattle.ick_explorer.specs.ChoiceTexts.{choices_text, digit_of, group_of, group_text};
-ghost use Rattle.ick_explorer.specs.ChoiceTexts.{grouped_text, groups_text};
-ghost use Rattle.ick_explorer.specs.Choices.{seen_stretches};
+ghost use Rattle.ick_explorer.specs.ChoiceTexts.{grouped_text};
 ghost use Rattle.ick_explorer.specs.Printing.{StartsOther};
 
-use crate::stretches::Stretch;
-use ick_bits::{NoMemory, append_all, append_decimal};
+use ick_bits::{NoMemory, append_all};
+use itoa::Buffer;
 
 /// Limits the choices of a plain text, which has one digit a choice.
 pub(crate) const MOST_PLAIN: usize = 64;
@@ -29,7 +28,9 @@ fn push_digits(out: &mut Vec<u8>, choices: &[bool]) -> Result<(), NoMemory>
     ensures full { OnErr result (vec_capacity out.old < vec_len out.old + length choices.now) }
     ensures capacity { vec_capacity out.old ≤ vec_capacity out.new }
 {
-    out.reserve(choices.len())?;
+    let Ok(()) = out.reserve(choices.len()) else {
+        return Err(NoMemory);
+    };
     for choice in choices {
         out.push_reserved(digit(*choice));
     }
@@ -56,18 +57,23 @@ fn stretch(choices: &[bool]) -> usize
     size
 }
 
-/// Appends a group. If `out` can't grow, only a prefix of the group is appended.
-fn push_group(out: &mut Vec<u8>, choice: bool, size: usize) -> Result<(), NoMemory>
+/// Appends a text and a group. If `out` can't grow, it is unchanged.
+pub(crate) fn push_group(
+    out: &mut Vec<u8>,
+    before: &[u8],
+    choice: bool,
+    size: usize,
+) -> Result<(), NoMemory>
     ensures ok { let group = group_of (record { choice = choice; size = size }) in
-        OnOk result (out.new.items ≡ out.old.items ++ group_text group) }
-    ensures err { OnErr result (take (vec_len out.old) out.new.items ≡ out.old.items) }
-    ensures longer { vec_len out.old ≤ vec_len out.new }
-    ensures full { let group = group_of (record { choice = choice; size = size }) in
-        OnErr result (vec_capacity out.old < vec_len out.old + length (group_text group)) }
+        OnOk result (out.new.items ≡ out.old.items ++ before.now ++ group_text group) }
+    ensures err { OnErr result (out.new.items ≡ out.old.items) }
+    ensures full { let group = group_of (record { choice = choice; size = size }) in OnErr result
+        (vec_capacity out.old < vec_len out.old + length (before.now ++ group_text group)) }
     ensures capacity { vec_capacity out.old ≤ vec_capacity out.new }
 {
-    out.extend_from_slice(&[digit(choice), b'*'])?;
-    append_decimal(out, size as u64)
+    let mut digits = Buffer::new();
+    let digits = digits.format(size as u64).as_bytes();
+    append_all(out, &[before, &[digit(choice), b'*'], digits])
 }
 
 /// Appends the groups of a list of choices, which must not be empty. If `out` can't grow, only a
@@ -80,32 +86,18 @@ fn push_groups(out: &mut Vec<u8>, choices: &[bool]) -> Result<(), NoMemory>
         (vec_capacity out.old < vec_len out.old + length (grouped_text choices.now)) }
     ensures capacity { vec_capacity out.old ≤ vec_capacity out.new }
 {
+    let mut before: &[u8] = b"";
     let mut at = 0;
     'groups: loop {
         let rest = &choices[at..];
         let size = stretch(rest);
-        push_group(out, rest[0], size)?;
+        push_group(out, before, rest[0], size)?;
         at += size;
         if at == choices.len() {
             return Ok(());
         }
-        out.push(b',')?;
+        before = b",";
     }
-}
-
-/// Appends the groups of a list of stretches, which must not be empty. If `out` can't grow, only a
-/// prefix of the groups is appended.
-pub(crate) fn push_stretches(out: &mut Vec<u8>, kept: &[Stretch]) -> Result<(), NoMemory>
-    requires { 0 < length kept.now }
-    ensures { OnOk result
-        (out.new.items ≡ out.old.items ++ groups_text (map group_of (seen_stretches kept.now))) }
-{
-    push_group(out, kept[0].choice, kept[0].size)?;
-    for at in 1..kept.len() {
-        out.push(b',')?;
-        push_group(out, kept[at].choice, kept[at].size)?;
-    }
-    Ok(())
 }
 
 /// Appends the text of a list of choices. The answer is `NoMemory` if `out` can't grow, and `out`

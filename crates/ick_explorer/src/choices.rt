@@ -5,7 +5,7 @@ ghost use Rattle.ick_explorer.specs.ChoiceTexts.{choices_text};
 ghost use Rattle.ick_explorer.specs.Listings.{zeros_in};
 ghost use Rattle.ick_explorer.specs.Paths.{Turns};
 
-use crate::choice_texts::{MOST_PLAIN, digit, push_stretches};
+use crate::choice_texts::{MOST_PLAIN, digit, push_group};
 use crate::stretches::{Stretch, group, shorten};
 use ick_bits::{NoMemory, append_all};
 use std::alloc::Global;
@@ -62,7 +62,9 @@ impl Choices {
         ensures err { OnErr result (self.new ≡ self.old) }
     {
         let at = self.list.len();
-        self.list.push(choice)?;
+        let Ok(()) = self.list.push(choice) else {
+            return Err(NoMemory);
+        };
         if at >= MOST_PLAIN {
             return Ok(());
         }
@@ -115,7 +117,12 @@ impl Choices {
             return Err(NoMemory);
         }
         self.grouped = self.list.len();
-        push_stretches(out, &self.stretches)
+        let mut before: &[u8] = b"";
+        for stretch in &self.stretches {
+            push_group(out, before, stretch.choice, stretch.size)?;
+            before = b",";
+        }
+        Ok(())
     }
 
     /// Appends the text of the choices. If this call runs out of memory, it may have appended a
@@ -131,7 +138,9 @@ impl Choices {
         if count == 0 {
             return append_all(out, &[b"-"]);
         }
-        out.extend_from_slice(&self.digits[..count])?;
-        Ok(())
+        match out.extend_from_slice(&self.digits[..count]) {
+            Ok(()) => Ok(()),
+            Err(_) => Err(NoMemory),
+        }
     }
 }

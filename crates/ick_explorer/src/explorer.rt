@@ -8,6 +8,7 @@ ghost use Rattle.ick_explorer.specs.Marked.{HasMarks, IsPlaced};
 
 use crate::choices::Choices;
 use crate::cursor::Cursor;
+use crate::devices::{ByteSink, write_whole};
 use crate::errors::RunsError;
 use crate::lines::LineBuilder;
 use crate::path::{Path, Progress};
@@ -45,9 +46,11 @@ impl<M: Backtrack> Explorer<M> {
     ghost use Rattle.ick_code.specs.meaning.State.{State};
     ghost use Rattle.ick_explorer.specs.Runs.{IsWhole};
     ghost use Rattle.ick_explorer.specs.Standing.{Stands, HasMore, IsAtLast, HasFailed, Gives};
+    ghost use Rattle.ick_explorer.specs.Standing.{IsListingAt};
     ghost use Rattle.ick_explorer.specs.Standing.{IsFull, IsMachineFull, Resumes, zeros_of};
     ghost use Rattle.ick_backtrack.specs.Asked.{Finish, finish_of};
-    ghost use Rattle.ick_explorer.specs.Lines.{line_of};
+    ghost use Rattle.ick_explorer.specs.Writes.{write_failures};
+    ghost use Rattle.ick_explorer.specs.WritingSteps.{Moves, WritesNext};
     ghost use Rattle.ick_explorer.specs.Walks.{EndsHere, IsOver, Reaches};
 
     /// Returns an explorer before the first run from the machine's state. Each run has at most
@@ -321,8 +324,12 @@ impl<M: Backtrack> Explorer<M> {
         ensures end { IfOk result (λ r. finish_of r.end ≡ finish_of end.entry) }
         ensures steps { IfOk result (λ r. r.steps ≡ steps) }
     {
-        let choices = Vec::from_slice(self.alloc, self.path.choices.as_slice())?;
-        let output = Vec::from_slice(self.alloc, self.machine.output())?;
+        let Ok(choices) = Vec::from_slice(self.alloc, self.path.choices.as_slice()) else {
+            return Err(NoMemory);
+        };
+        let Ok(output) = Vec::from_slice(self.alloc, self.machine.output()) else {
+            return Err(NoMemory);
+        };
         Ok(Run {
             choices,
             output,
@@ -331,17 +338,42 @@ impl<M: Backtrack> Explorer<M> {
         })
     }
 
-    /// Builds the line of the run at the explorer's position, which has this end. The answer is
-    /// `NoMemory` if this call runs out of memory. The explorer's state is unchanged.
-    pub(crate) fn build_line<'c>(
+    /// Writes the line of the next run if there is a next run. Returns whether there was a next run.
+    /// The answer is `WorkFull`, `NoMemory` or `Write` if that part fails. The explorer must not
+    /// have failed.
+    pub(crate) fn write_next<'c, W: ByteSink>(
         &mut self,
         lines: &mut LineBuilder<'c>,
-        end: End<'c>,
-    ) -> Result<(), NoMemory>
-        ensures line { OnOk result (lines.new.line ≡ line_of self.old.path.choices
-            (finish_of end.entry) (explored self.old).present.output) }
-        ensures same { explored self.new ≡ explored self.old }
+        writer: &mut W,
+    ) -> Result<bool, RunsError>
+    where
+        M: Asks<'c>,
+        requires sound { (explored self.old).failed ≡ false }
+        requires room { W.failed writer.old + 1 < 2 ^ 64 }
+        ensures moves { Moves (explored self.old) (explored self.new) result }
+        ensures count { W.failed writer.new ≡ W.failed writer.old + write_failures result }
+        ensures next { (s : State) (xs : List (List Bool)) → Stands s (explored self.old) →
+            IsListingAt s (explored self.old) xs →
+            WritesNext W.told s xs (explored self.old) (explored self.new)
+            (W.written writer.old) (W.written writer.new) result }
     {
-        lines.build(&mut self.path.choices, end, self.machine.output())
+        if !self.more() {
+            return Ok(false);
+        }
+        match self.advance() {
+            Err(refused) => return Err(refused),
+            Ok(None) => return Ok(false),
+            Ok(Some(_)) => {}
+        }
+        let end = self.end_here();
+        let built = lines.build(&mut self.path.choices, end, self.machine.output());
+        if built.is_err() {
+            self.fail();
+            return Err(RunsError::NoMemory);
+        }
+        match write_whole(writer, lines.as_slice()) {
+            Ok(()) => Ok(true),
+            Err(_) => Err(RunsError::Write),
+        }
     }
 }

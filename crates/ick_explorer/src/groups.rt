@@ -30,13 +30,6 @@ struct Digits {
     value: u64,
 }
 
-/// Returns `number`, or the cap if `number` is greater.
-fn capped(number: u64) -> u64
-    ensures { IsCapped result number }
-{
-    if number < CAP { number } else { CAP }
-}
-
 /// Reads the digits at the front of a text. Returns their count, and their value up to the cap.
 fn read_digits(text: &[u8]) -> Digits
     ensures within { result.count ≤ length text.now }
@@ -47,7 +40,7 @@ fn read_digits(text: &[u8]) -> Digits
     let mut value = 0;
     let mut count = 0;
     while count < text.len() && text[count].is_ascii_digit() {
-        value = capped(value * 10 + u64::from(text[count] - b'0'));
+        value = (value * 10 + u64::from(text[count] - b'0')).min(CAP);
         count += 1;
     }
     Digits { count, value }
@@ -99,7 +92,7 @@ pub(crate) fn measure(text: &[u8]) -> Option<u64>
         let Some(front) = read_front(&text[at..], last) else {
             return None;
         };
-        total = capped(total + front.size);
+        total = (total + front.size).min(CAP);
         at += front.count + 2;
         if at == text.len() {
             return Some(total);
@@ -126,7 +119,10 @@ fn fill(alloc: Global, text: &[u8]) -> Result<Vec<bool>, RunsError>
         let Some(front) = read_front(&text[at..], last) else {
             unreachable!();
         };
-        choices.resize(choices.len() + front.size as usize, front.choice)?;
+        let size = choices.len() + front.size as usize;
+        let Ok(()) = choices.resize(size, front.choice) else {
+            return Err(RunsError::NoMemory);
+        };
         at += front.count + 2;
         if at == text.len() {
             return Ok(choices);

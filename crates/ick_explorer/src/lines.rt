@@ -116,7 +116,9 @@ impl<'c> LineBuilder<'c> {
         }
         self.line.clear();
         choices.append_text(&mut self.line)?;
-        self.line.extend_from_slice(self.tail.as_slice())?;
-        Ok(())
+        match self.line.extend_from_slice(self.tail.as_slice()) {
+            Ok(()) => Ok(()),
+            Err(_) => Err(NoMemory),
+        }
     }
 }

@@ -29,7 +29,9 @@ fn choices_of(alloc: Global, text: &[u8]) -> Result<Vec<bool>, RunsError>
     ensures ok { IfOk result (λ choices. choices.items ≡ map (λ b. b == 49) text.now) }
     ensures err { IfErr result (λ e. e ≡ RunsError.NoMemory) }
 {
-    let mut choices = Vec::with_capacity(alloc, text.len())?;
+    let Ok(mut choices) = Vec::with_capacity(alloc, text.len()) else {
+        return Err(RunsError::NoMemory);
+    };
     for byte in text {
         choices.push_reserved(*byte == b'1');
     }

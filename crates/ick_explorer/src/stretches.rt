@@ -28,7 +28,9 @@ pub(crate) fn group(kept: &mut Vec<Stretch>, choices: &[bool], from: usize) -> R
         if count > 0 && kept[count - 1].choice == choice {
             kept[count - 1].size += 1;
         } else {
-            kept.push(Stretch { choice, size: 1 })?;
+            let Ok(()) = kept.push(Stretch { choice, size: 1 }) else {
+                return Err(NoMemory);
+            };
         }
         at += 1;
     }

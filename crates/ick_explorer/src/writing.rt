@@ -8,7 +8,6 @@ ghost use Rattle.ick_explorer.specs.Standing.{Stands, IsListingAt, HasFailed};
 ghost use Rattle.ick_explorer.specs.Explorers.{explored};
 ghost use Rattle.ick_explorer.specs.Lines.{last_line};
 ghost use Rattle.ick_explorer.specs.Writes.{Writes, write_failures};
-ghost use Rattle.ick_explorer.specs.WritingSteps.{Moves, WritesNext};
 
 use crate::devices::{ByteSink, write_whole};
 use crate::errors::RunsError;
@@ -17,42 +16,6 @@ use crate::lines::LineBuilder;
 use crate::listing::Listed2;
 use ick_backtrack::Asks;
 use std::alloc::Global;
-
-/// Writes the line of the next run if there is a next run. Returns whether there was a next run.
-/// The answer is `WorkFull`, `NoMemory` or `Write` if that part fails. The explorer must not have
-/// failed.
-fn write_next<'c, M: Asks<'c>, W: ByteSink>(
-    lines: &mut LineBuilder<'c>,
-    explorer: &mut Explorer<M>,
-    writer: &mut W,
-) -> Result<bool, RunsError>
-    requires sound { (explored explorer.old).failed ≡ false }
-    requires room { W.failed writer.old + 1 < 2 ^ 64 }
-    ensures moves { Moves (explored explorer.old) (explored explorer.new) result }
-    ensures count { W.failed writer.new ≡ W.failed writer.old + write_failures result }
-    ensures next { (s : State) (xs : List (List Bool)) → Stands s (explored explorer.old) →
-        IsListingAt s (explored explorer.old) xs →
-        WritesNext W.told s xs (explored explorer.old) (explored explorer.new)
-        (W.written writer.old) (W.written writer.new) result }
-{
-    if !explorer.more() {
-        return Ok(false);
-    }
-    match explorer.advance() {
-        Err(refused) => return Err(refused),
-        Ok(None) => return Ok(false),
-        Ok(Some(_)) => {}
-    }
-    let end = explorer.end_here();
-    if explorer.build_line(lines, end).is_err() {
-        explorer.fail();
-        return Err(RunsError::NoMemory);
-    }
-    match write_whole(writer, lines.as_slice()) {
-        Ok(()) => Ok(true),
-        Err(_) => Err(RunsError::Write),
-    }
-}
 
 /// Writes the last line of a listing. Returns `listed`. The answer is `Write` if the writer fails,
 /// and a prefix of the line is then written.
@@ -121,7 +84,7 @@ pub fn write_runs<'c, M: Asks<'c>, W: ByteSink>(
     }
     let mut lines = LineBuilder::new(alloc);
     'each: for _i in 0..count {
-        match write_next(&mut lines, explorer, writer) {
+        match explorer.write_next(&mut lines, writer) {
             Err(refused) => return Err(refused),
             Ok(false) => break 'each,
             Ok(true) => {}

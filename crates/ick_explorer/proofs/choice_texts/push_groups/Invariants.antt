@@ -9,7 +9,7 @@ invariant-groups l = record {
   capacity : vec_capacity l.fn.out ≤ vec_capacity l.out;
   longer : vec_len l.fn.out ≤ vec_len l.out;
   front : take (vec_len l.fn.out) l.out.items ≡ l.fn.out.items;
-  text : l.out.items ++ grouped_text (drop l.at l.choices) ≡ l.fn.out.items ++ grouped_text l.choices;
+  text : l.out.items ++ l.before ++ grouped_text (drop l.at l.choices) ≡ l.fn.out.items ++ grouped_text l.choices;
 }
 
 abbrev pub decreases-groups : goal.decreases-groups

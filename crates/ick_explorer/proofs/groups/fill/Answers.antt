@@ -24,7 +24,7 @@ returns-then-at-text-clause-ok c =
     let h = group_at c.args.text.now c.groups.last c.groups.at f c.in-Some.ensures.some in
     subst (λ x. IsGrouped None c.args.text.now x)
     (sym (filled c.groups.choices.items c.resize.new.self.items g f.size (vec_len c.groups.choices) (c.len.result + f.size)
-    c.in_ok-resize.ensures.items (omega (arith, c.groups.choices.ok.0)) (grind (arith, common_steps))
+    c.in-Ok.ensures.items (omega (arith, c.groups.choices.ok.0)) (grind (arith, common_steps))
     (size_exact h i.read valid.0 valid.1 valid.2)))
     (group_ends h i.read (grind (arith, common_steps)))
 
@@ -41,7 +41,7 @@ groups-preserved c =
       within = omega arith;
       read = subst (λ x. IsRead c.args.text.now (Some f.choice) (after + 1) x)
           (sym (filled c.groups.choices.items c.resize.new.self.items g f.size (vec_len c.groups.choices) (c.len.result + f.size)
-          c.in_ok-resize.ensures.items (omega (arith, c.groups.choices.ok.0)) (grind (arith, common_steps))
+          c.in-Ok.ensures.items (omega (arith, c.groups.choices.ok.0)) (grind (arith, common_steps))
           (size_exact h i.read valid.0 valid.1 valid.2)))
           (group_goes_on h i.read some (comma_behind h i.read some valid.0 valid.1));
     }

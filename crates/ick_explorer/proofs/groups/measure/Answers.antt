@@ -3,7 +3,7 @@ use Rattle.std.proofs.lemmas.Grind.{common_steps}
 use Rattle.std.proofs.lemmas.List.{take_rest}
 use Rattle.std.specs.Str.Parse.{digits_value}
 use Rattle.ick_explorer.specs.Readings.{IsCapped, front_group}
-use Rattle.ick_explorer.proofs.ReadingLaws.{no_front, capped_sum, stretch_size, group_at, group_ends, group_goes_on}
+use Rattle.ick_explorer.proofs.ReadingLaws.{capped_min, no_front, capped_sum, stretch_size, group_at, group_ends, group_goes_on}
 use Rattle.ick_explorer.proofs.ReadingLaws.{group_is_last}
 use Rattle.ick_explorer.proofs.groups.measure.Goals as goal
 
@@ -21,9 +21,9 @@ returns-then-at-text-clause-some c =
     let h = group_at c.args.text.now c.groups.last c.groups.at f c.in-Some.ensures.some in (
       _,
       group_ends h i.read.1 (grind (arith, common_steps)),
-      subst (λ n. IsCapped c.capped-total.result n) (sym (stretch_size g i.read.0))
-          (capped_sum c.groups.total f.size (length i.read.0) (digits_value 10 g.digits) c.capped-total.result i.read.2 h.size_is
-          c.capped-total.ensures),
+      subst (λ n. IsCapped c.min-total.result n) (sym (stretch_size g i.read.0))
+          (capped_sum c.groups.total f.size (length i.read.0) (digits_value 10 g.digits) c.min-total.result i.read.2 h.size_is
+          (capped_min _ _ c.min-total.ensures)),
     )
 
 pub returns-then-text-at-ne44-clause-none : goal.returns-then-text-at-ne44-clause-none
@@ -44,8 +44,8 @@ groups-preserved c =
       read = (
         _,
         group_goes_on h i.read.1 (grind (arith, common_steps)) (grind (arith, common_steps)),
-        subst (λ n. IsCapped c.capped-total.result n) (sym (stretch_size g i.read.0))
-            (capped_sum c.groups.total f.size (length i.read.0) (digits_value 10 g.digits) c.capped-total.result i.read.2 h.size_is
-            c.capped-total.ensures),
+        subst (λ n. IsCapped c.min-total.result n) (sym (stretch_size g i.read.0))
+            (capped_sum c.groups.total f.size (length i.read.0) (digits_value 10 g.digits) c.min-total.result i.read.2 h.size_is
+            (capped_min _ _ c.min-total.ensures)),
       );
     }

@@ -4,7 +4,7 @@ use Rattle.std.specs.Char.{digit_value}
 use Rattle.std.proofs.lemmas.Int.Digits.{digits_more, digits_value_more}
 use Rattle.std.proofs.lemmas.Str.{digit_value_digit}
 use Rattle.ick_explorer.specs.Readings.{IsCapped}
-use Rattle.ick_explorer.proofs.ReadingLaws.{capped_more}
+use Rattle.ick_explorer.proofs.ReadingLaws.{capped_min, capped_more}
 use Rattle.ick_explorer.proofs.groups.read_digits.Goals as goal
 
 pub loop-count-preserved : goal.loop-count-preserved
@@ -21,8 +21,8 @@ loop-count-preserved c =
       within = omega arith;
       digits = digits_more 10 text at lt i.digits digit;
       value =
-          capped_more c.loop-count.value _ (get_or text at 0) (digit_value (get_or text at 0)) c.capped-value.result _
+          capped_more c.loop-count.value _ (get_or text at 0) (digit_value (get_or text at 0)) c.min-value.result _
           i.value is
-          (subst (λ x. IsCapped c.capped-value.result (c.loop-count.value * 10 + x)) c.from.ensures
-          c.capped-value.ensures) (digits_value_more 10 text at lt);
+          (subst (λ x. IsCapped c.min-value.result (c.loop-count.value * 10 + x)) c.from.ensures
+          (capped_min _ _ c.min-value.ensures)) (digits_value_more 10 text at lt);
     }

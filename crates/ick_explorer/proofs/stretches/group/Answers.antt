@@ -8,7 +8,7 @@ use Rattle.ick_explorer.specs.Choices.{seen_stretch, seen_stretches}
 use Rattle.ick_explorer.proofs.StretchLaws.{one_of, first_of_all, grown_at, begun_at, last_size, seen_push, seen_last}
 use Rattle.ick_explorer.proofs.StretchLaws.{seen_set}
 use Rattle.ick_explorer.proofs.stretches.group.Goals as goal
-use Rattle.ick_explorer.proofs.stretches.group.Goals.{then-count-gt0+then-index-choice, else-count-gt0+in_ok-push}
+use Rattle.ick_explorer.proofs.stretches.group.Goals.{then-count-gt0+then-index-choice, else-count-gt0+in-Ok}
 use Rattle.ick_explorer.proofs.stretches.group.Goals.{else-count-gt0-via-then-count-gt0+else-index-choice}
 use Rattle.ick_explorer.proofs.stretches.group.Goals.{else-count-gt0-via-else-count-gt0}
 
@@ -52,9 +52,9 @@ loop-at-preserved c =
           ∙ (ap (λ b. front ++ record { choice = b; size = last.size + 1 } ∷ []) same
           ∙ grown_at choices at (seen_stretches kept) front (seen_stretch last) lt before
           (seen_last kept n last count w.index_mut.ensures.value) same))
-      | else-count-gt0+in_ok-push w ↦
+      | else-count-gt0+in-Ok w ↦
           ap (λ v. seen_stretches v.items) w.kept-is
-          ∙ (ap seen_stretches w.in_ok-push.ensures.items
+          ∙ (ap seen_stretches w.in-Ok.ensures.items
           ∙ (seen_push kept _ ∙ elim w.else-count-gt0.branch [
             | else-count-gt0-via-then-count-gt0+else-index-choice w' ↦
                 let last = w'.index.result.now in

@@ -16,7 +16,7 @@ returns-in-Err-clause-listing g c = λ s cs h k.
     let a = c.each.invariant.along s cs h k in
     let lt : c.each._i < c.args.count = grind (arith, common_steps) in
     next_refused g.W.ByteSink.told s cs c.each._i c.args.count (explored c.args.explorer.now)
-    (explored c.each.explorer) (explored c.write_next.new.explorer)
+    (explored c.each.explorer) (explored c.write_next.new.self)
     (written c.args.writer.now) (written c.each.writer) (written c.write_next.new.writer) c.in-Err.refused lt a
     (c.in-Err.ensures.next s _ a.gave.stands a.rest)
 
@@ -29,7 +29,7 @@ each-preserved g c = record {
   along = λ s cs h k.
       let a = c.each.invariant.along s cs h k in
       along-on g.W.ByteSink.told s cs c.each._i (explored c.args.explorer.now) (explored c.each.explorer)
-      (explored c.write_next.new.explorer)
+      (explored c.write_next.new.self)
       (g.W.ByteSink.written c.args.writer.now) (g.W.ByteSink.written c.each.writer)
       (g.W.ByteSink.written c.write_next.new.writer) a
       (is_one g.W.ByteSink.told s _ _ _ _ _ c.in-Ok-true.field-0 c.in-Ok-true.field-0-test
@@ -55,7 +55,7 @@ returns-clause-listing g c = λ s cs h k.
           (subst (λ x. Through told s cs count old (explored c.each.explorer) before (written x)) (sym w.writer-is)
           (through_all told s cs c.each._i count old (explored c.each.explorer) before (written c.each.writer) all a))
       | then-each-test+in-Ok-false w ↦
-          let mid = w.write_next.new.explorer in
+          let mid = w.write_next.new.self in
           let lt : c.each._i ≤ count = omega (arith, w.each-test.true) in
           subst (λ x. Through told s cs count old (explored x) before after) (sym w.explorer-is)
           (subst (λ x. Through told s cs count old (explored mid) before (written x)) (sym w.writer-is)
@@ -79,13 +79,13 @@ returns-clause-listing g c = λ s cs h k.
 
 pub returns-in-Err-clause-errors : goal.returns-in-Err-clause-errors
 returns-in-Err-clause-errors g c =
-    refused_errors (explored c.each.explorer) (explored c.write_next.new.explorer) c.in-Err.refused
+    refused_errors (explored c.each.explorer) (explored c.write_next.new.self) c.in-Err.refused
     c.in-Err.ensures.moves
 
 pub returns-in-Err-clause-no_memory : goal.returns-in-Err-clause-no_memory
 returns-in-Err-clause-no_memory g c = λ is.
     let same : c.in-Err.refused ≡ NoMemory = cc in
-    refused_memory (explored c.each.explorer) (explored c.write_next.new.explorer) c.in-Err.refused
+    refused_memory (explored c.each.explorer) (explored c.write_next.new.self) c.in-Err.refused
     c.in-Err.ensures.moves same
 
 pub returns-in-Err-clause-enough : goal.returns-in-Err-clause-enough
@@ -93,5 +93,5 @@ returns-in-Err-clause-enough g c = λ is.
     let i = c.each.invariant in
     let same : c.in-Err.refused ≡ WorkFull = cc in
     let lt : c.each._i < c.args.count = grind (arith, common_steps) in
-    refused_full (explored c.args.explorer.now) (explored c.each.explorer) (explored c.write_next.new.explorer)
+    refused_full (explored c.args.explorer.now) (explored c.each.explorer) (explored c.write_next.new.self)
     c.each._i c.args.count c.in-Err.refused c.in-Err.ensures.moves i.limit i.work lt same

@@ -10,7 +10,7 @@ invariant_of-self-then-at-ge-MOST_PLAIN c =
     let i = c.self.inside in
     let size : length i.digits ≡ 64 = grind (arith, common_steps) in
     let le : 64 ≤ length i.list.items = grind (arith, common_steps) in
-    subst (λ x. KeepsText i.digits (seen_stretches i.stretches.items) i.grouped x) (sym c.in_ok-push.ensures.items)
+    subst (λ x. KeepsText i.digits (seen_stretches i.stretches.items) i.grouped x) (sym c.in-Ok.ensures.items)
     (kept_longer i.digits (seen_stretches i.stretches.items) i.grouped i.list.items c.args.choice size le c.self.invariant)
 
 pub invariant_of-self-2 : goal.invariant_of-self-2
@@ -24,5 +24,5 @@ invariant_of-self-2 c =
     (subst (λ k. KeepsText (slice_set i.digits k (digit_of c.args.choice)) (seen_stretches i.stretches.items) i.grouped
     c.push.new.self.items) at
     (subst (λ x. KeepsText (slice_set i.digits (length i.list.items) (digit_of c.args.choice)) (seen_stretches i.stretches.items)
-    i.grouped x) (sym c.in_ok-push.ensures.items)
+    i.grouped x) (sym c.in-Ok.ensures.items)
     (kept_with_digit i.digits (seen_stretches i.stretches.items) i.grouped i.list.items c.args.choice size lt c.self.invariant)))
