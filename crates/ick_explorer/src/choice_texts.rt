@@ -5,7 +5,7 @@ ghost use Rattle.std.specs.Prelude.{false, length, take};
 ghost use Rattle.std.specs.Prelude.{drop, get_or, replicate, vec_len, vec_capacity, map};
 ghost use Rattle.ick_explorer.specs.ChoiceTexts.{choices_text, digit_of, group_of, group_text};
 ghost use Rattle.ick_explorer.specs.ChoiceTexts.{grouped_text};
-ghost use Rattle.ick_explorer.specs.Printing.{StartsOther};
+ghost use Rattle.ick_explorer.specs.Printing.{StartsOther, comma_before};
 
 use ick_bits::{NoMemory, append_all};
 use itoa::Buffer;
@@ -57,23 +57,26 @@ fn stretch(choices: &[bool]) -> usize
     size
 }
 
-/// Appends a text and a group. If `out` can't grow, it is unchanged.
+/// Appends a group, and a comma before it if it is a later one. If `out` can't grow, it is
+/// unchanged.
 pub(crate) fn push_group(
     out: &mut Vec<u8>,
-    before: &[u8],
+    later: bool,
     choice: bool,
     size: usize,
 ) -> Result<(), NoMemory>
     ensures ok { let group = group_of (record { choice = choice; size = size }) in
-        OnOk result (out.new.items ≡ out.old.items ++ before.now ++ group_text group) }
+        OnOk result (out.new.items ≡ out.old.items ++ comma_before later ++ group_text group) }
     ensures err { OnErr result (out.new.items ≡ out.old.items) }
     ensures full { let group = group_of (record { choice = choice; size = size }) in OnErr result
-        (vec_capacity out.old < vec_len out.old + length (before.now ++ group_text group)) }
+        (vec_capacity out.old < vec_len out.old + length (comma_before later ++ group_text group)) }
     ensures capacity { vec_capacity out.old ≤ vec_capacity out.new }
 {
+    let front = [b',', digit(choice), b'*'];
+    let start = if later { 0 } else { 1 };
     let mut digits = Buffer::new();
     let digits = digits.format(size as u64).as_bytes();
-    append_all(out, &[before, &[digit(choice), b'*'], digits])
+    append_all(out, &[&front[start..], digits])
 }
 
 /// Appends the groups of a list of choices, which must not be empty. If `out` can't grow, only a
@@ -86,17 +89,17 @@ fn push_groups(out: &mut Vec<u8>, choices: &[bool]) -> Result<(), NoMemory>
         (vec_capacity out.old < vec_len out.old + length (grouped_text choices.now)) }
     ensures capacity { vec_capacity out.old ≤ vec_capacity out.new }
 {
-    let mut before: &[u8] = b"";
+    let mut later = false;
     let mut at = 0;
     'groups: loop {
         let rest = &choices[at..];
         let size = stretch(rest);
-        push_group(out, before, rest[0], size)?;
+        push_group(out, later, rest[0], size)?;
         at += size;
         if at == choices.len() {
             return Ok(());
         }
-        before = b",";
+        later = true;
     }
 }
 

@@ -117,10 +117,10 @@ impl Choices {
             return Err(NoMemory);
         }
         self.grouped = self.list.len();
-        let mut before: &[u8] = b"";
+        let mut later = false;
         for stretch in &self.stretches {
-            push_group(out, before, stretch.choice, stretch.size)?;
-            before = b",";
+            push_group(out, later, stretch.choice, stretch.size)?;
+            later = true;
         }
         Ok(())
     }

@@ -2,6 +2,7 @@ use Rattle.std.proofs.Common.{◌≡◌, ◌<◌, ◌≤◌, ◌+◌, ◌++◌, 
 use Rattle.std.proofs.Common.{arith, ap, ◌∙◌, append_assoc}
 use Rattle.std.proofs.lemmas.Grind.{common_steps}
 use Rattle.std.proofs.lemmas.List.{take_rest, take-append-le}
+use Rattle.ick_explorer.specs.Printing.{comma_before}
 use Rattle.ick_explorer.proofs.TextLaws.{on_error}
 use Rattle.ick_explorer.proofs.PrintLaws.{pushed_last, pushed_on, group_fits, longer_by}
 use Rattle.ick_explorer.proofs.choice_texts.push_groups.Goals as goal
@@ -12,7 +13,7 @@ returns-then-at-choices-clause-ok c =
     let choices = c.args.choices.now in
     let s = c.stretch-size.ensures in
     let out = c.groups.out.items in
-    let before = c.groups.before.now in
+    let before = comma_before c.groups.later in
     let all : c.groups.at + c.stretch-size.result ≡ length choices = grind (arith, common_steps) in
     pushed_last c.args.out.now.items (out ++ before) c.push_group.new.out.items choices _ c.groups.at
     c.stretch-size.result _ (take_rest choices c.groups.at) i.text
@@ -24,7 +25,7 @@ groups-preserved c =
     let choices = c.args.choices.now in
     let s = c.stretch-size.ensures in
     let out = c.groups.out.items in
-    let before = c.groups.before.now in
+    let before = comma_before c.groups.later in
     let more : c.groups.at + c.stretch-size.result < length choices = grind (arith, common_steps) in
     let size : vec_len c.groups.out ≡ length out = omega (arith, c.groups.out.ok.0) in
     let front : vec_len c.args.out.now ≤ length out = omega (arith, i.longer, size) in
@@ -48,7 +49,7 @@ returns-in_err-push_group-clause-full c =
     let choices = c.args.choices.now in
     let s = c.stretch-size.ensures in
     let out = c.groups.out.items in
-    let before = c.groups.before.now in
+    let before = comma_before c.groups.later in
     let full = c.in_err-push_group.ensures.full in
     let fits = group_fits c.args.out.now.items out before choices _ c.groups.at c.stretch-size.result _
     (take_rest choices c.groups.at) i.text s.same s.some s.stops in

@@ -4,6 +4,7 @@ use Rattle.std.proofs.lemmas.List.{length-map, get_or-map, take_all}
 use Rattle.ick_explorer.specs.declared.stretches.Stretch.{Stretch as KeptStretch}
 use Rattle.ick_explorer.specs.ChoiceTexts.{Stretch, choices_text, group_of, group_text, groups_text, stretches}
 use Rattle.ick_explorer.specs.Choices.{seen_stretch, seen_stretches}
+use Rattle.ick_explorer.specs.Printing.{comma_before}
 use Rattle.ick_explorer.proofs.KeptLaws.{comma, groups_more, on_ok, text_of_stretches}
 use Rattle.ick_explorer.proofs.choices.Choices.append_groups.Goals as goal
 
@@ -14,7 +15,7 @@ loop-stretch-preserved c =
     let at = c.loop-stretch.stretch-index in
     let lt : at < length kept = c.loop-stretch-test.true in
     let out = c.args.out.now.items in
-    let before = c.loop-stretch.before.now in
+    let before = comma_before c.loop-stretch.later in
     let i = c.loop-stretch.invariant in
     let size = length-map kept seen_stretch in
     let front = groups_text (map group_of (take at seen)) in
@@ -29,11 +30,11 @@ loop-stretch-preserved c =
           c.in_ok-push_group.ensures.ok
           ∙ (ap (λ x. c.loop-stretch.out.items ++ before ++ x) this
           ∙ (ap (λ x. x ++ before ++ group) i.text
-          ∙ (ap (λ x. (out ++ front) ++ x ++ group) i.before
+          ∙ (ap (λ x. (out ++ front) ++ x ++ group) i.later
           ∙ (ap (λ x. x ++ group) (append_assoc out front (comma at))
           ∙ (append_assoc out (front ++ comma at) group
           ∙ ap (λ x. out ++ x) (groups_more seen at none (omega (arith, lt, size))))))));
-      before = sym (ap comma next);
+      later = sym (ap comma next);
     }
 
 pub returns-clause-text : goal.returns-clause-text
