@@ -1,7 +1,7 @@
 -- What contracts see of a machine that takes its input from a feed.
-use Rattle.std.specs.Prelude.{ℕ, Bool, false, List, [], if◌then◌else◌}
+use Rattle.std.specs.Prelude.{ℕ, Bool, List, [], if◌then◌else◌}
 use Rattle.ick_code.specs.meaning.State.{State}
-use Rattle.ick_code.specs.meaning.Move.{ask, first_state}
+use Rattle.ick_code.specs.meaning.Move.{ask}
 use Rattle.ick_machine.specs.declared.live.Live.{Live}
 use Rattle.ick_machine.specs.declared.asking.LiveAsk.{LiveAsk}
 use Rattle.ick_machine.specs.declared.asking.LiveAsk.TheVariants.{Failed}
@@ -22,10 +22,6 @@ seen live = record {
   state = fed_state live.lowered live.line.items [] live.memory live.end;
   failed = live.failed;
 }
-
--- a machine at the start of a program
-abbrev pub first_live : Program → LiveMachine
-first_live program = record { program = program; state = first_state program []; failed = false }
 
 -- a state with this input
 abbrev pub fed : List ℕ → State → State

@@ -1,9 +1,8 @@
 -- What contracts see of the machines with marks.
-use Rattle.std.specs.Prelude.{◌≡◌, ℕ, ◌+◌, ◌<◌, ◌≤◌, Bool, List, [], map, reverse}
+use Rattle.std.specs.Prelude.{◌≡◌, ℕ, ◌+◌, ◌<◌, ◌≤◌, Bool, List, map, reverse}
 use Rattle.std.specs.Prelude.{Option, Some, None, Result, IfOk, OnOk, OnErr, vec_len}
 use Rattle.ick_bits.specs.declared.memory.NoMemory.{NoMemory}
-use Rattle.ick_code.specs.{declared.code.Code.Code, Compiled.code_program, meaning.Move.advance}
-use Rattle.ick_code.specs.meaning.Move.{first_state}
+use Rattle.ick_code.specs.meaning.Move.{advance}
 use Rattle.ick_instructions.specs.declared.lowered.Lowered.{Lowered}
 use Rattle.ick_runtime.specs.Inputs.{input_of}
 use Rattle.ick_backtrack.specs.{Machine.Machine, Steps.HasRun, Steps.IsPlain, Steps.Rests, Steps.RunsOn}
@@ -12,11 +11,6 @@ use Rattle.ick_machine.specs.declared.copied.Copied.{Copied}
 use Rattle.ick_machine.specs.Copies.{copied_state}
 use Rattle.ick_machine.specs.Marks.{marked_in}
 use Rattle.ick_machine.specs.RunIn.{program_of, state_in}
-
--- a machine at the start of a run over an input
-abbrev pub first_machine : Code → (input : List ℕ) → (work : ℕ) → Machine
-first_machine code input work =
-    record { program = code_program code; state = first_state (code_program code) input; marks = []; work = work }
 
 abbrev pub trailed_machine : Trailed → Machine
 trailed_machine m = record {

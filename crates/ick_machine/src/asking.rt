@@ -18,18 +18,15 @@ use ick_traces::Followed;
 pub enum EndKind {
     /// GIVE UP was done (Revised Manual, 4.4.11).
     GiveUp,
-    /// The fault of the statement with a number, counted from 1. The number is that of the last
-    /// statement, 0 where there is none, if the program went past it.
+    /// The fault of a statement, by its number; past the end that of the last, or 0 without any.
     Fault(FaultKind, u32),
-    /// The limit on steps was reached (this profile). A machine knows no limit and never answers
-    /// this.
+    /// The limit on steps was reached (this profile). A machine never answers this.
     Limit,
     /// A choice was asked, and none was given (this profile). A machine never answers this.
     Wants,
 }
 
-/// What a machine without marks asks before a step: the same as one with marks, but without the
-/// subject of a fault.
+/// What a machine without marks asks before a step: as one with marks, but no subject of a fault.
 #[derive(Clone, Copy, Debug, PartialEq, Eq)]
 pub enum LiveAsk {
     /// Nothing: there is one way to go on.

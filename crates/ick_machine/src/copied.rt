@@ -1,7 +1,8 @@
 //! A machine with marks that copies its state.
 
-ghost use Rattle.std.specs.Prelude.{◌≡◌, IfOk, vec_len};
-ghost use Rattle.ick_machine.specs.Copies.{AreCopies};
+ghost use Rattle.std.specs.Prelude.{◌≡◌, [], IfOk, vec_len};
+ghost use Rattle.ick_code.specs.{Compiled.code_program, meaning.Move.first_state};
+ghost use Rattle.ick_machine.specs.{Copies.AreCopies, Present.{present_program, present_state}};
 
 use crate::{Inspect, Present, Trailed};
 use ick_backtrack::{Ask, Asks, Backtrack};
@@ -30,20 +31,22 @@ pub struct Copied<'c, 'a> {
 }
 
 impl<'c, 'a> Copied<'c, 'a> {
-    ghost use Rattle.ick_machine.specs.Present.{present_program, present_state};
-    ghost use Rattle.ick_machine.specs.Seen.{copied_machine, first_machine};
+    ghost use Rattle.ick_machine.specs.Seen.{copied_machine};
 
-    /// Returns a machine at the start of a run over an input. It has no marks, and its count of
-    /// work begins at `work`. `NoMemory` is returned if a growth was refused, or if `lower` finds
-    /// the program too large.
+    /// Returns a machine without marks at the start of a run. Its count of work begins at `work`.
+    /// `NoMemory` is returned if a growth was refused, or if `lower` finds the program too large.
     pub fn new(
         alloc: Global,
         code: &'c Code<'a>,
         input: &'c [u8],
         work: u64,
     ) -> Result<Copied<'c, 'a>, NoMemory>
-        ensures { IfOk result (λ machine. ⟦<Copied<'c, 'a> as Backtrack>⟧.seen machine
-            ≡ first_machine code.now input.now work) }
+        ensures { IfOk result (λ machine. ⟦<Copied<'c, 'a> as Backtrack>⟧.seen machine ≡ record {
+          program = code_program code.now;
+          state = first_state (code_program code.now) input.now;
+          marks = [];
+          work = work;
+        }) }
     {
         Ok(Copied {
             alloc,

@@ -1,9 +1,9 @@
 //! A machine without marks, which takes its input from a feed.
 #![tactic(auto, unfolding(crate::specs::Live::seen))]
 
-ghost use Rattle.std.specs.Prelude.{◌≡◌, ◌+◌, ◌<◌, ◌≤◌, ◌^◌, ◌++◌, true, false, length, Err};
+ghost use Rattle.std.specs.Prelude.{◌≡◌, ◌+◌, ◌<◌, ◌≤◌, ◌^◌, ◌++◌, [], true, false, length, Err};
 ghost use Rattle.std.specs.Prelude.{IfOk, OnOk, OnErr, vec_len, vec_capacity};
-ghost use Rattle.ick_code.specs.{Compiled.code_program, meaning.Move.{advance, ask}};
+ghost use Rattle.ick_code.specs.{Compiled.code_program, meaning.Move.{advance, ask, first_state}};
 ghost use Rattle.ick_backtrack.specs.Asked.{IsGoing};
 ghost use Rattle.ick_engine.specs.Feeds.{feed_failures};
 ghost use Rattle.ick_machine.specs.{Feeds.MeetsInput, RunIn.CanGoOn};
@@ -24,10 +24,9 @@ use std::alloc::Global;
 use std::snapshot::Snapshot;
 
 /// Runs a program step by step, and reads its input from a feed when it needs it. Nothing is kept
-/// that a run could go back to.
-///
-/// Contracts see it as a program, a state, and whether it has failed. The state is without its
-/// input, which the feed has, and its output is what was written since it was last cleared.
+/// that a run could go back to. Contracts see it as a program, a state, and whether it has failed.
+/// The state is without its input, which the feed has, and its output is what was written since it
+/// was last cleared.
 #[derive(Drop)]
 pub struct Live<'c, 'a> {
     lowered: Followed<'c, 'a>,
@@ -40,14 +39,18 @@ pub struct Live<'c, 'a> {
 }
 
 impl<'c, 'a> Live<'c, 'a> {
-    ghost use Rattle.ick_machine.specs.Live.{seen, fed, first_live, live_ask, fault_message};
+    ghost use Rattle.ick_machine.specs.Live.{seen, fed, live_ask, fault_message};
     ghost use Rattle.ick_machine.specs.Printing.{HasPrinted, IsAtInput, IsDone, Leaves, Prints};
     ghost use Rattle.ick_machine.specs.{Live.cleared, Printing.{is_error, run_reads, run_writes}};
 
     /// Returns a machine at the start of a program (Revised Manual, 3.1, 3.3). `NoMemory` is
     /// returned if a growth was refused, or if `lower` finds the program too large.
     pub fn new(alloc: Global, code: &'c Code<'a>) -> Result<Live<'c, 'a>, NoMemory>
-        ensures { IfOk result (λ live. seen live ≡ first_live (code_program code.now)) }
+        ensures { IfOk result (λ live. seen live ≡ record {
+          program = code_program code.now;
+          state = first_state (code_program code.now) [];
+          failed = false;
+        }) }
     {
         let lowered = lower(alloc, code)?;
         let mut memory = fresh_memory(alloc, &lowered)?;
@@ -249,10 +252,8 @@ impl<'c, 'a> Live<'c, 'a> {
     }
 
     /// Appends the message of the fault that the run has ended by, or nothing without a fault
-    /// (Revised Manual, 9.1).
-    ///
-    /// The answer is `NoMemory` only if `out` had no room for the whole message and couldn't grow.
-    /// `out` is then unchanged.
+    /// (Revised Manual, 9.1). The answer is `NoMemory` only if `out` had no room for the whole
+    /// message and couldn't grow. `out` is then unchanged.
     pub fn append_fault(&self, out: &mut Vec<u8>) -> Result<(), NoMemory>
         ensures ok { OnOk result (out.new.items ≡ out.old.items ++ fault_message (seen self.now)) }
         ensures err { OnErr result (out.new.items ≡ out.old.items) }

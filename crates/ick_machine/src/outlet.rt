@@ -26,9 +26,8 @@ pub enum RunFault {
     Write,
 }
 
-/// Takes the output of a run while the run goes on.
-///
-/// Before each call the count of failures must be below 2^64 - 1.
+/// Takes the output of a run while the run goes on. Before each call the count of failures must be
+/// below 2^64 - 1.
 pub trait Outlet: Drop {
     /// Whether `written` is what was written. It is false if nothing is known of the outlet.
     ghost told: { Bool };
@@ -57,9 +56,8 @@ pub trait Outlet: Drop {
 const MOST: usize = 4096;
 
 /// Lets the output of a machine leave while its run goes on. The run takes no input, and waits
-/// before each WRITE IN.
-///
-/// For contracts alone, it keeps the machine, its feed and the outlet of the start of the run.
+/// before each WRITE IN. For contracts alone, it keeps the machine, its feed and the outlet as they
+/// were when the run began.
 #[derive(Drop)]
 pub(crate) struct Printer<'c, 'a, F: Feed, O: Outlet> {
     pub(crate) outlet: O,
