@@ -338,7 +338,7 @@ impl<M: Backtrack> Explorer<M> {
         })
     }
 
-    /// Writes the line of the next run if there is a next run. Returns whether there was a next run.
+    /// Writes the line of the next run if there is one. Returns whether there was one.
     /// The answer is `WorkFull`, `NoMemory` or `Write` if that part fails. The explorer must not
     /// have failed.
     pub(crate) fn write_next<'c, W: ByteSink>(

@@ -130,9 +130,9 @@ pub(crate) fn reset<M: Backtrack>(machine: &mut M, path: &mut Path)
     path.points.clear();
 }
 
-/// Moves to the run after the explorer's position, and returns its number of steps. Sets the machine
-/// back to the last zero of the run before, and does its statement. The explorer must not have failed, and a further run must exist. The answer is `NoMemory` if this call runs
-/// out of memory.
+/// Moves to the run after the explorer's position, and returns its number of steps. The machine is
+/// set back to the last zero of the run before, and does its statement. The explorer must not have
+/// failed, and a further run must exist. The answer is `NoMemory` if this call runs out of memory.
 pub(crate) fn find<'c, M: Asks<'c>>(
     machine: &mut M,
     path: &mut Path,

@@ -30,8 +30,8 @@ pub enum Ran<'c> {
     },
 }
 
-/// Returns the result of the run that stopped in the machine's state: by an end, or because no choice
-/// was left.
+/// Returns the result of the run that stopped in the machine's state: by an end, or because no
+/// choice was left.
 pub(crate) fn stopped<'c, M: Backtrack>(
     alloc: Global,
     machine: &M,
