@@ -8,7 +8,7 @@ use Rattle.ick_explorer.proofs.StretchLaws.{some_stretch}
 use Rattle.ick_explorer.proofs.Walking.{drop_none}
 use Rattle.ick_explorer.proofs.KeptLaws.{kept_longer, kept_with_digit, kept_shorter, all_kept, kept_unstretched}
 use Rattle.ick_explorer.proofs.choices.Choices.turn.Goals as goal
-use Rattle.ick_explorer.proofs.choices.Choices.turn.Goals.{then-at-self, else-at-self}
+use Rattle.ick_explorer.proofs.choices.Choices.turn.Goals.{Joined-at-self, then-at-self, else-at-self}
 
 -- these choices are left, and what is kept fits them
 record Keeps (left : List Bool) (i : Inside) : Type 0 where
@@ -30,14 +30,15 @@ shorten-requires c =
     (some_stretch left c.in-Some.done) in
     omega (arith, all, count)
 
-pub loop-done-preserved : goal.loop-done-preserved
-loop-done-preserved c =
+-- the newest choice is taken off
+taken_off : (c : Joined-at-self) → Keeps c.pop.new.self.items c.if-at-self.self-inside
+taken_off c =
     let i = c.loop-done.self-inside in
     let left = c.pop.new.self.items in
     let at : c.len-at.result ≡ length left = grind (arith, common_steps) in
     let keeps = subst (λ x. KeepsText i.digits (seen_stretches i.stretches.items) i.grouped x) c.in-Some.ensures.items
     c.loop-done.invariant.keeps in
-    let off : Keeps left c.if-at-self.self-inside = elim c.if-at-self.branch [
+    elim c.if-at-self.branch [
       | then-at-self w ↦ subst (Keeps left) (sym w.self-inside-is) (record {
         size = c.loop-done.invariant.size;
         list = refl;
@@ -52,7 +53,12 @@ loop-done-preserved c =
             list = refl;
             text = kept_shorter i.digits (seen_stretches i.stretches.items) i.grouped left c.in-Some.done le keeps;
           })
-    ] in
+    ]
+
+pub loop-done-preserved : goal.loop-done-preserved
+loop-done-preserved c =
+    let left = c.pop.new.self.items in
+    let off = taken_off (goal.at.loop-done-preserved c).Joined-at-self in
     let j = c.if-at-self.self-inside in
     let ones = c.loop-done.invariant.ones in
     record {
@@ -69,27 +75,9 @@ loop-done-preserved c =
 
 pub invariant_of-self : goal.invariant_of-self
 invariant_of-self c =
-    let i = c.loop-done.self-inside in
     let left = c.pop.new.self.items in
     let at : c.len-at.result ≡ length left = grind (arith, common_steps) in
-    let keeps = subst (λ x. KeepsText i.digits (seen_stretches i.stretches.items) i.grouped x) c.in-Some.ensures.items
-    c.loop-done.invariant.keeps in
-    let off : Keeps left c.if-at-self.self-inside = elim c.if-at-self.branch [
-      | then-at-self w ↦ subst (Keeps left) (sym w.self-inside-is) (record {
-        size = c.loop-done.invariant.size;
-        list = refl;
-        text =
-            kept_unstretched i.digits (seen_stretches i.stretches.items) (seen_stretches w.shorten.new.kept.items)
-            i.grouped c.len-at.result left c.in-Some.done at w.if-at-self.true w.shorten.ensures keeps;
-      })
-      | else-at-self w ↦
-          let le : i.grouped ≤ length left = omega (arith, at, w.if-at-self.false) in
-          subst (Keeps left) (sym w.self-inside-is) (record {
-            size = c.loop-done.invariant.size;
-            list = refl;
-            text = kept_shorter i.digits (seen_stretches i.stretches.items) i.grouped left c.in-Some.done le keeps;
-          })
-    ] in
+    let off = taken_off (goal.at.invariant_of-self c).Joined-at-self in
     let j = c.if-at-self.self-inside in
     let lt : length left < 64 = omega (arith, at, c.if-at-lt-MOST_PLAIN.true) in
     let longer = kept_with_digit j.digits (seen_stretches j.stretches.items) j.grouped left true off.size lt off.text in
@@ -102,27 +90,9 @@ invariant_of-self c =
 
 pub invariant_of-self-else-at-lt-MOST_PLAIN : goal.invariant_of-self-else-at-lt-MOST_PLAIN
 invariant_of-self-else-at-lt-MOST_PLAIN c =
-    let i = c.loop-done.self-inside in
     let left = c.pop.new.self.items in
     let at : c.len-at.result ≡ length left = grind (arith, common_steps) in
-    let keeps = subst (λ x. KeepsText i.digits (seen_stretches i.stretches.items) i.grouped x) c.in-Some.ensures.items
-    c.loop-done.invariant.keeps in
-    let off : Keeps left c.if-at-self.self-inside = elim c.if-at-self.branch [
-      | then-at-self w ↦ subst (Keeps left) (sym w.self-inside-is) (record {
-        size = c.loop-done.invariant.size;
-        list = refl;
-        text =
-            kept_unstretched i.digits (seen_stretches i.stretches.items) (seen_stretches w.shorten.new.kept.items)
-            i.grouped c.len-at.result left c.in-Some.done at w.if-at-self.true w.shorten.ensures keeps;
-      })
-      | else-at-self w ↦
-          let le : i.grouped ≤ length left = omega (arith, at, w.if-at-self.false) in
-          subst (Keeps left) (sym w.self-inside-is) (record {
-            size = c.loop-done.invariant.size;
-            list = refl;
-            text = kept_shorter i.digits (seen_stretches i.stretches.items) i.grouped left c.in-Some.done le keeps;
-          })
-    ] in
+    let off = taken_off (goal.at.invariant_of-self-else-at-lt-MOST_PLAIN c).Joined-at-self in
     let j = c.if-at-self.self-inside in
     let le : 64 ≤ length left = omega (arith, at, c.if-at-lt-MOST_PLAIN.false) in
     subst (λ x. KeepsText j.digits (seen_stretches j.stretches.items) j.grouped x)
