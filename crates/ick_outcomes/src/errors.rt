@@ -1,8 +1,9 @@
 //! Lists the refusals of a search.
 
 ghost use Rattle.std.specs.Prelude.{◌≡◌};
-ghost use Rattle.ick_outcomes.specs.declared.errors.OutcomesError.TheVariants.{};
-ghost use Rattle.ick_outcomes.specs.declared.errors.OutcomesError.TheVariants.{NoMemory as no_memory};
+ghost use Rattle.ick_outcomes.specs.declared.errors.OutcomesError.TheVariants.{
+  NoMemory as no_memory,
+};
 
 use ick_bits::NoMemory;
 use std::alloc::AllocError;
