@@ -5,6 +5,7 @@
 //! - `cursor`: where a run is, and the registers that it sets
 //! - `calculate`: the numbers that calculations give
 //! - `array`: arrays: their elements, and whether they are ignored
+//! - `subscripts`: the subscripts of an element
 //! - `stash`: stashes
 //! - `returns`: whether return addresses can be popped
 //! - `halt`: why an instruction stops the run
@@ -22,9 +23,12 @@ mod memory;
 mod notes;
 mod returns;
 mod stash;
+mod subscripts;
 mod tracer;
 
-pub use array::{fetched, greatest, hide_array, index_of, set_element, set_hidden, store_at};
+pub use array::{
+    fetched, greatest, hide_array, index_of, set_element, set_hidden, store_at, subscripts_at,
+};
 pub use calculate::{calculated, calculation};
 pub use change::{ArrayChange, Entry};
 pub use cursor::{Cursor, put, set_register};
@@ -34,4 +38,5 @@ pub use memory::{Array, Memory, Rest, Stash};
 pub use notes::{Nobody, Notes};
 pub use returns::{is_there, rupture};
 pub use stash::{drop_at, put_at, restore_array, restore_scalar, save_array, save_scalar};
+pub use subscripts::Subscripts;
 pub use tracer::{NoTraces, Tracer};

@@ -51,4 +51,6 @@ pub struct Memory {
     pub returns: Vec<u32>,
     pub rest: Rest,
     pub cursor: Cursor,
+    /// The answer to the first choice that is asked, which takes it: whether the statement is done.
+    pub answer: Option<bool>,
 }

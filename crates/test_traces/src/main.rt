@@ -113,18 +113,8 @@ fn print_run(
         return Err(ErrorKind::OutOfMemory.into());
     }
     memory.cursor.left = 1000;
-    follow_traces(
-        lowered,
-        traces,
-        memory.registers.as_mut_slice(),
-        memory.home.as_slice(),
-        memory.statuses.as_slice(),
-        memory.returns.as_mut_slice(),
-        &mut memory.rest,
-        &mut Nobody,
-        &mut memory.cursor,
-    );
-    let cursor = memory.cursor;
+    let mut cursor = memory.cursor;
+    follow_traces(lowered, traces, &mut memory, &mut Nobody, &mut cursor);
     let (place, left, depth) = (cursor.place, cursor.left, cursor.depth);
     println!(rt;
         "at statement {place} with {left} of 1000 steps left and {depth} return addresses"

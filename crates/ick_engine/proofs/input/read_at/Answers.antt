@@ -3,17 +3,17 @@ use Rattle.std.proofs.lemmas.List.{get_or-map, length-map}
 use Rattle.ick_code.specs.{meaning.State.no_array, meaning.Value.element_offset}
 use Rattle.ick_instructions.specs.Meaning.{values_of}
 use Rattle.ick_runtime.specs.{declared.memory.Array.Array, View.{Parts, array_of, is_hidden, parts_of}}
-use Rattle.ick_runtime.proofs.{Fetching.stored_by_lists, Steadiness.{steady_by, parts_kept}}
+use Rattle.ick_runtime.proofs.Steadiness.{steady_by, parts_kept}
 use Rattle.ick_engine.proofs.NotingLemmas.{noted_parts, arrays_noted}
 use Rattle.ick_engine.proofs.Reading.{reads_nowhere, read_at_stops, reads_at, took_by}
 use Rattle.ick_engine.proofs.input.read_at.Goals as goal
 
 -- the offset of an element, by the lists
-placed : (all : List Array) (slot : ℕ) (r : Array) (subs subs' regs : List ℕ) (from to : ℕ) (o : Option ℕ) →
-    slot < length all → r ≡ get_or all slot r → subs ≡ subs' →
-    o ≡ element_offset (array_of r) (values_of (slice_range subs from to) regs) →
-    o ≡ element_offset (get_or (map array_of all) slot no_array) (values_of (slice_range subs' from to) regs)
-placed all slot r subs subs' regs from to o within here same is = search (rules, get_or-map)
+placed : (all : List Array) (slot : ℕ) (r : Array) (subs subs' regs regs' : List ℕ) (o : Option ℕ) →
+    slot < length all → r ≡ get_or all slot r → subs ≡ subs' → regs ≡ regs' →
+    o ≡ element_offset (array_of r) (values_of subs regs) →
+    o ≡ element_offset (get_or (map array_of all) slot no_array) (values_of subs' regs')
+placed all slot r subs subs' regs regs' o within here same equal is = search (rules, get_or-map)
 
 long : (new old : List Array) → map is_hidden new ≡ map is_hidden old →
     length (map array_of new) ≡ length (map array_of old)
@@ -25,8 +25,9 @@ returns-in_default-clause-does g c = λ home statuses returns place depth text s
     let i = c.args.i.now in
     let all = c.args.rest.now.arrays.items in
     let within : i.to < length all = omega (arith, c.requires.slot, c.requires.arrays) in
-    let none = placed all i.to c.index.result.now c.subscripts.result.now c.args.program.now.parts.subscripts.items
-    c.args.registers.now i.right (i.right + i.number) None within c.index.ensures c.subscripts.ensures
+    let none = placed all i.to c.index.result.now _ (slice_range c.args.program.now.parts.subscripts.items i.right (i.right + i.number)) _
+    c.args.registers.now None within c.index.ensures c.subscripts_at-subscripts.ensures.order
+    c.subscripts_at-subscripts.ensures.registers
     c.in_default.ensures.index in
     (steady, reads_nowhere (search rules) steady i text g.R.Reader.Has c.args.reader.now c.requires.operation c.requires.slot none)
 
@@ -37,8 +38,9 @@ returns-in-Ok-clause-does g c = λ home statuses returns place depth text steady
     let subs = c.args.program.now.parts.subscripts.items in
     let regs = c.args.registers.now in
     let within : i.to < length all = omega (arith, c.requires.slot, c.requires.arrays) in
-    let some = placed all i.to c.index.result.now c.subscripts.result.now subs regs i.right (i.right + i.number)
-    (Some c.in-Some._at) within c.index.ensures c.subscripts.ensures c.in-Some.ensures.index in
+    let some = placed all i.to c.index.result.now _ (slice_range c.args.program.now.parts.subscripts.items i.right (i.right + i.number)) _
+    c.args.registers.now (Some c.in-Some._at) within c.index.ensures c.subscripts_at-subscripts.ensures.order
+    c.subscripts_at-subscripts.ensures.registers c.in-Some.ensures.index in
     let mid = parts_of c.read_line.new.rest in
     let was = c.read_line.new.rest.arrays.items in
     let now = c.store_at.new.arrays.items in
@@ -53,8 +55,8 @@ returns-in-Ok-clause-does g c = λ home statuses returns place depth text steady
           (reads_at (search rules) steady i text g.R.Reader.Has c.args.reader.now c.read_line.new.reader c.requires.operation
           c.requires.slot c.in-Some._at some c.in-Ok.number mid kept c.in-Ok.ensures.read fault (map array_of now)
           (map is_hidden now) c.store_at.ensures.hidden
-          (λ name at. stored_by_lists name was now c.subscripts.result.now subs regs i.to i.right (i.right + i.number)
-          c.in-Ok.number fault fault c.subscripts.ensures refl (c.store_at.ensures.stored name at))),
+          (λ name at. rw (← c.subscripts_at-subscripts.ensures.order, ← c.subscripts_at-subscripts.ensures.registers)
+          (c.store_at.ensures.stored name at))),
     )
 
 pub returns-in-Err-clause-does : goal.returns-in-Err-clause-does
@@ -63,8 +65,9 @@ returns-in-Err-clause-does g c = λ home statuses returns place depth text stead
     let all = c.args.rest.now.arrays.items in
     let regs = c.args.registers.now in
     let within : i.to < length all = omega (arith, c.requires.slot, c.requires.arrays) in
-    let some = placed all i.to c.index.result.now c.subscripts.result.now c.args.program.now.parts.subscripts.items regs
-    i.right (i.right + i.number) (Some c.in-Some._at) within c.index.ensures c.subscripts.ensures
+    let some = placed all i.to c.index.result.now _ (slice_range c.args.program.now.parts.subscripts.items i.right (i.right + i.number)) _
+    c.args.registers.now (Some c.in-Some._at) within c.index.ensures c.subscripts_at-subscripts.ensures.order
+    c.subscripts_at-subscripts.ensures.registers
     c.in-Some.ensures.index in
     let new = parts_of c.read_line.new.rest in
     let kept = c.in-Err.ensures.parts in (

@@ -5,7 +5,7 @@ use Rattle.ick_engine.proofs.resize.fill.Given as goal
 
 abbrev pub invariant-loop-register : goal.invariant-loop-register
 invariant-loop-register l = record {
-  numbers : l.numbers.items ≡ map number_of (values_of (take l.register-index l.subscripts) l.registers);
+  numbers : l.numbers.items ≡ map number_of (values_of (take l.register-index l.subscripts.order.now) l.subscripts.registers.now);
   count : vec_len l.numbers ≡ l.register-index;
-  room : length l.subscripts ≤ vec_capacity l.numbers;
+  room : length l.subscripts.order.now ≤ vec_capacity l.numbers;
 }

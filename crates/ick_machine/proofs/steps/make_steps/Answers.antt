@@ -1,6 +1,6 @@
 use Rattle.std.proofs.Common.{refl, arith}
 use Rattle.ick_backtrack.specs.Steps.{IsPlain}
-use Rattle.ick_runtime.specs.{Memory.view_in}
+use Rattle.ick_runtime.{specs.Memory.view_in, proofs.Undoing.{like_moved, like_refl}}
 use Rattle.ick_machine.proofs.AnswerLemmas.{some_bound}
 use Rattle.ick_machine.proofs.StepLemmas.{has_made, has_moved, has_stepped, ready_by, steady_by}
 use Rattle.ick_machine.proofs.StepsLemmas.{no_step}
@@ -28,7 +28,7 @@ returns-in_default g c = record {
 pub returns : goal.returns
 returns g c =
     let call = c.run_steps-exit in
-    let ran = call.ensures.ran in
+    let ran = call.ensures in
     let code = c.args.lowered.now.code.now in
     let lowered = c.args.lowered.now.parts in
     let w = view_in call.new.memory in
@@ -36,7 +36,8 @@ returns g c =
     record {
       low_within = ran.noted.low_within;
       base_same = ran.noted.base_same;
-      follows = call.ensures.follows;
+      follows = λ k m h. c.law-2.ensures.alike k _ _ m (like_moved _ _ (like_refl _ _ _)) (ran.noted.follows k m
+          (c.law.ensures.alike k _ _ m (like_moved 0 0 (like_refl _ _ _)) h));
       steady = steady_by call.result code lowered w ran.stopped.remains;
       ready = if_so c.stopped.result _ _ ok (λ k is. ready_by call.result code lowered w is.1 ran.stopped.remains);
       held_same = ran.held_same;
@@ -44,16 +45,16 @@ returns g c =
       within = if_ok c.stopped.result _ _ ok (λ k is. omega (arith, is.0));
       moves = λ none goes enough some. if_ok c.stopped.result _ _ ok (λ k is.
           has_moved code lowered g.R.Reader.Has c.args.reader.now call.new.reader c.args.limit call.new.memory.cursor.left
-          c.args.answer call.new.memory.cursor.answer (view_in c.args.memory.now) w call.result _ _ _ _ ran.is_short
+          c.args.answer call.new.memory.answer (view_in c.args.memory.now) w call.result _ _ _ _ ran.is_short
           ran.has_waited ran.fewer ran.stopped.comes k c.stopped.new.end is
           (g.R.Reader.some call.new.reader) none goes enough some);
       runs = λ none. if_ok c.stopped.result _ _ ok (λ k is. rw c.in-None.is (
           has_made code lowered g.R.Reader.Has c.args.reader.now call.new.reader c.args.limit call.new.memory.cursor.left
-          c.args.answer call.new.memory.cursor.answer (view_in c.args.memory.now) w call.result _ _ _ _ ran.is_short
+          c.args.answer call.new.memory.answer (view_in c.args.memory.now) w call.result _ _ _ _ ran.is_short
           ran.has_waited ran.fewer ran.stopped.comes k c.stopped.new.end is none));
       steps = λ done same one going goes enough. if_so c.stopped.result _ _ ok (λ k is. rw c.in-None.is (
           has_stepped code lowered g.R.Reader.Has c.args.reader.now call.new.reader c.args.limit call.new.memory.cursor.left
-          c.args.answer call.new.memory.cursor.answer (view_in c.args.memory.now) w call.result _ _ _ _ ran.is_short
+          c.args.answer call.new.memory.answer (view_in c.args.memory.now) w call.result _ _ _ _ ran.is_short
           ran.has_waited ran.fewer ran.stopped.comes k c.stopped.new.end is goes enough done same one));
     }
 
