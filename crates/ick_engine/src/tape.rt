@@ -13,6 +13,7 @@ use ick_runtime::{ArrayChange, Entry, Halt, Notes, Rest};
 
 /// Appends the bytes of elements to the output. Returns the position of the tape after them. If
 /// memory runs out, the output doesn't change.
+#[inline(always)]
 fn append_elements(output: &mut Vec<u8>, last: u8, elements: &Vec<u32>) -> Result<u8, NoMemory>
     ensures output { OnOk result (output.new.items ≡ output.old.items ++ tape_bytes last
         elements.now.items) }
