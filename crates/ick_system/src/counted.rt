@@ -52,6 +52,12 @@ pub fn read_ahead_from<R: BufRead>(
         return Err(DeviceFault);
     };
     let most = ahead.len().min(target.len());
+    // A byte alone is copied without a search for the end of the line.
+    if most == 1 {
+        target[..1].copy_from_slice(&ahead[..1]);
+        stream.consume(1);
+        return Ok(1);
+    }
     let count = line_length(&ahead[..most]);
     target[..count].copy_from_slice(&ahead[..count]);
     stream.consume(count);
