@@ -1,5 +1,5 @@
 -- What a machine asks, by the status of the statement that is met.
-use Rattle.std.proofs.Common.{◌≡◌, ◌≢◌, ℕ, ◌+◌, ◌-◌, ◌<◌, ◌≤◌, Bool, true, false, List, [], length, get_or, Option}
+use Rattle.std.proofs.Common.{◌≡◌, ◌≢◌, ℕ, ◌+◌, ◌-◌, ◌<◌, ◌≤◌, Bool, true, false, List, length, get_or, Option}
 use Rattle.std.proofs.Common.{Some, None}
 use Rattle.std.proofs.Common.{refl, ap, arith, rules}
 use Rattle.std.specs.Prelude.{◌⊎◌, nat_lt, ◌&&◌, option_map, if◌then◌else◌}
@@ -12,7 +12,7 @@ use Rattle.ick_instructions.specs.declared.lowered.LoweredParts.{LoweredParts}
 use Rattle.ick_engine.specs.{declared.exit.RawEnd.RawEnd, Exits.end_of}
 use Rattle.ick_runtime.specs.{View.View, Inputs.Input, Status.percent_of}
 use Rattle.ick_runtime.specs.{Status.lack_of, Status.is_abstained, Steady.IsReady}
-use Rattle.ick_runtime.proofs.Statuses.{some_and}
+use Rattle.ick_runtime.proofs.{Statuses.some_and, Turns.no_input}
 use Rattle.ick_backtrack.specs.{Asked.Finish, Asked.finished, Asked.asked_at_end, Machine.Program, Steps.IsPlain}
 use Rattle.ick_machine.specs.{Asked.is_open, Asked.asked_by, Run.ending_of, Run.run_state}
 
@@ -66,9 +66,6 @@ pub some_bound : (code : Code) (lowered : LoweredParts) (input : Input) (v : Vie
 some_bound code lowered input v None is = absurd (is refl)
 some_bound code lowered input v (Some e) is =
     ended_bound (code_program code) (run_state code lowered input v (Some e)) (end_of (code_program code) input e) refl
-
-no_input : Input
-no_input = record { left = λ n. []; word = λ from to. [] }
 
 module _ (code : Code) (lowered : LoweredParts) (v : View) (ready : IsReady code lowered v) where
   pub place_is : (1 ≤ v.place) × (v.place ≤ length (code_program code) + 1)

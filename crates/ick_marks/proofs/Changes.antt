@@ -1,7 +1,7 @@
 -- The changes that a trail has.
 use Rattle.std.proofs.Common.{arith, false, length, List, refl, reverse, rules, take, take_all, ◌++◌, ◌∙◌, ◌≡◌, ◌≢◌, ◌<◌, ◌≤◌, Some, [], ap, map, suc, sym, ℕ, ◌∷◌}
 use Rattle.ick_marks.proofs.Names.{all_undone, changes_in, common_steps, notes_back, Rewinds, length-take-le, statuses_were, take-append-le, array_of, array_was, ArrayValue}
-use Rattle.ick_marks.proofs.Names.{change_of, Extends, HighSame, no_change, undone, Like, Trail, View}
+use Rattle.ick_marks.proofs.Names.{change_of, Extends, HighSame, undone, Like, Trail, View}
 use Rattle.std.proofs.lemmas.List.{length-append, reverse-append, reverse-reverse}
 use Rattle.std.{proofs.lemmas.List.length-reverse, specs.Global.Vec}
 use Rattle.ick_runtime.specs.declared.{change.ArrayChange.ArrayChange, change.Entry.Entry, memory.Array.Array}
@@ -142,13 +142,11 @@ module _ {t new : Trail} {e : Entry} {v w : View} where
 
   pub no_array_undone : {change : ArrayChange} {slot : ℕ} → e ≡ entry.Array change slot → length t.arrays.items ≤ 0 →
       length new.arrays.items ≤ 0 → new.statuses ≡ t.statuses → w ≡ v → IsUndone e t new v w
-  no_array_undone is none none' same view =
-      record { change = no_change; off = λ es. grind (arith, none_left {A = Array}); view_is = view }
+  no_array_undone is none none' same view = search (rules, none_left)
 
   pub no_statuses_undone : e ≡ entry.Statuses → length t.statuses.items ≤ 0 → length new.statuses.items ≤ 0 →
       new.arrays ≡ t.arrays → w ≡ v → IsUndone e t new v w
-  no_statuses_undone is none none' same view =
-      record { change = no_change; off = λ es. grind (arith, none_left {A = Vec ℕ}); view_is = view }
+  no_statuses_undone is none none' same view = search (rules, none_left)
 
 -- no change is newer
 pub nothing_newer : (t : Trail) (changes : ℕ) (v : View) → length (changes_in t) ≤ changes → AreUndone t t changes v v

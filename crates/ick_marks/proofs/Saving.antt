@@ -22,8 +22,7 @@ one_more f xs at x within read =
 pub copied_next : {A B : Type 0} (f : A → B) (xs copies copies' : List A) (at : ℕ) (x y : A) → at < length xs →
     y ≡ get_or xs at y → copies' ≡ copies ++ x ∷ [] → f x ≡ f y → map f copies ≡ take at (map f xs) →
     map f copies' ≡ take (at + 1) (map f xs)
-copied_next f xs copies copies' at x y within read pushed same done =
-    cc (pushed, map-append f copies (x ∷ []), done, same, one_more f xs at y within read)
+copied_next f xs copies copies' at x y within read pushed same done = search (rules, map-append, one_more)
 
 -- numbers that were put in place of the first ones
 put_high : (xs ys : List ℕ) (r : ℕ) → length xs ≤ length ys → length xs ≤ r →
@@ -35,11 +34,7 @@ put_count xs ys count = omega (arith, length-append xs (drop (length xs) ys), le
 
 pub put_all : (xs ys new : List ℕ) (n : ℕ) → new ≡ xs ++ drop (length xs) ys → length xs ≤ length ys → n ≡ length ys →
     take n (new ++ drop (length new) ys) ≡ xs ++ drop (length xs) ys
-put_all xs ys new n is fits count =
-    let all = xs ++ drop (length xs) ys in
-    let long = put_count xs ys fits in
-    rw is (
-    take-append-le n all (drop (length all) ys) (omega (arith, long, count)) ∙ take_all n all (omega (arith, long, count)))
+put_all xs ys new n is fits count = search (rules, put_count, take-append-le, take_all)
 
 first_put : (n : ℕ) (xs old new : List ℕ) → new ≡ take n xs ++ drop (length (take n xs)) old →
     length (take n xs ++ drop (length (take n xs)) old) ≡ length xs → length (take n xs) ≡ n → SameFirst n xs new
@@ -128,14 +123,10 @@ module _ (code : Code) (lowered : LoweredParts) (is : IsProgram code lowered) wh
         m' = record m { parts = new.parts }
 
         like : Like base m.depth m' new
-        like = alike (first_put base m.registers old.registers new.registers registers
-            (put_count first old.registers first_low ∙ was.registers ∙ sym marked.steady.registers) first_count)
-            home statuses (parts_same refl) (first_put m.depth m.returns old.returns new.returns returns
-            (put_count used old.returns used_low ∙ was.returns ∙ sym marked.steady.returns) used_count)
+        like = search (rules, alike, first_count, first_low, first_put, parts_same, put_count, used_count, used_low)
 
         high : HighSame base old new
-        high = λ r above.
-            ap (λ l. get_or l r 0) registers ∙ put_high first old.registers r first_low (omega (arith, above, first_count))
+        high = search (rules, first_count, first_low, put_high)
 
         whole : IsRestored code lowered m' new
         whole =

@@ -1,6 +1,6 @@
 -- The offset of an element, subscript by subscript.
 use Rattle.std.proofs.Common.{[], add-mul, ap, ap₂, arith, bit_and, Bool, drop, false, get_or, if◌then◌else◌, leb-true, length, List, lt-ltb, mul-add, mul-one}
-use Rattle.std.proofs.Common.{mul_assoc, nat_le, nat_lt, None, Option, option_and_then, option_map, refl, rules, Some, subst, suc, sym, true, zero, ℕ, ◌%◌}
+use Rattle.std.proofs.Common.{mul_assoc, nat_le, nat_lt, None, Option, option_and_then, option_map, refl, rules, Some, suc, sym, true, zero, ℕ}
 use Rattle.std.proofs.Common.{◌&&◌, ◌*◌, ◌+◌, ◌-◌, ◌<◌, ◌^◌, ◌∙◌, ◌∷◌, ◌≡◌, ◌≤◌}
 use Rattle.ick_runtime.proofs.Names.{Array, bound_of, common_steps, drop_of_length-le, element_offset, nat_tests, number_of, product}
 use Rattle.ick_runtime.proofs.Names.{length-map, reg, sized, Value, values_of, Wide}
@@ -65,18 +65,14 @@ beyond p (d ∷ ds) (v ∷ vs) count le = cases (nat_le 1 (number_of v) && nat_l
   where
     more : (d : ℕ) → 1 ≤ d → p ≤ p * d
     more zero h = absurd (omega arith)
-    more (suc d) h = let one : suc d ≡ 1 + d = omega arith in
-        subst (λ m. p ≤ p * m) (sym one) (let e = mul-add p 1 d in let f = mul-one p in omega (arith, e, f))
+    more (suc d) h = search (rules, mul-add, mul-one)
 
     cases : (b : Bool) → (nat_le 1 (number_of v) && nat_le (number_of v) d) ≡ b →
         (count ≤ p * d + (number_of v - 1) → None ≡ inside count (walk (p * d + (number_of v - 1)) ds vs)) →
         None ≡ inside count (option_and_then (λ next. walk next ds vs)
         (if b then Some (p * d + (number_of v - 1)) else None))
     cases false e rest = refl
-    cases true e rest =
-        let parts = both_true (nat_le 1 (number_of v)) (nat_le (number_of v) d) e in
-        let grown = more d (omega (arith, leb-true 1 (number_of v) parts.0, leb-true (number_of v) d parts.1)) in
-        rest (omega (arith, le, grown))
+    cases true e rest = search (rules, both_true, leb-true, more, nat_le)
 
 pub count_is : (subscripts regs : List ℕ) → length (values_of subscripts regs) ≡ length subscripts
 count_is subscripts regs = length-map subscripts (λ r. Wide (reg regs r))
@@ -117,8 +113,6 @@ pub masked : (kind : NameKind) (n m : ℕ) → n < 2 ^ 32 → m + 1 ≡ bound_of
 masked Onespot n m low is = let e : m ≡ 2 ^ 16 - 1 = omega (arith, is) in ap (bit_and n) e ∙ and_mask n 16
 masked Tail n m low is = let e : m ≡ 2 ^ 16 - 1 = omega (arith, is) in ap (bit_and n) e ∙ and_mask n 16
 masked Twospot n m low is =
-    let e : m ≡ 2 ^ 32 - 1 = omega (arith, is) in
-    let whole : n % 2 ^ 32 ≡ n = omega (arith, low) in ap (bit_and n) e ∙ and_mask n 32 ∙ whole
+    let e : m ≡ 2 ^ 32 - 1 = omega (arith, is) in ap (bit_and n) e ∙ and_mask n 32 ∙ omega (arith, low)
 masked Hybrid n m low is =
-    let e : m ≡ 2 ^ 32 - 1 = omega (arith, is) in
-    let whole : n % 2 ^ 32 ≡ n = omega (arith, low) in ap (bit_and n) e ∙ and_mask n 32 ∙ whole
+    let e : m ≡ 2 ^ 32 - 1 = omega (arith, is) in ap (bit_and n) e ∙ and_mask n 32 ∙ omega (arith, low)

@@ -1,7 +1,7 @@
 -- Stashes that are alike, and changes of one of them.
-use Rattle.std.proofs.Common.{[], ap, arith, get_or, length, List, map, refl, rules, subst, suc, sym, take, zero, ℕ, ◌-◌, ◌<◌, ◌∙◌, ◌∷◌, ◌≡◌, ◌≤◌}
-use Rattle.ick_runtime.proofs.Names.{Array, array_of, arrays_of, at_slot, common_steps, get_or-map, Kept, KeptStash, length-map, map-set, no_stash, Parts}
-use Rattle.ick_runtime.proofs.Names.{PartsLike, put_on, slice_set, Stash, stash_in, StashLike, take-take, taken_off, used}
+use Rattle.std.proofs.Common.{[], ap, arith, get_or, length, List, map, refl, rules, subst, suc, sym, take, zero, ℕ, ◌-◌, ◌∙◌, ◌∷◌, ◌≡◌}
+use Rattle.ick_runtime.proofs.Names.{Array, array_of, arrays_of, at_slot, common_steps, Kept, KeptStash, length-map, map-set, no_stash, Parts}
+use Rattle.ick_runtime.proofs.Names.{PartsLike, put_on, Stash, stash_in, StashLike, take-take, taken_off, used}
 use Rattle.std.proofs.lemmas.Simd.{map-map}
 use Rattle.std.specs.Prelude.{replicate}
 
@@ -13,9 +13,7 @@ parts_same {p} e = subst (PartsLike p) (sym e) (parts_refl p)
 
 -- the values below one less
 pub fewer_used : {A : Type 0} (n : ℕ) (xs ys : List A) → take n ys ≡ take n xs → take (n - 1) ys ≡ take (n - 1) xs
-fewer_used n xs ys same =
-    let less : n - 1 ≤ n = omega arith in
-    sym (take-take (n - 1) n ys less) ∙ ap (take (n - 1)) same ∙ take-take (n - 1) n xs less
+fewer_used n xs ys same = cc (take-take (n - 1) n ys (omega arith), same, take-take (n - 1) n xs (omega arith))
 
 pub taken_off_like : {A : Type 0} {a b : Stash A} → StashLike a b → StashLike (taken_off a) (taken_off b)
 taken_off_like {a} {b} p = search (rules, fewer_used)
@@ -28,10 +26,6 @@ used_same [] (b ∷ ys) count each = absurd (omega (arith, count))
 used_same (a ∷ xs) [] count each = absurd (omega (arith, count))
 used_same (a ∷ xs) (b ∷ ys) count each =
     cc ((each 0).values, used_same xs ys (omega (arith, count)) (λ k. each (suc k)))
-
-pub set_at : {A B : Type 0} (g : B → Stash A) (f : Stash A → Stash A) (xs : List B) (slot : ℕ) (old new : B) →
-    slot < length xs → old ≡ get_or xs slot old → g new ≡ f (g old) → map g (slice_set xs slot new) ≡ at_slot f slot (map g xs)
-set_at g f xs slot old new low is same = search (rules, get_or-map, map-set)
 
 -- parts of which one stash is changed in the same way
 pub scalars_alike : (f : Stash ℕ → Stash ℕ) (slot : ℕ) (p q : Parts) → PartsLike p q →

@@ -93,8 +93,7 @@ undone_high = search rules
 pub notes_back : (base : ℕ) (changes : List Change) (low k : ℕ) (change : Change) (v m : View) → IsBelow base change →
     IsUndoable change v → Rewinds base changes low k (undone change v) m →
     Rewinds base (changes ++ change ∷ []) low k v m
-notes_back base changes low k change v m below can h = noted base changes low low k change v (undone change v) m h
-    (λ w like. (undone_like base low change v w below can like, undone_high base change w below))
+notes_back base changes low k change v m below can h = search (rules, noted, undone_high, undone_like)
 
 pub put_back : (xs : List ℕ) (at n : ℕ) → slice_set (slice_set xs at n) at (get_or xs at 0) ≡ xs
 put_back xs at n = set-set xs at n (get_or xs at 0) ∙ set-get_or xs at 0
@@ -150,10 +149,7 @@ keeps_register base changes older low k at old was v m below is few h = record {
     first = ap (λ l. reverse (drop k l)) is ∙ newest_first older (register_was at was) k few
 
     same : (w : View) → rewound (reverse (drop k changes)) (before w) ≡ rewound (reverse (drop k changes)) w
-    same w =
-        ap (λ es. rewound es (before w)) first
-        ∙ ap {A = List ℕ} (λ l. rewound (reverse (drop k older)) (record w { registers = l })) (set-set w.registers at old was)
-        ∙ sym (ap (λ es. rewound es w) first)
+    same w = search (rules, before, first, set-set)
 
 -- an element
 element_same : (arrays : List Array) (slot at number : ℕ) → slot < length arrays →

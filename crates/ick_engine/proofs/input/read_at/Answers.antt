@@ -1,4 +1,4 @@
-use Rattle.std.proofs.Common.{◌≡◌, ◌+◌, ◌<◌, ℕ, List, Option, Some, None, length, map, get_or, refl, ap, ◌∙◌, arith, rules, slice_range}
+use Rattle.std.proofs.Common.{◌≡◌, ◌<◌, ℕ, List, Option, length, map, get_or, refl, ap, ◌∙◌, arith, rules}
 use Rattle.std.proofs.lemmas.List.{get_or-map, length-map}
 use Rattle.ick_code.specs.{meaning.State.no_array, meaning.Value.element_offset}
 use Rattle.ick_instructions.specs.Meaning.{values_of}
@@ -9,11 +9,11 @@ use Rattle.ick_engine.proofs.Reading.{reads_nowhere, read_at_stops, reads_at, to
 use Rattle.ick_engine.proofs.input.read_at.Goals as goal
 
 -- the offset of an element, by the lists
-placed : (all : List Array) (slot : ℕ) (r : Array) (subs subs' regs regs' : List ℕ) (o : Option ℕ) →
+placed : (all : List Array) {slot : ℕ} {r : Array} {subs subs' regs regs' : List ℕ} {o : Option ℕ} →
     slot < length all → r ≡ get_or all slot r → subs ≡ subs' → regs ≡ regs' →
     o ≡ element_offset (array_of r) (values_of subs regs) →
     o ≡ element_offset (get_or (map array_of all) slot no_array) (values_of subs' regs')
-placed all slot r subs subs' regs regs' o within here same equal is = search (rules, get_or-map)
+placed all within here same equal is = search (rules, get_or-map)
 
 long : (new old : List Array) → map is_hidden new ≡ map is_hidden old →
     length (map array_of new) ≡ length (map array_of old)
@@ -25,10 +25,8 @@ returns-in_default-clause-does g c = λ home statuses returns place depth text s
     let i = c.args.i.now in
     let all = c.args.rest.now.arrays.items in
     let within : i.to < length all = omega (arith, c.requires.slot, c.requires.arrays) in
-    let none = placed all i.to c.index.result.now _ (slice_range c.args.program.now.parts.subscripts.items i.right (i.right + i.number)) _
-    c.args.registers.now None within c.index.ensures c.subscripts_at-subscripts.ensures.order
-    c.subscripts_at-subscripts.ensures.registers
-    c.in_default.ensures.index in
+    let none = placed all within c.index.ensures c.subscripts_at-subscripts.ensures.order
+    c.subscripts_at-subscripts.ensures.registers c.in_default.ensures.index in
     (steady, reads_nowhere (search rules) steady i text g.R.Reader.Has c.args.reader.now c.requires.operation c.requires.slot none)
 
 pub returns-in-Ok-clause-does : goal.returns-in-Ok-clause-does
@@ -38,8 +36,7 @@ returns-in-Ok-clause-does g c = λ home statuses returns place depth text steady
     let subs = c.args.program.now.parts.subscripts.items in
     let regs = c.args.registers.now in
     let within : i.to < length all = omega (arith, c.requires.slot, c.requires.arrays) in
-    let some = placed all i.to c.index.result.now _ (slice_range c.args.program.now.parts.subscripts.items i.right (i.right + i.number)) _
-    c.args.registers.now (Some c.in-Some._at) within c.index.ensures c.subscripts_at-subscripts.ensures.order
+    let some = placed all within c.index.ensures c.subscripts_at-subscripts.ensures.order
     c.subscripts_at-subscripts.ensures.registers c.in-Some.ensures.index in
     let mid = parts_of c.read_line.new.rest in
     let was = c.read_line.new.rest.arrays.items in
@@ -65,10 +62,8 @@ returns-in-Err-clause-does g c = λ home statuses returns place depth text stead
     let all = c.args.rest.now.arrays.items in
     let regs = c.args.registers.now in
     let within : i.to < length all = omega (arith, c.requires.slot, c.requires.arrays) in
-    let some = placed all i.to c.index.result.now _ (slice_range c.args.program.now.parts.subscripts.items i.right (i.right + i.number)) _
-    c.args.registers.now (Some c.in-Some._at) within c.index.ensures c.subscripts_at-subscripts.ensures.order
-    c.subscripts_at-subscripts.ensures.registers
-    c.in-Some.ensures.index in
+    let some = placed all within c.index.ensures c.subscripts_at-subscripts.ensures.order
+    c.subscripts_at-subscripts.ensures.registers c.in-Some.ensures.index in
     let new = parts_of c.read_line.new.rest in
     let kept = c.in-Err.ensures.parts in (
       parts_kept steady regs new (record (parts_of c.args.rest.now) { taken = new.taken }) refl steady.constants kept refl refl refl refl,

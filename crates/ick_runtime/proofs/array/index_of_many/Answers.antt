@@ -7,8 +7,7 @@ use Rattle.ick_runtime.proofs.array.index_of_many.Goals as goal
 value_at : (subscripts regs : List ℕ) (at : ℕ) → at < length subscripts →
     Wide (reg regs (get_or subscripts at 0))
     ≡ get_or (values_of subscripts regs) at (Wide (reg regs (get_or subscripts at 0)))
-value_at subscripts regs at low =
-    sym (get_or-map (λ r. Wide (reg regs r)) subscripts at 0 (Wide (reg regs (get_or subscripts at 0))) low)
+value_at subscripts regs at low = search (rules, get_or-map)
 
 pub returns-then-len-order-clause-index : goal.returns-then-len-order-clause-index
 returns-then-len-order-clause-index c = search (rules, count_is, none_at)

@@ -1,4 +1,5 @@
-use Rattle.std.proofs.Common.{ap, arith, length, refl, subst, sym, ◌∙◌}
+use Rattle.std.proofs.lemmas.Grind.{common_steps}
+use Rattle.std.proofs.Common.{arith, refl, subst, sym, ◌∙◌}
 use Rattle.ick_marks.proofs.Names.{AreSame, parts_of, view_in}
 use Rattle.ick_marks.proofs.{Copying.Fits, Copying.kept_fits, Copying.kept_loaded, Saving.put_all}
 use Rattle.ick_marks.proofs.Saving.{same_parts_refl}
@@ -11,24 +12,16 @@ fits c = kept_fits c.args.program.now.code.now c.args.program.now.parts c.args.s
     (record { compiled = c.law-2.ensures; lowered_is = c.law.ensures }) c.requires.kept c.requires.steady
 
 pub put_first-requires : goal.put_first-requires
-put_first-requires c =
-    let f = fits (goal.at.put_first-requires c).After-law-2 in
-    omega (arith, f.numbers, ap length c.deref.ensures.value, ap length c.as_mut_slice.ensures.value)
+put_first-requires c = grind (arith, common_steps, fits)
 
 pub put_first-requires-2 : goal.put_first-requires-2
-put_first-requires-2 c =
-    let f = fits (goal.at.put_first-requires-2 c).After-law-2 in
-    omega (arith, f.returns, ap length c.deref-2.ensures.value, ap length c.as_mut_slice-2.ensures.value)
+put_first-requires-2 c = grind (arith, common_steps, fits)
 
 pub copy_from_slice-requires : goal.copy_from_slice-requires
-copy_from_slice-requires c =
-    let f = fits (goal.at.copy_from_slice-requires c).After-law-2 in
-    c.args.memory.now.home.ok.0 ∙ f.home ∙ sym (ap length c.deref-3.ensures.value)
+copy_from_slice-requires c = grind (arith, common_steps, fits)
 
 pub copy_from_slice-requires-2 : goal.copy_from_slice-requires-2
-copy_from_slice-requires-2 c =
-    let f = fits (goal.at.copy_from_slice-requires-2 c).After-law-2 in
-    c.args.memory.now.statuses.ok.0 ∙ f.statuses ∙ sym (ap length c.deref-4.ensures.value)
+copy_from_slice-requires-2 c = grind (arith, common_steps, fits)
 
 pub returns-clause-loaded : goal.returns-clause-loaded
 returns-clause-loaded c =

@@ -1,3 +1,4 @@
+use Rattle.std.proofs.lemmas.Grind.{common_steps}
 use Rattle.std.proofs.Common.{[], ap, arith, get_or, length, refl, subst, sym, ◌++◌, ◌+◌, ◌-◌, ◌<◌, ◌∙◌, ◌∷◌, ◌≡◌}
 use Rattle.ick_runtime.specs.{declared.change.Entry.TheVariants.Return, Undo.return_was}
 use Rattle.ick_marks.proofs.{Changes.fixed_moved, Changes.grown, Changes.newest_alone, Names.changes_in, Names.Rewinds}
@@ -31,9 +32,7 @@ returns-preserved c =
     }
 
 pub returns-clause-base : goal.returns-clause-base
-returns-clause-base c =
-    let inv = c.returns.invariant in
-    fixed_moved c.args.self.now c.returns.self inv.base inv.kept inv.changes
+returns-clause-base c = grind (arith, common_steps, fixed_moved)
 
 pub returns-clause-notes : goal.returns-clause-notes
 returns-clause-notes c = λ k v m same h.

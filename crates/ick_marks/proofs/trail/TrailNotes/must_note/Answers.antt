@@ -5,9 +5,7 @@ use Rattle.ick_runtime.proofs.Undoing.{keeps_register, register_left}
 use Rattle.ick_marks.proofs.trail.TrailNotes.must_note.Goals as goal
 
 pub returns-else-at-self : goal.returns-else-at-self
-returns-else-at-self c = λ same old k v m can h.
-    let t = c.args.self.now in
-    (h.0, alike_rewinds (register_left t.base t.low c.args.at old v (search rules)) h.1)
+returns-else-at-self c = search (rules, alike_rewinds, register_left)
 
 pub returns-then-at-self : goal.returns-then-at-self
 returns-then-at-self c = λ same old k v m can h.
