@@ -1,6 +1,6 @@
 -- An answer to a source, and the job's end that has it.
-use Rattle.std.proofs.Common.{◌≡◌, ◌<◌, ◌≤◌, ◌==◌, ℕ, Bool, List, [], Option, Some, None, ap₂, length}
-use Rattle.std.proofs.Common.{◌+◌, inl, refl, sym, subst, arith, take, if◌then◌else◌, eq-eqb, ne_eqb, true, false}
+use Rattle.std.proofs.Common.{◌≡◌, ◌<◌, ◌==◌, ℕ, Bool, List, [], Option, Some, None, ap₂, length}
+use Rattle.std.proofs.Common.{◌+◌, refl, sym, subst, arith, take, if◌then◌else◌, eq-eqb, ne_eqb, true, false}
 use Rattle.std.proofs.lemmas.List.{append-nil, length-take, take_all}
 use Rattle.ick_bits.specs.Faults.{message_of}
 use Rattle.ick_bits.specs.declared.faults.FaultKind.{FaultKind}

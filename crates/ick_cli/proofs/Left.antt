@@ -1,7 +1,7 @@
 -- What work leaves in the reader.
-use Rattle.std.proofs.Common.{◌≡◌, ◌<◌, ◌+◌, ◌⊎◌, inl, inr, ℕ, Bool, true, false, List, [], Option, Some, None, ap}
+use Rattle.std.proofs.Common.{◌≡◌, ◌<◌, ◌+◌, ℕ, Bool, true, false, List, [], Option, Some, None, ap}
 use Rattle.std.proofs.Common.{arith, drop}
-use Rattle.std.proofs.Common.{length, refl, subst, sym, take}
+use Rattle.std.proofs.Common.{length, subst, sym, take}
 use Rattle.std.proofs.lemmas.List.{length-take, take_all}
 use Rattle.std.specs.Prelude.{is_some, unwrap_or}
 use Rattle.ick_bits.specs.declared.faults.FaultKind.{FaultKind}

@@ -1,7 +1,5 @@
 -- A task has one plan or one line.
-use Rattle.std.proofs.Common.{◌≡◌, ◌∙◌, ℕ, List, Bool, Option, Some, None, ap, refl, sym, subst, arith}
-use Rattle.std.proofs.Common.{length}
-use Rattle.std.specs.Prelude.{option_map}
+use Rattle.std.proofs.Common.{◌≡◌, ℕ, List, Bool, Option, Some, None, ap, refl, sym, subst}
 use Rattle.clap.specs.Words.{Text}
 use Rattle.ick_cli.specs.Job.{Task, takes_input, to_check, to_list, to_run, to_list_runs}
 use Rattle.ick_job.specs.Choices.{AreChoices, IsUnread, most_choices}

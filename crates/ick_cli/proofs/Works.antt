@@ -1,7 +1,8 @@
 -- What work over a reader and a writer leaves, from what a part of it leaves.
 use Rattle.std.proofs.Common.{◌≡◌, ◌+◌, inl, ℕ, Bool, true, false, List, [], Option, Result, IfErr, arith, refl, subst}
-use Rattle.std.proofs.Common.{ap, sym}
+use Rattle.std.proofs.Common.{Some, None, if◌then◌else◌, ap, sym}
 use Rattle.std.proofs.lemmas.List.{append-nil}
+use Rattle.std.proofs.Math.Seq.{drop-nil}
 use Rattle.std.specs.Prelude.{unwrap_or}
 use Rattle.ick_bits.specs.declared.faults.FaultKind.{FaultKind}
 use Rattle.ick_source.specs.RefusalAnswers.{Refuses}
@@ -18,15 +19,17 @@ use Rattle.ick_runs.specs.Streams.{Streams, source_failures}
 use Rattle.ick_explorer.specs.Writes.{write_failures}
 use Rattle.ick_explorer.specs.declared.errors.RunsError.{RunsError}
 use Rattle.ick_runs.specs.declared.streamed.Streamed.{Streamed}
+use Rattle.ick_job.specs.Input.{longest_input}
 use Rattle.ick_job.specs.JobEnd.{Answers, LeavesWriter}
 use Rattle.ick_cli.specs.Left.{IsLeftByProgram, IsLeftByRuns, IsLeftBySource, left_compiled}
 use Rattle.ick_cli.specs.Plan.{reads_input}
+use Rattle.ick_cli.specs.Dispatch.{AnswersSource}
 use Rattle.ick_cli.specs.Stopped.{EndsAs}
 use Rattle.ick_job.specs.Refusing.{EndsRefused}
 use Rattle.ick_cli.specs.Summary.{summary}
 use Rattle.ick_source.specs.Listing.{listing}
 use Rattle.ick_job.specs.Answer.{Answer, shown}
-use Rattle.ick_cli.specs.Tool.{IsExecuted, IsProgramAnswer, IsSourceAnswer, counted, statements_listed}
+use Rattle.ick_cli.specs.Tool.{IsExecuted, IsProgramAnswer, IsRunsAnswer, IsSourceAnswer, counted, statements_listed}
 use Rattle.ick_cli.specs.Work.{Works}
 use Rattle.ick_job.specs.declared.job_end.JobEnd.{JobEnd}
 use Rattle.ick_job.specs.declared.job_end.JobEnd.TheVariants.{Answered, NoMemory}
@@ -35,11 +38,13 @@ use Rattle.ick_job.specs.declared.notice.Notice.TheVariants as notice
 use Rattle.ick_cli.specs.declared.plan.Plan.{Plan}
 use Rattle.ick_cli.specs.declared.plan.Plan.TheVariants.{Check, List as ListStatements, Execute}
 use Rattle.ick_cli.specs.declared.plan.Runs.{Runs}
-use Rattle.ick_cli.specs.declared.plan.Runs.TheVariants.{Given, Drawn}
+use Rattle.ick_cli.specs.declared.plan.Runs.TheVariants.{Given, Drawn, Listed}
 use Rattle.ick_cli.proofs.Answered.{answered_refusal, executed_so, long_answer, source_program}
 use Rattle.ick_job.proofs.Ends.{leaves_as, leaves_by, where_answered, where_other}
 use Rattle.ick_cli.proofs.Executed.{IsRunError, answers_drawn, answers_given, answers_ran, leaves_ran, left_ran}
-use Rattle.ick_cli.proofs.Left.{alone_left, drawn_left, executed_left, given_left, long_left, refused_left, runs_left}
+use Rattle.ick_cli.proofs.Executed.{listed_over}
+use Rattle.ick_cli.proofs.Left.{alone_left, drawn_left, executed_left, given_left, listed_left, long_left}
+use Rattle.ick_cli.proofs.Left.{refused_left, runs_left}
 
 -- other answers and bytes of the same work: each of those answers is one of these, each of these bytes one of those
 pub works_so : {A B : Answer → Type 0} {L M : List ℕ → Type 0} {job_end : JobEnd} {rt : Bool} {r r' : ℕ} {rest : List ℕ}
@@ -139,6 +144,21 @@ works_as program input runs others is works =
     works_so (λ answer h. subst (λ (x : Runs). IsExecuted program input x answer) is h)
     (λ left h. subst (λ (x : Runs). IsLeftByRuns program input x left) (sym is) h) works
 
+-- the listing of runs without input
+pub works_listed : (p : Program) (from : Option (List Bool)) (count limit : ℕ) {job_end : JobEnd} {rt : Bool} {r : ℕ}
+    {wt : Bool} {w w' : ℕ} {out out' : List ℕ} → LeavesWriter job_end w w'
+    → (wt ≡ true → (answer : Answer) → IsRunsAnswer p (first_state p []) limit count from answer
+    → Answers answer job_end out out')
+    → Works (IsExecuted p [] (Listed from count limit)) (IsLeftByRuns p [] (Listed from count limit)) job_end
+    rt r r [] wt w w' out out'
+works_listed p from count limit {job_end} {r} {w} {w'} leaves answers = record {
+  leaves = leaves_as job_end 0 0 0 0 w w' 0 0 r r w w' leaves refl (omega arith) (omega arith);
+  left = λ told.
+      where_answered job_end _ (listed_left p [] from count limit [] (sym (drop-nil (longest_input + 1))));
+  answer = λ told told' answer is.
+      answers told' answer (listed_over p [] [] [] from count limit answer refl refl (omega arith) is);
+}
+
 -- the run with given choices, and the one whose choices a seed draws
 pub works_given : (p : Program) (input : List ℕ) (choices : Option (List Bool)) (limit : ℕ)
     (ran : Result Streamed RunsError) (job_end : JobEnd) (rt : Bool) (r r' : ℕ) (rest : List ℕ) (wt : Bool) (w w' : ℕ)
@@ -172,3 +192,18 @@ works_drawn p input seed limit ran job_end rt r r' rest wt w w' out out' streams
       answer = λ told told' answer is. answers_drawn p input seed limit answer job_end out out' is
           (λ c draws. answers_ran wt _ _ out out' rest ran job_end (streams told c draws) one ends told');
     }
+
+-- an input that isn't empty is what its source has left
+pub of_source : {R : Type 0} {plan : Plan} {source input rest : List ℕ} {job_end : JobEnd} {rt : Bool} {r r' : ℕ}
+    {reader reader' : R} {wt : Bool} {w w' : ℕ} {out out' : List ℕ} {is_empty : Bool} → is_empty ≡ false
+    → AnswersSource plan source input job_end rt r r' (if is_empty then [] else rest) reader reader' wt w w' out out'
+    → AnswersSource plan source input job_end rt r r' rest reader reader' wt w w' out out'
+of_source {plan} {source} {input} {rest} {job_end} {rt} {r} {r'} {reader} {reader'} {wt} {w} {w'} {out} {out'} given =
+    subst (λ (b : Bool). AnswersSource plan source input job_end rt r r' (if b then [] else rest) reader reader'
+    wt w w' out out') given
+
+-- the source of an empty input stays as it is
+pub same_source : {R : Type 0} {reader reader' : R} {is_empty : Bool} → is_empty ≡ true
+    → (if is_empty then Some reader' else None) ≡ Some reader → reader' ≡ reader
+same_source {reader} {reader'} given =
+    subst (λ (b : Bool). (if b then Some reader' else None) ≡ Some reader → reader' ≡ reader) (sym given) (λ same. cc)

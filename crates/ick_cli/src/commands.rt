@@ -8,4 +8,4 @@ mod runs;
 pub use check::answer_check;
 pub use list::answer_list;
 pub use run::{choices_in, ended};
-pub use runs::answer_runs;
+pub use runs::{answer_runs, list_over};

@@ -1,17 +1,18 @@
 //! From a job to its command: the source is read, then compiled, then the command answers.
-ghost use Rattle.std.specs.Prelude.{◌+◌, ◌<◌, ◌^◌};
+ghost use Rattle.std.specs.Prelude.{◌≡◌, ◌+◌, ◌<◌, ◌^◌};
 ghost use Rattle.ick_code.specs.Compiled.{code_program};
 ghost use Rattle.ick_cli.specs.Dispatch.{AnswersCode, AnswersSource, Performs};
 ghost use Rattle.ick_cli.specs.Job.{asked};
 ghost use Rattle.ick_job.specs.Serve.{counts};
 
-use crate::commands::{answer_check, answer_list, answer_runs, choices_in, ended};
+use crate::commands::{answer_check, answer_list, answer_runs, choices_in, ended, list_over};
 use crate::plan::{Plan, Runs, plan_of};
 use crate::words::Job;
 use ick_bits::NoMemory;
 use ick_code::{Code, compile};
 use ick_job::{Files, JobEnd, read_file, read_front, refused};
-use ick_runs::{ByteSink, ByteSource, Chooser, SliceSource, run_stream};
+use ick_machine::Feed;
+use ick_runs::{ByteSink, ByteSource, Chooser, SourceFeed, run_fed};
 use ick_source::read_source;
 use std::alloc::Global;
 
@@ -41,13 +42,22 @@ pub fn perform<F: Files, R: ByteSource, W: ByteSink>(
     };
     match job.file {
         Some(name) => match read_file(alloc, name, files) {
-            Ok(source) => answer_source(alloc, &plan, source.as_slice(), reader, writer),
+            Ok(source) => {
+                let input = &mut SourceFeed {
+                    source: reader,
+                    is_empty: false,
+                };
+                answer_source(alloc, &plan, source.as_slice(), input, writer)
+            }
             Err(job_end) => job_end,
         },
         None => match read_front(alloc, reader) {
             Ok(source) => {
-                let mut nothing = SliceSource::new(&[]);
-                answer_source(alloc, &plan, source.as_slice(), &mut nothing, writer)
+                let input = &mut SourceFeed {
+                    source: reader,
+                    is_empty: true,
+                };
+                answer_source(alloc, &plan, source.as_slice(), input, writer)
             }
             Err(job_end) => job_end,
         },
@@ -55,19 +65,23 @@ pub fn perform<F: Files, R: ByteSource, W: ByteSink>(
 }
 
 /// Answers a source: it is refused, or its program is counted, listed or compiled and run.
-fn answer_source<R: ByteSource, W: ByteSink>(
+fn answer_source<'r, R: ByteSource, W: ByteSink>(
     alloc: Global,
     plan: &Plan,
     source: &[u8],
-    reader: &mut R,
+    input: &mut SourceFeed<'r, R>,
     writer: &mut W,
 ) -> JobEnd
-    requires reader_sound { R.failed reader.old + 1 < 2 ^ 64 }
+    requires reader_sound { R.failed input.old.source.now + 1 < 2 ^ 64 }
     requires writer_sound { W.failed writer.old + 1 < 2 ^ 64 }
-    ensures { AnswersSource plan.now source.now (R.left reader.old) result
-        R.told (R.failed reader.old) (R.failed reader.new) (R.left reader.new)
-        reader.old reader.new W.told (W.failed writer.old) (W.failed writer.new)
+    ensures answers { let feed = ⟦<SourceFeed<'r, R> as Feed>⟧ in
+        AnswersSource plan.now source.now (feed.left input.old) result
+        R.told (feed.failed input.old) (feed.failed input.new) (feed.left input.new)
+        input.old.source.now input.new.source.now
+        W.told (W.failed writer.old) (W.failed writer.new)
         (W.written writer.old) (W.written writer.new) }
+    ensures held { let feed = ⟦<SourceFeed<'r, R> as Feed>⟧ in
+        feed.held input.new ≡ feed.held input.old }
 {
     let program = match read_source(alloc, source) {
         Ok(program) => program,
@@ -77,44 +91,44 @@ fn answer_source<R: ByteSource, W: ByteSink>(
         Plan::Check => answer_check(alloc, &program, writer),
         Plan::List => answer_list(alloc, &program, writer),
         Plan::Execute(runs) => match compile(alloc, &program) {
-            Ok(code) => answer_code(alloc, &code, runs, reader, writer),
+            Ok(code) => answer_code(alloc, &code, runs, input, writer),
             Err(NoMemory) => JobEnd::NoMemory,
         },
     }
 }
 
-/// Answers code by its runs over the input that the reader has.
-fn answer_code<R: ByteSource, W: ByteSink>(
+/// Answers code by its runs over an input.
+fn answer_code<'r, R: ByteSource, W: ByteSink>(
     alloc: Global,
     code: &Code<'_>,
     runs: &Runs,
-    reader: &mut R,
+    input: &mut SourceFeed<'r, R>,
     writer: &mut W,
 ) -> JobEnd
-    requires reader_sound { R.failed reader.old + 1 < 2 ^ 64 }
+    requires reader_sound { R.failed input.old.source.now + 1 < 2 ^ 64 }
     requires writer_sound { W.failed writer.old + 1 < 2 ^ 64 }
-    ensures { AnswersCode (code_program code.now) runs.now (R.left reader.old) result
-        R.told (R.failed reader.old) (R.failed reader.new) (R.left reader.new)
+    ensures answers { let feed = ⟦<SourceFeed<'r, R> as Feed>⟧ in
+        AnswersCode (code_program code.now) runs.now (feed.left input.old) result
+        R.told (feed.failed input.old) (feed.failed input.new) (feed.left input.new)
         W.told (W.failed writer.old) (W.failed writer.new)
         (W.written writer.old) (W.written writer.new) }
+    ensures held { let feed = ⟦<SourceFeed<'r, R> as Feed>⟧ in
+        feed.held input.new ≡ feed.held input.old }
 {
     match runs {
         Runs::Given { choices, limit } => {
             let chooser = Chooser::Listed(choices_in(choices));
-            ended(
-                alloc,
-                run_stream(alloc, code, reader, writer, *limit, chooser),
-            )
+            ended(alloc, run_fed(alloc, code, input, writer, *limit, chooser))
         }
         Runs::Drawn { seed, limit } => {
             let chooser = Chooser::Seeded(*seed);
-            ended(
-                alloc,
-                run_stream(alloc, code, reader, writer, *limit, chooser),
-            )
+            ended(alloc, run_fed(alloc, code, input, writer, *limit, chooser))
         }
         Runs::Listed { from, count, limit } => {
-            answer_runs(alloc, code, from, *count, *limit, reader, writer)
+            if input.is_empty {
+                return list_over(alloc, code, &[], from, *count, *limit, writer);
+            }
+            answer_runs(alloc, code, from, *count, *limit, input.source, writer)
         }
     }
 }

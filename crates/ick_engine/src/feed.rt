@@ -22,9 +22,11 @@ pub trait Feed {
     /// How many reads have failed.
     ghost failed: { Self → ℕ };
 
-    /// The name of the reference that the feed holds, or any number if it holds none. No call
-    /// changes it.
-    ghost held: { Self → ℕ };
+    /// The type of what every call keeps.
+    ghost Held: { Type 0 };
+
+    /// What every call keeps, as the name of a reference that the feed holds.
+    ghost held: { Self → Self.Held };
 
     /// Returns how many reads have failed.
     fn failures(&self) -> u64

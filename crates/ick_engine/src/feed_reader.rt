@@ -1,6 +1,6 @@
 //! A feed as the input of a step.
 
-ghost use Rattle.std.specs.Prelude.{◌≡◌, ◌+◌, ◌-◌, ◌<◌, ◌^◌, ◌∷◌, ℕ, List, []};
+ghost use Rattle.std.specs.Prelude.{◌≡◌, ◌+◌, ◌-◌, ◌<◌, ◌^◌, ℕ, []};
 ghost use Rattle.std.specs.Prelude.{true, false, Ok, Err, IsOk, OnOk};
 ghost use Rattle.ick_engine.specs.Feeds.{MayBeLeft, feed_failures, has_ended, one_if, some_left};
 
@@ -45,11 +45,15 @@ impl<F: Feed> Reader for FeedReader<'_, F> {
 
     // The names of the references, what the feed keeps, one more than the reads that had failed
     // before the step, and whether the feed may be asked.
-    ghost Held = { List ℕ };
+    ghost Held = { F.Held × ℕ × ℕ × ℕ × ℕ };
 
-    ghost held = { λ reader. reader.feed.ghost_name ∷ reader.line.ghost_name ∷ F.held
-        reader.feed.now ∷ (F.failed reader.feed.now + 1 - feed_failures reader.last) ∷
-        one_if reader.allowed ∷ [] };
+    ghost held = { λ reader. (
+      F.held reader.feed.now,
+      reader.feed.ghost_name,
+      reader.line.ghost_name,
+      F.failed reader.feed.now + 1 - feed_failures reader.last,
+      one_if reader.allowed,
+    ) };
 
     ghost waits = { λ _. false };
 

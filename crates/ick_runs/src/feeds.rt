@@ -1,25 +1,36 @@
 //! Feeds a machine's input from a source of bytes, and lets its output leave by a sink.
 
+ghost use Rattle.std.specs.Prelude.{if◌then◌else◌, [], Bool, ℕ, Option, Some, None};
+
 use ick_explorer::{ByteSink, ByteSource, write_whole};
 use ick_machine::{Feed, FeedFault, Outlet, OutletFault};
 
 /// How many bytes of a line are read at once.
 const BLOCK: usize = 64;
 
-/// Reads lines and bytes from a source, and no further byte.
+/// The input of a run: what a source gives, line by line and byte by byte, and no further byte. Or
+/// the input is empty, and the source isn't read.
 #[derive(Drop)]
-pub(crate) struct SourceFeed<'r, R: ByteSource> {
-    pub(crate) source: &'r mut R,
+pub struct SourceFeed<'r, R: ByteSource> {
+    pub source: &'r mut R,
+    /// Whether the input is empty, whatever the source has.
+    pub is_empty: bool,
 }
 
 impl<R: ByteSource> Feed for SourceFeed<'_, R> {
     ghost told = { R.told };
 
-    ghost left = { λ feed. R.left feed.source.now };
+    ghost left = { λ feed. if feed.is_empty then [] else R.left feed.source.now };
 
     ghost failed = { λ feed. R.failed feed.source.now };
 
-    ghost held = { λ feed. feed.source.ghost_name };
+    ghost Held = { ℕ × Bool × Option R };
+
+    ghost held = { λ feed. (
+      feed.source.ghost_name,
+      feed.is_empty,
+      if feed.is_empty then Some feed.source.now else None,
+    ) };
 
     fn failures(&self) -> u64 {
         self.source.failures()
@@ -27,6 +38,9 @@ impl<R: ByteSource> Feed for SourceFeed<'_, R> {
 
     fn line(&mut self, target: &mut Vec<u8>) -> Result<bool, FeedFault> {
         target.clear();
+        if self.is_empty {
+            return Ok(false);
+        }
         let mut block = [0; BLOCK];
         'reads: loop {
             let Ok(count) = self.source.read_in_line(&mut block) else {
@@ -44,6 +58,9 @@ impl<R: ByteSource> Feed for SourceFeed<'_, R> {
     }
 
     fn byte(&mut self) -> Result<Option<u8>, FeedFault> {
+        if self.is_empty {
+            return Ok(None);
+        }
         let mut byte = [0];
         match self.source.read(&mut byte) {
             Err(_) => Err(FeedFault::Read),

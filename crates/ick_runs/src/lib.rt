@@ -22,6 +22,7 @@ mod streamed;
 
 pub use chooser::Chooser;
 pub use draws::drawn;
+pub use feeds::SourceFeed;
 pub use ick_explorer::{
     ByteSink, ByteSource, Cursor, DeviceFault, Explorer, Listed2, ReadFault, Run, RunsError,
     SliceSource, VecSink, line_length, one_listing, one_order, one_reading, read_first,
@@ -30,4 +31,4 @@ pub use ick_explorer::{
 pub use laws::one_drawing;
 pub use ordinary::{Ran, run_from, run_with};
 pub use seeded::{Drawn, run_seeded, run_seeded_from};
-pub use streamed::{Streamed, run_stream};
+pub use streamed::{Streamed, run_fed, run_stream};

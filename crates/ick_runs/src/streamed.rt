@@ -16,7 +16,7 @@ use crate::chooser::{Chooser, Picker};
 use crate::feeds::{SinkOutlet, SourceFeed};
 use ick_code::Code;
 use ick_explorer::{ByteSink, ByteSource, RunsError};
-use ick_machine::{EndKind, Live, LiveAsk, RunFault};
+use ick_machine::{EndKind, Feed, Live, LiveAsk, RunFault};
 use std::alloc::Global;
 
 /// Holds the result of a streamed run.
@@ -66,30 +66,30 @@ fn finish(
 /// Makes at most `limit` steps up to the next choice or the end, and returns their number. The
 /// output that the machine holds is written first, and the output of each READ OUT as soon as the
 /// statement is done. The answer is `NoMemory`, `Read` or `Write` if that part fails.
-fn stride<R: ByteSource, W: ByteSink>(
+fn stride<F: Feed, W: ByteSink>(
     machine: &mut Live<'_, '_>,
-    reader: &mut R,
+    feed: &mut F,
     writer: &mut W,
     limit: u32,
 ) -> Result<u32, RunsError>
     requires sound { (seen machine.old).failed ≡ false }
-    requires reads { R.failed reader.old + 1 < 2 ^ 64 }
+    requires reads { F.failed feed.old + 1 < 2 ^ 64 }
     requires writes { W.failed writer.old + 1 < 2 ^ 64 }
-    ensures prints { let old = seen machine.old in R.told ≡ true → Prints W.told old.program
-        (fed (R.left reader.old) old.state) limit (fed (R.left reader.new) (seen machine.new).state)
+    ensures prints { let old = seen machine.old in F.told ≡ true → Prints W.told old.program
+        (fed (F.left feed.old) old.state) limit (fed (F.left feed.new) (seen machine.new).state)
         (W.written writer.old) (W.written writer.new) result }
-    ensures input { let old = seen machine.old in R.told ≡ true → result ≡ Err RunsError.Read →
-        IsAtInput W.told old.program (fed (R.left reader.old) old.state) limit
+    ensures input { let old = seen machine.old in F.told ≡ true → result ≡ Err RunsError.Read →
+        IsAtInput W.told old.program (fed (F.left feed.old) old.state) limit
         (W.written writer.old) (W.written writer.new) }
     ensures rests { IfOk result (λ k. IsDone limit k (seen machine.new)) }
     ensures leaves { Leaves (seen machine.old) (seen machine.new) result }
-    ensures reads { R.failed reader.new ≡ R.failed reader.old + source_failures result }
+    ensures reads { F.failed feed.new ≡ F.failed feed.old + source_failures result }
     ensures writes { W.failed writer.new ≡ W.failed writer.old + write_failures result }
+    ensures held { F.held feed.new ≡ F.held feed.old }
     ensures errors { IfErr result (λ e. (e ≡ RunsError.NoMemory)
         ⊎ ((e ≡ RunsError.Read) ⊎ (e ≡ RunsError.Write))) }
 {
-    let mut feed = SourceFeed { source: reader };
-    let (made, _) = machine.run(limit, &mut feed, SinkOutlet { sink: writer });
+    let (made, _) = machine.run(limit, feed, SinkOutlet { sink: writer });
     match made {
         Ok(made) => Ok(made),
         Err(RunFault::NoMemory) => Err(RunsError::NoMemory),
@@ -102,9 +102,9 @@ fn stride<R: ByteSource, W: ByteSink>(
 /// in `choices`. Returns how the run stopped and its number of steps. The machine must not have
 /// failed, and `choices` must be empty. The answer is `NoMemory`, `Read` or `Write` if that part
 /// fails.
-fn run_on<R: ByteSource, W: ByteSink>(
+fn run_on<F: Feed, W: ByteSink>(
     machine: &mut Live<'_, '_>,
-    reader: &mut R,
+    feed: &mut F,
     writer: &mut W,
     limit: u32,
     picker: &mut Picker<'_>,
@@ -112,29 +112,30 @@ fn run_on<R: ByteSource, W: ByteSink>(
 ) -> Result<(EndKind, u32), RunsError>
     requires sound { (seen machine.old).failed ≡ false }
     requires unused { choices.old.items ≡ [] }
-    requires reads { R.failed reader.old + 1 < 2 ^ 64 }
+    requires reads { F.failed feed.old + 1 < 2 ^ 64 }
     requires writes { W.failed writer.old + 1 < 2 ^ 64 }
-    ensures run { R.told ≡ true → let program = (seen machine.old).program in
-        let state = fed (R.left reader.old) (seen machine.old).state in
+    ensures run { F.told ≡ true → let program = (seen machine.old).program in
+        let state = fed (F.left feed.old) (seen machine.old).state in
         (chosen : Chosen) → Picks chosen 0 picker.old →
         (c : List Bool) → IsChosen program state limit chosen c →
         Stops W.told (run program state limit c) c choices.new.items
         (fault_message (seen machine.new))
-        (W.written writer.old) (W.written writer.new) (R.left reader.new) result }
-    ensures input { R.told ≡ true → let program = (seen machine.old).program in
-        let state = fed (R.left reader.old) (seen machine.old).state in
+        (W.written writer.old) (W.written writer.new) (F.left feed.new) result }
+    ensures input { F.told ≡ true → let program = (seen machine.old).program in
+        let state = fed (F.left feed.old) (seen machine.old).state in
         (chosen : Chosen) → Picks chosen 0 picker.old →
         (c : List Bool) → IsChosen program state limit chosen c →
         result ≡ Err RunsError.Read → StopsAtInput W.told program state limit c
         (W.written writer.old) (W.written writer.new) }
-    ensures reads { R.failed reader.new ≡ R.failed reader.old + source_failures result }
+    ensures reads { F.failed feed.new ≡ F.failed feed.old + source_failures result }
     ensures writes { W.failed writer.new ≡ W.failed writer.old + write_failures result }
+    ensures held { F.held feed.new ≡ F.held feed.old }
     ensures errors { IfErr result (λ e. (e ≡ RunsError.NoMemory)
         ⊎ ((e ≡ RunsError.Read) ⊎ (e ≡ RunsError.Write))) }
 {
     let mut steps = 0;
     'along: loop {
-        let made = stride(machine, reader, writer, limit - steps)?;
+        let made = stride(machine, feed, writer, limit - steps)?;
         steps += made;
         let asked = machine.asks();
         if let LiveAsk::Ended(end) = asked {
@@ -150,9 +151,44 @@ fn run_on<R: ByteSource, W: ByteSink>(
             return Ok((EndKind::Wants, steps));
         };
         choices.push(done)?;
-        machine.step(done, &mut SourceFeed { source: reader })?;
+        machine.step(done, feed)?;
         steps += 1;
     }
+}
+
+/// Runs a program as `run_stream` does, and takes the input off a feed. Its refusals are those of
+/// `run_stream`, with `Read` if the feed fails.
+pub fn run_fed<F: Feed, W: ByteSink>(
+    alloc: Global,
+    code: &Code<'_>,
+    feed: &mut F,
+    writer: &mut W,
+    limit: u32,
+    chooser: Chooser<'_>,
+) -> Result<Streamed, RunsError>
+    requires reads { F.failed feed.old + 1 < 2 ^ 64 }
+    requires writes { W.failed writer.old + 1 < 2 ^ 64 }
+    ensures run { F.told ≡ true → let program = code_program code.now in
+        let first = first_state program (F.left feed.old) in
+        (c : List Bool) → IsChosen program first limit (chosen_of chooser.entry) c →
+        Streams W.told (run program first limit c) c
+        (W.written writer.old) (W.written writer.new) (F.left feed.new) result }
+    ensures input { F.told ≡ true → let program = code_program code.now in
+        let first = first_state program (F.left feed.old) in
+        (c : List Bool) → IsChosen program first limit (chosen_of chooser.entry) c →
+        result ≡ Err RunsError.Read → StopsAtInput W.told program first limit c
+        (W.written writer.old) (W.written writer.new) }
+    ensures reads { F.failed feed.new ≡ F.failed feed.old + source_failures result }
+    ensures writes { W.failed writer.new ≡ W.failed writer.old + write_failures result }
+    ensures held { F.held feed.new ≡ F.held feed.old }
+    ensures errors { IfErr result (λ e. (e ≡ RunsError.NoMemory)
+        ⊎ ((e ≡ RunsError.Read) ⊎ (e ≡ RunsError.Write))) }
+{
+    let mut machine = Live::new(alloc, code)?;
+    let mut picker = Picker::new(chooser);
+    let mut choices = Vec::new(alloc);
+    let ran = run_on(&mut machine, feed, writer, limit, &mut picker, &mut choices);
+    finish(alloc, &machine, ran, choices)
 }
 
 /// Runs a program for at most `limit` steps (this profile), with given choices or with choices that
@@ -193,16 +229,9 @@ pub fn run_stream<R: ByteSource, W: ByteSink>(
     ensures errors { IfErr result (λ e. (e ≡ RunsError.NoMemory)
         ⊎ ((e ≡ RunsError.Read) ⊎ (e ≡ RunsError.Write))) }
 {
-    let mut machine = Live::new(alloc, code)?;
-    let mut picker = Picker::new(chooser);
-    let mut choices = Vec::new(alloc);
-    let ran = run_on(
-        &mut machine,
-        reader,
-        writer,
-        limit,
-        &mut picker,
-        &mut choices,
-    );
-    finish(alloc, &machine, ran, choices)
+    let mut feed = SourceFeed {
+        source: reader,
+        is_empty: false,
+    };
+    run_fed(alloc, code, &mut feed, writer, limit, chooser)
 }

@@ -18,7 +18,9 @@ impl Feed for TextFeed<'_> {
 
     ghost failed = { λ _. 0 };
 
-    ghost held = { λ _. 0 };
+    ghost Held = { Unit {0} };
+
+    ghost held = { λ _. tt };
 
     fn failures(&self) -> u64 {
         0

@@ -45,7 +45,7 @@ pub fn answer_runs<R: ByteSource, W: ByteSink>(
 }
 
 /// Answers code by the listing of its runs over an input.
-fn list_over<W: ByteSink>(
+pub fn list_over<W: ByteSink>(
     alloc: Global,
     code: &Code<'_>,
     input: &[u8],

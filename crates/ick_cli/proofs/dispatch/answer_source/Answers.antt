@@ -9,15 +9,15 @@ use Rattle.ick_cli.proofs.Works.{check_answer, list_answer, works_compiled, work
 use Rattle.ick_cli.proofs.Works.{runs_read, works_without_memory}
 use Rattle.ick_cli.proofs.dispatch.answer_source.Goals as goal
 
-pub returns-in-Err : goal.returns-in-Err
-returns-in-Err g c = record {
+pub returns-in-Err-clause-answers : goal.returns-in-Err-clause-answers
+returns-in-Err-clause-answers g c = record {
   works = works_refused c.args.plan.now _ _ c.in-Err.refusal c.refused.result _ _ _ _ _ c.in-Err.ensures.refused
       c.refused.ensures;
   reader_kept = λ none. refl;
 }
 
-pub returns-in-Check : goal.returns-in-Check
-returns-in-Check g c =
+pub returns-in-Check-clause-answers : goal.returns-in-Check-clause-answers
+returns-in-Check-clause-answers g c =
     let trees = trees_of c.in-Ok.program in record {
       works = works_compiled c.args.plan.now _ _ trees c.in-Ok.ensures.compiles c.in-Ok.ensures.only
           c.in-Ok.ensures.not_refused
@@ -26,8 +26,8 @@ returns-in-Check g c =
       reader_kept = λ none. refl;
     }
 
-pub returns-in-List : goal.returns-in-List
-returns-in-List g c =
+pub returns-in-List-clause-answers : goal.returns-in-List-clause-answers
+returns-in-List-clause-answers g c =
     let trees = trees_of c.in-Ok.program in record {
       works = works_compiled c.args.plan.now _ _ trees c.in-Ok.ensures.compiles c.in-Ok.ensures.only
           c.in-Ok.ensures.not_refused
@@ -36,15 +36,15 @@ returns-in-List g c =
       reader_kept = λ none. refl;
     }
 
-pub returns-in-Ok-compile : goal.returns-in-Ok-compile
-returns-in-Ok-compile g c =
+pub returns-in-Ok-compile-clause-answers : goal.returns-in-Ok-compile-clause-answers
+returns-in-Ok-compile-clause-answers g c =
     let trees = trees_of c.in-Ok.program in record {
       works = works_compiled c.args.plan.now _ _ trees c.in-Ok.ensures.compiles c.in-Ok.ensures.only
           c.in-Ok.ensures.not_refused
           (works_executed trees (code_program c.in-Ok-compile.code) _ c.args.plan.now c.in-Execute.runs c.in-Execute.is
-          c.in-Ok-compile.ensures.program_is c.answer_code.ensures);
+          c.in-Ok-compile.ensures.program_is c.answer_code.ensures.answers);
       reader_kept = λ none. absurd (runs_read c.args.plan.now c.in-Execute.runs c.in-Execute.is none);
     }
 
-pub returns : goal.returns
-returns g c = record { works = works_without_memory _ _ _ _ _ _; reader_kept = λ none. refl }
+pub returns-clause-answers : goal.returns-clause-answers
+returns-clause-answers g c = record { works = works_without_memory _ _ _ _ _ _; reader_kept = λ none. refl }

@@ -18,12 +18,13 @@ use Rattle.ick_runs.proofs.streamed.run_on.Goals as goal
 pub along-init : goal.along-init
 along-init g c =
     let first = seen c.args.machine.now in
-    let begin = fed (g.R.ByteSource.left c.args.reader.now) first.state in
+    let begin = fed (g.F.Feed.left c.args.feed.now) first.state in
     let start = g.W.ByteSink.written c.args.writer.now in
     let none = c.requires.unused in
     record {
       reads = refl;
       writes = refl;
+      held = refl;
       sound = c.requires.sound;
       program = refl;
       within = omega arith;
@@ -34,24 +35,24 @@ along-init g c =
     }
 
 -- where the run is after the steps that it made by itself
-here : (g : Over) (c : After-asks-asked g) → g.R.ByteSource.told ≡ true →
+here : (g : Over) (c : After-asks-asked g) → g.F.Feed.told ≡ true →
     Here g.W.ByteSink.told (seen c.args.machine.now).program
-    (fed (g.R.ByteSource.left c.args.reader.now) (seen c.args.machine.now).state) c.args.limit c.along.choices.items
-    (seen c.stride.new.machine) (g.R.ByteSource.left c.stride.new.reader) (g.W.ByteSink.written c.args.writer.now)
+    (fed (g.F.Feed.left c.args.feed.now) (seen c.args.machine.now).state) c.args.limit c.along.choices.items
+    (seen c.stride.new.machine) (g.F.Feed.left c.stride.new.feed) (g.W.ByteSink.written c.args.writer.now)
     (g.W.ByteSink.written c.stride.new.writer) (c.along.steps + c.in_ok-made.made)
 here g c t =
     let i = c.along.invariant in
     let left = c.stride.ensures.leaves in
-    strode _ _ _ _ (seen c.along.machine) (g.R.ByteSource.left c.along.reader) (i.along t) i.program c.in_ok-made.made (seen c.stride.new.machine)
-    (g.R.ByteSource.left c.stride.new.reader) (g.W.ByteSink.written c.stride.new.writer) left.program
+    strode _ _ _ _ (seen c.along.machine) (g.F.Feed.left c.along.feed) (i.along t) i.program c.in_ok-made.made (seen c.stride.new.machine)
+    (g.F.Feed.left c.stride.new.feed) (g.W.ByteSink.written c.stride.new.writer) left.program
     c.in_ok-made.ensures.leaves.failed left.empty c.in_ok-made.ensures.rests.within (c.in_ok-made.ensures.prints t)
 
 pub returns-in_err-made-clause-run : goal.returns-in_err-made-clause-run
 returns-in_err-made-clause-run g c = λ t chosen at c' is_chosen.
     let i = c.along.invariant in
     let e : c.from_residual.result ≡ Err c.in_err-made.field-0.0 = search rules in
-    rw e (stride_cut _ _ _ _ (seen c.along.machine) (g.R.ByteSource.left c.along.reader) (i.along t) i.program c' (i.taken t chosen at c' is_chosen)
-    (fed (g.R.ByteSource.left c.stride.new.reader) (seen c.stride.new.machine).state)
+    rw e (stride_cut _ _ _ _ (seen c.along.machine) (g.F.Feed.left c.along.feed) (i.along t) i.program c' (i.taken t chosen at c' is_chosen)
+    (fed (g.F.Feed.left c.stride.new.feed) (seen c.stride.new.machine).state)
     (g.W.ByteSink.written c.stride.new.writer) c.in_err-made.field-0.0 (c.in_err-made.ensures.prints t))
 
 pub returns-in_err-made-clause-input : goal.returns-in_err-made-clause-input
@@ -59,7 +60,7 @@ returns-in_err-made-clause-input g c = λ t chosen at c' is_chosen is_read.
     let i = c.along.invariant in
     let e : c.from_residual.result ≡ Err c.in_err-made.field-0.0 = search rules in
     let read = ap Err (same_error c.from_residual.result c.in_err-made.field-0.0 Read e is_read) in
-    stride_at_input _ _ _ _ (seen c.along.machine) (g.R.ByteSource.left c.along.reader) (i.along t) i.program c' (i.taken t chosen at c' is_chosen)
+    stride_at_input _ _ _ _ (seen c.along.machine) (g.F.Feed.left c.along.feed) (i.along t) i.program c' (i.taken t chosen at c' is_chosen)
     (g.W.ByteSink.written c.stride.new.writer) (c.in_err-made.ensures.input t read)
 
 pub returns-in-Ended-clause-run : goal.returns-in-Ended-clause-run
@@ -121,14 +122,14 @@ step-requires g c =
     }
 
 -- the choices are those that were taken, with the one that was answered
-are_taken : (g : Over) (c : After-step g) → g.R.ByteSource.told ≡ true →
+are_taken : (g : Over) (c : After-step g) → g.F.Feed.told ≡ true →
     Here g.W.ByteSink.told (seen c.args.machine.now).program
-    (fed (g.R.ByteSource.left c.args.reader.now) (seen c.args.machine.now).state) c.args.limit c.along.choices.items
-    (seen c.stride.new.machine) (g.R.ByteSource.left c.stride.new.reader) (g.W.ByteSink.written c.args.writer.now)
+    (fed (g.F.Feed.left c.args.feed.now) (seen c.args.machine.now).state) c.args.limit c.along.choices.items
+    (seen c.stride.new.machine) (g.F.Feed.left c.stride.new.feed) (g.W.ByteSink.written c.args.writer.now)
     (g.W.ByteSink.written c.stride.new.writer) (c.along.steps + c.in_ok-made.made) →
     (chosen : Chosen) → Picks chosen 0 c.args.picker.now → (c' : List Bool) →
     IsChosen (seen c.args.machine.now).program
-    (fed (g.R.ByteSource.left c.args.reader.now) (seen c.args.machine.now).state) c.args.limit chosen c' →
+    (fed (g.F.Feed.left c.args.feed.now) (seen c.args.machine.now).state) c.args.limit chosen c' →
     AreTaken c' c.push.new.self.items
 are_taken g c t now chosen at c' is_chosen =
     let i = c.along.invariant in
@@ -172,6 +173,7 @@ along-preserved g c =
     record {
       reads = search rules;
       writes = search rules;
+      held = c.step.ensures.held ∙ c.stride.ensures.held ∙ i.held;
       sound = c.in_ok-step.ensures.ok;
       program = c.step.ensures.program ∙ c.stride.ensures.leaves.program ∙ i.program;
       within = omega (arith, lt);

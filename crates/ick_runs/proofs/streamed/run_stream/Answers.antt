@@ -1,33 +1,21 @@
-use Rattle.std.proofs.Common.{subst}
-use Rattle.ick_machine.specs.Live.{LiveMachine, seen, fed, fault_message}
+use Rattle.std.proofs.Common.{◌≡◌, rules, if◌then◌else◌, Bool, false, List, [], ℕ, ap, subst}
+use Rattle.ick_code.specs.{Compiled.code_program, meaning.Move.first_state}
 use Rattle.ick_explorer.specs.Runs.{run}
-use Rattle.ick_runs.specs.Chosen.{IsChosen, chosen_of}
-use Rattle.ick_runs.specs.Streams.{StopsAtInput}
-use Rattle.ick_runs.specs.Streaming.{Stops}
+use Rattle.ick_runs.specs.Streams.{Streams}
 use Rattle.ick_runs.proofs.streamed.run_stream.Goals as goal
 
-pub returns-clause-run : goal.returns-clause-run
-returns-clause-run g c = λ t c' is_chosen.
-    let told = g.W.ByteSink.told in
-    let left = g.R.ByteSource.left in
-    let written = g.W.ByteSink.written in
-    let holds : LiveMachine → Type 0 = λ m. IsChosen m.program (fed (left c.args.reader.now) m.state) c.args.limit
-    (chosen_of c.args.chooser) c' →
-    Stops told (run m.program (fed (left c.args.reader.now) m.state) c.args.limit c') c'
-    c.run_on-ran.new.choices.items (fault_message (seen c.run_on-ran.new.machine)) (written c.args.writer.now)
-    (written c.run_on-ran.new.writer) (left c.run_on-ran.new.reader) c.run_on-ran.result in
-    let stops = subst holds c.in_ok-machine.ensures
-    (c.run_on-ran.ensures.run t (chosen_of c.args.chooser) c.new-picker.ensures c') is_chosen in
-    c.finish.ensures.run told _ c' _ _ _ stops
+-- what is left of a source whose input isn't empty
+rest : {R : Type 0} (left : R → List ℕ) (is_empty : Bool) (now after : R) → is_empty ≡ false → now ≡ after →
+    (if is_empty then [] else left now) ≡ left after
+rest left is_empty now after given same = rw given (ap left same)
 
-pub returns-clause-input : goal.returns-clause-input
-returns-clause-input g c = λ t c' is_chosen is_read.
-    let left = g.R.ByteSource.left in
+pub returns-clause-run : goal.returns-clause-run
+returns-clause-run g c = λ t c' chosen.
+    let program = code_program c.args.code.now in
+    let first = first_state program (g.R.ByteSource.left c.args.reader.now) in
     let written = g.W.ByteSink.written in
-    let holds : LiveMachine → Type 0 = λ m. IsChosen m.program (fed (left c.args.reader.now) m.state) c.args.limit
-    (chosen_of c.args.chooser) c' →
-    StopsAtInput g.W.ByteSink.told m.program (fed (left c.args.reader.now) m.state) c.args.limit c'
-    (written c.args.writer.now) (written c.run_on-ran.new.writer) in
-    subst holds c.in_ok-machine.ensures
-    (λ is. c.run_on-ran.ensures.input t (chosen_of c.args.chooser) c.new-picker.ensures c' is
-    (c.finish.ensures.input is_read)) is_chosen
+    subst (λ left. Streams g.W.ByteSink.told (run program first c.args.limit c') c' (written c.args.writer.now)
+    (written c.run_fed.new.writer) left c.run_fed.result)
+    (rest g.R.ByteSource.left c.run_fed.new.feed.is_empty c.run_fed.new.feed.source.now _
+    (ap (λ held. held.1) c.run_fed.ensures.held) (search rules))
+    (c.run_fed.ensures.run t c' chosen)

@@ -18,16 +18,16 @@ module _ (g : Over) (c : After-run-made g) where
   abbrev at : (left written : List ℕ) → Result ℕ RunFault → Type 0
   at left written r =
       let old = seen c.args.machine.now in
-      Prints g.W.ByteSink.told old.program (fed (g.R.ByteSource.left c.args.reader.now) old.state) c.args.limit
+      Prints g.W.ByteSink.told old.program (fed (g.F.Feed.left c.args.feed.now) old.state) c.args.limit
       (fed left (seen c.run-made.new.self).state) (g.W.ByteSink.written c.args.writer.now) written r
 
-  ran : g.R.ByteSource.told ≡ true → (r : Result ℕ RunFault) → c.run-made.result.0 ≡ r →
-      at (g.R.ByteSource.left c.run-made.new.feed.source.now) (g.W.ByteSink.written c.run-made.result.1.sink.now) r
+  ran : g.F.Feed.told ≡ true → (r : Result ℕ RunFault) → c.run-made.result.0 ≡ r →
+      at (g.F.Feed.left c.run-made.new.feed) (g.W.ByteSink.written c.run-made.result.1.sink.now) r
   ran t r is =
       let old = seen c.args.machine.now in
       let new = seen c.run-made.new.self in
-      subst (λ r. Prints g.W.ByteSink.told old.program (fed (g.R.ByteSource.left c.args.reader.now) old.state) c.args.limit
-      (fed (g.R.ByteSource.left c.run-made.new.feed.source.now) new.state) (g.W.ByteSink.written c.args.writer.now)
+      subst (λ r. Prints g.W.ByteSink.told old.program (fed (g.F.Feed.left c.args.feed.now) old.state) c.args.limit
+      (fed (g.F.Feed.left c.run-made.new.feed) new.state) (g.W.ByteSink.written c.args.writer.now)
       (g.W.ByteSink.written c.run-made.result.1.sink.now) r) is (c.run-made.ensures.prints t)
 
 pub returns-in-Ok-clause-prints : goal.returns-in-Ok-clause-prints

@@ -18,7 +18,7 @@ returns-then-count-eq0-clause-some g c = λ t e.
     some_bytes bytes c.is_empty.result (c.is_empty.ensures ∙ ap (λ k. k == 0) size)
     (not_true c.is_empty.result (ok_same _ _ e)) in
     let line = line_at_end _ bytes _ _ (c.reads.invariant.so_far t) none none_left c.reads.invariant.no_end some in
-    (line.some, line.line, line.rest)
+    rw (c.if-self.false, c.reads.invariant.given) (line.some, line.line, line.rest)
 
 pub returns-then-block-count-eq10-clause-one : goal.returns-then-block-count-eq10-clause-one
 returns-then-block-count-eq10-clause-one g c = λ _.
@@ -34,6 +34,7 @@ returns-then-block-count-eq10-clause-some g c = λ t e.
     let line = line_in_block _ c.reads.target.items _ _ c.read_in_line.new.target c.in-Ok.count
     (c.reads.invariant.so_far t) (c.in-Ok.ensures.taken t) some (omega (arith, c.in-Ok.ensures.fits))
     c.if-block-count-eq10.true c.reads.invariant.no_end c.in-Ok.ensures.line in
+    rw (c.if-self.false, c.reads.invariant.given)
     (line.some, c.in_ok-extend_from_slice.ensures.items ∙ line.line, line.rest)
 
 pub reads-preserved : goal.reads-preserved
@@ -45,6 +46,7 @@ reads-preserved g c =
     record {
       count = search rules;
       held = c.reads.invariant.held;
+      given = c.reads.invariant.given;
       so_far = λ t. rw items
           (more_so_far _ bytes _ _ block c.in-Ok.count (c.reads.invariant.so_far t) (c.in-Ok.ensures.taken t));
       no_end = rw items (no_end_more bytes block c.in-Ok.count c.reads.invariant.no_end none);

@@ -1,4 +1,4 @@
-use Rattle.std.proofs.Common.{◌≡◌, ◌^◌, ◌-◌, ◌++◌, length, true}
+use Rattle.std.proofs.Common.{◌≡◌, ◌^◌, ◌-◌, ◌++◌, length, true, false}
 use Rattle.ick_runs.specs.Streaming.{HasNoEnd}
 use Rattle.ick_runs.proofs.feeds.SourceFeedFeed.line.Given as goal
 
@@ -6,6 +6,7 @@ abbrev pub invariant-reads : goal.invariant-reads
 invariant-reads g l = record {
   count : g.R.ByteSource.failed l.self.source.now ≡ g.R.ByteSource.failed l.initial.self.source.now;
   held : l.self.source.ghost_name ≡ l.initial.self.source.ghost_name;
+  given : l.self.is_empty ≡ false;
   so_far : g.R.ByteSource.told ≡ true →
       g.R.ByteSource.left l.initial.self.source.now ≡ l.target.items ++ g.R.ByteSource.left l.self.source.now;
   no_end : HasNoEnd l.target.items;
