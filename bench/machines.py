@@ -1,7 +1,7 @@
 #!/usr/bin/env python3
 """Measures how long a step takes on each machine: the programs of workloads.py, by the built program `test_runs`.
 
-  machines.py [--instructions] [PROGRAM]
+  machines.py [--instructions] [PROGRAM [ICK]]
 
 It needs that program (`rt run` in crates/test_runs builds it), Python 3.8 and Linux, and callgrind (Valgrind) for
 --instructions.
@@ -12,7 +12,7 @@ same source with GIVE UP in front, which only make the machine. Each time is the
 each round measures every machine. All runs must make equally many steps. Nothing else is judged.
 
 With --instructions it prints the instructions a step that callgrind counts for a run of half a million steps, less
-those of a run of no step.
+those of a run of no step. With ICK, the program `ick`, those of `Live` are counted by its `ick run`.
 """
 import os
 import subprocess
@@ -20,7 +20,7 @@ import sys
 import tempfile
 
 import measuring
-from measuring import print_heading, print_row, program_to_measure, stop
+from measuring import counted_run, print_heading, print_row, program_to_measure, stop
 from workloads import NOTHING, WORKLOADS
 
 MACHINES = {"copied": "Copied", "trailed": "Trailed", "live": "Live"}
@@ -71,7 +71,7 @@ def least(program, source):
             for machine in MACHINES}, steps
 
 
-def instructions(program, source):
+def instructions(program, source, ick):
     """Returns the instructions of a step on each machine, and how many steps were counted."""
     def counted(machine, limit):
         with tempfile.TemporaryFile() as text:
@@ -85,17 +85,21 @@ def instructions(program, source):
     steps = {made for _, _, made in counts.values()}
     if len(steps) != 1:
         stop(f"the machines don't make equally many steps: {sorted(steps)}")
-    return {machine: (all_steps - none) / made for machine, (none, all_steps, made) in counts.items()}, steps.pop()
+    found = {machine: (all_steps - none) / made for machine, (none, all_steps, made) in counts.items()}
+    if ick:
+        found["live"] = (counted_run(ick, source, COUNTED) - counted_run(ick, source, 0)) / max(steps)
+    return found, steps.pop()
 
 
 def main():
     counts = sys.argv[1:2] == ["--instructions"]
     if counts:
         del sys.argv[1]
+    ick = sys.argv.pop() if counts and len(sys.argv) > 2 else None
     program = program_to_measure(__doc__, "test_runs")
     print_heading("Program", "steps", *[f"`{name}`" if counts else f"`{name}`, ns" for name in MACHINES.values()])
     for name in sorted(WORKLOADS):
-        found, steps = (instructions if counts else least)(program, WORKLOADS[name])
+        found, steps = instructions(program, WORKLOADS[name], ick) if counts else least(program, WORKLOADS[name])
         row = [f"{found[machine] if counts else found[machine] * 1e9:.1f}" for machine in MACHINES]
         print_row(f"`{name}`", f"{steps:,}", *row)
 

@@ -4,6 +4,7 @@ import os
 import re
 import subprocess
 import sys
+import tempfile
 
 TOP = os.path.dirname(os.path.dirname(os.path.realpath(__file__)))
 BUILDS = {"ick": "a call of ./ick builds ick", "test_runs": "`rt run` in crates/test_runs builds it"}
@@ -44,7 +45,7 @@ def measured_well(words, **streams):
     return used
 
 
-def counted(words, **streams):
+def counted(words, statuses=(0,), **streams):
     """Returns the instructions of the processor that callgrind counts for a command, without the system's, and what the
     command printed if its output is a pipe. Each of its streams leads nowhere unless it is given."""
     with open(os.devnull, "r+b") as nowhere:
@@ -52,9 +53,17 @@ def counted(words, **streams):
                              **{"stdin": nowhere, "stdout": nowhere, **streams}, stderr=subprocess.PIPE,
                              env={**os.environ, "PYTHONHASHSEED": "0"})
     found = re.search(rb"Collected : (\d+)", ran.stderr)
-    if ran.returncode or not found:
+    if ran.returncode not in statuses or not found:
         stop(f"{' '.join(words)} ended with status {ran.returncode}:\n{ran.stderr[-300:].decode()}")
     return int(found[1]), ran.stdout
+
+
+def counted_run(ick, source, limit):
+    """Returns the instructions of `ick run` for a source without input, which ends by itself or at the limit."""
+    with tempfile.TemporaryFile() as text:
+        text.write(source.encode())
+        text.seek(0)
+        return counted([ick, "run", "--limit", str(limit)], (0, 3), stdin=text)[0]
 
 
 def written(folder, name, text):

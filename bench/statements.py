@@ -1,11 +1,13 @@
 #!/usr/bin/env python3
 """Counts the instructions that the processor makes for a statement of each kind, on each machine.
 
-  statements.py [--program PROGRAM] [MACHINE..]
+  statements.py [--program PROGRAM] [--ick ICK] [MACHINE..]
 
 PROGRAM is the program `test_runs`. Without --program the script takes the one that `dev/build_unproved.py . test_runs
 bare` builds in a minute, which is neither proved nor checked. A MACHINE is copied, trailed or live. Without a MACHINE
-the script counts on all three. It needs callgrind (Valgrind), Python 3.8 and Linux.
+the script counts on all three. With --ick, `live` is counted by `ick run` of ICK, the program `ick`: that has one loop
+over `Live`, and test_runs has six, so it calls what the other inlines. It needs callgrind (Valgrind), Python 3.8 and
+Linux.
 
 For each kind the script writes a program of 3,000 like statements, which run in a circle. It counts the instructions of
 480,000 steps, takes off those of a run without a step, and divides by the steps. In rows of two kinds, such as IGNORE
@@ -86,18 +88,21 @@ def collected(words, source=""):
     return count, printed.decode()
 
 
-def instructions(program, machine, source, limit):
+def instructions(programs, machine, source, limit):
     """Returns the instructions that the processor made for a run of at most so many steps."""
+    program, ick = programs
+    if ick and machine == "live":
+        return measuring.counted_run(ick, source, limit)
     count, printed = collected([program, "measure", str(limit), machine], source)
     if printed.split() != [machine, str(limit)]:
         stop(f"{program} measure {limit} {machine} printed {printed}")
     return count
 
 
-def of_each_step(program, machine, kind, steps):
+def of_each_step(programs, machine, kind, steps):
     """Returns the instructions for a step, without those of the start."""
     source = source_of(kind)
-    count = instructions(program, machine, source, steps) - instructions(program, machine, source, 0)
+    count = instructions(programs, machine, source, steps) - instructions(programs, machine, source, 0)
     return f"{count / steps:.1f}"
 
 
@@ -117,6 +122,9 @@ def main():
     program = PROGRAM
     if words[:1] == ["--program"] and len(words) > 1:
         program, words = words[1], words[2:]
+    ick = None
+    if words[:1] == ["--ick"] and len(words) > 1:
+        ick, words = words[1], words[2:]
     machines = words or MACHINES
     if any(machine not in MACHINES for machine in machines):
         sys.exit(__doc__)
@@ -125,12 +133,12 @@ def main():
     heading = [f"`{machine}`" for machine in machines]
     print_heading("Statement", *heading)
     for name, kind in KINDS.items():
-        print_row(f"`{name}`", *[of_each_step(program, machine, kind, STEPS) for machine in machines])
+        print_row(f"`{name}`", *[of_each_step((program, ick), machine, kind, STEPS) for machine in machines])
     print()
     print_heading("65,535 elements", "C library", *heading)
     for name, (kind, call) in LARGE.items():
         print_row(f"`{name}`", f"{of_library(call) / len(kind.circle):.1f}",
-                  *[of_each_step(program, machine, kind, LARGE_STEPS) for machine in machines])
+                  *[of_each_step((program, ick), machine, kind, LARGE_STEPS) for machine in machines])
 
 
 if __name__ == "__main__":
