@@ -1,9 +1,10 @@
 -- The line of bars of symbols that are put together; both lines, one digit longer; and what is printed of them.
-use Rattle.std.proofs.Common.{◌≡◌, ℕ, zero, suc, ◌+◌, ◌<◌, ◌≤◌, List, [], ◌∷◌, ◌++◌, length, map, refl, ap, sym}
+use Rattle.std.proofs.Common.{◌≡◌, ℕ, zero, suc, ◌+◌, ◌-◌, ◌<◌, ◌≤◌, get_or, List, [], ◌∷◌, ◌++◌, length, map, refl, ap, sym}
 use Rattle.std.proofs.Common.{true, false, Bool, ◌∙◌, ◌||◌, take, arith, append_assoc, append-nil}
 use Rattle.std.proofs.Common.{if◌then◌else◌, length-take-le, take-take, take-add, take_at, drop_at, inl, inr, set}
 use Rattle.std.specs.Prelude.{◌==◌}
 use Rattle.std.specs.Fmt.{digits}
+use Rattle.std.specs.Str.Parse.{AllDigits}
 use Rattle.std.specs.List.{list_any}
 use Rattle.std.proofs.lemmas.List.{map-append, take_more_set}
 use Rattle.std.proofs.lemmas.List.Folds.{list_any-append}
@@ -12,7 +13,9 @@ use mathlib.Core.Bool.{true≢false}
 use Rattle.std.proofs.lemmas.Bool.Decides.{nat_tests}
 use Rattle.ick_bits.specs.declared.numerals.Symbol.{Symbol}
 use Rattle.ick_bits.specs.Numeral.{bar_line, bar_byte, letter_byte, printed, numeral_of, symbols_of, digit_symbols}
-use Rattle.ick_bits.proofs.NumeralSteps.{symbols_from, symbols-end}
+use Rattle.ick_bits.specs.Numeral.{place_symbols}
+use Rattle.ick_bits.proofs.NumeralSteps.{digit-below, symbols_from, symbols-end, symbols-next}
+use Rattle.ick_bits.proofs.RowLemmas.{none-inked}
 
 -- how many symbols there are up to the last that has a bar
 abbrev pub inked : List Symbol → ℕ
@@ -119,11 +122,33 @@ behind-more ss ds rest step before end next whole e inv =
     ap (λ n. inked_behind n (end + length ds) rest) e ∙ sym (behind-append before end ds rest)
     ∙ ap (inked_behind before end) (sym step) ∙ inv
 
-pub behind-whole : (t : List ℕ) (i : ℕ) → i ≡ length t → (before end whole : ℕ) →
-    inked_behind before end (symbols_from t i) ≡ whole → before ≡ whole
+few-unbarred : (t : List ℕ) → AllDigits 10 t → (k i : ℕ) → i + k ≡ length t → k ≤ 3 → inked (symbols_from t i) ≡ 0
 unfolding bar_line
-behind-whole t i e before end whole inv =
-    sym (ap (inked_behind before end) (symbols-end t i e)) ∙ inv
+few-unbarred t a zero i e few = ap inked (symbols-end t i (omega (arith, e)))
+few-unbarred t a (suc k) i e few =
+    let place = length t - 1 - i in
+    let digit = get_or t i 0 - 48 in
+    let within : i < length t = omega (arith, e) in
+    let rest = few-unbarred t a k (i + 1) (omega (arith, e)) (omega (arith, few)) in
+    let one = none-inked place digit (omega (arith, e, few)) (digit-below t a i within) in
+    ap inked (symbols-next t a i within digit refl) ∙ inked-append (place_symbols place digit) (symbols_from t (i + 1))
+    ∙ rw rest one
+
+-- the digits behind are the last three at most, which have no bar
+pub behind-whole : (t : List ℕ) → AllDigits 10 t → (i : ℕ) → i ≤ length t → length t ≤ i + 3 →
+    (before end whole : ℕ) → inked_behind before end (symbols_from t i) ≡ whole → before ≡ whole
+behind-whole t a i within few before end whole inv =
+    let none = few-unbarred t a (length t - i) i (omega (arith, within)) (omega (arith, few)) in
+    rw none at inv
+
+-- of a line of bars and spaces, what stands up to a byte among the first ones
+pub line-begins : (end count : ℕ) (text rest whole : List ℕ) → count ≤ end → end ≤ length text →
+    take end text ++ rest ≡ whole → take count text ≡ take count whole
+line-begins end count text rest whole within room line =
+    let front : length (take end text) ≡ end = length-take-le end text room in
+    sym (take-take count end text within)
+    ∙ ap (take count) (sym (take_at (take end text) rest end front))
+    ∙ take-take count end (take end text ++ rest) within ∙ ap (take count) line
 
 pub behind-some : (before end count : ℕ) (ss : List Symbol) → count ≡ inked ss → 0 < count →
     end + count ≡ inked_behind before end ss

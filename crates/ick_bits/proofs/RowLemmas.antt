@@ -43,6 +43,17 @@ inked-right place digit p d =
     (λ i. length (bar_line (place_symbols (i / 10) (i % 10)))) 100 refl (place * 10 + digit) (omega arith) in
     rw (high, low) at at
 
+-- the last three digits of a number have no bar
+pub none-inked : (place digit : ℕ) → place < 3 → digit < 10 → length (bar_line (place_symbols place digit)) ≡ 0
+unfolding true_below digit_symbols bar_line
+none-inked place digit p d =
+    let high : (place * 10 + digit) / 10 ≡ place = omega arith in
+    let low : (place * 10 + digit) % 10 ≡ digit = omega arith in
+    let at =
+    agree_at (λ i. length (bar_line (place_symbols (i / 10) (i % 10)))) (λ i. 0) 30 refl (place * 10 + digit)
+    (omega arith) in
+    rw (high, low) at at
+
 -- a digit has as many symbols at each place
 pub count-right : (letters : Letters) (digit : ℕ) → digit < 10 →
     get_or COUNTS digit 0 ≡ length (digit_symbols letters digit)

@@ -63,9 +63,9 @@ fn write_bars(text: &mut [u8; MOST], digits: &[u8]) -> usize
 {
     let mut end = 0;
     let mut inked = 0;
-    for (index, digit) in digits.iter().enumerate() {
+    for index in 0..digits.len().saturating_sub(3) {
         let place = digits.len() - 1 - index;
-        let digit = usize::from(*digit - b'0');
+        let digit = usize::from(digits[index] - b'0');
         write_row(text, end, &row_of_bars(place, digit));
         let count = inked_count(place, digit);
         if count > 0 {

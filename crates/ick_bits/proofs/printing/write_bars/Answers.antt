@@ -1,9 +1,9 @@
-use Rattle.std.proofs.Common.{◌≡◌, ◌-◌, ◌≤◌, length, arith, ap, map, sym, take, take-take, ◌∙◌}
+use Rattle.std.proofs.Common.{◌≡◌, ◌-◌, ◌≤◌, length, arith, ap, map, sym, take, ◌∙◌}
 use Rattle.std.specs.Char.{digit_value}
 use Rattle.ick_bits.specs.Numeral.{bar_byte, letters_of, place_symbols, symbols_of}
 use Rattle.ick_bits.proofs.NumeralSteps.{digit-at, digit-below, symbols-all, symbols-next}
 use Rattle.ick_bits.proofs.PrintingLemmas.{inked, inked_behind, behind-within, bar_line-begins, behind-start, behind-more, behind-whole}
-use Rattle.ick_bits.proofs.PrintingLemmas.{behind-some, behind-none, line-row, line-more, line-whole}
+use Rattle.ick_bits.proofs.PrintingLemmas.{behind-some, behind-none, line-begins, line-row, line-more}
 use Rattle.ick_bits.proofs.printing.write_bars.Goals as goal
 use Rattle.ick_bits.proofs.printing.write_bars.Goals.{then-count-gt0, else-count-gt0}
 
@@ -18,23 +18,23 @@ loop-index-init c =
       room = c.told-text;
     }
 
-pub overflow_sub-digit : goal.overflow_sub-digit
-overflow_sub-digit c = (digit-at _ c.requires.digits c.loop-index.index c.loop-index-test.true).0
+pub overflow_sub-digits : goal.overflow_sub-digits
+overflow_sub-digits c = (digit-at _ c.requires.digits c.loop-index.index (omega arith)).0
 
 pub row_of_bars-requires-clause-digit : goal.row_of_bars-requires-clause-digit
 row_of_bars-requires-clause-digit c =
-    rw c.from-digit.ensures (digit-below _ c.requires.digits c.loop-index.index c.loop-index-test.true)
+    rw c.from-digit.ensures (digit-below _ c.requires.digits c.loop-index.index (omega arith))
 
 pub write_row-requires : goal.write_row-requires
 write_row-requires c = omega (arith, c.loop-index.invariant.short, c.requires.few)
 
 pub inked_count-count-requires-clause-digit : goal.inked_count-count-requires-clause-digit
 inked_count-count-requires-clause-digit c =
-    rw c.from-digit.ensures (digit-below _ c.requires.digits c.loop-index.index c.loop-index-test.true)
+    rw c.from-digit.ensures (digit-below _ c.requires.digits c.loop-index.index (omega arith))
 
 pub letter_count-end-requires : goal.letter_count-end-requires
 letter_count-end-requires c =
-    rw c.from-digit.ensures (digit-below _ c.requires.digits c.loop-index.index c.loop-index-test.true)
+    rw c.from-digit.ensures (digit-below _ c.requires.digits c.loop-index.index (omega arith))
 
 pub loop-index-preserved : goal.loop-index-preserved
 loop-index-preserved c =
@@ -42,7 +42,7 @@ loop-index-preserved c =
     let place = length c.args.digits.now - 1 - c.loop-index.index in
     let symbols = place_symbols place c.from-digit.result in
     let step =
-    symbols-next _ c.requires.digits c.loop-index.index c.loop-index-test.true c.from-digit.result c.from-digit.ensures in
+    symbols-next _ c.requires.digits c.loop-index.index (omega arith) c.from-digit.result c.from-digit.ensures in
     let few : c.letter_count-end.result ≤ 4 = omega (arith, c.letter_count-end.ensures.few) in
     let long : c.letter_count-end.result ≡ length symbols = c.letter_count-end.ensures.count (letters_of place) in
     let row =
@@ -67,13 +67,12 @@ loop-index-preserved c =
 pub returns-clause-bars : goal.returns-clause-bars
 returns-clause-bars c =
     let inv = c.loop-index.invariant in
-    let all : c.loop-index.index ≡ length c.args.digits.now = omega arith in
-    let line = line-whole bar_byte _ c.loop-index.index all _ _ inv.line in
-    let bars = behind-whole _ c.loop-index.index all _ _ _ inv.bars in
+    let bars =
+    behind-whole _ c.requires.digits c.loop-index.index (omega arith) (omega arith) _ _ _ inv.bars in
     let symbols = symbols_of (map digit_value c.args.digits.now) in
-    sym (take-take c.loop-index.inked c.loop-index.end c.loop-index.text inv.within)
-    ∙ ap (take c.loop-index.inked) line ∙ ap (λ n. take n (map bar_byte symbols)) bars
-    ∙ sym (bar_line-begins symbols)
+    line-begins c.loop-index.end c.loop-index.inked c.loop-index.text _ _ inv.within
+    (omega (arith, inv.short, inv.room, c.requires.few)) inv.line
+    ∙ ap (λ n. take n (map bar_byte symbols)) bars ∙ sym (bar_line-begins symbols)
 
 pub returns-clause-within : goal.returns-clause-within
 returns-clause-within c = omega (arith, c.loop-index.invariant.within, c.loop-index.invariant.short, c.requires.few)
