@@ -135,12 +135,6 @@ impl Notes for Trail {
     }
 
     #[inline(always)]
-    fn note_element(&mut self, arrays: &[Array], slot: u32, at: u32) {
-        let old = arrays[slot as usize].elements[at as usize];
-        self.note(Entry::Element(slot, at, old));
-    }
-
-    #[inline(always)]
     fn note_dropped(&mut self, returns: &[u32], depth: usize) {
         if depth < self.low {
             self.keep_returns(returns, depth);

@@ -188,12 +188,6 @@ pub record Means {N : Type 0} (Undoes : N → ℕ → View → View → Type 0) 
       → Undoes notes k v m
 
 -- what can be undone before a change can be undone after it
-abbrev pub NotesElement : {N : Type 0} → (N → ℕ → View → View → Type 0) → N → N →
-    (slot at : ℕ) → List Array → Type 0
-NotesElement Undoes old new slot at arrays =
-    (k number : ℕ) (v m : View) → v.parts.arrays ≡ arrays → Undoes old k v m →
-    Undoes new k (with_arrays (with_number arrays slot at number) v) m
-
 abbrev pub NotesChange : {N : Type 0} → (N → ℕ → View → View → Type 0) → N → N → Change → Type 0
 NotesChange Undoes old new change =
     (k : ℕ) (v m : View) → IsUndoable change v → Undoes old k (undone change v) m → Undoes new k v m

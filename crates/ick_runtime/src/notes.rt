@@ -7,7 +7,7 @@ ghost use Rattle.ick_code.specs.meaning.State.{no_array};
 ghost use Rattle.ick_instructions.specs.Extends.{Extends};
 ghost use Rattle.ick_runtime.specs.Undo.{array_was, change_of, register_was, stands_apart};
 ghost use Rattle.ick_runtime.specs.Undo.{statuses_were, Change, Fixed, KeepsUndoing, Like, Means};
-ghost use Rattle.ick_runtime.specs.Undo.{NotesChange, NotesElement};
+ghost use Rattle.ick_runtime.specs.Undo.{NotesChange};
 ghost use Rattle.ick_runtime.specs.{Noting.NotesOne, View.array_of, View.View};
 
 use crate::change::{ArrayChange, Entry};
@@ -55,14 +55,6 @@ pub trait Notes: Drop {
     fn must_note(&self, at: u32) -> bool
         ensures { result ≡ false → (old : ℕ) →
             NotesChange Undoes self.now self.now (register_was at old) };
-
-    /// Notes that an element will have another number.
-    fn note_element(&mut self, arrays: &[Array], slot: u32, at: u32)
-        requires room { 0 < room self.old }
-        requires slot { slot < length arrays.now }
-        requires at { at < length (get_or (map array_of arrays.now) slot no_array).elements }
-        ensures noted { NotesOne room low fixed changes self.old self.new }
-        ensures notes { NotesElement Undoes self.old self.new slot at (map array_of arrays.now) };
 
     /// Notes that the return addresses from a depth on will be dropped.
     fn note_dropped(&mut self, returns: &[u32], depth: usize)
@@ -149,9 +141,6 @@ impl Notes for Nobody {
     fn must_note(&self, at: u32) -> bool {
         false
     }
-
-    #[inline(always)]
-    fn note_element(&mut self, arrays: &[Array], slot: u32, at: u32) {}
 
     #[inline(always)]
     fn note_dropped(&mut self, returns: &[u32], depth: usize) {}
