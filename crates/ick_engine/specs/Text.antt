@@ -1,11 +1,18 @@
--- What is left of arrays that are printed and read as bytes.
+-- What is left of numbers that are printed, and of arrays that are printed and read as bytes.
 use Rattle.std.specs.Prelude.{ℕ, ◌≡◌, ◌≢◌, ◌++◌, false, drop, length, Result, Ok, Err, slice_set, if◌then◌else◌}
 use Rattle.std.proofs.Common.{get_or}
-use Rattle.ick_bits.specs.declared.faults.FaultKind.TheVariants.{Hyperspace}
+use Rattle.ick_bits.specs.{declared.faults.FaultKind.TheVariants.Hyperspace, Numeral.numeral_of, Numeral.printed}
 use Rattle.ick_code.specs.meaning.State.{Array}
 use Rattle.ick_code.specs.meaning.Tape.{tape_bytes, tape_after, tape_numbers, last_read, with_elements}
 use Rattle.ick_runtime.specs.{View.Parts, View.array_at, Inputs.Input, declared.halt.Halt.Halt}
 use Rattle.ick_runtime.specs.declared.halt.Halt.TheVariants.{Fault, Word, NoMemory}
+
+-- a number was printed, or memory ran out
+abbrev pub IsNumberPrinted : Result (Unit {0}) Halt → (number : ℕ) → (old new : Parts) → Type 0
+IsNumberPrinted (Ok u) number old new =
+    new ≡ record old { output = old.output ++ printed (numeral_of number) }
+IsNumberPrinted (Err NoMemory) number old new = new ≡ old
+IsNumberPrinted (Err halt) number old new = ⊥
 
 -- the parts after an array was printed
 abbrev pub array_printed : Array → Parts → Parts

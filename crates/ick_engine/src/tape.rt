@@ -1,62 +1,14 @@
-//! Arrays that are printed and read as bytes.
+//! Arrays that bytes are read into.
 
-ghost use Rattle.std.specs.Prelude.{◌≡◌, ◌+◌, ◌<◌, ◌≤◌, ◌++◌, length, IfOk, OnOk, OnErr};
-ghost use Rattle.ick_code.specs.meaning.Tape.{tape_bytes, tape_after};
+ghost use Rattle.std.specs.Prelude.{◌≡◌, ◌+◌, ◌<◌, ◌≤◌, length, OnOk};
 ghost use Rattle.ick_runtime.specs.{Halts.Took, Noting.NotesBefore, Noting.NotesParts};
 ghost use Rattle.ick_runtime.specs.{Inputs.Leads, View.parts_of};
 ghost use Rattle.ick_engine.specs.Reads.{HasRead, number_read, last_after, position_after};
-ghost use Rattle.ick_engine.specs.Text.{IsArrayRead, IsPrinted};
+ghost use Rattle.ick_engine.specs.Text.{IsArrayRead};
 
 use crate::reader::Reader;
-use ick_bits::{FaultKind, NoMemory, tape_in, tape_out};
+use ick_bits::{FaultKind, NoMemory, tape_in};
 use ick_runtime::{ArrayChange, Entry, Halt, Notes, Rest};
-
-/// Appends the bytes of elements to the output. Returns the position of the tape after them. If
-/// memory runs out, the output doesn't change.
-#[inline(always)]
-fn append_elements(output: &mut Vec<u8>, last: u8, elements: &Vec<u32>) -> Result<u8, NoMemory>
-    ensures output { OnOk result (output.new.items ≡ output.old.items ++ tape_bytes last
-        elements.now.items) }
-    ensures last { IfOk result (λ position. position ≡ tape_after last elements.now.items) }
-    ensures err { OnErr result (output.new.items ≡ output.old.items) }
-{
-    output.reserve(elements.len())?;
-    let mut position = last;
-    for at in 0..elements.len() {
-        let number = (elements[at] % 65536) as u16;
-        let (next, byte) = tape_out(position, number);
-        output.push_reserved(byte);
-        position = next;
-    }
-    Ok(position)
-}
-
-/// Prints the elements of an array of one dimension as bytes (Revised Manual, 5.2). If memory runs
-/// out, nothing changes.
-#[inline(never)]
-pub fn print_array<N: Notes>(
-    rest: &mut Rest,
-    notes: &mut N,
-    slot: u32,
-    longest: usize,
-) -> Result<(), Halt>
-    requires slot { slot < length rest.old.arrays.items }
-    requires room { 2 ≤ N.room notes.old }
-    ensures printed { IsPrinted result slot (parts_of rest.old) (parts_of rest.new) }
-    ensures room { OnOk result (longest + 79 ≤ N.room notes.new) }
-    ensures notes { NotesParts N.Undoes N.low N.fixed N.changes notes.old notes.new
-        (parts_of rest.old) (parts_of rest.new) }
-{
-    let array = &rest.arrays[slot as usize];
-    if array.dimensions.len() != 1 {
-        return Err(Halt::Fault(FaultKind::Hyperspace));
-    }
-    notes.note(Entry::Output(rest.output.len()));
-    notes.note(Entry::Last(rest.last));
-    notes.make_room(longest)?;
-    rest.last = append_elements(&mut rest.output, rest.last, &array.elements)?;
-    Ok(())
-}
 
 /// Goes on behind a byte, or stays at the end of the input. Returns the number that an element gets
 /// from it. `to` is the position of the next byte, and `last` the byte that was read last.
@@ -77,6 +29,7 @@ fn take(byte: Option<(u8, usize)>, to: &mut usize, last: &mut u8) -> u32
 
 /// Reads bytes of the input into elements, unless these stay as they are. The input begins at `to`,
 /// and `last` is the byte before it. If the reader fails, some elements have changed.
+#[inline(always)]
 fn read_bytes<R: Reader>(
     stays: bool,
     elements: &mut [u32],
@@ -146,12 +99,7 @@ pub fn read_array<N: Notes, R: Reader>(
     note_reading(rest, notes, longest)?;
     let array = &mut rest.arrays[slot as usize];
     let elements = array.elements.as_mut_slice();
-    read_bytes(
-        array.hidden,
-        elements,
-        reader,
-        &mut rest.taken,
-        &mut rest.lastin,
-    )?;
+    let taken = &mut rest.taken;
+    read_bytes(array.hidden, elements, reader, taken, &mut rest.lastin)?;
     Ok(())
 }

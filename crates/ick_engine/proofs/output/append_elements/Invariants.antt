@@ -1,6 +1,6 @@
 use Rattle.std.proofs.Common.{◌≡◌, ◌+◌, ◌≤◌, ◌++◌, take, vec_len, vec_capacity}
 use Rattle.ick_code.specs.meaning.Tape.{tape_bytes, tape_after}
-use Rattle.ick_engine.proofs.tape.append_elements.Given as goal
+use Rattle.ick_engine.proofs.output.append_elements.Given as goal
 
 abbrev pub invariant-loop-at : goal.invariant-loop-at
 invariant-loop-at l = record {

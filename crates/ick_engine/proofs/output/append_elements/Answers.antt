@@ -1,6 +1,6 @@
 use Rattle.std.proofs.Common.{◌<◌, length, arith}
 use Rattle.ick_engine.proofs.TapeOut.{next_bytes, next_position}
-use Rattle.ick_engine.proofs.tape.append_elements.Goals as goal
+use Rattle.ick_engine.proofs.output.append_elements.Goals as goal
 
 pub loop-at-preserved : goal.loop-at-preserved
 loop-at-preserved c =
