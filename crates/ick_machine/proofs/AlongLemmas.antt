@@ -5,20 +5,13 @@ use Rattle.std.specs.Prelude.{Ok, Err, if◌then◌else◌}
 use Rattle.std.proofs.lemmas.List.{append-nil, length-append}
 use Rattle.std.proofs.Math.Seq.{take-append-add}
 use mathlib.Core.Logic.{∥∥₁_map}
-use Rattle.ick_code.specs.meaning.State.{State}
-use Rattle.ick_code.specs.meaning.Move.{Asking, plain, choice, ended, ask, advance}
-use Rattle.ick_code.specs.Laws.{after_output}
-use Rattle.ick_code.proofs.AskLaws.{ask_same}
-use Rattle.ick_code.proofs.Frames.{advance_frame}
-use Rattle.ick_backtrack.specs.Machine.{Program}
-use Rattle.ick_backtrack.specs.Steps.{IsPlain, RunsOn, after_steps}
-use Rattle.ick_machine.specs.Feeds.{MeetsInput}
-use Rattle.ick_machine.specs.Live.{LiveMachine, cleared, live_ask}
-use Rattle.ick_machine.specs.LiveAsk.{live_asked}
-use Rattle.ick_machine.specs.declared.asking.LiveAsk.TheVariants.{Failed, Plain}
-use Rattle.ick_machine.specs.declared.outlet.RunFault.{RunFault}
-use Rattle.ick_machine.specs.Printing.{IsAtInput, Prints}
-use Rattle.ick_machine.proofs.StepsLemmas.{no_step, one_more, steps_on}
+use Rattle.ick_code.{proofs.{AskLaws.ask_same, Frames.advance_frame}, specs.meaning.{State.State, Move.{Asking, plain}}}
+use Rattle.ick_code.specs.{meaning.Move.{choice, ended, ask, advance}, Laws.after_output}
+use Rattle.ick_backtrack.specs.{Machine.Program, Steps.{IsPlain, RunsOn, after_steps}}
+use Rattle.ick_machine.{proofs.StepsLemmas.{no_step, one_more, steps_on}, specs.{Feeds.MeetsInput, Live.LiveMachine}}
+use Rattle.ick_machine.specs.{Live.{cleared, live_ask}, LiveAsk.live_asked, declared.asking.LiveAsk.TheVariants.Failed}
+use Rattle.ick_machine.specs.{declared.{asking.LiveAsk.TheVariants.Plain, outlet.RunFault.RunFault}, Printing.IsAtInput}
+use Rattle.ick_machine.specs.Printing.{Prints}
 
 -- a machine asks nothing exactly if the definition does
 same_plain : (a : Asking) → live_asked a ≡ Plain → a ≡ plain

@@ -5,16 +5,14 @@ use Rattle.std.proofs.Common.{refl, ap, arith, rules}
 use Rattle.std.specs.Prelude.{◌⊎◌, nat_lt, ◌&&◌, option_map, if◌then◌else◌}
 use Rattle.std.proofs.{lemmas.Bool.cases_lt, lemmas.Bool.Decides.nat_tests, lemmas.Option.slice_get_past}
 use Rattle.ick_syntax.specs.StatementTree.{StatementTree}
-use Rattle.ick_code.specs.{declared.code.Code.Code, Compiled.code_program}
-use Rattle.ick_code.specs.meaning.State.{State, Ending, statement_at}
+use Rattle.ick_code.specs.{declared.code.Code.Code, Compiled.code_program, meaning.State.{State, Ending, statement_at}}
 use Rattle.ick_code.specs.meaning.Move.{plain, choice, ask, ask_of, ask_at, is_uncertain}
 use Rattle.ick_instructions.specs.declared.lowered.LoweredParts.{LoweredParts}
 use Rattle.ick_engine.specs.{declared.exit.RawEnd.RawEnd, Exits.end_of}
-use Rattle.ick_runtime.specs.{View.View, Inputs.Input, Status.percent_of}
-use Rattle.ick_runtime.specs.{Status.lack_of, Status.is_abstained, Steady.IsReady}
-use Rattle.ick_runtime.proofs.{Statuses.some_and, Turns.no_input}
-use Rattle.ick_backtrack.specs.{Asked.Finish, Asked.finished, Asked.asked_at_end, Machine.Program, Steps.IsPlain}
-use Rattle.ick_machine.specs.{Asked.is_open, Asked.asked_by, Run.ending_of, Run.run_state}
+use Rattle.ick_runtime.{proofs.{Statuses.some_and, Turns.no_input}, specs.{View.View, Inputs.Input, Status.percent_of}}
+use Rattle.ick_runtime.specs.{Status.{lack_of, is_abstained}, Steady.IsReady}
+use Rattle.ick_backtrack.specs.{Asked.{Finish, finished, asked_at_end}, Machine.Program, Steps.IsPlain}
+use Rattle.ick_machine.specs.{Asked.{is_open, asked_by}, Run.{ending_of, run_state}}
 
 -- what a status lacks to 100, if no choice is asked at it
 certain_lacks : (status : ℕ) → is_open status ≡ false → is_abstained status ≡ false →

@@ -5,12 +5,11 @@ use Rattle.std.specs.Prelude.{map, if◌then◌else◌, vec_len}
 use Rattle.std.specs.{List.All, Option.option_to_list}
 use Rattle.std.proofs.lemmas.List.Elements.{All-append, All-cons, All-head, All-nil, All-tail}
 use Rattle.ick_code.specs.declared.code.Code.{Code}
-use Rattle.ick_instructions.specs.{declared.lowered.LoweredParts.LoweredParts, declared.lowered.Lowered.Lowered}
-use Rattle.ick_marks.specs.{Saved.IsKept}
-use Rattle.ick_runtime.specs.{Inputs.input_of}
+use Rattle.ick_instructions.specs.declared.lowered.{LoweredParts.LoweredParts, Lowered.Lowered}
+use Rattle.ick_marks.specs.Saved.{IsKept}
+use Rattle.ick_runtime.specs.Inputs.{input_of}
 use Rattle.ick_backtrack.specs.Machine.{Machine}
-use Rattle.ick_machine.specs.{declared.copied.Copied.Copied, declared.copied.Copy.Copy}
-use Rattle.ick_machine.specs.{declared.trailed.Trailed.Trailed, Seen.fixed_parts}
+use Rattle.ick_machine.specs.{declared.{copied.{Copied.Copied, Copy.Copy}, trailed.Trailed.Trailed}, Seen.fixed_parts}
 use Rattle.ick_machine.specs.Copies.{AreCopies, copied_state}
 
 all_but_one : {A : Type 0} (P : A → Type 0) (xs : List A) (x : A) → All P (xs ++ x ∷ []) → All P xs × P x

@@ -2,18 +2,14 @@
 use Rattle.std.proofs.Common.{◌≡◌, ℕ, List, [], Option, Some, None, refl, ap, ◌∙◌, rules}
 use Rattle.std.specs.Prelude.{option_map}
 use Rattle.ick_syntax.specs.StatementTree.{StatementTree}
-use Rattle.ick_code.specs.{declared.code.Code.Code, Compiled.code_program}
-use Rattle.ick_code.specs.meaning.State.{State, Ending, statement_at}
-use Rattle.ick_code.specs.meaning.Move.{Asking, ended, ask, ask_at, ask_of}
-use Rattle.ick_code.proofs.AskLaws.{ask_same}
+use Rattle.ick_code.{proofs.AskLaws.ask_same, specs.{declared.code.Code.Code, Compiled.code_program}}
+use Rattle.ick_code.specs.meaning.{State.{State, Ending, statement_at}, Move.{Asking, ended, ask, ask_at, ask_of}}
 use Rattle.ick_instructions.specs.declared.lowered.LoweredParts.{LoweredParts}
-use Rattle.ick_engine.specs.{declared.exit.RawEnd.RawEnd}
+use Rattle.ick_engine.specs.{declared.exit.RawEnd.RawEnd, Feeds.input_after}
 use Rattle.ick_runtime.specs.{View.View, Inputs.input_of}
 use Rattle.ick_backtrack.specs.Asked.{Finish, finished, asked_at_end}
-use Rattle.ick_engine.specs.{Feeds.input_after}
-use Rattle.ick_machine.specs.{Message.asked_message}
-use Rattle.ick_machine.specs.{Message.end_message, Run.ending_of, Run.run_state}
-use Rattle.ick_machine.proofs.{FedLemmas.same_end}
+use Rattle.ick_machine.{proofs.FedLemmas.same_end, specs.{Message.{asked_message, end_message}, Run.ending_of}}
+use Rattle.ick_machine.specs.Run.{run_state}
 
 -- the message of an end
 message_at : (end : Ending) (asked : Asking) → Some (ended end) ≡ Some asked → asked_message asked ≡ end_message end

@@ -6,12 +6,9 @@ use Rattle.std.proofs.Math.Seq.{take-length, take-add}
 use Rattle.std.proofs.lemmas.Bool.{cases_lt, false≢true}
 use Rattle.std.proofs.lemmas.List.{append-nil, take_all, take-append-le}
 use mathlib.Core.Logic.{∥∥₁_elim, ∥∥₁_map}
-use Rattle.ick_code.specs.meaning.State.{State}
-use Rattle.ick_code.proofs.Leads.{advance_leads}
-use Rattle.ick_backtrack.specs.Machine.{Program}
-use Rattle.ick_backtrack.specs.Steps.{IsPlain, after_steps}
-use Rattle.ick_machine.specs.Printing.{Reaches, HasLeft, MayLeave}
-use Rattle.ick_machine.proofs.StepsLemmas.{no_step}
+use Rattle.ick_code.{proofs.Leads.advance_leads, specs.meaning.State.State}
+use Rattle.ick_backtrack.specs.{Machine.Program, Steps.{IsPlain, after_steps}}
+use Rattle.ick_machine.{proofs.StepsLemmas.no_step, specs.Printing.{Reaches, HasLeft, MayLeave}}
 
 module _ (program : Program) (s : State) where
   -- output only grows

@@ -4,9 +4,8 @@ use mathlib.Core.Logic.{∥∥₁_elim, ∥∥₁_map}
 use mathlib.Core.Path.{fun_ext}
 use Rattle.ick_code.specs.declared.code.Code.{Code}
 use Rattle.ick_instructions.specs.declared.lowered.LoweredParts.{LoweredParts}
-use Rattle.ick_runtime.specs.{Steady.IsReady, View.View, View.file_of, View.state_of}
-use Rattle.ick_marks.proofs.{Readiness.ready-prop}
-use Rattle.ick_runtime.proofs.{Steps.stands_with}
+use Rattle.ick_runtime.{proofs.Steps.stands_with, specs.{Steady.IsReady, View.{View, file_of, state_of}}}
+use Rattle.ick_marks.proofs.Readiness.{ready-prop}
 
 pub ready_unless : (code : Code) (lowered : LoweredParts) (v : View) (failed : Bool) →
     ∥ (failed ≡ false → IsReady code lowered v) ∥₁ → failed ≡ false → IsReady code lowered v

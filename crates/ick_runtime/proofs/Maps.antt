@@ -1,13 +1,12 @@
 -- A map from names, kept by slots.
 use Rattle.std.proofs.Common.{[], ap, arith, Bool, false, get_or, if◌then◌else◌, length, List, refl, rules, slice_get, slice_set, Some, suc, true}
 use Rattle.std.proofs.Common.{zero, ℕ, ◌&&◌, ◌<◌, ◌∙◌, ◌∷◌, ◌≡◌, ◌≤◌}
+use Rattle.std.specs.List.{IsDistinct}
 use Rattle.ick_runtime.proofs.Names.{array_names, both, Code, code_program, fun_ext, map_of, Name, same_name}
 use Rattle.ick_runtime.proofs.Names.{scalar_names, slice_get_within, with_entry}
-use Rattle.ick_code.proofs.SameNames.{same_name_is}
-use Rattle.ick_code.specs.{Compiled.IsCompiled, Names.is_array_name, Names.is_scalar_name}
+use Rattle.ick_code.{proofs.SameNames.same_name_is, specs.{Compiled.IsCompiled, Names.{is_array_name, is_scalar_name}}}
 use Rattle.ick_instructions.proofs.NameTests.{all_at, not_true, passes}
 use Rattle.ick_syntax.specs.NameKinds.{is_array}
-use Rattle.std.specs.List.{IsDistinct}
 
 pub both_true : (a b : Bool) → (a && b) ≡ true → (a ≡ true) × (b ≡ true)
 both_true true b e = (refl, e)

@@ -2,9 +2,8 @@ use Rattle.std.proofs.Common.{Some, sym, ◌∙◌, ap, rules}
 use Rattle.std.proofs.lemmas.Grind.{get_or_default_zero}
 use Rattle.ick_runtime.specs.{Memory.view_in, Inputs.input_of}
 use Rattle.ick_backtrack.specs.Asked.{finish_of}
-use Rattle.ick_machine.specs.Run.{run_state}
+use Rattle.ick_machine.{proofs.AnswerLemmas.{asks_end, asks_status, place_low}, specs.Run.run_state}
 use Rattle.ick_code.specs.{Compiled.code_program, meaning.Move.ask}
-use Rattle.ick_machine.proofs.AnswerLemmas.{asks_end, asks_status, place_low}
 use Rattle.ick_machine.proofs.asking.answer.Goals as goal
 
 pub returns-in-Some : goal.returns-in-Some

@@ -1,10 +1,8 @@
 use Rattle.std.proofs.Common.{refl, arith}
 use Rattle.ick_backtrack.specs.Steps.{IsPlain}
 use Rattle.ick_runtime.{specs.Memory.view_in, proofs.Undoing.{like_moved, like_refl}}
-use Rattle.ick_machine.proofs.AnswerLemmas.{some_bound}
-use Rattle.ick_machine.proofs.StepLemmas.{has_made, has_moved, has_stepped, ready_by, steady_by}
-use Rattle.ick_machine.proofs.StepsLemmas.{no_step}
-use Rattle.ick_machine.proofs.WholeLemmas.{if_ok, if_so}
+use Rattle.ick_machine.proofs.{AnswerLemmas.some_bound, StepLemmas.{has_made, has_moved, has_stepped, ready_by}}
+use Rattle.ick_machine.proofs.{StepLemmas.steady_by, StepsLemmas.no_step, WholeLemmas.{if_ok, if_so}}
 use Rattle.ick_machine.proofs.steps.make_steps.Goals as goal
 
 -- the run had ended

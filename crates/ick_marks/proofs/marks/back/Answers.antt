@@ -1,9 +1,7 @@
 use Rattle.std.proofs.Common.{arith, refl, subst, sym}
-use Rattle.ick_marks.proofs.Names.{HighSame, restored, View, view_in}
-use Rattle.ick_marks.proofs.Changes.{count_history, nothing_newer}
-use Rattle.ick_marks.specs.TrailChanges.{AreUndone}
+use Rattle.ick_marks.proofs.{Names.{HighSame, restored, View, view_in}, Changes.{count_history, nothing_newer}}
+use Rattle.ick_marks.{proofs.marks.back.Goals.{else-len-mark, then-len-mark}, specs.TrailChanges.AreUndone}
 use Rattle.ick_runtime.proofs.Undoing.{like_moved}
-use Rattle.ick_marks.proofs.marks.back.Goals.{else-len-mark, then-len-mark}
 use Rattle.ick_marks.proofs.marks.back.Goals as goal
 
 pub returns : goal.returns

@@ -1,4 +1,4 @@
-use Rattle.std.proofs.Common.{ap, arith, false, get_or, length, map, refl, slice_set, sym, true, ◌<◌, ◌∙◌, ◌≡◌}
+use Rattle.std.proofs.{Common.{arith, false, get_or, length, map, refl, slice_set, true, ◌<◌, ◌≡◌}, lemmas.Grind.common_steps}
 use Rattle.ick_runtime.proofs.Names.{array_of, array_was, arrays_of, ChangesAt, get_or-map, is_hidden, IsTakenOff, length-map, Like, map-set}
 use Rattle.ick_runtime.proofs.Names.{no_array, undone, View, with_array_stashes, with_arrays}
 use Rattle.ick_runtime.proofs.StashingLemmas.{changes_at, drops_at, exchanged_like, like_arrays, taken_like}
@@ -7,19 +7,11 @@ use Rattle.ick_runtime.proofs.stash.restore_array.Goals as goal
 
 pub returns-then-index-clause-retrieved : goal.returns-then-index-clause-retrieved
 returns-then-index-clause-retrieved g c =
-    let arrays = c.args.arrays.now.items in
-    let stashes = c.args.stashes.now.items in
-    let slot = c.args.slot in
-    let hidden : get_or (map is_hidden arrays) slot false ≡ true =
-    cc (get_or-map is_hidden arrays slot c.index.result.now false c.requires.array, c.index.ensures, c.if-index.true) in
-    rw hidden (
-      (
-        array_of c.index-newest.result.now,
-        drops_at stashes c.drop_at.new.stashes.items slot c.index-stash.result.now c.index-newest.result.now
-            c.requires.slot c.index-stash.ensures c.drop_at.ensures (omega arith) c.index-newest.ensures,
-      ),
-      refl,
-    )
+    let hidden : get_or (map is_hidden c.args.arrays.now.items) c.args.slot false ≡ true =
+    grind (arith, common_steps, get_or-map) in
+    let dropped = drops_at c.args.stashes.now.items c.drop_at.new.stashes.items c.args.slot c.index-stash.result.now
+    c.index-newest.result.now c.requires.slot c.index-stash.ensures c.drop_at.ensures (omega arith) c.index-newest.ensures in
+    rw hidden ((array_of c.index-newest.result.now, dropped), refl)
 
 pub returns-then-index-clause-notes : goal.returns-then-index-clause-notes
 returns-then-index-clause-notes g c = λ k v m arrays same h.
@@ -34,18 +26,15 @@ returns-then-index-clause-notes g c = λ k v m arrays same h.
 
 pub returns-clause-retrieved : goal.returns-clause-retrieved
 returns-clause-retrieved g c =
-    let arrays = c.args.arrays.now.items in
-    let stashes = c.args.stashes.now.items in
-    let slot = c.args.slot in
     let x = c.exchange.new.array in
-    let shown : get_or (map is_hidden arrays) slot false ≡ false =
-    cc (get_or-map is_hidden arrays slot c.index.result.now false c.requires.array, c.index.ensures, c.if-index.false) in
+    let shown : get_or (map is_hidden c.args.arrays.now.items) c.args.slot false ≡ false =
+    grind (arith, common_steps, get_or-map) in
     rw shown (record {
       array = array_of x;
       taken =
-          changes_at arrays_of (IsTakenOff (array_of x)) stashes slot c.index_mut.result.now c.exchange.new.self
-          c.requires.slot c.index_mut.ensures.value c.exchange.ensures.taken;
-      arrays_are = map-set array_of arrays slot x;
+          changes_at arrays_of (IsTakenOff (array_of x)) c.args.stashes.now.items c.args.slot c.index_mut.result.now
+          c.exchange.new.self c.requires.slot c.index_mut.ensures.value c.exchange.ensures.taken;
+      arrays_are = map-set array_of c.args.arrays.now.items c.args.slot x;
     })
 
 pub returns-clause-notes : goal.returns-clause-notes
@@ -60,13 +49,10 @@ returns-clause-notes g c = λ k v m same_arrays same h.
     let at : ChangesAt slot (IsTakenOff x) v.parts.array_stashes new =
     rw same (changes_at arrays_of (IsTakenOff x) c.args.stashes.now.items slot c.index_mut.result.now c.exchange.new.self
     c.requires.slot c.index_mut.ensures.value c.exchange.ensures.taken) in
-    let there : slot < length v.parts.arrays =
-    omega (arith, c.requires.array, length-map arrays array_of, ap length same_arrays) in
+    let there : slot < length v.parts.arrays = grind (arith, common_steps, length-map) in
     let was : get_or v.parts.arrays slot no_array ≡ array_of c.index-2.result.now =
-    ap (λ l. get_or l slot no_array) same_arrays
-    ∙ get_or-map array_of arrays slot c.index-2.result.now no_array c.requires.array ∙ ap array_of (sym c.index-2.ensures) in
-    let is : slice_set v.parts.arrays slot x ≡ after =
-    ap (λ l. slice_set l slot x) same_arrays ∙ sym (map-set array_of arrays slot c.exchange.new.array) in
+    grind (arith, common_steps, get_or-map) in
+    let is : slice_set v.parts.arrays slot x ≡ after = grind (arith, common_steps, map-set) in
     let w : View = with_array_stashes new (with_arrays after v) in
     let like : Like base low v (undone (array_was now.Restored slot (array_of c.index-2.result.now)) w) =
     rw (← was, ← is) (exchanged_like base low slot v x new there at) in

@@ -1,8 +1,7 @@
 use Rattle.std.proofs.Common.{get_or, List, map, slice_set, ℕ, ◌≡◌}
 use Rattle.ick_runtime.proofs.Names.{ChangesAt, IsTakenOff, numbers_of, Parts, set-get_or, View}
-use Rattle.ick_runtime.proofs.StashingLemmas.{changes_at, like_scalars, taken_like}
-use Rattle.ick_runtime.proofs.Undoing.{put_back, restored_back}
-use Rattle.ick_runtime.proofs.{stash.restore_scalar.Given.Over, stash.restore_scalar.Goals.After-note}
+use Rattle.ick_runtime.proofs.{StashingLemmas.{changes_at, like_scalars, taken_like}, Undoing.{put_back, restored_back}}
+use Rattle.ick_runtime.proofs.stash.restore_scalar.{Given.Over, Goals.After-note}
 use Rattle.ick_runtime.proofs.stash.restore_scalar.Goals as goal
 
 -- the change was noted, whether the scalar has the number now or not

@@ -1,8 +1,7 @@
 use Rattle.std.proofs.Common.{ℕ, rules}
 use Rattle.ick_backtrack.specs.Steps.{HasRun}
+use Rattle.ick_machine.proofs.{CopyLemmas.{copied_over, still_copied}, WholeLemmas.{if_ok, on_err}}
 use Rattle.ick_machine.specs.Seen.{fixed_parts, trailed_machine}
-use Rattle.ick_machine.proofs.CopyLemmas.{copied_over, still_copied}
-use Rattle.ick_machine.proofs.WholeLemmas.{if_ok, on_err}
 use Rattle.ick_machine.proofs.copied.CopiedAsks.run.Goals as goal
 
 pub invariant_of-self : goal.invariant_of-self

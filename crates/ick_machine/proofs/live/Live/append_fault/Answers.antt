@@ -4,10 +4,9 @@ use Rattle.ick_bits.specs.Faults.{message_of}
 use Rattle.ick_code.specs.meaning.State.{gave_up, faulted}
 use Rattle.ick_backtrack.specs.Asked.{finished, finish_of}
 use Rattle.ick_runtime.specs.Memory.{view_in}
+use Rattle.ick_machine.proofs.{LiveLemmas.{no_message, said_at}, live.Live.append_fault.Goals.After-append_message}
 use Rattle.ick_machine.specs.Live.{fault_message, seen}
-use Rattle.ick_machine.proofs.LiveLemmas.{no_message, said_at}
 use Rattle.ick_machine.proofs.live.Live.append_fault.Goals as goal
-use Rattle.ick_machine.proofs.live.Live.append_fault.Goals.{After-append_message}
 
 pub returns-in_default-clause-ok : goal.returns-in_default-clause-ok
 unfolding seen

@@ -1,14 +1,13 @@
 use Rattle.std.proofs.Common.{◌≡◌, Some, [], ap, sym, ◌∙◌, rules}
 use Rattle.std.specs.Prelude.{if◌then◌else◌}
-use Rattle.ick_code.specs.{Compiled.code_program, meaning.Move.Asking, meaning.Move.ask}
+use Rattle.ick_code.specs.{Compiled.code_program, meaning.Move.{Asking, ask}}
 use Rattle.ick_backtrack.specs.Asked.{asked_of}
 use Rattle.ick_runtime.specs.Memory.{view_in}
-use Rattle.ick_engine.specs.{Feeds.input_after}
-use Rattle.ick_machine.specs.{declared.asking.LiveAsk.TheVariants.Failed, Live.live_ask, Live.seen}
-use Rattle.ick_machine.specs.{LiveAsk.live_asked, Run.run_state}
-use Rattle.ick_machine.proofs.{LiveLemmas.asks_same, Readiness.ready_unless}
+use Rattle.ick_engine.specs.Feeds.{input_after}
+use Rattle.ick_machine.proofs.{LiveLemmas.asks_same, Readiness.ready_unless, live.Live.asks.Goals.After-answer}
+use Rattle.ick_machine.specs.{declared.asking.LiveAsk.TheVariants.Failed, Live.{live_ask, seen}, LiveAsk.live_asked}
+use Rattle.ick_machine.specs.Run.{run_state}
 use Rattle.ick_machine.proofs.live.Live.asks.Goals as goal
-use Rattle.ick_machine.proofs.live.Live.asks.Goals.{After-answer}
 
 pub answer-requires : goal.answer-requires
 answer-requires c = search (rules, ready_unless)

@@ -1,27 +1,20 @@
 use Rattle.std.proofs.Common.{◌≡◌, ◌+◌, ◌-◌, ◌<◌, ◌≤◌, ℕ, List, true, false, refl, inl, inr, sym, ◌∙◌, ap, subst, arith}
 use Rattle.std.proofs.Common.{append-nil, rules}
 use Rattle.std.specs.Prelude.{Result, Ok, Err, IfOk, OnOk, [], ◌^◌}
-use Rattle.ick_bits.specs.declared.memory.NoMemory.{NoMemory as OutOfMemory}
 use mathlib.Core.Logic.{∥∥₁_map}
-use Rattle.ick_code.specs.meaning.State.{State}
-use Rattle.ick_code.specs.meaning.Move.{advance}
+use Rattle.ick_bits.specs.declared.memory.NoMemory.{NoMemory as OutOfMemory}
+use Rattle.ick_code.specs.meaning.{State.State, Move.advance}
 use Rattle.ick_backtrack.specs.Steps.{IsPlain, RunsOn}
-use Rattle.ick_machine.specs.Feeds.{MeetsInput}
-use Rattle.ick_machine.specs.Live.{LiveMachine, fed, live_ask, seen}
-use Rattle.ick_engine.specs.Feeds.{one_if}
-use Rattle.ick_machine.specs.Printing.{HasLeft, HasPrinted, Prints, is_error}
-use Rattle.ick_machine.specs.declared.live.Live.{Live}
-use Rattle.ick_machine.specs.declared.asking.LiveAsk.TheVariants.{Plain}
-use Rattle.ick_machine.specs.declared.outlet.RunFault.{RunFault}
-use Rattle.ick_machine.specs.declared.outlet.RunFault.TheVariants.{NoMemory, Read, Write}
 use Rattle.ick_machine.proofs.AlongLemmas.{IsAlong, along_start, along_further, along_step, along_done, along_part}
-use Rattle.ick_machine.proofs.AlongLemmas.{along_cut}
-use Rattle.ick_machine.proofs.AlongLemmas.{along_at_input, plain_fed, plain_here, plain_there}
-use Rattle.ick_machine.proofs.PrinterLemmas.{Kept, kept_first}
-use Rattle.ick_machine.proofs.live.Live.run.Given.{Over}
-use Rattle.ick_machine.proofs.live.Live.run.Goals.{After-clear_output, In-Ok, Else-not-matches, After-step}
+use Rattle.ick_machine.proofs.AlongLemmas.{along_cut, along_at_input, plain_fed, plain_here, plain_there}
+use Rattle.ick_machine.proofs.{PrinterLemmas.{Kept, kept_first}, live.Live.run.{Given.Over, Goals.After-clear_output}}
+use Rattle.ick_machine.proofs.live.Live.run.Goals.{In-Ok, Else-not-matches, After-step}
 use Rattle.ick_machine.proofs.live.Live.run.Goals.{then-made-limit-via-then-made-limit, in-Plain, in_default}
 use Rattle.ick_machine.proofs.live.Live.run.Goals.{then-made-limit-via-else-made-limit+then-not-matches}
+use Rattle.ick_machine.specs.{Feeds.MeetsInput, Live.{LiveMachine, fed, live_ask, seen}, Printing.{HasLeft, HasPrinted}}
+use Rattle.ick_machine.specs.{Printing.{Prints, is_error}, declared.{live.Live.Live, asking.LiveAsk.TheVariants.Plain}}
+use Rattle.ick_machine.specs.declared.outlet.RunFault.{RunFault, TheVariants.{NoMemory, Read, Write}}
+use Rattle.ick_engine.specs.Feeds.{one_if}
 use Rattle.ick_machine.proofs.live.Live.run.Goals as goal
 
 pub on-init : goal.on-init

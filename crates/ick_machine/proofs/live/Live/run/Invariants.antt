@@ -1,6 +1,5 @@
 use Rattle.std.proofs.Common.{◌≡◌, ◌≤◌, ◌-◌, true, false}
-use Rattle.ick_machine.specs.Live.{fed, seen}
-use Rattle.ick_machine.proofs.AlongLemmas.{IsAlong}
+use Rattle.ick_machine.{proofs.AlongLemmas.IsAlong, specs.Live.{fed, seen}}
 use Rattle.ick_machine.proofs.live.Live.run.Given as goal
 
 abbrev pub invariant-on : goal.invariant-on

@@ -5,11 +5,9 @@ use Rattle.ick_instructions.specs.declared.lowered.Lowered.{Lowered}
 use Rattle.ick_backtrack.specs.Steps.{IsPlain, RunsOn}
 use Rattle.ick_runtime.specs.{Memory.view_in, Inputs.Input}
 use Rattle.ick_engine.specs.Feeds.{MayBeLeft, input_after, some_left}
-use Rattle.ick_machine.specs.{Live.fed, Live.seen, Printing.MayLeave, RunIn.program_of, RunIn.state_in}
-use Rattle.ick_machine.specs.declared.live.Live.{Live}
 use Rattle.ick_machine.proofs.{FedLemmas.begun_at, Readiness.ready_unless, StepLemmas.goes_to, StepsLemmas.no_step}
-use Rattle.ick_machine.proofs.live.Live.run_by.Given.{Over}
-use Rattle.ick_machine.proofs.live.Live.run_by.Goals.{Start, In_ok-made}
+use Rattle.ick_machine.{proofs.live.Live.run_by.{Given.Over, Goals.{Start, In_ok-made}}, specs.Live.{fed, seen}}
+use Rattle.ick_machine.specs.{Printing.MayLeave, RunIn.{program_of, state_in}, declared.live.Live.Live}
 use Rattle.ick_machine.proofs.live.Live.run_by.Goals as goal
 
 -- what a printer keeps of a run

@@ -2,23 +2,19 @@ use Rattle.std.proofs.Common.{◌≡◌, ◌+◌, ◌-◌, ◌≤◌, [], inl, i
 use Rattle.std.specs.Prelude.{◌⊎◌, reverse, vec_capacity, vec_len}
 use Rattle.ick_code.specs.meaning.Move.{advance}
 use Rattle.ick_backtrack.specs.Steps.{IsPlain, RunsOn}
-use Rattle.ick_marks.specs.{declared.marks.Mark.Mark, declared.trail.Trail.Trail}
-use Rattle.ick_marks.specs.TrailChanges.{changes_in, fixed_by}
+use Rattle.ick_marks.specs.{declared.{marks.Mark.Mark, trail.Trail.Trail}, TrailChanges.{changes_in, fixed_by}}
 use Rattle.ick_runtime.specs.{declared.memory.Memory.Memory, Memory.view_in, Steady.IsProgram, Undo.IsRestored}
-use Rattle.ick_runtime.specs.{Inputs.input_of}
-use Rattle.ick_machine.specs.{declared.trailed.Trailed.Trailed, Marks.AreMarksIn, Marks.IsMarked, Marks.IsMarkOf}
-use Rattle.ick_machine.specs.{Marks.KeepsMarks, Marks.marked_in, RunIn.CanRun, RunIn.program_of, RunIn.state_in}
-use Rattle.ick_machine.specs.Seen.{trailed_machine}
-use Rattle.ick_machine.proofs.{FedLemmas.no_items, Marks.AreKept, Marks.run_same, WholeLemmas.always_err}
-use Rattle.ick_machine.proofs.{WholeLemmas.by_text}
-use Rattle.ick_machine.proofs.WholeLemmas.{keeps_marks, marks_over}
-use Rattle.ick_machine.proofs.TrailMarks.{Follows, SameTrail, depth_restored, mark_then, marked_marks, marked_then}
-use Rattle.ick_machine.proofs.TrailMarks.{noted_marks, restored_by, same_kept, undone_marks}
-use Rattle.ick_machine.proofs.trailed.Trailed.make_whole.Goals as goal
-use Rattle.ick_machine.proofs.trailed.Trailed.make_whole.Goals.{After-make_mark-mark, After-make_room, After-make_steps}
-use Rattle.ick_machine.proofs.trailed.Trailed.make_whole.Goals.{After-back}
+use Rattle.ick_runtime.specs.Inputs.{input_of}
+use Rattle.ick_machine.proofs.{FedLemmas.no_items, Marks.{AreKept, run_same}, WholeLemmas.{always_err, by_text}}
+use Rattle.ick_machine.proofs.{WholeLemmas.{keeps_marks, marks_over}, TrailMarks.{Follows, SameTrail, depth_restored}}
+use Rattle.ick_machine.proofs.TrailMarks.{mark_then, marked_marks, marked_then, noted_marks, restored_by, same_kept}
+use Rattle.ick_machine.proofs.{TrailMarks.undone_marks, trailed.Trailed.make_whole.Goals.After-make_mark-mark}
+use Rattle.ick_machine.proofs.trailed.Trailed.make_whole.Goals.{After-make_room, After-make_steps, After-back}
 use Rattle.ick_machine.proofs.trailed.Trailed.make_whole.Goals.{then-is_empty, else-is_empty}
 use Rattle.ick_machine.proofs.trailed.Trailed.make_whole.Goals.{then-not-has_room+in_ok-make_room, else-not-has_room}
+use Rattle.ick_machine.specs.{declared.trailed.Trailed.Trailed, Marks.{AreMarksIn, IsMarked, IsMarkOf, KeepsMarks}}
+use Rattle.ick_machine.specs.{Marks.marked_in, RunIn.{CanRun, program_of, state_in}, Seen.trailed_machine}
+use Rattle.ick_machine.proofs.trailed.Trailed.make_whole.Goals as goal
 
 -- a trail that a machine goes on with: its own, or another one if nothing is marked
 abbrev GoesOnWith : Trailed → Trail → Type 0

@@ -1,10 +1,8 @@
 use Rattle.std.proofs.lemmas.Grind.{common_steps}
 use Rattle.std.proofs.Common.{arith, refl, subst, sym, ◌∙◌}
-use Rattle.ick_marks.proofs.Names.{AreSame, parts_of, view_in}
-use Rattle.ick_marks.proofs.{Copying.Fits, Copying.kept_fits, Copying.kept_loaded, Saving.put_all}
-use Rattle.ick_marks.proofs.Saving.{same_parts_refl}
+use Rattle.ick_marks.proofs.{Names.{AreSame, parts_of, view_in}, Copying.{Fits, kept_fits, kept_loaded}, Saving.put_all}
+use Rattle.ick_marks.proofs.{Saving.same_parts_refl, saved.Saved.exchange.Goals.After-law-2}
 use Rattle.ick_marks.proofs.saved.Saved.exchange.Goals as goal
-use Rattle.ick_marks.proofs.saved.Saved.exchange.Goals.{After-law-2}
 
 -- the lists fit into the memory
 fits : (c : After-law-2) → Fits c.args.self.now (view_in c.args.memory.now)

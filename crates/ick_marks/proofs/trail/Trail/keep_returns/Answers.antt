@@ -1,9 +1,8 @@
 use Rattle.std.proofs.lemmas.Grind.{common_steps}
 use Rattle.std.proofs.Common.{[], ap, arith, get_or, length, refl, subst, sym, ◌++◌, ◌+◌, ◌-◌, ◌<◌, ◌∙◌, ◌∷◌, ◌≡◌}
-use Rattle.ick_runtime.specs.{declared.change.Entry.TheVariants.Return, Undo.return_was}
-use Rattle.ick_marks.proofs.{Changes.fixed_moved, Changes.grown, Changes.newest_alone, Names.changes_in, Names.Rewinds}
+use Rattle.ick_runtime.{proofs.Undoing.notes_return, specs.{declared.change.Entry.TheVariants.Return, Undo.return_was}}
+use Rattle.ick_marks.proofs.{Changes.{fixed_moved, grown, newest_alone}, Names.{changes_in, Rewinds}}
 use Rattle.ick_instructions.proofs.Extends.{extends_trans}
-use Rattle.ick_runtime.proofs.Undoing.{notes_return}
 use Rattle.ick_marks.proofs.trail.Trail.keep_returns.Goals as goal
 
 pub returns-preserved : goal.returns-preserved

@@ -1,6 +1,5 @@
 use Rattle.std.proofs.Common.{◌≡◌, ◌≢◌, ◌<◌, ◌∙◌, Some, ap, arith, rules}
-use Rattle.ick_marks.proofs.Names.{alike_rewinds, changes_in}
-use Rattle.ick_marks.proofs.Changes.{newest_register}
+use Rattle.ick_marks.proofs.{Names.{alike_rewinds, changes_in}, Changes.newest_register}
 use Rattle.ick_runtime.proofs.Undoing.{keeps_register, register_left}
 use Rattle.ick_marks.proofs.trail.TrailNotes.must_note.Goals as goal
 

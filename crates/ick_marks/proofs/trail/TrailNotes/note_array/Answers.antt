@@ -1,6 +1,5 @@
 use Rattle.std.proofs.Common.{ap}
-use Rattle.ick_marks.proofs.Names.{array_of, array_was, changes_in, notes_back}
-use Rattle.ick_marks.proofs.Changes.{newest_array}
+use Rattle.ick_marks.proofs.{Names.{array_of, array_was, changes_in, notes_back}, Changes.newest_array}
 use Rattle.ick_marks.proofs.trail.TrailNotes.note_array.Goals as goal
 
 pub returns-clause-notes : goal.returns-clause-notes
