@@ -2,7 +2,9 @@
 //! an `impl` of `From` must be in the crate of one of its two types.
 
 ghost use Rattle.std.specs.Prelude.{◌≡◌};
-ghost use Rattle.ick_backtrack.specs.declared.feed_fault.FeedFault.TheVariants.{NoMemory as OutOfMemory};
+ghost use Rattle.ick_backtrack.specs.declared.feed_fault.FeedFault.TheVariants.{
+  NoMemory as OutOfMemory,
+};
 
 use ick_bits::NoMemory;
 use std::alloc::{AllocError, AllocFailed};

@@ -156,7 +156,8 @@ fn run_on<F: Feed, W: ByteSink>(
     }
 }
 
-/// Runs a program as `run_stream` does, and takes the input off a feed. Its refusals are those of
+/// Runs a program as `run_stream` does, and takes the input off a feed. The counts of failures of
+/// the feed and the writer must be below their greatest values. Its refusals are those of
 /// `run_stream`, with `Read` if the feed fails.
 pub fn run_fed<F: Feed, W: ByteSink>(
     alloc: Global,

@@ -34,7 +34,7 @@ returns-in-Err g c =
           answered_unplanned job.task _ _ c.in-Err.job_end _ c.in-Err.ensures.err answer is;
     }
 
--- what the work of a job leaves in its devices
+-- what a job leaves in its devices, from those that its call was given
 abbrev Left : (g : Over) → Start g → g.row.F.Denot → g.row.R.Denot → g.row.W.Denot → JobEnd → Type 0
 Left g c files reader writer job_end = Performs (asked c.args.job.now)
     (counts (g.F.ByteSource.failed c.args.files.now) (g.R.ByteSource.failed c.args.reader.now)

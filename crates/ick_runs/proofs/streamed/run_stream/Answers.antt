@@ -4,7 +4,7 @@ use Rattle.ick_explorer.specs.Runs.{run}
 use Rattle.ick_runs.specs.Streams.{Streams}
 use Rattle.ick_runs.proofs.streamed.run_stream.Goals as goal
 
--- what is left of a source whose input isn't empty
+-- a feed that isn't empty has left what its source has left
 rest : {R : Type 0} (left : R → List ℕ) (is_empty : Bool) (now after : R) → is_empty ≡ false → now ≡ after →
     (if is_empty then [] else left now) ≡ left after
 rest left is_empty now after given same = rw given (ap left same)
