@@ -1,4 +1,4 @@
--- What is left of numbers that are printed, and of arrays that are printed and read as bytes.
+-- Numbers and arrays that were printed, and arrays that were read. Each element of an array gives or takes a byte.
 use Rattle.std.specs.Prelude.{ℕ, ◌≡◌, ◌≢◌, ◌++◌, false, drop, length, Result, Ok, Err, slice_set, if◌then◌else◌}
 use Rattle.std.proofs.Common.{get_or}
 use Rattle.ick_bits.specs.{declared.faults.FaultKind.TheVariants.Hyperspace, Numeral.numeral_of, Numeral.printed}
