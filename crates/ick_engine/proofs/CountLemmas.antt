@@ -1,8 +1,6 @@
 -- How many elements an array has by its dimensions, as far as 65,537.
 use Rattle.std.proofs.Common.{◌≡◌, ℕ, ◌*◌, ◌<◌, ◌≤◌, ◌==◌, ◌≢◌, ◌∙◌, List, [], map, slice_set, true, ◌∷◌, ap, arith, drop, false, get_or, if◌then◌else◌, length, min, mul_assoc, None, rules, Some, suc, sym, zero, ◌+◌}
-use Rattle.std.proofs.lemmas.Grind.{common_steps}
-use Rattle.std.proofs.Math.Seq.{drop-cons, map-set_same}
-use Rattle.std.specs.List.{list_any}
+use Rattle.std.{proofs.{lemmas.Grind.common_steps, Math.Seq.{drop-cons, map-set_same}}, specs.List.list_any}
 use Rattle.ick_bits.specs.declared.faults.FaultKind.TheVariants.{ZeroDimension, Hyperspace}
 use Rattle.ick_code.specs.meaning.Value.{product}
 use Rattle.ick_runtime.proofs.{Names.{Array, array_of, get_or-map, is_hidden, reg}, DimensionLemmas.sizes}

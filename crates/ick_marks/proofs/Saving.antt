@@ -6,9 +6,8 @@ use Rattle.ick_marks.proofs.Names.{take-append-le, take-map, Code, IsReady, IsSa
 use Rattle.std.proofs.lemmas.List.{length-append, length-drop, map-append, map-set, take_more}
 use Rattle.ick_marks.specs.Saved.{flagged}
 use Rattle.ick_runtime.specs.{declared.memory.Array.Array as Kept, declared.memory.Rest.Rest, Undo.IsRestored, Undo.SameFirst}
-use Rattle.ick_runtime.specs.View.{map_of, scalar_names}
+use Rattle.ick_runtime.{specs.View.{map_of, scalar_names}, proofs.StashLemmas.parts_same}
 use Rattle.ick_runtime.proofs.{Restoring.all_same, Restoring.state_by, Steadiness.steady_by, Undoing.alike}
-use Rattle.ick_runtime.proofs.StashLemmas.{parts_same}
 
 -- one value more of the first ones
 pub one_more : {A B : Type 0} (f : A → B) (xs : List A) (at : ℕ) (x : A) → at < length xs → x ≡ get_or xs at x →

@@ -1,7 +1,6 @@
 -- A map from names, kept by slots.
 use Rattle.std.proofs.Common.{[], ap, arith, Bool, false, get_or, if◌then◌else◌, length, List, refl, rules, slice_get, slice_set, Some, suc, true}
-use Rattle.std.proofs.Common.{zero, ℕ, ◌&&◌, ◌<◌, ◌∙◌, ◌∷◌, ◌≡◌, ◌≤◌}
-use Rattle.std.specs.List.{IsDistinct}
+use Rattle.std.{proofs.Common.{zero, ℕ, ◌&&◌, ◌<◌, ◌∙◌, ◌∷◌, ◌≡◌, ◌≤◌}, specs.List.IsDistinct}
 use Rattle.ick_runtime.proofs.Names.{array_names, both, Code, code_program, fun_ext, map_of, Name, same_name}
 use Rattle.ick_runtime.proofs.Names.{scalar_names, slice_get_within, with_entry}
 use Rattle.ick_code.{proofs.SameNames.same_name_is, specs.{Compiled.IsCompiled, Names.{is_array_name, is_scalar_name}}}

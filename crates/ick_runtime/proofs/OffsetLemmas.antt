@@ -1,15 +1,12 @@
 -- The offset of an element, subscript by subscript.
 use Rattle.std.proofs.Common.{[], add-mul, ap, ap₂, arith, bit_and, Bool, drop, false, get_or, if◌then◌else◌, leb-true, length, List, lt-ltb, mul-add, mul-one}
 use Rattle.std.proofs.Common.{mul_assoc, nat_le, nat_lt, None, Option, option_and_then, option_map, refl, rules, Some, suc, sym, true, zero, ℕ}
-use Rattle.std.proofs.Common.{◌&&◌, ◌*◌, ◌+◌, ◌-◌, ◌<◌, ◌^◌, ◌∙◌, ◌∷◌, ◌≡◌, ◌≤◌}
+use Rattle.std.proofs.{Common.{◌&&◌, ◌*◌, ◌+◌, ◌-◌, ◌<◌, ◌^◌, ◌∙◌, ◌∷◌, ◌≡◌, ◌≤◌}, lemmas.Nat.and_mask}
 use Rattle.ick_runtime.proofs.Names.{Array, bound_of, common_steps, drop_of_length-le, element_offset, nat_tests, number_of, product}
-use Rattle.ick_runtime.proofs.Names.{length-map, reg, sized, Value, values_of, Wide}
+use Rattle.ick_runtime.proofs.{Names.{length-map, reg, sized, Value, values_of, Wide}, Maps.both_true}
 use Rattle.ick_code.specs.meaning.Value.{offset_at}
-use Rattle.ick_runtime.proofs.Maps.{both_true}
 use Rattle.ick_runtime.specs.Elements.{stride}
-use Rattle.ick_syntax.specs.declared.tree.NameKind.TheVariants.{Hybrid, Onespot, Tail, Twospot}
-use Rattle.ick_syntax.specs.declared.tree.NameKind.{NameKind}
-use Rattle.std.proofs.lemmas.Nat.{and_mask}
+use Rattle.ick_syntax.specs.declared.tree.NameKind.{TheVariants.{Hybrid, Onespot, Tail, Twospot}, NameKind}
 
 -- the offset behind all subscripts
 abbrev pub walk : ℕ → List ℕ → List Value → Option ℕ

@@ -2,8 +2,7 @@
 use Rattle.std.proofs.Common.{[], ap, arith, get_or, length, List, map, refl, rules, subst, suc, sym, take, zero, ℕ, ◌-◌, ◌∙◌, ◌∷◌, ◌≡◌}
 use Rattle.ick_runtime.proofs.Names.{Array, array_of, arrays_of, at_slot, common_steps, Kept, KeptStash, length-map, map-set, no_stash, Parts}
 use Rattle.ick_runtime.proofs.Names.{PartsLike, put_on, Stash, stash_in, StashLike, take-take, taken_off, used}
-use Rattle.std.proofs.lemmas.Simd.{map-map}
-use Rattle.std.specs.Prelude.{replicate}
+use Rattle.std.{proofs.lemmas.Simd.map-map, specs.Prelude.replicate}
 
 pub parts_refl : (p : Parts) → PartsLike p p
 parts_refl p = search rules

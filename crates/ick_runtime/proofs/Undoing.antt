@@ -2,13 +2,11 @@
 use Rattle.std.proofs.Common.{[], ap, arith, drop, get_or, length, List, refl, rules, subst, sym, take, ℕ, ◌++◌, ◌+◌, ◌<◌, ◌∙◌, ◌∷◌, ◌≡◌, ◌≤◌}
 use Rattle.ick_runtime.proofs.Names.{Array, array_was, at_slot, Change, common_steps, drop_of_length-le, get_or-set_same, HighSame, length-take-le, Like}
 use Rattle.ick_runtime.proofs.Names.{no_array, Parts, PartsLike, put_on, reverse-append, set-get_or, set-set, slice_set, take-append-drop, undone, View}
-use Rattle.ick_runtime.proofs.Names.{with_arrays}
+use Rattle.ick_runtime.{proofs.Names.with_arrays, specs.Undo.{statuses_were, with_number}}
 use Rattle.ick_runtime.proofs.StashLemmas.{arrays_alike, parts_refl, scalars_alike, taken_off_like}
 use Rattle.ick_runtime.specs.Undo.{change_of, home_was, IsUndoable, no_change, register_was, return_was, Rewinds, rewound, SameFirst, status_was}
-use Rattle.ick_runtime.specs.Undo.{statuses_were, with_number}
 use Rattle.ick_runtime.specs.declared.change.Entry.TheVariants as entry
-use Rattle.std.proofs.lemmas.List.{drop-append-le}
-use Rattle.std.specs.Prelude.{reverse}
+use Rattle.std.{proofs.lemmas.List.drop-append-le, specs.Prelude.reverse}
 
 -- lists of which the first numbers are the same
 first_refl : (n : ℕ) (xs : List ℕ) → SameFirst n xs xs

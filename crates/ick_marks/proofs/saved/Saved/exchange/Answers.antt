@@ -1,5 +1,4 @@
-use Rattle.std.proofs.lemmas.Grind.{common_steps}
-use Rattle.std.proofs.Common.{arith, refl, subst, sym, ◌∙◌}
+use Rattle.std.proofs.{lemmas.Grind.common_steps, Common.{arith, refl, subst, sym, ◌∙◌}}
 use Rattle.ick_marks.proofs.{Names.{AreSame, parts_of, view_in}, Copying.{Fits, kept_fits, kept_loaded}, Saving.put_all}
 use Rattle.ick_marks.proofs.{Saving.same_parts_refl, saved.Saved.exchange.Goals.After-law-2}
 use Rattle.ick_marks.proofs.saved.Saved.exchange.Goals as goal
