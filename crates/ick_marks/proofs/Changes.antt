@@ -4,11 +4,11 @@ use Rattle.ick_marks.proofs.Names.{all_undone, changes_in, common_steps, notes_b
 use Rattle.ick_marks.proofs.Names.{change_of, Extends, HighSame, undone, Like, Trail, View}
 use Rattle.std.proofs.lemmas.List.{length-append, reverse-append, reverse-reverse}
 use Rattle.std.{proofs.lemmas.List.length-reverse, specs.Global.Vec}
-use Rattle.ick_runtime.specs.declared.{change.ArrayChange.ArrayChange, change.Entry.Entry, memory.Array.Array}
+use Rattle.ick_runtime.specs.declared.{change.ArrayChange.ArrayChange, change.Entry.Entry, memory.Array.Array, memory.Stash.Stash}
 use Rattle.ick_runtime.proofs.{StashLemmas.arrays_put, Undoing.IsBelow, Undoing.like_refl, Undoing.marks_here}
 use Rattle.ick_marks.specs.Newest.{register_first}
-use Rattle.ick_marks.specs.TrailChanges.{AreUndone, changes_by, fixed_by, IsNoted, IsUndone, UndoesBy}
-use Rattle.ick_runtime.specs.{Undo.Change, Undo.changes_of, Undo.fixed_of, Undo.IsUndoable, Undo.stands_apart, View.bytes_of}
+use Rattle.ick_marks.specs.TrailChanges.{arrays_in, AreUndone, changes_by, fixed_by, IsNoted, IsUndone, UndoesBy}
+use Rattle.ick_runtime.specs.{Undo.Change, Undo.changes_of, Undo.fixed_of, Undo.IsUndoable, Undo.stands_apart, View.arrays_of, View.bytes_of, View.used}
 use Rattle.ick_runtime.specs.declared.change.Entry.TheVariants as entry
 
 -- an entry with its old value is a change of its own
@@ -98,22 +98,22 @@ newest_register t at newer is = by_first (reverse t.entries.items) refl is
             ap length behind,
             length-append rest (entry.Register at old ∷ []),
             length-reverse (changes_by t (reverse rest)),
-            count_changes (reverse rest) (reverse (map array_of t.arrays.items)) (reverse (map bytes_of t.statuses.items)),
+            count_changes (reverse rest) (reverse (arrays_in t)) (reverse (map bytes_of t.statuses.items)),
             length-reverse rest,
           );
         }
     by_first (other ∷ older) e none = absurd (cc none)
 
-pub newest_array : (t : Trail) (all : List Entry) (arrays : List Array) (change : ArrayChange) (slot : ℕ) (copy : Array)
-    (old : ArrayValue) → all ≡ t.entries.items ++ entry.Array change slot ∷ [] → arrays ≡ t.arrays.items ++ copy ∷ [] →
-    array_of copy ≡ old →
-    reverse (changes_of (reverse all) (reverse (map array_of arrays)) (reverse (map bytes_of t.statuses.items)))
+pub newest_array : (t : Trail) (all : List Entry) (arrays : Stash Array) (change : ArrayChange) (slot : ℕ) (old : ArrayValue) →
+    all ≡ t.entries.items ++ entry.Array change slot ∷ [] →
+    used (arrays_of arrays) ≡ arrays_in t ++ old ∷ [] →
+    reverse (changes_of (reverse all) (reverse (used (arrays_of arrays))) (reverse (map bytes_of t.statuses.items)))
     ≡ changes_in t ++ array_was change slot old ∷ []
-newest_array t all arrays change slot copy old is pushed same = grind (arith, common_steps)
+newest_array t all arrays change slot old is pushed = grind (arith, common_steps)
 
 pub newest_statuses : (t : Trail) (all : List Entry) (statuses : List (Vec ℕ)) (copy : Vec ℕ) (old : List ℕ) →
     all ≡ t.entries.items ++ entry.Statuses ∷ [] → statuses ≡ t.statuses.items ++ copy ∷ [] → copy.items ≡ old →
-    reverse (changes_of (reverse all) (reverse (map array_of t.arrays.items)) (reverse (map bytes_of statuses)))
+    reverse (changes_of (reverse all) (reverse (arrays_in t)) (reverse (map bytes_of statuses)))
     ≡ changes_in t ++ statuses_were old ∷ []
 newest_statuses t all statuses copy old is pushed same = grind (arith, common_steps)
 
@@ -129,20 +129,20 @@ none_left (x ∷ xs) h = absurd (omega (arith, h))
 
 -- an entry that was undone and taken off, with what stands apart from it, if there is anything
 module _ {t new : Trail} {e : Entry} {v w : View} where
-  pub array_undone : (old : Array) {change : ArrayChange} {slot : ℕ} → e ≡ entry.Array change slot →
-      t.arrays.items ≡ new.arrays.items ++ old ∷ [] → new.statuses ≡ t.statuses →
-      w ≡ undone (array_was change slot (array_of old)) v → IsUndone e t new v w
+  pub array_undone : (old : ArrayValue) {change : ArrayChange} {slot : ℕ} → e ≡ entry.Array change slot →
+      arrays_in t ≡ arrays_in new ++ old ∷ [] → new.statuses ≡ t.statuses →
+      w ≡ undone (array_was change slot old) v → IsUndone e t new v w
   array_undone old {change} {slot} is popped same view =
-      record { change = array_was change slot (array_of old); off = λ es. grind (arith, common_steps); view_is = view }
+      record { change = array_was change slot old; off = λ es. grind (arith, common_steps); view_is = view }
 
   pub statuses_undone : (old : Vec ℕ) → e ≡ entry.Statuses → t.statuses.items ≡ new.statuses.items ++ old ∷ [] →
       new.arrays ≡ t.arrays → w ≡ undone (statuses_were old.items) v → IsUndone e t new v w
   statuses_undone old is popped same view =
       record { change = statuses_were old.items; off = λ es. grind (arith, common_steps); view_is = view }
 
-  pub no_array_undone : {change : ArrayChange} {slot : ℕ} → e ≡ entry.Array change slot → length t.arrays.items ≤ 0 →
-      length new.arrays.items ≤ 0 → new.statuses ≡ t.statuses → w ≡ v → IsUndone e t new v w
-  no_array_undone is none none' same view = search (rules, none_left)
+  pub no_array_undone : {change : ArrayChange} {slot : ℕ} → e ≡ entry.Array change slot → t.arrays.depth ≡ 0 →
+      new.arrays ≡ t.arrays → new.statuses ≡ t.statuses → w ≡ v → IsUndone e t new v w
+  no_array_undone is none same_arrays same view = grind (arith, common_steps)
 
   pub no_statuses_undone : e ≡ entry.Statuses → length t.statuses.items ≤ 0 → length new.statuses.items ≤ 0 →
       new.arrays ≡ t.arrays → w ≡ v → IsUndone e t new v w

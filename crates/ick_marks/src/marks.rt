@@ -11,9 +11,8 @@ ghost use Rattle.ick_runtime.specs.{Memory.view_in, Steady.{IsReady, IsSteady}};
 use crate::trail::Trail;
 use ick_instructions::Lowered;
 use ick_runtime::{
-    Array, ArrayChange, Entry, Memory, Rest, drop_at, put_at, set_element, set_hidden,
+    Array, ArrayChange, Entry, Memory, Rest, drop_at, exchange, put_at, set_element, set_hidden,
 };
-use std::mem::replace;
 
 /// A mark: the place and the depth of the NEXT stack, and how many changes were noted before it.
 #[derive(Clone, Copy)]
@@ -97,10 +96,10 @@ fn undo(memory: &mut Memory, entry: Entry)
         Entry::Element(slot, at, old) => put_element(&mut rest.arrays, slot, at, old),
         Entry::Hidden(slot, old) => put_hidden(&mut rest.arrays, slot, old),
         Entry::ScalarSaved(slot) => drop_at(&mut rest.scalar_stashes, slot),
-        Entry::ScalarTaken(slot, old) => put_at(&mut rest.scalar_stashes, slot, old),
-        Entry::ScalarRestored(slot, number, old) => {
+        Entry::ScalarTaken(slot, mut old) => put_at(&mut rest.scalar_stashes, slot, &mut old),
+        Entry::ScalarRestored(slot, mut number, old) => {
             put_back(&mut memory.registers, slot, old);
-            put_at(&mut rest.scalar_stashes, slot, number);
+            put_at(&mut rest.scalar_stashes, slot, &mut number);
         }
         Entry::ArraySaved(slot) => drop_at(&mut rest.array_stashes, slot),
         Entry::Array(_, _) | Entry::Statuses => {}
@@ -111,34 +110,31 @@ fn undo(memory: &mut Memory, entry: Entry)
     }
 }
 
-/// Puts an array back. The present one is returned.
+/// Puts an array back, in exchange for the present one.
 #[tactic(auto, using(crate::proofs::Saving::arrays_set))]
-fn replace_array(arrays: &mut Vec<Array>, slot: u32, old: Array) -> Array
+fn replace_array(arrays: &mut Vec<Array>, slot: u32, old: &mut Array)
     requires { slot < length arrays.old.items }
     ensures arrays { map array_of arrays.new.items
-        ≡ slice_set (map array_of arrays.old.items) slot (array_of old) }
+        ≡ slice_set (map array_of arrays.old.items) slot (array_of old.old) }
     ensures hidden { map is_hidden arrays.new.items ≡ map is_hidden arrays.old.items }
-    ensures present { array_of result ≡ get_or (map array_of arrays.old.items) slot no_array }
+    ensures present { array_of old.new ≡ get_or (map array_of arrays.old.items) slot no_array }
 {
-    let mut old = old;
-    old.hidden = arrays[slot as usize].hidden;
-    replace(&mut arrays[slot as usize], old)
+    exchange(&mut arrays[slot as usize], old);
 }
 
-/// Undoes a change of an array.
+/// Undoes a change of an array. What is left of the old one is spare.
 #[tactic(auto, using(crate::proofs::Changes::replacing))]
-fn undo_array(rest: &mut Rest, change: ArrayChange, slot: u32, old: Array)
-    ensures { parts_of rest.new ≡ undone_array change slot (array_of old) (parts_of rest.old) }
+fn undo_array(rest: &mut Rest, change: ArrayChange, slot: u32, old: &mut Array)
+    ensures { parts_of rest.new
+        ≡ undone_array change slot (array_of old.old) (parts_of rest.old) }
 {
     match change {
         ArrayChange::Taken => put_at(&mut rest.array_stashes, slot, old),
         _ if slot as usize >= rest.arrays.len() => {}
-        ArrayChange::Replaced => {
-            let _ = replace_array(&mut rest.arrays, slot, old);
-        }
+        ArrayChange::Replaced => replace_array(&mut rest.arrays, slot, old),
         ArrayChange::Restored => {
-            let present = replace_array(&mut rest.arrays, slot, old);
-            put_at(&mut rest.array_stashes, slot, present);
+            replace_array(&mut rest.arrays, slot, old);
+            put_at(&mut rest.array_stashes, slot, old);
         }
     }
 }
@@ -153,10 +149,13 @@ fn undo_newest(trail: &mut Trail, memory: &mut Memory, entry: Entry)
         (view_in memory.new) }
 {
     match entry {
-        Entry::Array(change, slot) => match trail.arrays.pop() {
-            Some(old) => undo_array(&mut memory.rest, change, slot, old),
-            None => {}
-        },
+        Entry::Array(change, slot) => {
+            let kept = &mut trail.arrays;
+            if kept.depth > 0 {
+                kept.depth -= 1;
+                undo_array(&mut memory.rest, change, slot, &mut kept.items[kept.depth]);
+            }
+        }
         Entry::Statuses => match trail.statuses.pop() {
             Some(old) => memory.statuses = old,
             None => {}

@@ -3,9 +3,8 @@
 ghost use Rattle.std.specs.Prelude.{◌≡◌, ◌≢◌, ◌<◌, ◌≤◌, length, reverse, Some};
 ghost use Rattle.ick_marks.specs.Newest.{register_first};
 
-use crate::copy::Part;
 use ick_bits::NoMemory;
-use ick_runtime::{Array, ArrayChange, Entry, Notes};
+use ick_runtime::{Array, ArrayChange, Entry, Notes, Stash};
 use std::alloc::Global;
 
 /// A log of changes, from which a run goes back to its marks. Temporaries, and what is behind them,
@@ -15,7 +14,8 @@ use std::alloc::Global;
 pub struct Trail {
     /// The changes, the newest last.
     pub(crate) entries: Vec<Entry>,
-    pub(crate) arrays: Vec<Array>,
+    /// The old arrays, with spare ones behind them.
+    pub(crate) arrays: Stash<Array>,
     pub(crate) statuses: Vec<Vec<u8>>,
     /// The least depth of the NEXT stack since the newest mark.
     pub(crate) low: usize,
@@ -45,7 +45,10 @@ impl Trail {
     {
         Trail {
             entries: Vec::new(alloc),
-            arrays: Vec::new(alloc),
+            arrays: Stash {
+                items: Vec::new(alloc),
+                depth: 0,
+            },
             statuses: Vec::new(alloc),
             low: 0,
             base,
@@ -66,7 +69,7 @@ impl Trail {
         self.kept = 0;
         self.newest = u32::MAX;
         self.entries.clear();
-        self.arrays.clear();
+        self.arrays.depth = 0;
         self.statuses.clear();
         self.low = 0;
     }
@@ -168,10 +171,18 @@ impl Notes for Trail {
         slot: u32,
         array: &Array,
     ) -> Result<(), NoMemory> {
-        let alloc = *self.entries.allocator();
-        self.arrays.push(array.copied(alloc)?)?;
+        self.arrays.save(array)?;
         self.newest = u32::MAX;
         self.entries.push_reserved(Entry::Array(change, slot));
+        Ok(())
+    }
+
+    #[tactic(auto, using(crate::proofs::Changes::noting))]
+    fn note_restored(&mut self, slot: u32, array: &mut Array) -> Result<(), NoMemory> {
+        self.arrays.put(array)?;
+        self.newest = u32::MAX;
+        self.entries
+            .push_reserved(Entry::Array(ArrayChange::Restored, slot));
         Ok(())
     }
 

@@ -3,8 +3,7 @@ use Rattle.std.proofs.Common.{ap, arith, get_or, length, List, map, rules, sym, 
 use Rattle.ick_runtime.proofs.Names.{Array, array_of, array_was, arrays_of, at_slot, ChangesAt, common_steps, Err, get_or-map, get_or-set_same, IsPutOn}
 use Rattle.ick_runtime.proofs.Names.{IsTakenOff, Kept, KeptStash, length-map, length-set, Like, map-set, map-set_same, no_array, no_stash, Ok, put_on}
 use Rattle.ick_runtime.proofs.Names.{Result, set-get_or, set-set, slice_set, Stash, stash_in, StashLike, taken_off, undone, View, with_array_stashes}
-use Rattle.ick_runtime.proofs.Names.{with_arrays, with_scalar_stashes}
-use Rattle.ick_runtime.proofs.StashLemmas.{arrays_dropped}
+use Rattle.ick_runtime.proofs.{Names.{with_arrays, with_scalar_stashes}, StashLemmas.arrays_dropped}
 use Rattle.ick_runtime.specs.Undo.{StashesLike}
 use Rattle.std.specs.Prelude.{OnErr}
 use Rattle.ick_runtime.specs.declared.change.ArrayChange.TheVariants as now
@@ -18,6 +17,18 @@ take_newest {A} x s depth next low is = grind (arith, common_steps)
 pub take_replaced : {A : Type 0} (x y : A) (s : Stash A) (depth : ℕ) → depth + 1 ≡ s.depth → depth < length s.items →
     x ≡ get_or s.items depth x → IsTakenOff x s (record { items = slice_set s.items depth y; depth = depth })
 take_replaced {A} x y s depth next low is = grind (arith, common_steps)
+
+pub take_exchanged : (s : KeptStash Kept) (depth : ℕ) (x y : Kept) → depth + 1 ≡ s.depth →
+    x ≡ get_or s.items.items depth x →
+    IsTakenOff (array_of x) (arrays_of s)
+    (record { items = map array_of (slice_set s.items.items depth y); depth = depth })
+take_exchanged s depth x y next is =
+    let items = s.items.items in
+    let inside : depth < length items = omega (arith, s.there, next) in
+    rw (map-set array_of items depth y) (
+    take_replaced (array_of x) (array_of y) (arrays_of s) depth next (omega (arith, inside, length-map items array_of))
+    (ap array_of is ∙ sym (get_or-map array_of items depth x (array_of x) inside))
+    )
 
 -- one of many stashes is changed
 pub changes_at : {A B : Type 0} (g : B → Stash A) (P : Stash A → Stash A → Type 0) (xs : List B) (slot : ℕ) (old new : B) →

@@ -37,6 +37,8 @@ pub use halt::{Halt, stored};
 pub use memory::{Array, Memory, Rest, Stash};
 pub use notes::{Nobody, Notes};
 pub use returns::{is_there, rupture};
-pub use stash::{drop_at, put_at, restore_array, restore_scalar, save_array, save_scalar};
+pub use stash::{
+    drop_at, exchange, put_at, restore_array, restore_scalar, save_array, save_scalar,
+};
 pub use subscripts::Subscripts;
 pub use tracer::{NoTraces, Tracer};

@@ -8,7 +8,8 @@ ghost use Rattle.ick_instructions.specs.Extends.{Extends};
 ghost use Rattle.ick_runtime.specs.Undo.{array_was, change_of, register_was, stands_apart};
 ghost use Rattle.ick_runtime.specs.Undo.{statuses_were, Change, Fixed, KeepsUndoing, Like, Means};
 ghost use Rattle.ick_runtime.specs.Undo.{NotesChange};
-ghost use Rattle.ick_runtime.specs.{Noting.NotesOne, View.array_of, View.View};
+ghost use Rattle.ick_runtime.specs.declared.change.ArrayChange.TheVariants.{Restored};
+ghost use Rattle.ick_runtime.specs.{Noting.NotesOne, View.array_of, View.is_hidden, View.View};
 
 use crate::change::{ArrayChange, Entry};
 use crate::memory::Array;
@@ -96,6 +97,18 @@ pub trait Notes: Drop {
         ensures same { OnErr result (changes self.new ≡ changes self.old) }
         ensures keeps { OnErr result (KeepsUndoing Undoes self.old self.new) };
 
+    /// Notes that an array will be replaced by the newest one of its stash. The old one may be
+    /// taken, in exchange for a spare one. If memory runs out, nothing is noted, and it stays.
+    fn note_restored(&mut self, slot: u32, array: &mut Array) -> Result<(), NoMemory>
+        requires room { 0 < room self.old }
+        ensures noted { NotesOne room low fixed changes self.old self.new }
+        ensures notes { OnOk result (NotesChange Undoes self.old self.new
+            (array_was Restored slot (array_of array.old))) }
+        ensures hidden { is_hidden array.new ≡ is_hidden array.old }
+        ensures stays { OnErr result (array_of array.new ≡ array_of array.old) }
+        ensures same { OnErr result (changes self.new ≡ changes self.old) }
+        ensures keeps { OnErr result (KeepsUndoing Undoes self.old self.new) };
+
     /// Notes that statuses will change, with a copy of them all. If memory runs out, nothing is
     /// noted.
     fn note_statuses(&mut self, statuses: &[u8]) -> Result<(), NoMemory>
@@ -160,6 +173,11 @@ impl Notes for Nobody {
         slot: u32,
         array: &Array,
     ) -> Result<(), NoMemory> {
+        Ok(())
+    }
+
+    #[inline(always)]
+    fn note_restored(&mut self, slot: u32, array: &mut Array) -> Result<(), NoMemory> {
         Ok(())
     }
 

@@ -70,6 +70,17 @@ impl Stash<u32> {
     }
 }
 
+/// Exchanges an array for another one. Whether the first one is ignored stays.
+pub fn exchange(array: &mut Array, other: &mut Array)
+    ensures array { array_of array.new ≡ array_of other.old }
+    ensures other { array_of other.new ≡ array_of array.old }
+    ensures hidden { is_hidden array.new ≡ is_hidden array.old }
+{
+    let hidden = array.hidden;
+    swap(array, other);
+    array.hidden = hidden;
+}
+
 impl Stash<Array> {
     /// Takes the newest array off, in exchange for another one. Whether that one is ignored stays.
     fn exchange(&mut self, array: &mut Array)
@@ -78,9 +89,7 @@ impl Stash<Array> {
         ensures hidden { is_hidden array.new ≡ is_hidden array.old }
     {
         self.depth -= 1;
-        let hidden = array.hidden;
-        swap(array, &mut self.items[self.depth]);
-        array.hidden = hidden;
+        exchange(array, &mut self.items[self.depth]);
     }
 
     /// Makes spare room, if there is none. The arrays on the stash stay.
@@ -104,13 +113,29 @@ impl Stash<Array> {
     /// Puts a copy of an array on the stash, over spare buffers. If memory runs out,
     /// the arrays on the stash stay.
     #[tactic(auto, using(crate::proofs::StashingLemmas::stashing))]
-    fn save(&mut self, array: &Array) -> Result<(), NoMemory>
+    pub fn save(&mut self, array: &Array) -> Result<(), NoMemory>
         ensures ok { OnOk result (IsPutOn (array_of array.now) (arrays_of self.old)
             (arrays_of self.new)) }
         ensures err { OnErr result (StashLike (arrays_of self.old) (arrays_of self.new)) }
     {
         self.grow()?;
         copy_into(&mut self.items[self.depth], array)?;
+        self.depth += 1;
+        Ok(())
+    }
+
+    /// Puts an array on the stash, in exchange for a spare one. Whether it is ignored stays. If
+    /// memory runs out, the array and those on the stash stay.
+    #[tactic(auto, using(crate::proofs::StashingLemmas::stashing))]
+    pub fn put(&mut self, array: &mut Array) -> Result<(), NoMemory>
+        ensures ok { OnOk result (IsPutOn (array_of array.old) (arrays_of self.old)
+            (arrays_of self.new)) }
+        ensures err { OnErr result (StashLike (arrays_of self.old) (arrays_of self.new)) }
+        ensures stays { OnErr result (array_of array.new ≡ array_of array.old) }
+        ensures hidden { is_hidden array.new ≡ is_hidden array.old }
+    {
+        self.grow()?;
+        exchange(array, &mut self.items[self.depth]);
         self.depth += 1;
         Ok(())
     }
@@ -129,18 +154,18 @@ pub fn drop_at<T: Drop>(stashes: &mut Vec<Stash<T>>, slot: u32)
     stash.depth = stash.depth.saturating_sub(1);
 }
 
-/// Puts a value back on the stash in a slot, if it has spare room.
+/// Puts a value back on the stash in a slot, if it has spare room, in exchange for what is there.
 #[tactic(auto, using(crate::proofs::ArrayLists::items_mapped))]
-pub fn put_at<T: Drop>(stashes: &mut Vec<Stash<T>>, slot: u32, value: T)
+pub fn put_at<T: Drop>(stashes: &mut Vec<Stash<T>>, slot: u32, value: &mut T)
     ensures { map stash_in stashes.new.items
-        ≡ at_slot (put_on value) slot (map stash_in stashes.old.items) }
+        ≡ at_slot (put_on value.old) slot (map stash_in stashes.old.items) }
 {
     if slot as usize >= stashes.len() {
         return;
     }
     let stash = &mut stashes[slot as usize];
     if stash.depth < stash.items.len() {
-        stash.items[stash.depth] = value;
+        swap(&mut stash.items[stash.depth], value);
         stash.depth += 1;
     }
 }
@@ -148,6 +173,7 @@ pub fn put_at<T: Drop>(stashes: &mut Vec<Stash<T>>, slot: u32, value: T)
 /// Puts a number on the stash of the scalar in a slot, and notes that (Revised Manual, 4.4.5). If
 /// memory runs out, nothing changes.
 #[tactic(auto, using(crate::proofs::StashingLemmas::stashing))]
+#[inline(always)]
 pub fn save_scalar<N: Notes>(
     stashes: &mut Vec<Stash<u32>>,
     notes: &mut N,
@@ -276,7 +302,8 @@ pub fn restore_array<N: Notes>(
         drop_at(stashes, slot);
         return Ok(());
     }
-    notes.note_array(ArrayChange::Restored, slot, &arrays[slot as usize])?;
-    stashes[slot as usize].exchange(&mut arrays[slot as usize]);
+    let array = &mut arrays[slot as usize];
+    notes.note_restored(slot, array)?;
+    stashes[slot as usize].exchange(array);
     Ok(())
 }

@@ -1,7 +1,7 @@
 use Rattle.std.proofs.{Common.{arith, false, get_or, length, map, refl, slice_set, true, ◌<◌, ◌≡◌}, lemmas.Grind.common_steps}
 use Rattle.ick_runtime.proofs.Names.{array_of, array_was, arrays_of, ChangesAt, get_or-map, is_hidden, IsTakenOff, length-map, Like, map-set}
 use Rattle.ick_runtime.proofs.Names.{no_array, undone, View, with_array_stashes, with_arrays}
-use Rattle.ick_runtime.proofs.StashingLemmas.{changes_at, drops_at, exchanged_like, like_arrays, taken_like}
+use Rattle.ick_runtime.proofs.StashingLemmas.{changes_at, drops_at, exchanged_like, kept_at, like_arrays, taken_like}
 use Rattle.ick_runtime.specs.declared.change.ArrayChange.TheVariants as now
 use Rattle.ick_runtime.proofs.stash.restore_array.Goals as goal
 
@@ -50,11 +50,14 @@ returns-clause-notes g c = λ k v m same_arrays same h.
     rw same (changes_at arrays_of (IsTakenOff x) c.args.stashes.now.items slot c.index_mut.result.now c.exchange.new.self
     c.requires.slot c.index_mut.ensures.value c.exchange.ensures.taken) in
     let there : slot < length v.parts.arrays = grind (arith, common_steps, length-map) in
-    let was : get_or v.parts.arrays slot no_array ≡ array_of c.index-2.result.now =
+    let was : get_or v.parts.arrays slot no_array ≡ array_of c.index_mut-array.result.now =
     grind (arith, common_steps, get_or-map) in
     let is : slice_set v.parts.arrays slot x ≡ after = grind (arith, common_steps, map-set) in
     let w : View = with_array_stashes new (with_arrays after v) in
-    let like : Like base low v (undone (array_was now.Restored slot (array_of c.index-2.result.now)) w) =
+    let like : Like base low v (undone (array_was now.Restored slot (array_of c.index_mut-array.result.now)) w) =
     rw (← was, ← is) (exchanged_like base low slot v x new there at) in
-    c.in_ok-note_array-2.ensures.notes k w m at.here.place
-    (c.law.ensures.alike k v (undone (array_was now.Restored slot (array_of c.index-2.result.now)) w) m like h)
+    c.in_ok-note_restored.ensures.notes k w m at.here.place
+    (c.law.ensures.alike k v (undone (array_was now.Restored slot (array_of c.index_mut-array.result.now)) w) m like h)
+
+pub returns-in_err-note_restored-clause-notes : goal.returns-in_err-note_restored-clause-notes
+returns-in_err-note_restored-clause-notes g c = grind (arith, common_steps, kept_at)

@@ -1,4 +1,3 @@
-use Rattle.std.proofs.lemmas.Grind.{common_steps}
 use Rattle.std.proofs.Common.{[], ap, arith, get_or, length, refl, subst, sym, ◌++◌, ◌+◌, ◌-◌, ◌<◌, ◌∙◌, ◌∷◌, ◌≡◌}
 use Rattle.ick_runtime.{proofs.Undoing.notes_return, specs.{declared.change.Entry.TheVariants.Return, Undo.return_was}}
 use Rattle.ick_marks.proofs.{Changes.{fixed_moved, grown, newest_alone}, Names.{changes_in, Rewinds}}
@@ -31,7 +30,8 @@ returns-preserved c =
     }
 
 pub returns-clause-base : goal.returns-clause-base
-returns-clause-base c = grind (arith, common_steps, fixed_moved)
+returns-clause-base c = let inv = c.returns.invariant in
+    fixed_moved c.args.self.now c.returns.self inv.base inv.kept inv.changes
 
 pub returns-clause-notes : goal.returns-clause-notes
 returns-clause-notes c = λ k v m same h.

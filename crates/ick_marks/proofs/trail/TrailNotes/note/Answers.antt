@@ -1,6 +1,7 @@
-use Rattle.std.proofs.Common.{ap, refl, rules, ◌∙◌, ◌≡◌}
-use Rattle.ick_marks.proofs.{Changes.below_other, Changes.noted_alone, Names.alike_rewinds}
-use Rattle.ick_runtime.proofs.Undoing.{restored_left}
+use Rattle.std.proofs.{lemmas.Grind.common_steps, Common.{ap, arith, false, refl, reverse, rules, ◌∙◌, ◌≡◌}}
+use Rattle.ick_marks.proofs.{Changes.below_other, Changes.fixed_grown, Changes.grown, Changes.noted_alone, Names.alike_rewinds}
+use Rattle.ick_marks.specs.TrailChanges.{changes_by}
+use Rattle.ick_runtime.{specs.Undo.stands_apart, proofs.Undoing.restored_left}
 use Rattle.ick_runtime.specs.declared.change.Entry.TheVariants.{Register, ScalarRestored, ScalarTaken}
 use Rattle.ick_marks.proofs.trail.TrailNotes.note.Goals.{in-Register-2, in-ScalarRestored, in_default, in_default-2}
 use Rattle.ick_marks.proofs.trail.TrailNotes.note.Goals as goal
@@ -31,3 +32,14 @@ returns-clause-notes c = λ k v m can h.
           noted_alone t _ _ c.args.entry k v m grew (ap (λ p. p.1) w.newest-is) c.requires.alone
           (below_other t.base c.args.entry w.in_default.not-Register (search rules)) can h
     ]
+
+pub returns-clause-noted : goal.returns-clause-noted
+returns-clause-noted c =
+    let t = c.args.self.now in
+    let all = c.push_reserved.new.self.items in
+    let apart : stands_apart c.match-entry.newest.1 ≡ false = grind (arith, common_steps) in
+    let more = grown t all t.entries.items c.match-entry.newest.1 apart c.push_reserved.ensures.items in
+    record {
+      room_left = omega (arith, c.requires.room, c.push_reserved.ensures.len, c.push_reserved.ensures.capacity);
+      kept = record { low_same = refl; base_same = fixed_grown t (reverse (changes_by t (reverse all))) more; more = more };
+    }
