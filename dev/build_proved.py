@@ -15,12 +15,11 @@ import re
 import subprocess
 import sys
 import threading
-import time
 
 from kit import crate_of, load_kit
+from progress import Progress
 
 MEMORY_OF_A_JOB = 2_000_000_000
-SECONDS_BETWEEN_LINES = 5
 SO_FAR = re.compile(r"so far: (\d+ of \d+ functions)")
 
 
@@ -58,52 +57,49 @@ def count_jobs():
     return max(1, min(jobs, 1024 * int(free[1]) // MEMORY_OF_A_JOB if free else 1))
 
 
-class Progress:
-    """Prints the checker's lines, and says at most once in a few seconds how far it is, under the program's name."""
+class Checking:
+    """Prints the checker's lines, and says how far it is."""
 
-    def __init__(self, program, crates):
-        self.program, self.crates, self.built, self.said = program, crates, 0, -SECONDS_BETWEEN_LINES
+    def __init__(self, progress, crates):
+        self.progress, self.crates, self.built = progress, crates, 0
         self.lock = threading.Lock()
 
-    def say(self, text, is_due=False):
-        now = time.monotonic()
-        if is_due or now - self.said >= SECONDS_BETWEEN_LINES:
-            self.said = now
-            print(f"{self.program}: {text}", file=sys.stderr, flush=True)
+    def at(self, crate, more=""):
+        self.progress.at(f"crate {self.built + 1} of {self.crates}, {crate}{more}")
 
     def read(self, crate, line):
         with self.lock:
             print(line, end="", flush=True)
             found = SO_FAR.match(line)
             if found:
-                self.say(f"{crate}: {self.built + 1} of {self.crates} crates, {found[1]}")
+                self.at(crate, f", {found[1]}")
             elif line.startswith("rt: waiting "):
-                self.say(line.rstrip(), is_due=True)
+                self.progress.say(line.rstrip())
 
-    def ended(self, crate):
+    def ended(self):
         with self.lock:
             self.built += 1
-            self.say(f"{crate} is proved: {self.built} of {self.crates} crates")
 
 
 class Building:
     """The commands that build one repository's crates."""
 
-    def __init__(self, top, progress, jobs):
-        self.top, self.progress, self.jobs = top, progress, jobs
+    def __init__(self, top, checking, jobs):
+        self.top, self.checking, self.jobs = top, checking, jobs
 
     def run(self, crate, *words):
         """Runs a command in a crate's folder, and returns whether it ended well."""
+        self.checking.at(crate)
         with subprocess.Popen(words, cwd=f"{self.top}/crates/{crate}", stdin=subprocess.DEVNULL, errors="replace",
                               stdout=subprocess.PIPE, stderr=subprocess.STDOUT, universal_newlines=True) as ran:
             for line in ran.stdout:
-                self.progress.read(crate, line)
+                self.checking.read(crate, line)
         return ran.returncode == 0
 
     def library(self, crate, jobs):
         is_well = self.run(crate, "rt", "lib", "--jobs", str(jobs))
         if is_well:
-            self.progress.ended(crate)
+            self.checking.ended()
         return is_well
 
     def beside(self, crate, jobs):
@@ -132,14 +128,14 @@ def build(top, name):
     levels = in_levels(uses, name)
     jobs = count_jobs()
     program = "ick" if name == "ick" else f"ick-{name}"
-    progress = Progress(program, sum(map(len, levels)))
-    print(f"{program}: proving {progress.crates} crates with {jobs} jobs. The first time takes about half an hour on "
-          "four processors", file=sys.stderr, flush=True)
-    building = Building(top, progress, jobs)
-    for level in levels[:-1]:
-        if not building.level(level):
-            return False
-    return building.run(name, "rt", "run", "--jobs", str(jobs), "--", "--help")
+    crates = sum(map(len, levels))
+    with Progress(program) as progress:
+        progress.say(f"proving {crates} crates with {jobs} jobs. The first time takes about half an hour on four processors")
+        building = Building(top, Checking(progress, crates), jobs)
+        for level in levels[:-1]:
+            if not building.level(level):
+                return False
+        return building.run(name, "rt", "run", "--jobs", str(jobs), "--", "--help")
 
 
 def build_beside(top, name, jobs):

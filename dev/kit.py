@@ -1,9 +1,15 @@
-"""Finds the Rattle kit and its own Python module, which knows a repository's crates and how `rt` builds them."""
+"""Finds the Rattle kit and its own Python module, which knows a repository's crates and how `rt` builds them.
+
+  kit.py     says what is missing if there is no kit, and ends with status 1
+"""
 import importlib
 import os
 import shutil
 import subprocess
 import sys
+
+NO_KIT = ("there is no rt on the PATH, the command of the Rattle kit: the compiler and prover that builds ick. The kit is "
+          "no part of this repository, and can't be had from here. The Debian package and the page run without it")
 
 
 def load_kit():
@@ -54,3 +60,9 @@ def are_left_by_ci(top, crate):
     below = crate.below()
     return all(os.path.isdir(it.rlib) and not os.path.exists(f"{it.folder}/out/rlib/stamp") for it in below) and max(
         last_change(top, it) for it in below) < min(os.path.getmtime(it.rlib) for it in below)
+
+
+if __name__ == "__main__":
+    if shutil.which("rt") is None:
+        print(NO_KIT)
+        sys.exit(1)

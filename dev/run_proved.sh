@@ -40,8 +40,8 @@ is_current() {
 }
 
 test_that_it_can_be_built() {
-    command -v rt >/dev/null || not_built "there is no rt, the command of the Rattle kit, on the PATH"
     command -v python3 >/dev/null || not_built "there is no python3 on the PATH"
+    why=$(python3 -B "$top/dev/kit.py") || not_built "$why"
     for folder in "$top"/crates/*/; do
         mkdir -p -- "${folder}out" 2>/dev/null && [ -w "${folder}out" ] || not_built "${folder}out can't be written"
     done
