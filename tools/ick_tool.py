@@ -11,15 +11,16 @@ import signal
 import subprocess
 import sys
 
-# What is known of each program: the variable that names it, where its script in this repository builds it, and what it
+# What is known of each program: the variable that names it, the arguments by which ./preview names it, and what it
 # answers to an argument over an empty source.
 PROGRAMS = {
-    "ick": ("ICK", "../crates/ick/out/ick", "check", b"0 STATEMENTS, 0 POLITE\n"),
-    "ick-outcomes": ("ICK_OUTCOMES", "../crates/outcomes/out/outcomes", "--total", b"1 OUTCOMES, 1 RUNS\n"),
-    "ick-step": ("ICK_STEP", "../crates/step/out/step", "-b", b"0 1 past the last statement\n"),
+    "ick": ("ICK", (), "check", b"0 STATEMENTS, 0 POLITE\n"),
+    "ick-outcomes": ("ICK_OUTCOMES", ("outcomes",), "--total", b"1 OUTCOMES, 1 RUNS\n"),
+    "ick-step": ("ICK_STEP", ("step",), "-b", b"0 1 past the last statement\n"),
 }
 HERE = os.path.dirname(os.path.realpath(__file__))
 NAME = os.path.basename(sys.argv[0])
+PREVIEW = os.path.normpath(os.path.join(HERE, "../preview"))
 
 
 def options(page):
@@ -33,7 +34,8 @@ def options(page):
 def version():
     places = ("../VERSION", "../../share/ick/VERSION")  # in the repository, and as it is installed
     paths = [os.path.join(HERE, place) for place in places]
-    return next((content(path).decode().strip() for path in paths if os.path.exists(path)), "of no known version")
+    # the installed file can also say that programs aren't proved
+    return next((content(path).decode().split()[0] for path in paths if os.path.exists(path)), "of no known version")
 
 
 def run(main):
@@ -97,20 +99,38 @@ def content(path):
 
 
 def find_program(name):
-    """Returns the path of a program: beside the tool, or in this repository, or on the PATH; or what its variable names.
+    """Returns the path of a program: the one that its variable names, or else the first one beside the tool, on the PATH
+    or in the tool's own repository.
 
     The tool's own folder comes before that of a link to it: there `ick` can be C-INTERCAL's.
-    Raises FileNotFoundError if there is none, or if it is another program, as C-INTERCAL's ick is.
+    Raises FileNotFoundError if there is none, or only other programs, as C-INTERCAL's ick is.
     """
-    variable, built, argument, answer = PROGRAMS[name]
+    variable, words, argument, answer = PROGRAMS[name]
     named = os.environ.get(variable)
-    beside = [os.path.join(folder, name) for folder in (HERE, os.path.dirname(sys.argv[0]))]
-    places = [named] if named else [*beside, os.path.join(HERE, built), name]
-    found = next(filter(None, map(shutil.which, places)), None)
-    if not found:
-        raise FileNotFoundError(
-            f"there is no {named or f'{name} on the PATH; the environment variable {variable} can name it'}")
-    asked = subprocess.run([found, argument], stdin=subprocess.DEVNULL, capture_output=True, check=False)
-    if asked.stdout != answer:
-        raise FileNotFoundError(f"{found} is another program; the environment variable {variable} can name {name}")
-    return found
+    other = None
+    for found in filter(None, [shutil.which(named)] if named else places(name, words)):
+        # ./preview, to which a clone's bin/ has links, says on standard error that it builds a program
+        is_built = os.path.basename(os.path.realpath(found)) != "preview"
+        asked = subprocess.run([found, argument], stdin=subprocess.DEVNULL, stdout=subprocess.PIPE,
+                               stderr=subprocess.DEVNULL if is_built else None, check=False)
+        if asked.stdout == answer:
+            return found
+        other = other or found
+    if other:
+        raise FileNotFoundError(f"{other} is another program; the environment variable {variable} can name {name}")
+    if named:
+        raise FileNotFoundError(f"there is no {named}")
+    builds = f"{' '.join(('./preview', *words))} builds it; " if os.path.exists(PREVIEW) else ""
+    raise FileNotFoundError(f"there is no {name} on the PATH; {builds}the environment variable {variable} can name it")
+
+
+def places(name, words):
+    """The places where a program can be, each of them a path or None. The repository's own is newer than its sources,
+    and proved if ./ick or its like proved it.
+    """
+    for folder in (HERE, os.path.dirname(sys.argv[0])):
+        yield shutil.which(os.path.join(folder, name))
+    yield shutil.which(name)
+    if os.path.exists(PREVIEW):
+        asked = subprocess.run([PREVIEW, "--any", "--built", "--path", *words], capture_output=True, check=False)
+        yield os.fsdecode(asked.stdout).removesuffix("\n") or None
