@@ -27,8 +27,9 @@ def try_program(tally, name, crate, variable, program):
     source = os.path.join(top, "lib/crates.txt")
     shutil.copytree(TOOLS, tools, ignore=shutil.ignore_patterns("__pycache__"))
     shutil.copy(os.path.join(TOP, "preview"), os.path.join(top, "lib"))
-    os.makedirs(os.path.join(top, f"lib/crates/{crate}/src"))
-    for path in (source, os.path.join(os.path.dirname(preview), "sources")):
+    for kind in ("src", "specs", "proofs"):
+        os.makedirs(os.path.join(top, f"lib/crates/{crate}/{kind}"))
+    for path in (source, os.path.join(top, "lib/HANDLES"), os.path.join(os.path.dirname(preview), "sources")):
         os.makedirs(os.path.dirname(path), exist_ok=True)
         with open(path, "w", encoding="utf-8") as file:
             file.write("crates.txt\n")
