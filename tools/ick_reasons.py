@@ -52,6 +52,29 @@ STOPS = (
     (r"^(ABSTAIN\s*FROM|REINSTATE)", r"[A-Z]", "no gerund begins so"),
 )
 
+# What C-INTERCAL reads as something that no tool rewrites. A comment isn't looked through for the last ones.
+NEVER = (
+    (r"\AMAYBE(?![A-Z])|(?<![A-Z])MAYBE(?=\s*\Z|\s+[A-Z]+\s*FROM\b)", "MAYBE makes a choice for GO BACK"),
+    (r"\AGO\s*(BACK|AHEAD)(?![A-Z])", "GO BACK and GO AHEAD go back to choices"),
+    (r"\ACREATE\s*[(.:]", "CREATE makes a new form of statement"),
+    (r"\A(\(\s*\d+\s*\)\s*)?NEXT\s*FROM(?!\s*[A-Z])", "NEXT FROM is a NEXT from another statement"),
+    (r"\APIN\s*[.:]", "PIN reads and writes the pins of a chip"),
+    (r"\ACOME\s*FROM\s*[^\s].*?(ONCE|AGAIN)\s*\Z", "COME FROM with ONCE or AGAIN needs --once too"),
+)
+NEVER_IN_EXPRESSIONS = (
+    (r"\bWHILE\b", "WHILE makes threads"),
+    (r"[.:,;]\s*\d+\s*/\s*[.:,;#'\"]", "/ overloads an operand"),
+)
+
+
+def elsewhere(source, statement):
+    """Yields each part of an unrecognised statement that only C-INTERCAL has: its place, and what it does there."""
+    body = source[statement.body:statement.end].decode("latin-1")
+    known = re.match(r"[.:,;(]|[A-Z]+\s*FROM", body)
+    for pattern, reason in NEVER + NEVER_IN_EXPRESSIONS * bool(known):
+        for found in re.finditer(pattern, body, re.DOTALL):
+            yield statement.body + found.start(), reason
+
 
 def why(source, statement):
     """The place where an unrecognised statement goes wrong, and what is wrong there."""

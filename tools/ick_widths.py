@@ -21,12 +21,17 @@ class Doubt(NamedTuple):
 
 
 class Width(NamedTuple):
-    """The width of an operand in C-INTERCAL, and here, if that is known. A constant has its number."""
+    """The width of an operand in C-INTERCAL, and here, if that is known. Bits can be possible, and some of them sure."""
 
     theirs: int
     ours: Optional[int]
-    number: Optional[int] = None
+    possible: int
+    sure: int = 0
     doubt: Optional[Doubt] = None
+
+    def number(self):
+        """The number of a constant, or None."""
+        return self.sure if self.sure == self.possible else None
 
 
 def mingle(left, right):
@@ -38,9 +43,15 @@ def select(left, right):
     return sum((left >> place & 1) << packed for packed, place in enumerate(places))
 
 
-def unary(operator, number, width):
-    rotated = number >> 1 | (number & 1) << width - 1
-    return {b"&": number & rotated, b"V": number | rotated, b"?": number ^ rotated}[operator]
+def unary(operator, possible, sure, width):
+    """The possible and the sure bits of a unary operator's result."""
+    rotated = [bits >> 1 | (bits & 1) << width - 1 for bits in (possible, sure)]
+    if operator == b"&":
+        return possible & rotated[0], sure & rotated[1]
+    if operator == b"V":
+        return possible | rotated[0], sure | rotated[1]
+    unknown, ones = possible ^ sure | rotated[0] ^ rotated[1], sure ^ rotated[1]
+    return ones | unknown, ones & ~unknown
 
 
 class Reader(ick_source.Reader):
@@ -59,41 +70,52 @@ class Reader(ick_source.Reader):
         return at, 0
 
     def joined(self, operator, left, right):
-        are_known = left.number is not None and right.number is not None
+        number = right.number()
         if operator == b"$":
-            return Width(32, 32, mingle(left.number, right.number) if are_known else None)
-        if left.doubt and right.number is not None and not right.number & SHOWN:
+            return Width(32, 32, mingle(left.possible, right.possible), mingle(left.sure, right.sure))
+        if number is None:
+            ours = 16 if right.theirs == 16 else None
+            return Width(right.theirs, ours, (1 << bin(right.possible).count("1")) - 1)
+        if left.doubt and not number & SHOWN:
             self.doubts.remove(left.doubt)
-        ours = 16 if right.theirs == 16 else None
-        if right.number is not None:
-            ours = 32 if bin(right.number).count("1") > 16 else 16
-        return Width(right.theirs, ours, select(left.number, right.number) if are_known else None)
+        ours = 32 if bin(number).count("1") > 16 else 16
+        return Width(right.theirs, ours, select(left.possible, number), select(left.sure, number))
 
     def element(self, start, mark, depth):
         end, _ = super().element(start, mark, depth)
-        width = 16 if self.text[start:start + 1] == b"," else 32
-        self.width = Width(width, width)
+        self.width = variable(16 if self.text[start:start + 1] == b"," else 32)
         return end, 0
 
     def simple(self, start, first, depth):
         end, _ = super().simple(start, first, 0)
         at, operator = self.next(start + 1)
         if first in b".:":
-            width = 16 if first == b"." else 32
-            self.width = Width(width, width)
+            self.width = variable(16 if first == b"." else 32)
         if first == b"#":
-            self.width = Width(16, 16, self.meshes[-1][0] & 65535)
+            number = self.meshes[-1][0] & 65535
+            self.width = Width(16, 16, number, number)
         if operator in b"&V?":
             self.width = self.under(operator, self.width, Doubt(start, at + 1, end - 1))
         return end, 0
 
     def under(self, operator, width, doubt):
         """The width of an operand with a unary operator in front."""
-        number = None if width.number is None else unary(operator, width.number, width.theirs)
+        possible, sure = unary(operator, width.possible, width.sure, width.theirs)
         if width.theirs == width.ours:
-            return Width(width.theirs, width.ours, number)
+            return Width(width.theirs, width.ours, possible, sure)
         self.doubts.append(doubt)
-        return Width(32, 32, number, doubt)
+        return Width(32, 32, possible, sure, doubt)
+
+
+def variable(width):
+    return Width(width, width, (1 << width) - 1)
+
+
+def may_be(expression, number):
+    """Whether an expression can have a number as its value, as far as its constants tell."""
+    reader = Reader(ick_source.without_wows(expression)[0])
+    reader.whole(0)
+    return not number & ~reader.width.possible and not reader.width.sure & ~number
 
 
 def doubts(source):
