@@ -6,31 +6,39 @@ WORTH = dict(zip("IVXLCDM", (1, 5, 10, 50, 100, 500, 1000)))
 WORTH.update({letter.lower(): 1000000 * worth for letter, worth in list(WORTH.items())})
 # the letters of each place for 1, 5 and 10, a bar in front of a letter that has one
 PLACES = ("I V X", "X L C", "C D M", "M _V _X", "_X _L _C", "_C _D _M", "_M v x", "x l c", "c d m", "m _v -")
+THEIR_PLACES = {3: "_I _V _X", 6: "i v x", 9: "_i _v -"}  # in C-INTERCAL, for the digits 4 and 6 to 9
 DIGITS = ("", "a", "aa", "aaa", "ab", "b", "ba", "baa", "baaa", "ac")
 BARS, LETTERS = re.compile(rb"[ _]*"), re.compile(rb"[IVXLCDMivxlcdm]*")
 
 
-def numeral(number):
-    """The bars and the letters of a number, as two lines without their ends."""
+def symbols(number, places):
+    """The letters of a number above 0, with a bar in front of each that has one. `places` has those of some digits."""
+    for place, digit in reversed(list(enumerate(reversed(str(number))))):
+        row = places.get(place) if digit in "46789" else None
+        letters = dict(zip("abc", (row or PLACES[place]).split()))
+        yield from (letters[one] for one in DIGITS[int(digit)])
+
+
+def numeral(number, in_c_intercal=False):
+    """The bars and the letters of a number, as two lines without their ends. C-INTERCAL ends its bars by spaces."""
     if number == 0:
         return "_", ""
-    symbols = []
-    for place, digit in reversed(list(enumerate(reversed(str(number))))):
-        letters = dict(zip("abc", PLACES[place].split()))
-        symbols += [letters[one] for one in DIGITS[int(digit)]]
-    bars = "".join("_" if len(symbol) > 1 else " " for symbol in symbols).rstrip()
-    return bars, "".join(symbol[-1] for symbol in symbols)
+    found = list(symbols(number, THEIR_PLACES if in_c_intercal else {}))
+    bars = "".join("_" if len(symbol) > 1 else " " for symbol in found)
+    return bars if in_c_intercal else bars.rstrip(), "".join(symbol[-1] for symbol in found)
 
 
 @functools.lru_cache(1 << 16)
 def number_of(bars, letters):
-    """The number whose numeral is these two lines of bytes, or None."""
+    """The number whose numeral, here or in C-INTERCAL, is these two lines of bytes, or None."""
     if not BARS.fullmatch(bars) or not LETTERS.fullmatch(letters) or len(letters) > 39:
         return None
     bars, letters = bars.decode(), letters.decode()
     worths = [WORTH[letter] * (1000 if bars[place:place + 1] == "_" else 1) for place, letter in enumerate(letters)]
     number = sum(-worth if worths[place + 1:place + 2] > [worth] else worth for place, worth in enumerate(worths))
-    return number if 0 <= number < 1 << 32 and numeral(number) == (bars, letters) else None
+    if not 0 <= number < 1 << 32 or (bars, letters) not in (numeral(number), numeral(number, True)):
+        return None
+    return number
 
 
 def pieces(output):

@@ -81,6 +81,8 @@ def try_wimp(tally):
     for given, wanted in (
             (b"\nI\n", b"1\n"), (b"_\n\n", b"0\n"), (b"\n\nI\n", b"\n1\n"), (b"\nMILD\n", b"\nMILD\n"), (b"\nIIII\n", b"\nIIII\n"),
             (b" _\nMV", b" _\nMV"), (b"", b""), (b"_", b"_"), (b"\xff\x00\n", b"\xff\x00\n"), (b"_ \nV\n", b"_ \nV\n"),
+            (b"   \nVII\n", b"7\n"), (b"__\nIX\n  \nXI\n", b"9000\n11\n"), (b"__      _______     \nivccxcivCMLXVIICCXCV\n", b"4294967295\n"),
+            (b"  \nVII\n", b"  \nVII\n"), (b"__ \nIX\n", b"__ \nIX\n"),  # C-INTERCAL's have as many bars as letters
             (b'01 GIVE-UP "\\nV\\n_\\n\\n"\nDONE\n', b'01 GIVE-UP "5\\n0\\n"\nDONE\n'),
             (b'0 E275@1 "x\\x80"\n', b'0 E275@1 "x\\x80"\n')):
         tally.equal(f"ick-wimp out of {given!r}", tally.tool("ick-wimp", "out", given=given), (0, wanted, b""))
