@@ -8,9 +8,9 @@ are programs of C-INTERCAL too; `gerunds` is as large as its compiler takes. Wit
 turns, for counting instructions.
 
 Ten others are programs of examples/. Most are long by their input; `life` and `factorial` go round in loops, and the
-sieve of `primes` is larger. They call the library, which is pasted behind them. C-INTERCAL has a library of its own,
-with the same labels below 1600. For it the script writes them into FOLDER/c-intercal: there the labels of the pasted
-library are higher by 1000, and only its routines for text are called. The input of NAME.i is NAME.in, or empty.
+sieve of `primes` is larger. They call the library, which is pasted whole behind them. C-INTERCAL has a library of its
+own, with the same labels below 1600. For it the script writes them into FOLDER/c-intercal: there the labels of the
+pasted library are higher by 1000, and only its routines for text are called. The input of NAME.i is NAME.in, or empty.
 """
 import collections
 import os
@@ -20,6 +20,9 @@ import string
 import sys
 
 from measuring import TOP, run, written
+
+sys.path.insert(0, f"{TOP}/tools")
+import ick_library  # noqa: E402
 
 
 def polite(statements):
@@ -189,10 +192,9 @@ def examples(size):
 
 def of_example(name, example):
     """A program of examples/, as long as is measured, without the library; and the library's files that it calls."""
-    with open(f"{TOP}/examples/{name}.i", encoding="ascii") as file:
-        text = file.read()
-    with open(f"{TOP}/examples/{name}.how", encoding="ascii") as file:
-        files = re.search("^with (.*)", file.read(), re.MULTILINE)[1].split()
+    with open(f"{TOP}/examples/{name}.i", "rb") as file:
+        text = ick_library.own(file.read()).decode()
+    files = [*(["text.i"] if re.search(r"\(16\d\d\) NEXT", text) else []), "arithmetic.i"]
     for old, new in example.changes:
         text = text.replace(old, new)
     if example.depth:

@@ -64,3 +64,116 @@ DO NOTE: .4 IS 2 IF THE GUESS IS ABOVE, AND THEN IF IT IS BELOW
         DO READ OUT ,7
         DO FORGET #1
         DO (10) NEXT
+
+DO NOTE: BELOW IS WHAT THIS PROGRAM CALLS OF THE LIBRARY
+
+DO NOTE: THE SAME INTO .1601. THE BYTE IN FRONT OF IT IS IN .1600
+(1601)  DO ,1600 <- #1
+        PLEASE WRITE IN ,1600
+        DO .1701 <- .1600
+        DO .1702 <- ,1600SUB#1
+        DO (1700) NEXT
+        PLEASE .1600 <- .1703~#255
+        DO ,1601 <- #3
+        DO ,1601SUB#1 <- .1600
+        DO ,1601SUB#3 <- #256
+        PLEASE .1601 <- ,1601SUB'"',1600SUB#1'~#256"$#1'
+        DO RESUME #1
+
+DO NOTE: (1640)  :1 <- THE NEXT NUMBER OF THE INPUT, AND :4 <- #1, OR #2 IF THERE IS NONE.
+        BYTES IN FRONT OF ITS FIRST DIGIT ARE SKIPPED, AND THE BYTE BEHIND ITS LAST IS TAKEN. STOP
+        IF IT IS TOO LARGE
+(1640)  DO :1640 <- #0
+        DO .1640 <- #0
+        PLEASE .1641 <- #2
+        DO (1641) NEXT
+(1641)  DO FORGET #1
+        DO (1601) NEXT
+
+PLEASE NOTE: .1642 IS BELOW 10 FOR A DIGIT, AND ELSE .1643 IS 1
+        DO .1642 <- '?.1601$#48'~'#0$#65535'
+        DO .1643 <- 'V"'".1642~#65520"~".1642~#65520"'~#1"$"'&".1642~#8"$"'".1642~#6"~".1642~#6"'~
+           #1"'~#1"'~#1
+        DO .1700 <- '?.1643$#1'~#3
+        PLEASE (1642) NEXT
+        DO .1700 <- '?"'&.1643$"'V".1641~#1"$".1601~#256"'~#1"'~#1"$#2'~#3
+        DO (1643) NEXT
+        DO (1641) NEXT
+
+PLEASE NOTE: A DIGIT. :1640 BECOMES TWICE AND EIGHT TIMES ITSELF PLUS THE DIGIT. .1640 IS 1
+        IF A CARRY IS LOST
+(1642)  DO (1998) NEXT
+        DO .1641 <- #1
+        DO .1640 <- 'V.1640$"'":1640~'#49152$#32768'"~":1640~'#49152$#32768'"'~#1"'~#1
+        PLEASE :1701 <- ':1640~"#0$#65535"'$'"':1640~"#65535$#0"'$#0"~"#32767$#1"'
+        DO :1702 <- '"':1701~"#0$#65535"'$'"':1701~"#65535$#0"'$#0"~"#32767$#1"'"~"#0$#65535"'$
+           '"'"':1701~"#0$#65535"'$'"':1701~"#65535$#0"'$#0"~"#32767$#1"'"~"#65535$#0"'$#0"~"#32767$
+           #1"'
+        DO (1710) NEXT
+        DO .1640 <- 'V.1640$".1704~#32768"'~#1
+        PLEASE :1701 <- :1703
+        DO :1702 <- .1642
+        DO (1710) NEXT
+        DO .1640 <- 'V.1640$".1704~#32768"'~#1
+        PLEASE :1640 <- :1703
+        DO RESUME #1
+
+DO NOTE: THE END OF A NUMBER, OR OF THE INPUT
+(1643)  DO (1998) NEXT
+        PLEASE FORGET #1
+        DO :1 <- :1640
+        DO :4 <- .1641
+        DO .1700 <- '?.1640$#2'~#3
+        PLEASE (1998) NEXT
+        DO (1999) NEXT
+
+DO NOTE: THE SUM OF 16 BITS. .1703 IS .1701 + .1702, AND .1704 HAS THE CARRY OUT OF EACH
+        PLACE
+(1700)  DO .1704 <- '&.1701$.1702'~'#0$#65535'
+        PLEASE .1705 <- '?.1701$.1702'~'#0$#65535'
+        DO .1703 <- .1705
+
+DO NOTE: PLACES THAT MAKE A CARRY ARE IN .1704, THOSE THAT PASS ONE ON IN .1705: OVER 1, 2,
+        4 AND 8 PLACES
+(1701)  DO .1704 <- 'V.1704$"'&.1705$"'.1704$#0'~'#32767$#1'"'~'#0$#65535'"'~'#0$#65535'
+        PLEASE .1705 <- '&.1705$"'.1705$#0'~'#32767$#1'"'~'#0$#65535'
+        DO .1704 <- 'V.1704$"'&.1705$"'"'.1704$#0'~'#32767$#1'"$#0'~'#32767$#1'"'~'#0$#65535'"'~'#0$
+           #65535'
+        DO .1705 <- '&.1705$"'"'.1705$#0'~'#32767$#1'"$#0'~'#32767$#1'"'~'#0$#65535'
+        DO .1704 <- 'V.1704$"'&.1705$"'"'"'.1704$#0'~'#32767$#1'"$#0'~'#32767$#1'"$#0'~'#16383$
+           #3'"'~'#0$#65535'"'~'#0$#65535'
+        PLEASE .1705 <- '&.1705$"'"'"'.1705$#0'~'#32767$#1'"$#0'~'#32767$#1'"$#0'~'#16383$#3'"'~'#0$
+           #65535'
+        DO .1704 <- 'V.1704$"'&.1705$"'"'"'"'.1704$#0'~'#32767$#1'"$#0'~'#32767$#1'"$#0'~'#16383$
+           #3'"$#0'~'#4095$#15'"'~'#0$#65535'"'~'#0$#65535'
+        DO .1703 <- '?.1703$"'.1704$#0'~'#32767$#1'"'~'#0$#65535'
+        DO RESUME #1
+
+PLEASE NOTE: THE SUM OF 32 BITS. :1703 IS :1701 + :1702, AND THE CARRY OUT OF IT TOPS .1704.
+        EACH PAIR OF PLACES MAKES A CARRY OR PASSES ONE ON, AND THERE ARE SIXTEEN PAIRS
+(1710)  DO .1711 <- '&":1701~'#0$#65535'"$":1702~'#0$#65535'"'~'#0$#65535'
+        DO .1712 <- '?":1701~'#0$#65535'"$":1702~'#0$#65535'"'~'#0$#65535'
+        DO .1713 <- '&":1701~'#65535$#0'"$":1702~'#65535$#0'"'~'#0$#65535'
+        PLEASE .1714 <- '?":1701~'#65535$#0'"$":1702~'#65535$#0'"'~'#0$#65535'
+        DO .1704 <- 'V.1713$"'&.1714$.1711'~'#0$#65535'"'~'#0$#65535'
+        DO .1705 <- '&.1714$.1712'~'#0$#65535'
+        DO (1701) NEXT
+        PLEASE .1715 <- '.1704$#0'~'#32767$#1'
+        DO :1703 <- '"?.1714$'"V.1711$'"&.1712$.1715"~"#0$#65535"'"~"#0$#65535"'"~"#0$#65535"'$
+           '"?.1712$.1715"~"#0$#65535"'
+        DO RESUME #1
+
+PLEASE NOTE: THE WAY OUT OF ROUTINES THAT STOP. .1700 IS 2 IF ALL IS WELL
+(1998)  DO RESUME .1700
+(1999)  DO EXPECT NO ANSWER, FOR THE RESULT IS TOO LARGE
+
+DO NOTE: (1001)  THE WAY OUT OF A TEST. .5 IS 1 TO GO ON, AND 2 TO GO BACK
+(1001)  PLEASE RESUME .5
+
+DO NOTE: (1009)  .3 <- .1 PLUS .2, AND .4 <- #1, OR #2 IF A CARRY IS LOST
+(1009)  DO .1701 <- .1
+        DO .1702 <- .2
+        PLEASE (1700) NEXT
+        DO .3 <- .1703
+        DO .4 <- '?".1704~#32768"$#1'~#3
+        DO RESUME #1

@@ -9,14 +9,13 @@ import os
 import pathlib
 import re
 
+import ick_library
 import ick_source
 import ick_tool
 from ick_faults import FAULTS
 
 ERROR, WARNING, INFORMATION = 1, 2, 3
 FUNCTION, QUICK_FIX = 12, "quickfix"
-ROUTINES = range(1000, 2000)
-PLACES = ("../library", "../../share/ick/library")  # of the library: in the repository, and as it is installed
 MESSAGE = re.compile(rb"(?:ICL|E)(\d{3})I?")
 
 # what a statement does, and the faults that it can have
@@ -49,14 +48,9 @@ def load_advice():
 ADVICE = load_advice()
 
 
-def library_file(name):
-    found = (os.path.join(ick_tool.HERE, place, name) for place in PLACES)
-    return next((os.path.realpath(path) for path in found if os.path.exists(path)), None)
-
-
 def routines():
     """What each routine of the library gives, by its label, from the table of the library's README."""
-    path = library_file("README.md")
+    path = ick_library.path("README.md")
     rows = re.findall(rb"^\| \((\d+)\) \| (.*?) \| (.*?) \|", ick_tool.content(path) if path else b"", re.MULTILINE)
     return {int(label): (gives.decode(), stops.decode()) for label, gives, stops in rows}
 
@@ -151,8 +145,8 @@ class Document:
         one = self.program.labelled.get(label)
         if one:
             return {"uri": self.uri, "range": self.label_range(one)}
-        for name in ("arithmetic.i", "text.i") if label in ROUTINES else ():
-            path = library_file(name)
+        for name in ick_library.NAMES if label in ick_library.LABELS else ():
+            path = ick_library.path(name)
             library = path and Document(pathlib.Path(path).as_uri(), ick_tool.content(path).decode())
             if library and label in library.program.labelled:
                 return library.definition(label)
@@ -176,32 +170,20 @@ class Document:
 
     def actions(self, start, end):
         """PLEASE for a statement at these places, and for as many statements as the program needs."""
-        found, wanted = [], self.wanted()
+        found, wanted = [], ick_source.wanted(self.statements)
         for one in self.statements:
-            if one.start <= end and start <= one.end and self.has_identifier(one):
+            if one.start <= end and start <= one.end and ick_source.has_identifier(one):
                 found.append(self.action("Say DO without PLEASE" if one.polite else "Say PLEASE", [one]))
         if wanted:
-            able = [one for one in self.statements if one.polite == (wanted < 0) and self.has_identifier(one)]
-            count = min(abs(wanted), len(able))
-            chosen = [able[len(able) * place // count] for place in range(count)]
+            chosen = ick_source.to_change(self.statements, wanted)
             text = f"Say PLEASE in {wanted} more" if wanted > 0 else f"Say PLEASE in {-wanted} fewer"
-            many = self.action(f"{text} statement{'s' * (count > 1)}", chosen)
+            many = self.action(f"{text} statement{'s' * (len(chosen) > 1)}", chosen)
             found.insert(0, {**many, "isPreferred": True})
         return found
-
-    def has_identifier(self, one):
-        return one.expected != "DO or PLEASE"
-
-    def wanted(self):
-        """How many PLEASE are missing, or too many, as a number below 0."""
-        count, polite = len(self.statements), sum(one.polite for one in self.statements)
-        least, most = count // 5, count // 3
-        return 0 if count < 3 else max(0, least - polite) + min(0, most - polite)
 
     def action(self, title, statements):
         edits = []
         for one in statements:
-            label = ick_source.LABEL.match(self.source, one.start)
-            found = ick_source.IDENTIFIER.search(self.source, label.end() if label else one.start)
-            edits.append({"range": self.range(*found.span()), "newText": "DO" if one.polite else "PLEASE"})
+            edits.append({"range": self.range(*ick_source.identifier(self.source, one)),
+                          "newText": "DO" if one.polite else "PLEASE"})
         return {"title": title, "kind": QUICK_FIX, "edit": {"changes": {self.uri: edits}}}

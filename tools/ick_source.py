@@ -373,3 +373,26 @@ def refusals(statements):
     if count >= 3 and not count // 5 <= polite <= count // 3:
         found.append((79 if polite < count // 5 else 99, statements[-1], statements[-1].start))
     return found
+
+
+def wanted(statements):
+    """Returns how many more PLEASE the statements need, or how many fewer, as a number below 0."""
+    count, polite = len(statements), sum(one.polite for one in statements)
+    return 0 if count < 3 else max(0, count // 5 - polite) + min(0, count // 3 - polite)
+
+
+def to_change(statements, more):
+    """Returns the statements, evenly spread, in which to say PLEASE for as many more, or fewer."""
+    able = [one for one in statements if one.polite == (more < 0) and has_identifier(one)]
+    count = min(abs(more), len(able))
+    return [able[len(able) * place // count] for place in range(count)]
+
+
+def has_identifier(statement):
+    return statement.expected != "DO or PLEASE"
+
+
+def identifier(source, statement):
+    """Returns the start and the end of the identifier of a statement."""
+    label = LABEL.match(source, statement.start)
+    return IDENTIFIER.search(source, label.end() if label else statement.start).span()

@@ -65,12 +65,9 @@ def compare_rows(tally, module):
 
 
 def example_words(name):
-    """Returns the files that are pasted behind an example, and its options for each command."""
-    found = {}
-    if os.path.isfile(f"{TOP}/examples/{name}.how"):
-        with open(f"{TOP}/examples/{name}.how", encoding="ascii") as file:
-            found = {line.split()[0]: line.split()[1:] for line in file}
-    return found.pop("with", []), found
+    """Returns the options of an example for each command."""
+    words = read(f"{TOP}/examples/{name}.how").decode()
+    return {line.split()[0]: line.split()[1:] for line in words.splitlines()}
 
 
 def read(path, default=b""):
@@ -84,8 +81,7 @@ def compare_examples(tally, module, program, outcomes):
     """Each example by each command and by ick-outcomes, with its own options."""
     for path in sorted(glob.glob(f"{TOP}/examples/*.i")):
         name = os.path.basename(path)[:-2]
-        pasted, options = example_words(name)
-        source = read(path) + b"".join(read(f"{TOP}/library/{file}") for file in pasted)
+        options, source = example_words(name), read(path)
         given = read(f"{TOP}/examples/{name}.in")
         with tempfile.NamedTemporaryFile() as file:
             file.write(source)

@@ -3,7 +3,7 @@ import glob
 import random
 import re
 
-from common import EXAMPLES, LIBRARY, TOP, closed_pipe, content, help_and_mistakes, pasted
+from common import EXAMPLES, LIBRARY, TOP, closed_pipe, content, help_and_mistakes
 
 import ick_faults
 import ick_listing
@@ -154,7 +154,7 @@ def try_examples(tally):
     wanted = {"bodies.i": b"ick-convert --widths", "trap.i": b"cut at RANDOM", "edge.i": b"no GIVE UP", "lagoon.i": b"no GIVE UP"}
     for path in EXAMPLES:
         name = path.rsplit("/", 1)[1]
-        _, out, err = tally.tool("ick-advice", given=pasted(path))
+        _, out, err = tally.tool("ick-advice", given=content(path))
         good = wanted[name] in out and out.count(b"\n") == 1 if name in wanted else not out
         tally.check(good and not err, f"advice on {path}: {out!r} {err!r}")
 

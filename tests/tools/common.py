@@ -31,13 +31,6 @@ class ToolTally(Tally):
         return called([sys.executable, "-W", "error", os.path.join(TOOLS, name), *arguments], given, environment)
 
 
-def pasted(path):
-    """An example, with the library behind it if the example calls it."""
-    source = content(path)
-    calls = any(b"(1%03d) NEXT" % label in source for label in range(1000))
-    return source + b"".join(map(content, LIBRARY)) if calls else source
-
-
 def help_and_mistakes(tally, name, needs_input=False):
     """--help prints a page with an example; a wrong option is status 2; no traceback for a closed pipe."""
     status, out, err = tally.tool(name, "--help")

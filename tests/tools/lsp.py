@@ -2,7 +2,7 @@
 import json
 import re
 
-from common import EXAMPLES, content, pasted
+from common import EXAMPLES, content
 
 import ick_source
 
@@ -70,7 +70,7 @@ def try_diagnostics(tally):
     status, found = talk(tally, ("initialize", {}), opened(text), change)
     tally.equal("the advice after a change", (status, diagnostics(found)), (0, [[]]))
     for path in EXAMPLES:
-        source = pasted(path)
+        source = content(path)
         _, found = talk(tally, opened(source.decode("latin-1")))
         told = [line.split(b": ", 1) for line in tally.tool("ick-advice", given=source)[1].splitlines()]
         wanted = [(int(place.split(b":")[1]) - 1, int(place.split(b":")[2]) - 1, text.decode()) for place, text in told]
