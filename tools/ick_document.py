@@ -87,7 +87,7 @@ class Document:
         """The advice: each from its place to the end of its statement in this line."""
         return [{"range": self.range(at, self.end_of(at)), "message": text, "source": "ick",
                  "severity": ERROR if text.startswith("refused") else
-                 INFORMATION if "--widths" in text or text.startswith("no GIVE UP") else WARNING}
+                 INFORMATION if text.startswith(("no GIVE UP", "the library has")) or "--widths" in text else WARNING}
                 for at, text in ADVICE.look_over(self.program)]
 
     def end_of(self, at):
@@ -169,7 +169,7 @@ class Document:
                  "selectionRange": self.label_range(one)} for one in self.statements if one.label is not None]
 
     def actions(self, start, end):
-        """PLEASE for a statement at these places, and for as many statements as the program needs."""
+        """PLEASE for a statement at these places, and for as many statements as the program needs; what it lacks."""
         found, wanted = [], ick_source.wanted(self.statements)
         for one in self.statements:
             if one.start <= end and start <= one.end and ick_source.has_identifier(one):
@@ -179,11 +179,20 @@ class Document:
             text = f"Say PLEASE in {wanted} more" if wanted > 0 else f"Say PLEASE in {-wanted} fewer"
             many = self.action(f"{text} statement{'s' * (len(chosen) > 1)}", chosen)
             found.insert(0, {**many, "isPreferred": True})
-        return found
+        return found + self.pasting()
+
+    def pasting(self):
+        """The action that pastes the library's routines, if the program calls any that aren't there."""
+        labels, calls = ick_library.labels_of(self.statements)
+        if not (calls - labels) & ick_library.labels():
+            return []
+        joined, start = ick_library.joined(self.source, ick_library.files()), len(ick_library.own(self.source))
+        return [] if joined is None else [self.change("Paste the library's routines that are called", [
+            {"range": self.range(start, len(self.source)), "newText": joined[start:].decode()}])]
 
     def action(self, title, statements):
-        edits = []
-        for one in statements:
-            edits.append({"range": self.range(*ick_source.identifier(self.source, one)),
-                          "newText": "DO" if one.polite else "PLEASE"})
+        return self.change(title, [{"range": self.range(*ick_source.identifier(self.source, one)),
+                                    "newText": "DO" if one.polite else "PLEASE"} for one in statements])
+
+    def change(self, title, edits):
         return {"title": title, "kind": QUICK_FIX, "edit": {"changes": {self.uri: edits}}}

@@ -21,7 +21,7 @@ FAULTS = {
           "Begin a loop with FORGET #1, so that its NEXT leaves no entry. Leave each routine by RESUME."),
     129: ("NEXT goes to a label that no statement has.",
           "DO (7) NEXT\nPLEASE GIVE UP", "",
-          "For labels from 1000 to 1999 `ick-join FILE` pastes the library behind the program. (n) in front of NEXT is a "
+          "For labels from 1000 to 1999 `ick-join FILE` pastes the library after the program. (n) in front of NEXT is a "
           "statement's label, and not its number."),
     139: ("ABSTAIN or REINSTATE names a label that no statement has.",
           "DO ABSTAIN FROM (8)\nPLEASE GIVE UP", "", "Label the statement, or name a gerund."),

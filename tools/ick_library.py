@@ -55,6 +55,12 @@ def routines(source):
     return [Routine(source, statements) for statements in found if len(statements) > 1]
 
 
+@functools.lru_cache(maxsize=None)
+def labels():
+    """Returns the labels that the library's routines have."""
+    return frozenset(label for source in files() for routine in routines(source) for label in routine.labels)
+
+
 def own(source):
     """Returns a program without LINE and what is below it."""
     return re.split(rb"\n?^%s$" % re.escape(LINE), source, maxsplit=1, flags=re.MULTILINE)[0]
@@ -62,16 +68,16 @@ def own(source):
 
 def called(program, library):
     """Returns the routines that a program calls, in their order, or None if a label would stand twice."""
-    labels, calls = labels_of(ick_source.cut(program))
+    taken, calls = labels_of(ick_source.cut(program))
     known = [routine for source in library for routine in routines(source)]
-    needed, calls, more = set(), calls - labels, {None}
+    needed, calls, more = set(), calls - taken, {None}
     while more:
         more = {place for place, routine in enumerate(known) if place not in needed and
                 (routine.labels & calls or place - 1 in needed and known[place - 1].runs_on)}
         needed |= more
         calls |= {label for place in more for label in known[place].calls}
     found = [known[place] for place in sorted(needed)]
-    return None if any(routine.labels & labels for routine in found) else found
+    return None if any(routine.labels & taken for routine in found) else found
 
 
 def joined(source, library):

@@ -1,7 +1,7 @@
 // Tells what is likely a mistake in a program, as tools/ick-advice does. The tables of reasons are those of the tools.
 'use strict';
 
-const LIBRARY = [1000, 1999], BYTES = [1600, 1699], FLOATS = [5000, 5999];
+const LIBRARY = [1000, 1999], FLOATS = [5000, 5999];
 const WAY_OUT = ': ick-convert --come-from rewrites it';
 const within = (label, [least, most]) => label >= least && label <= most;
 const SMALL_LETTERS =
@@ -28,12 +28,13 @@ function likeness(one, other) {
 }
 
 class Advice {
-  // The tables are lists of patterns and reasons, words of the language, and for each message what it means.
-  constructor({ bodies, stops, words, faults }) {
+  // The tables are lists of patterns and reasons, words of the language, labels of the library, the line above pasted
+  // routines, and for each message what it means.
+  constructor({ bodies, stops, words, labels, line, faults }) {
     const front = (pattern) => new RegExp(`^(?:${pattern})`);
     this.bodies = bodies.map(([pattern, reason]) => [front(pattern), reason]);
     this.stops = stops.map(([behind, here, reason]) => [new RegExp(behind, 's'), front(here), reason]);
-    Object.assign(this, { words, faults });
+    Object.assign(this, { words, faults, library: new Set(labels), below: new RegExp(`\\n?^${line}$`, 'm') });
     this.begins = front([...words.slice(0, 13), ...words.slice(16)].join('|'));
   }
 
@@ -47,6 +48,11 @@ class Advice {
     this.refusals();
     this.lookOver();
     return this.found.sort((one, other) => one.at - other.at || (one.text < other.text ? -1 : 1));
+  }
+
+  // Returns a program without the line above pasted routines, and without what is below it.
+  own(source) {
+    return source.split(this.below, 1)[0];
   }
 
   tell(at, text) {
@@ -72,18 +78,23 @@ class Advice {
   }
 
   refusals() {
-    const hasLibrary = [...this.labelled.keys()].some((label) => within(label, LIBRARY)), calls = [];
+    const lacking = [], library = this.isJoinable() ? this.library : new Set();
     for (const [number, statement, at] of refusalsOf(this.statements)) {
       const label = statement.labels.find(([, place]) => place >= at)?.[0] ?? null;
-      if (number === 129 && within(label, LIBRARY) && !hasLibrary) calls.push([at, label]);
+      if ((number === 129 || number === 139) && library.has(label)) lacking.push([at, label]);
       else this.tell(at, `refused, E${String(number).padStart(3, '0')}: ${this.refusal(number, statement, at, label)}`);
     }
-    if (calls.length === 0) return;
-    const labels = [...new Set(calls.map(([, label]) => label))].sort((one, other) => one - other);
-    const files = labels.some((label) => within(label, BYTES))
-      ? 'library/text.i and library/arithmetic.i' : 'library/arithmetic.i';
-    this.tell(calls[0][0], `refused, E129: ick-join pastes ${files} behind the program, for its calls of `
-      + labels.map((label) => `(${label})`).join(', '));
+    if (lacking.length === 0) return;
+    const labels = [...new Set(lacking.map(([, label]) => label))].sort((one, other) => one - other);
+    const listed = labels.map((label) => `(${label})`).join(', ');
+    const first = lacking.reduce((least, [at]) => Math.min(least, at), Infinity);
+    this.tell(first, `the library has ${listed}: ick-join pastes it after the program`);
+  }
+
+  // Whether the program itself has no label of the library, as `ick-join` needs it.
+  isJoinable() {
+    const { length } = this.own(this.source);
+    return !this.statements.some(({ label, start }) => within(label ?? 0, LIBRARY) && start < length);
   }
 
   refusal(number, statement, at, label) {

@@ -25,7 +25,7 @@ const GAVE_UP = ['ok', 'The program gave up'];
 const BROWSERS = 'This page needs WebAssembly with 64-bit memory, which Chrome, Chromium and Edge have from version '
   + '133 on, and Firefox from version 134 on.';
 
-const { examples, library, line: below, advice: tables, made } = JSON.parse($('content').textContent);
+const { examples, library, advice: tables, made } = JSON.parse($('content').textContent);
 const advice = new Advice(tables);
 const editor = new Editor($('source'), $('numbers'), $('shown'));
 let engine = null; // null if this browser can't run the module
@@ -175,7 +175,7 @@ function save() {
 // Returns the whole source: the program, and behind it the library's files, in place of routines that are there.
 function sourceOf({ source: text, library: names }) {
   if (names.length === 0) return text;
-  const [source] = text.split(`\n${below}\n`);
+  const source = advice.own(text);
   return source + (source.endsWith('\n') ? '' : '\n') + names.map((name) => library[name]).join('');
 }
 

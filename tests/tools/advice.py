@@ -6,8 +6,11 @@ import re
 from common import EXAMPLES, LIBRARY, TOP, closed_pipe, content, help_and_mistakes
 
 import ick_faults
+import ick_library
 import ick_listing
 import ick_source
+
+LINE = ick_library.LINE.decode()
 
 PEER = "/usr/share/doc/intercal/examples"
 TEXTS = 500
@@ -69,11 +72,17 @@ ROWS = (
      "1:18: the comment in front hands its (5) to statement 2 as its label\n"
      "3:1: refused, E182: (5) is the label of statement 3, and of statement 2 at line 1, since the comment in front hands "
      "it on"),
-    ("DO (1000) NEXT\nDO (1610) NEXT\nPLEASE GIVE UP",
-     "1:5: refused, E129: ick-join pastes library/text.i and library/arithmetic.i behind the program, for its calls of (1000), "
-     "(1610)"),
+    ("DO (1610) NEXT\nDO (1000) NEXT\nPLEASE DO (1610) NEXT\nDO GIVE UP",
+     "1:5: the library has (1000), (1610): ick-join pastes it after the program"),
+    ("DO NOT (1234) NEXT\nDO ABSTAIN FROM (1020)\nDO (1000) NEXT\nPLEASE GIVE UP",
+     "1:9: refused, E129: no statement has the label (1234)\n"
+     "2:18: the library has (1000), (1020): ick-join pastes it after the program"),
+    ("DO (1020) NEXT\nDO (1001) NEXT\nPLEASE GIVE UP\n(1001) DO RESUME .5",
+     "1:5: refused, E129: no statement has the label (1020)"),
+    (f"DO (1020) NEXT\nDO (1001) NEXT\nPLEASE GIVE UP\n{LINE}\n(1001) DO RESUME .5",
+     "1:5: the library has (1020): ick-join pastes it after the program"),
     ("DO (1020) NEXT\nDO (5000) NEXT\nPLEASE (7) NEXT\nDO GIVE UP",
-     "1:5: refused, E129: ick-join pastes library/arithmetic.i behind the program, for its calls of (1020)\n"
+     "1:5: the library has (1020): ick-join pastes it after the program\n"
      "2:5: refused, E129: no statement has the label (5000); ick-join --with pastes C-INTERCAL's floatlib.i\n"
      "3:9: refused, E129: no statement has the label (7)"),
     ("DO GIVE UP\n" * 11, "11:1: refused, E079: 11 statements, 0 with PLEASE: say PLEASE in 2 more"),
@@ -172,7 +181,7 @@ def try_peer(tally):
         number = refusals[0][0]
         _, out, _ = tally.tool("ick-advice", path)
         reason = {182: rb"refused, E182: .* since .* hands it on",
-                  129: rb"refused, E129: .*(pastes library/|floatlib)"}.get(number, rb"$.")
+                  129: rb"the library has|refused, E129: .*floatlib"}.get(number, rb"$.")
         tally.check(re.search(reason, out) is not None, f"no reason for E{number} in {path}: {out[:400]!r}")
 
 

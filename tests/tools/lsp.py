@@ -4,6 +4,7 @@ import re
 
 from common import EXAMPLES, content
 
+import ick_library
 import ick_source
 
 URI = "file:///tried.i"
@@ -125,6 +126,31 @@ def try_politeness(tally):
     tally.equal("actions on what is no statement", results(found)[1], [])
 
 
+def try_pasting(tally):
+    """What a program lacks of the library is information, and one action pastes it. No action makes a label stand twice."""
+    for above, printed in (("DO .2 <- #2\nPLEASE (1000) NEXT\nDO READ OUT .3\nDO GIVE UP", b"\nII\n"),
+                           ("DO .1 <- #65\nPLEASE (1610) NEXT\nDO (1630) NEXT\nDO GIVE UP\n", b"A\n")):
+        for text in (above, f"{above}\n\n{ick_library.LINE.decode()}\n(1030) DO RESUME #1\n"):
+            _, found = talk(tally, opened(text), acted(1))
+            tally.equal(f"the advice on {text!r}", [(one["severity"], one["message"][:15]) for one in diagnostics(found)[0]],
+                        [(3, "the library has")])
+            *_, action = results(found)[1]
+            tally.equal("the title of the action", action["title"], "Paste the library's routines that are called")
+            edit, = action["edit"]["changes"][URI]
+            start, end = edit["range"]["start"], edit["range"]["end"]
+            lines = text.split("\n")
+            tally.equal("the end of the edit", (end["line"], end["character"]), (len(lines) - 1, len(lines[-1])))
+            kept = "\n".join([*lines[:start["line"]], lines[start["line"]][:start["character"]]])
+            tally.equal(f"ick run after {action['title']}", tally.ick("run", given=(kept + edit["newText"]).encode()),
+                        (0, printed, b""))
+            _, found = talk(tally, opened(kept + edit["newText"]), acted(1))
+            tally.equal("after the action", (diagnostics(found), len(results(found)[1])), ([[]], 1))
+    for text in ("PLEASE (1010) NEXT\nDO GIVE UP\n(1700) DO RESUME #1\n", "PLEASE (1234) NEXT\nDO GIVE UP\n"):
+        _, found = talk(tally, opened(text), acted(0))
+        tally.equal(f"the severities of {text!r}", [one["severity"] for one in diagnostics(found)[0]], [1])
+        tally.equal(f"the actions on {text!r}", [one["title"] for one in results(found)[1]], ["Say DO without PLEASE"])
+
+
 def try_mistakes(tally):
     status, found = talk(tally, ("initialize", {}), ("no/such", {}), at("hover", 0, 0))
     tally.equal("answers to mistakes", (status, [one.get("error", {}).get("code") for one in found]),
@@ -139,4 +165,5 @@ def try_all(tally):
     try_diagnostics(tally)
     try_answers(tally)
     try_politeness(tally)
+    try_pasting(tally)
     try_mistakes(tally)
