@@ -2,6 +2,9 @@
 'use strict';
 
 const LIBRARY = [1000, 1999], FLOATS = [5000, 5999];
+const WRITERS = [1610, 1620, 1630]; // the library's routines that write
+const TEXT = /(?:OUT|\+)\s*,\s*\d+\s*(?:\+|$)/; // a whole tail in a list of READ OUT
+const LAST_BYTE = /^\.\s*0*1610\s*<-/;
 const WAY_OUT = ': ick-convert --come-from rewrites it';
 const within = (label, [least, most]) => label >= least && label <= most;
 const SMALL_LETTERS =
@@ -131,6 +134,7 @@ class Advice {
       }
     }
     this.widths(new Set(reached.map(({ number }) => number)));
+    this.texts();
     for (const statement of reached) {
       if (!isRead(statement) && mayBeDone(statement) && !library.has(statement.number)) this.unread(statement);
     }
@@ -146,6 +150,20 @@ class Advice {
         this.tell(at, `the operand of ${this.source[start - 1]} has 16 bits if its select takes at most 16; in C-INTERCAL `
           + 'it has 32: ick-convert --widths');
       }
+    }
+  }
+
+  // Tells of a text of the program's own before a call that writes, if the library isn't told its last byte.
+  texts() {
+    const first = this.statements.findIndex(({ label }) => within(label ?? 0, LIBRARY));
+    const own = first < 0 ? this.statements : this.statements.slice(0, first), done = own.filter(mayBeDone);
+    const body = (it) => this.source.slice(it.body, it.end);
+    const text = done.find((it) => it.kind === 'READ-OUT' && TEXT.test(body(it)));
+    const call = text && done.find((it) => it.number > text.number && it.kind === 'NEXT'
+      && WRITERS.includes(it.labels[0][0]));
+    if (call && !own.some((it) => LAST_BYTE.test(body(it)))) {
+      this.tell(text.start, `(${call.labels[0][0]}) writes wrong bytes after this text, unless .1610 has its last byte: `
+        + 'ick-say --library writes both');
     }
   }
 

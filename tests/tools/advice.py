@@ -11,6 +11,7 @@ import ick_listing
 import ick_source
 
 LINE = ick_library.LINE.decode()
+WRITERS = "\n(1610) DO READ OUT ,1610\n(1020) DO RESUME #1\n(1620) PLEASE RESUME #1\n(1630) DO RESUME #1"
 
 PEER = "/usr/share/doc/intercal/examples"
 TEXTS = 500
@@ -92,6 +93,11 @@ ROWS = (
      "places, and those of b at the even ones."),
     ("DO :1 <- \"?:6~:6\"~#65535\nPLEASE GIVE UP",
      "1:10: the operand of ? has 16 bits if its select takes at most 16; in C-INTERCAL it has 32: ick-convert --widths"),
+    ("DO READ OUT #1 + ,1 + #2\nDO (1020) NEXT\nDO (1620) NEXT\nPLEASE (1630) NEXT\nDO GIVE UP" + WRITERS,
+     "1:1: (1620) writes wrong bytes after this text, unless .1610 has its last byte: ick-say --library writes both"),
+    ("DO READ OUT ,1\nDO .1610 <- #80\nDO (1620) NEXT\nPLEASE (1630) NEXT\nDO GIVE UP" + WRITERS, ""),
+    ("DO (1610) NEXT\nDO READ OUT ,1\nDO (1020) NEXT\nPLEASE READ OUT ,1SUB#1\nDO GIVE UP" + WRITERS, ""),
+    ("DO READ OUT ,1SUB#1 + .1\nDO (1620) NEXT\nDO NOT READ OUT ,1\nPLEASE (1630) NEXT\nDO GIVE UP" + WRITERS, ""),
     ("DO READ OUT #1", "1:15: {G}"),
     ("", "1:1: {G}"),
     ("DO GIVE UP\nPLEASE BE IDLE HERE", ""),

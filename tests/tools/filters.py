@@ -3,7 +3,7 @@ import glob
 import json
 import random
 
-from common import TOP, closed_pipe, content, full_disk, help_and_mistakes, number_of_version
+from common import LIBRARY, TOP, closed_pipe, content, full_disk, help_and_mistakes, number_of_version
 
 import ick_listing
 
@@ -54,6 +54,13 @@ def try_say(tally):
     _, second, _ = tally.tool("ick-say", "--after", "10", "again")
     tally.equal("two texts", tally.ick("run", given=first + second + b"DO GIVE UP"), (0, b"Hello, you\nagain\n", b""))
     tally.equal("no text", tally.tool("ick-say", given=b""), (0, b"", b""))
+    tally.equal("no text for the library", tally.tool("ick-say", "--library", given=b""), (0, b"", b""))
+    number = b"DO :1 <- #12\nPLEASE (1620) NEXT\nDO (1630) NEXT\n"
+    for text in (b"x", b"Hello, world!\n", bytes(range(256))):
+        _, first, _ = tally.tool("ick-say", "--library", given=text)
+        _, again, _ = tally.tool("ick-say", "--library", "--after", "10", given=text)
+        source = first + number + again + number + b"DO GIVE UP\n" + b"".join(map(content, LIBRARY))
+        tally.equal(f"numbers after {text[:20]!r}", tally.ick("run", given=source), (0, 2 * (text + b"12\n"), b""))
     for size, wanted in ((44000, 0), (60000, 2)):
         status, out, err = tally.tool("ick-say", given=bytes(range(250)) * (size // 250))
         tally.check(status == wanted and (tally.ick("check", given=out + b"DO GIVE UP")[0] == 0 if wanted == 0 else not out),
