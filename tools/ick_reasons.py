@@ -6,6 +6,7 @@ import ick_source
 
 ELSEWHERE = "is C-INTERCAL's, and not in this language"
 COME_FROM = f"COME FROM {ELSEWHERE}: ick-convert --come-from rewrites it"
+OTHER_COME_FROM = f"COME FROM {ELSEWHERE}: ick-convert --come-from rewrites COME FROM (n) alone"
 WORDS = ("FORGET RESUME STASH RETRIEVE IGNORE REMEMBER ABSTAIN REINSTATE GIVE WRITE READ NEXT FROM OUT IN UP "
          "CALCULATING NEXTING FORGETTING RESUMING STASHING RETRIEVING IGNORING REMEMBERING ABSTAINING REINSTATING "
          "WRITING READING").split()
@@ -13,16 +14,25 @@ BEGINS = re.compile("|".join(WORDS[:13] + WORDS[16:]))
 SMALL = re.compile(r"\b(do|please|forget|resume|stash|retrieve|ignore|remember|abstain|reinstate|give|write|read"
                    r"|next)\b")
 
+# what a statement of C-INTERCAL is in front of the label that ends it, and its name
+FRONTS = (
+    (r"COME\s*FROM", "COME FROM"),
+    (r"NEXT\s*FROM", "NEXT FROM, which is C-INTERCAL's,"),
+    (r"ABSTAIN\s*[#.:,;'\"!].*FROM", "ABSTAIN with a count, which is C-INTERCAL's,"),
+)
+
 # how a body begins, and what is wrong with it
 BODIES = (
-    (r"COME\s*FROM", COME_FROM),
+    (r"COME\s*FROM\s*(\(\s*\d+\s*\)\s*)?$", COME_FROM),
+    (r"COME\s*FROM", OTHER_COME_FROM),
     (r"(\(\s*\d+\s*\)\s*)?NEXT\s*FROM", f"NEXT FROM {ELSEWHERE}"),
-    (r"ABSTAIN\s*[^A-Z\s]", f"ABSTAIN with a count {ELSEWHERE}"),
+    (r"ABSTAIN\s*[#.:,;'\"!]", f"ABSTAIN with a count {ELSEWHERE}"),
     (r"TRY\s*AGAIN", f"TRY AGAIN {ELSEWHERE}"),
     (r"GO\s*(BACK|AHEAD)", f"backtracking {ELSEWHERE}"),
     (r"CREATE", f"CREATE {ELSEWHERE}"),
     (r"PIN\s*[.:]", f"PIN {ELSEWHERE}"),
     (r"NOT|N'T|%\s*0*(\d\d?|100)\b", "NOT and a chance stand once each"),
+    (r"\d+\s*%|%\s*([^\d\s]|$)", "a chance has one %, in front of its number, as %50"),
     (r"%", "a chance goes from 0 to 100"),
     (r"$", "nothing stands between this identifier and the next one"),
 )
@@ -31,7 +41,7 @@ BODIES = (
 STOPS = (
     (r"", r"(ONCE|AGAIN)\b", "ONCE and AGAIN are C-INTERCAL's, and not in this language"),
     (r"", r"MAYBE\b", f"MAYBE {ELSEWHERE}"),
-    (r"", r"COME\s*FROM", COME_FROM),
+    (r"", r"COME\s*FROM", OTHER_COME_FROM),
     (r"", r"WHILE\b", f"WHILE {ELSEWHERE}"),
     (r"", r".?\x08", "overstruck marks aren't read: ick-convert rewrites them"),
     (r"", r"[\xa2\xa3\xa4\xa5]|\xc2[\xa2-\xa5]", "the mark is an old spelling: ick-convert rewrites it"),
@@ -81,6 +91,9 @@ def why(source, statement):
     body = source[statement.body:statement.end].decode("latin-1")
     if SMALL.search(body) and not re.search(r"[A-Z]{2}", body):
         return statement.start, "small letters are no letters of the language: write capitals, or use ick-convert"
+    rest = source[statement.stop:statement.end].decode("latin-1")
+    if statement.expected in ("DO or PLEASE", "the end of the statement") and re.fullmatch(r"\d+", rest):
+        return statement.stop, f"a label is written in parentheses, as ({rest})"
     if statement.expected == "DO or PLEASE":
         return statement.start, "what stands in front of the first DO or PLEASE is a statement of its own"
     if statement.stop == statement.body:
@@ -103,6 +116,9 @@ def stopped(source, statement):
     for behind, here, reason in STOPS:
         if re.match(here, after) and re.search(behind, before, re.DOTALL):
             return statement.stop, reason
+    if not after and statement.opened is not None:
+        mark = chr(source[statement.opened])
+        return statement.opened, f"the group that {mark} opens here isn't closed"
     if not after:
         return statement.start, f"{statement.expected} is missing at its end"
     return statement.stop, f"reading stops here, where {statement.expected} is expected"

@@ -45,11 +45,11 @@ class Lines:
 
 
 class Unread(Exception):
-    """No body can be read: what is expected at a place."""
+    """No body can be read: what is expected at a place, and where a group opens that should close there."""
 
-    def __init__(self, at, expected):
+    def __init__(self, at, expected, opened=None):
         super().__init__(expected)
-        self.at, self.expected = at, expected
+        self.at, self.expected, self.opened = at, expected, opened
 
 
 class Statement:
@@ -57,13 +57,14 @@ class Statement:
 
     number, label, polite, abstained, chance and kind are the fields of `ick list`. The text goes from start to end, and
     the body begins at body. meshes, names and labels are pairs of a value and its place in a recognised body. For an
-    unrecognised body, stop is where reading stopped, and expected says what could have come there.
+    unrecognised body, stop is where reading stopped, and expected says what could have come there. If it is the end of
+    a group, opened is where the group opens.
     """
 
     def __init__(self, number, start):
         self.number, self.start, self.end, self.body = number, start, start, start
         self.label, self.polite, self.abstained, self.chance = None, False, False, 100
-        self.kind, self.stop, self.expected = "UNRECOGNISED", None, None
+        self.kind, self.stop, self.expected, self.opened = "UNRECOGNISED", None, None, None
         self.meshes, self.names, self.labels = [], [], []
 
     def read(self):
@@ -101,10 +102,10 @@ class Reader:
         at, _ = self.next(at)
         return at + len(word) if self.text.startswith(word, at) else None
 
-    def expect(self, at, word, expected=None):
+    def expect(self, at, word, expected=None, opened=None):
         end = self.word(at, word)
         if end is None:
-            raise Unread(self.next(at)[0], expected or word.decode())
+            raise Unread(self.next(at)[0], expected or word.decode(), opened)
         return end
 
     def number(self, at):
@@ -169,7 +170,7 @@ class Reader:
             return self.mesh(start, True), 1
         if first and first in b"'\"":
             at, height = self.expression(self.unary(start + 1), first, depth + 1)
-            return self.expect(at, first, f"{first.decode()} to close the group"), height + 1
+            return self.expect(at, first, f"{first.decode()} to close the group", start), height + 1
         raise Unread(start, "a variable, a mesh (#) or a group")
 
     def element(self, start, mark, depth):
@@ -304,7 +305,7 @@ def finish(text, statement, after_head):
         statement.kind = kind
         statement.meshes, statement.names, statement.labels = reader.meshes, reader.names, reader.labels
     except Unread as stop:
-        statement.stop, statement.expected = stop.at, stop.expected
+        statement.stop, statement.expected, statement.opened = stop.at, stop.expected, stop.opened
         found = START.search(text, after_head)
         end = found.start() if found else len(text)
     return end
@@ -348,6 +349,8 @@ def move(statements, moved):
         statement.start, statement.end, statement.body = map(moved, (statement.start, statement.end, statement.body))
         if statement.stop is not None:
             statement.stop = moved(statement.stop)
+        if statement.opened is not None:
+            statement.opened = moved(statement.opened)
         for numbers in (statement.meshes, statement.names, statement.labels):
             numbers[:] = [(number, moved(at)) for number, at in numbers]
 

@@ -33,8 +33,9 @@ function likeness(one, other) {
 class Advice {
   // The tables are lists of patterns and reasons, words of the language, labels of the library, the line above pasted
   // routines, and for each message what it means.
-  constructor({ bodies, stops, words, labels, line, faults }) {
+  constructor({ fronts, bodies, stops, words, labels, line, faults }) {
     const front = (pattern) => new RegExp(`^(?:${pattern})`);
+    this.fronts = fronts.map(([pattern, name]) => [new RegExp(`^(?:${pattern})$`, 's'), name]);
     this.bodies = bodies.map(([pattern, reason]) => [front(pattern), reason]);
     this.stops = stops.map(([behind, here, reason]) => [new RegExp(behind, 's'), front(here), reason]);
     Object.assign(this, { words, faults, library: new Set(labels), below: new RegExp(`\\n?^${line}$`, 'm') });
@@ -43,7 +44,7 @@ class Advice {
 
   // Returns what is found in a program, in order of the places: each a place and a text.
   of(source) {
-    Object.assign(this, { source, found: [], statements: cut(source), labelled: new Map() });
+    Object.assign(this, { source, found: [], explained: new Set(), statements: cut(source), labelled: new Map() });
     this.ends = [...source.matchAll(/\n/g)].map(({ index }) => index);
     for (const statement of this.statements) {
       if (statement.label !== null && !this.labelled.has(statement.label)) this.labelled.set(statement.label, statement);
@@ -70,14 +71,19 @@ class Advice {
     return number > 1 ? this.statements[number - 2] : null;
   }
 
+  // Names the statement of C-INTERCAL that would end in the label that follows, or ''.
+  elsewhere({ body, end }) {
+    const text = this.source.slice(body, end);
+    return this.fronts.find(([pattern]) => pattern.test(text))?.[1] ?? '';
+  }
+
   // What hands its label to the statement: a statement in front that isn't read and ends in this line, or ''.
   handing(statement) {
     const before = this.before(statement);
     if (!before || isRead(before) || statement.label === null) return '';
     if (this.line(before.end) !== this.line(statement.start)) return '';
-    const words = /^(COME|NEXT)\s*FROM$/.exec(this.source.slice(before.body, before.end));
-    if (words) return `${words[1]} FROM`;
-    return before.abstained ? 'the comment in front' : "the statement in front, which can't be read,";
+    return this.elsewhere(before) || (before.abstained ? 'the comment in front'
+      : "the statement in front, which can't be read,");
   }
 
   refusals() {
@@ -122,21 +128,25 @@ class Advice {
     const first = this.labelled.get(statement.label);
     if (twice) text += `, and of statement ${first.number} at line ${this.line(first.start)}`;
     if (twice && this.handing(first)) text += `, since ${this.handing(first)} hands it on`;
+    for (const one of [statement, first]) {
+      if (this.handing(one) && this.elsewhere(this.before(one))) this.explained.add(this.before(one));
+    }
     return text.includes('COME FROM') ? text + WAY_OUT : text;
   }
 
   lookOver() {
     const told = new Set(this.found.map(({ at }) => at)), library = this.ofLibrary(), reached = this.reached();
+    const unreadable = new Set(reached.filter((it) => !isRead(it) && mayBeDone(it) && !library.has(it.number)));
     for (const statement of this.statements) {
-      if (this.handing(statement) && !told.has(statement.start)) {
+      if (this.handing(statement) && !told.has(statement.start) && !unreadable.has(this.before(statement))) {
         this.tell(statement.start, `${this.handing(statement)} hands its (${statement.label}) to statement `
           + `${statement.number} as its label${this.handing(statement) === 'COME FROM' ? WAY_OUT : ''}`);
       }
     }
     this.widths(new Set(reached.map(({ number }) => number)));
     this.texts();
-    for (const statement of reached) {
-      if (!isRead(statement) && mayBeDone(statement) && !library.has(statement.number)) this.unread(statement);
+    for (const statement of unreadable) {
+      if (!this.explained.has(statement)) this.unread(statement);
     }
     if (!this.statements.some((it) => it.kind === 'GIVE-UP' && mayBeDone(it))) {
       this.tell(trimmed(this.source).length, 'no GIVE UP is ever done: the program can only end by a fault');
@@ -219,6 +229,10 @@ class Advice {
     if (SMALL_LETTERS.test(body) && !/[A-Z]{2}/.test(body)) {
       return [statement.start, 'small letters are no letters of the language: write capitals, or use ick-convert'];
     }
+    const rest = this.source.slice(statement.stop, statement.end);
+    if (['DO or PLEASE', 'the end of the statement'].includes(statement.expected) && /^\d+$/.test(rest)) {
+      return [statement.stop, `a label is written in parentheses, as (${rest})`];
+    }
     if (statement.expected === 'DO or PLEASE') {
       return [statement.start, 'what stands in front of the first DO or PLEASE is a statement of its own'];
     }
@@ -239,11 +253,12 @@ class Advice {
   }
 
   // What is wrong at the place where reading stopped.
-  stopped({ body, stop, start, end, expected }) {
+  stopped({ body, stop, start, end, expected, opened }) {
     const before = this.source.slice(body, stop), after = this.source.slice(stop, Math.max(stop, end));
     for (const [behind, here, reason] of this.stops) {
       if (here.test(after) && behind.test(before)) return [stop, reason];
     }
+    if (!after && opened !== null) return [opened, `the group that ${this.source[opened]} opens here isn't closed`];
     if (!after) return [start, `${expected} is missing at its end`];
     return [stop, `reading stops here, where ${expected} is expected`];
   }

@@ -17,11 +17,11 @@ const READ = {
 const START = new RegExp(READ.start.source, 'g');
 const KIND_OF = { 'ABSTAINFROM': 'ABSTAIN', 'GIVEUP': 'GIVE-UP', 'WRITEIN': 'WRITE-IN', 'READOUT': 'READ-OUT' };
 
-// No body can be read: what is expected at a place.
+// No body can be read: what is expected at a place, and where a group opens that should close there.
 class Unread extends Error {
-  constructor(at, expected) {
+  constructor(at, expected, opened = null) {
     super(expected);
-    Object.assign(this, { at, expected });
+    Object.assign(this, { at, expected, opened });
   }
 }
 
@@ -57,9 +57,9 @@ class Reader {
     return this.text.startsWith(word, place) ? place + word.length : null;
   }
 
-  expect(at, word, expected = word) {
+  expect(at, word, expected = word, opened = null) {
     const end = this.word(at, word);
-    if (end === null) throw new Unread(this.next(at)[0], expected);
+    if (end === null) throw new Unread(this.next(at)[0], expected, opened);
     return end;
   }
 
@@ -125,7 +125,7 @@ class Reader {
     if (first === '#') return [this.mesh(start, true), 1];
     if (first && '\'"'.includes(first)) {
       const [end, height] = this.expression(this.unary(start + 1), first, depth + 1);
-      return [this.expect(end, first, `${first} to close the group`), height + 1];
+      return [this.expect(end, first, `${first} to close the group`, start), height + 1];
     }
     throw new Unread(start, 'a variable, a mesh (#) or a group');
   }
@@ -256,7 +256,7 @@ function readBody(text, statement, afterHead) {
     return end;
   } catch (error) {
     if (!(error instanceof Unread)) throw error;
-    Object.assign(statement, { stop: error.at, expected: error.expected });
+    Object.assign(statement, { stop: error.at, expected: error.expected, opened: error.opened });
     const found = nextStart(text, afterHead);
     return found < 0 ? text.length : found;
   }
@@ -264,7 +264,7 @@ function readBody(text, statement, afterHead) {
 
 const newStatement = (number, start) => ({
   number, start, end: start, body: start, label: null, polite: false, abstained: false, chance: 100,
-  kind: 'UNRECOGNISED', stop: null, expected: null, meshes: [], names: [], labels: [],
+  kind: 'UNRECOGNISED', stop: null, expected: null, opened: null, meshes: [], names: [], labels: [],
 });
 
 // Returns the statements of a text, in order.
@@ -298,7 +298,7 @@ function moveBack(statements, source) {
   if (!source.includes('!')) return;
   const moved = movedIn(source);
   for (const statement of statements) {
-    for (const name of ['start', 'end', 'body', 'stop']) {
+    for (const name of ['start', 'end', 'body', 'stop', 'opened']) {
       if (statement[name] !== null) statement[name] = moved(statement[name]);
     }
     for (const numbers of [statement.meshes, statement.names, statement.labels]) {
