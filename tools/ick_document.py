@@ -169,7 +169,7 @@ class Document:
                  "selectionRange": self.label_range(one)} for one in self.statements if one.label is not None]
 
     def actions(self, start, end):
-        """PLEASE for a statement at these places, and for as many statements as the program needs; what it lacks."""
+        """PLEASE for a statement at these places, for as many as the program needs, and what it lacks of the library."""
         found, wanted = [], ick_source.wanted(self.statements)
         for one in self.statements:
             if one.start <= end and start <= one.end and ick_source.has_identifier(one):
