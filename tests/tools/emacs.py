@@ -23,7 +23,8 @@ DO GIVE UP
 ANSWERS = (
     ("hover", "**Statement 1**: `READ-OUT` writes numerals"), ("routine", "(1020): `.1` = `.1` + 1, modulo 65536."),
     ("library", "library/arithmetic.i"), ("definition", "4"), ("uses", "3"), ("symbols", "((7))"),
-    ("action", "Say PLEASE in 1 more statement"), ("action", "Say PLEASE"), ("polite", "1"),
+    ("action", "Say PLEASE in 1 more statement"), ("action", "Say PLEASE"),
+    ("action", "Paste the library's routines that are called"), ("polite", "1"),
 )
 
 
