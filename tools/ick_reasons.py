@@ -6,7 +6,7 @@ import ick_source
 
 ELSEWHERE = "is C-INTERCAL's, and not in this language"
 COME_FROM = f"COME FROM {ELSEWHERE}: ick-convert --come-from rewrites it"
-OTHER_COME_FROM = f"COME FROM {ELSEWHERE}: ick-convert --come-from rewrites COME FROM (n) alone"
+OTHER_COME_FROM = f"COME FROM {ELSEWHERE}: ick-convert --all rewrites it if it begins with its label or expression"
 WORDS = ("FORGET RESUME STASH RETRIEVE IGNORE REMEMBER ABSTAIN REINSTATE GIVE WRITE READ NEXT FROM OUT IN UP "
          "CALCULATING NEXTING FORGETTING RESUMING STASHING RETRIEVING IGNORING REMEMBERING ABSTAINING REINSTATING "
          "WRITING READING").split()
@@ -23,11 +23,11 @@ FRONTS = (
 
 # how a body begins, and what is wrong with it
 BODIES = (
-    (r"COME\s*FROM\s*(\(\s*\d+\s*\)\s*)?$", COME_FROM),
+    (r"COME\s*FROM\s*(\(\s*\d+\s*\)\s*|[.:,;#'\"!][^A-Z]*(SUB[^A-Z]*)*)?$", COME_FROM),
     (r"COME\s*FROM", OTHER_COME_FROM),
     (r"(\(\s*\d+\s*\)\s*)?NEXT\s*FROM", f"NEXT FROM {ELSEWHERE}"),
-    (r"ABSTAIN\s*[#.:,;'\"!]", f"ABSTAIN with a count {ELSEWHERE}"),
-    (r"TRY\s*AGAIN", f"TRY AGAIN {ELSEWHERE}"),
+    (r"ABSTAIN\s*[#.:,;'\"!]", f"ABSTAIN with a count {ELSEWHERE}: ick-convert --abstain rewrites it"),
+    (r"TRY\s*AGAIN", f"TRY AGAIN {ELSEWHERE}: ick-convert --again rewrites it"),
     (r"GO\s*(BACK|AHEAD)", f"backtracking {ELSEWHERE}"),
     (r"CREATE", f"CREATE {ELSEWHERE}"),
     (r"PIN\s*[.:]", f"PIN {ELSEWHERE}"),
@@ -39,7 +39,7 @@ BODIES = (
 
 # what stands in front of the place where reading stopped, what stands there, and what is wrong with it
 STOPS = (
-    (r"", r"(ONCE|AGAIN)\b", "ONCE and AGAIN are C-INTERCAL's, and not in this language"),
+    (r"", r"(ONCE|AGAIN)\b", "ONCE and AGAIN are C-INTERCAL's: ick-convert --once rewrites them"),
     (r"", r"MAYBE\b", f"MAYBE {ELSEWHERE}"),
     (r"", r"COME\s*FROM", OTHER_COME_FROM),
     (r"", r"WHILE\b", f"WHILE {ELSEWHERE}"),
@@ -52,7 +52,7 @@ STOPS = (
     (r"<-.*$", r"-", "there is no minus: call (1010) of library/arithmetic.i"),
     (r"<-.*$", r"\*", "there is no product: call (1030) of library/arithmetic.i"),
     (r"<-.*$", r"[@^|]", f"this operator {ELSEWHERE}"),
-    (r"[,;]\s*$", r"[&V?]", "no unary operator stands behind the mark of an array"),
+    (r"[,;]\s*$", r"[&V?]", "no unary operator stands behind the mark of an array: ick-convert --tails rewrites an element"),
     (r"[&V?]\s*$", r"[&V?]", "an operand has one unary operator: put a group round the inner one"),
     (r"(-|[~$'\"])\s*$", r"[&V?]", "a unary operator stands behind the first mark of its operand, as in #&77"),
     (r"^READ\s*OUT.*$", r"[\"']?\s*([A-Za-z]{2}|[A-UW-Za-z])", "READ OUT takes no text: ick-say makes statements that print one"),

@@ -49,11 +49,10 @@ ROWS = (
     ("DO COME FROM (5) DO GIVE UP",
      "1:4: statement 1 {E}: COME FROM is C-INTERCAL's, and not in this language: ick-convert --come-from rewrites it"),
     ("DO COME FROM .1 PLEASE GIVE UP DO COME FROM (5) ONCE",
-     "1:4: statement 1 {E}: COME FROM is C-INTERCAL's, and not in this language: ick-convert --come-from rewrites COME FROM (n) "
-     "alone"),
+     "1:4: statement 1 {E}: COME FROM is C-INTERCAL's, and not in this language: ick-convert --come-from rewrites it"),
     ("DO (5) COME FROM (6) PLEASE GIVE UP",
-     "1:8: statement 1 {E}: COME FROM is C-INTERCAL's, and not in this language: ick-convert --come-from rewrites COME FROM (n) "
-     "alone"),
+     "1:8: statement 1 {E}: COME FROM is C-INTERCAL's, and not in this language: ick-convert --all rewrites it if it begins "
+     "with its label or expression"),
     ("PLEASE GIVE UP DO NEXT FROM (5) DO GIVE UP", "1:29: NEXT FROM, which is C-INTERCAL's, hands its (5) to statement 3 as its label"),
     ("DO COME FROM (5)\nDO READ OUT #1\n(5) PLEASE GIVE UP",
      "3:1: refused, E182: (5) is the label of statement 3, and of statement 2 at line 1, since COME FROM hands it on: "
@@ -65,11 +64,13 @@ ROWS = (
     ("(5) DO GIVE UP DO COME FROM (5) PLEASE GIVE UP",
      "1:29: refused, E182: (5) is the label of statement 3, since COME FROM hands it on, and of statement 1 at line 1: "
      "ick-convert --come-from rewrites it"),
-    ("DO .1 <- #1 ONCE PLEASE GIVE UP", "1:13: statement 1 {E}: ONCE and AGAIN are C-INTERCAL's, and not in this language"),
+    ("DO .1 <- #1 ONCE PLEASE GIVE UP", "1:13: statement 1 {E}: ONCE and AGAIN are C-INTERCAL's: ick-convert --once rewrites them"),
     ("DO ABSTAIN #1 FROM GIVING UP PLEASE GIVE UP",
-     "1:4: statement 1 {E}: ABSTAIN with a count is C-INTERCAL's, and not in this language"),
+     "1:4: statement 1 {E}: ABSTAIN with a count is C-INTERCAL's, and not in this language: ick-convert "
+     "--abstain rewrites it"),
     ("DO ABSTAIN .1 FROM (10)\nDO READ OUT #1\nPLEASE GIVE UP",
-     "1:4: statement 1 {E}: ABSTAIN with a count is C-INTERCAL's, and not in this language"),
+     "1:4: statement 1 {E}: ABSTAIN with a count is C-INTERCAL's, and not in this language: ick-convert "
+     "--abstain rewrites it"),
     ("DO ABSTAIN #1 FROM (10)\nDO READ OUT #1\n(10) PLEASE GIVE UP",
      "3:1: refused, E182: (10) is the label of statement 3, and of statement 2 at line 1, since ABSTAIN with a count, which is "
      "C-INTERCAL's, hands it on"),
