@@ -23,6 +23,21 @@ NAME = os.path.basename(sys.argv[0])
 PREVIEW = os.path.normpath(os.path.join(HERE, "../preview"))
 
 
+def open_closed_streams():
+    """Gives each standard stream that was closed a file, because Python has None for it.
+
+    Reads and writes of this file fail as those of a closed stream do. What is said on a closed error stream is lost. Each
+    file takes the stream's own number, also in programs that the tool calls, so that no other file takes it.
+    """
+    for name, access, mode in (("stdin", os.O_WRONLY, "r"), ("stdout", os.O_RDONLY, "w"), ("stderr", os.O_WRONLY, "w")):
+        if getattr(sys, name) is None:
+            number = os.open(os.devnull, access)
+            os.set_inheritable(number, True)
+            opened_anew = os.fdopen(number, mode, closefd=False)
+            setattr(sys, name, opened_anew)
+            setattr(sys, f"__{name}__", opened_anew)
+
+
 def options(page):
     """A parser whose help is the page, below the line of usage. A usage error ends with status 2."""
     quiet_ends()
@@ -41,6 +56,7 @@ def version():
 def run(main):
     """Ends with the status that main returns. A read or write that fails, as on a full disk, is one line and status 4."""
     status = 0
+    open_closed_streams()
     try:
         try:
             status = main()
@@ -49,7 +65,7 @@ def run(main):
         sys.stdout.flush()
     except OSError as error:
         with contextlib.suppress(OSError):
-            say(f"a read or a write failed: {error.strerror}")
+            say(f"a read or a write failed: {error.strerror}" if error.strerror else error)
         os._exit(4)  # what is still held back can't be written
     sys.exit(status)
 

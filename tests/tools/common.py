@@ -43,14 +43,14 @@ def help_and_mistakes(tally, name, needs_input=False):
     number_of_version(tally, name)
 
 
-def closed_pipe(tally, name, arguments, given):
-    """A tool whose reader is gone ends without a word."""
+def closed_pipe(tally, name, arguments, given, said=b""):
+    """A tool whose reader is gone ends, and says no more than it says else."""
     reading, writing = os.pipe()
     os.close(reading)
     done = subprocess.run([sys.executable, os.path.join(TOOLS, name), *arguments], input=given, stdout=writing,
                           stderr=subprocess.PIPE, timeout=SECONDS, check=False)
     os.close(writing)
-    tally.equal(f"{name} into a closed pipe", done.stderr, b"")
+    tally.equal(f"{name} into a closed pipe", done.stderr, said)
 
 
 def full_disk(tally, name, arguments, given):
