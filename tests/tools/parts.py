@@ -410,7 +410,7 @@ def try_status(tally):
                     and .7 < whole / 8192 < 1.4 and found[4].endswith(b"left"),
                     f"status after {lines} of 8192 runs: {found and found[0]}")
     case.finishes("status")
-    tally.equal("status of all", case.call("status"), (0, b"100% listed: about 8,192 runs\n", b""))
+    tally.equal("status of all", case.call("status"), (0, b"100% listed: 8,192 runs\n", b""))
     tally.check(abs(lines_of(segments_of(Job(case.folder))[0]) - content(case.lines()[0]).count(b"\n")) < 9, "lines of")
     write(f"{case.folder}/plan", b"1\n- DONE " + f"{1 << 99999:x}\n".encode())
     shutil.rmtree(f"{case.folder}/parts")
@@ -504,7 +504,7 @@ def parallel_kills(tally):
         wait_for(lambda: len(case.lines()) > 2)
         tally.equal("ick-parts-parallel with two killed parts", running.wait(SECONDS), 0)
         err = running.stderr.read()
-    tally.check(b"100% listed: about 8,192 runs\n" in err, f"no status in the log of ick-parts-parallel: {err!r}")
+    tally.check(b"100% listed: 8,192 runs\n" in err, f"no status in the log of ick-parts-parallel: {err!r}")
     case.finishes("by ick-parts-parallel with two killed parts")
     for number, wanted in ((signal.SIGTERM, 143), (signal.SIGINT, 130)):
         case = Case(tally, "even", ick=ick)

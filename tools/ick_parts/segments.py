@@ -103,6 +103,12 @@ class Segment:
             raise Refused(f"{self.path} goes past {show_place(place)} and hasn't got it: {AGAIN.format(self.path)}")
         return begin, at
 
+    def count_behind(self, place):
+        """Returns how many lines there are behind a place."""
+        begin, end = self.range_behind(place)
+        with self.read() as file:
+            return sum(lines.count(b"\n") for lines in read_range(file, begin, end))
+
 
 def seals_of(job, piece="*"):
     """Yields the files of seals with at least one seal, of all pieces or of one, each with its lines."""

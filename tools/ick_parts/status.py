@@ -1,6 +1,7 @@
 """The status: about how much of a listing is there, and about how long the rest takes.
 
-A plan says about how many runs each of its pieces has. The lines that are sealed are estimated by the length of some.
+A plan says about how many runs each of its pieces has. The lines that are sealed are estimated by the length of some,
+and counted once the listing is whole.
 """
 import math
 import os
@@ -18,10 +19,10 @@ EXACT = 10 ** 15  # larger numbers are shown as powers of 10
 
 
 class Status:
-    """What is listed of a job now, by estimates."""
+    """What is listed of a job now: the count of all runs if no gap is left, and else estimates."""
 
     def __init__(self, job):
-        used, self.gaps = cover(job)
+        self.used, self.gaps = used, _ = cover(job)
         self.listed, self.here, pieces, plan = 0, 0, {}, job.path("plan")
         self.since, self.until = os.path.getmtime(job.path("job")), 0
         for segment, _ in used:
@@ -49,7 +50,7 @@ class Status:
 
     def show(self):
         if not self.gaps:
-            return f"100% listed: about {shown(self.listed)} runs"
+            return f"100% listed: {shown(sum(segment.count_behind(place) for segment, place in self.used))} runs"
         if self.left is None:
             return f"about {shown(self.listed)} runs are listed, and it isn't known of how many"
         whole = self.listed + self.left
