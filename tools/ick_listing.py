@@ -1,8 +1,11 @@
-"""The lines that `ick runs` and `ick list` print, and texts in quotes."""
+"""The lines that `ick runs`, `ick list` and `ick-outcomes` print, and texts in quotes."""
 import re
 
 TEXT = rb'"((?:[ !#-\[\]-~]|\\(?:n|\\|"|x[0-9a-f]{2}))*)"'
-RUN = re.compile(rb"(-|[01]+|[01]\*[1-9][0-9]*(?:,[01]\*[1-9][0-9]*)*) (GIVE-UP|LIMIT|E([0-9]{3})@([0-9]+)) " + TEXT)
+CHOICES = rb"(-|[01]+|[01]\*[1-9][0-9]*(?:,[01]\*[1-9][0-9]*)*)"
+RUN = re.compile(CHOICES + rb" (GIVE-UP|LIMIT|E([0-9]{3})@([0-9]+)) " + TEXT)
+OUTCOME = re.compile(rb"(\*|[1-9][0-9]*) ([0-9]+(?:/[1-9][0-9]*|(?:\.[0-9]+)?(?:\.\.)?)) " + CHOICES
+                     + rb" (GIVE-UP|LIMIT|NEVER|E([0-9]{3})@([0-9]+)) " + TEXT)
 STATEMENT = re.compile(rb"([0-9]+) (\([0-9]+\)|-) (PLEASE|DO) (NOT|-) ([0-9]+) ([A-Z-]+) " + TEXT)
 ENDS = (b"DONE", b"MORE")
 NAMED = {b"n": b"\n", b"\\": b"\\", b'"': b'"'}

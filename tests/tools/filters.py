@@ -2,6 +2,7 @@
 import glob
 import json
 import random
+import sys
 
 from common import LIBRARY, TOP, closed_pipe, content, full_disk, help_and_mistakes, number_of_version
 
@@ -15,15 +16,35 @@ OBJECTS = (
     {"choices": "1", "end": "LIMIT", "output": "", "base64": "", "numerals": []},
     {"listing": "MORE"},
 )
-WRONG = (b"HELLO\n", b'0 GIVE-UP ""x\n', b'2 GIVE-UP ""\n', b'0 GIVE-UP "\\q"\n', b'0 E1@1 ""\n')
+OUTCOMES = (b'8 0.0625 0000000 LIMIT ""\n* 1/6 00 GIVE-UP "\\nI\\n"\n3 0.123456789012345.. 1 E275@3 "x"\n* 1/2 1 NEVER ""\n'
+            b"DONE\n")
+OF_OUTCOMES = (
+    {"runs": 8, "weight": "0.0625", "numerator": 1, "denominator": 16, "decimal": 0.0625, "choices": "0000000",
+     "end": "LIMIT", "output": "", "base64": "", "numerals": []},
+    {"runs": None, "weight": "1/6", "numerator": 1, "denominator": 6, "decimal": 1 / 6, "choices": "00",
+     "end": "GIVE-UP", "output": "\nI\n", "base64": "CkkK", "numerals": [1]},
+    {"runs": 3, "weight": "0.123456789012345..", "numerator": None, "denominator": None, "decimal": 0.123456789012345,
+     "choices": "1", "end": "FAULT", "fault": 275, "statement": 3, "output": "x", "base64": "eA==", "numerals": []},
+    {"runs": None, "weight": "1/2", "numerator": 1, "denominator": 2, "decimal": 0.5, "choices": "1", "end": "NEVER",
+     "output": "", "base64": "", "numerals": []},
+    {"listing": "DONE"},
+)
+WRONG = (b'1 1/0 0 GIVE-UP ""\n', b"HELLO\n", b'0 GIVE-UP ""x\n', b'2 GIVE-UP ""\n', b'0 GIVE-UP "\\q"\n', b'0 E1@1 ""\n')
 NO_OBJECTS = (b"[]\n", b"{}\n", b"1\n", b"x\n", b'{"listing": "END"}\n', b'{"choices": "2", "end": "LIMIT", "base64": ""}\n',
               b'{"choices": "0", "end": "LIMIT", "base64": "?"}\n', b"[" * 5000 + b"\n")
 
 
 def try_json(tally):
-    status, out, err = tally.tool("ick-json", "--numerals", given=RUNS)
-    tally.equal("ick-json of runs", (status, err, [json.loads(line) for line in out.splitlines()]), (0, b"", list(OBJECTS)))
-    listing = RUNS + b"".join(map(content, sorted(glob.glob(f"{TOP}/examples/*.runs") + glob.glob(f"{TOP}/examples/*.list"))))
+    sys.set_int_max_str_digits(0)
+    for name, lines, objects in (("runs", RUNS, OBJECTS), ("outcomes", OUTCOMES, OF_OUTCOMES)):
+        status, out, err = tally.tool("ick-json", "--numerals", given=lines)
+        tally.equal(f"ick-json of {name}", (status, err, [json.loads(line) for line in out.splitlines()]),
+                    (0, b"", list(objects)))
+    long = b"1 0." + b"0" * 5000 + b'1 1 GIVE-UP ""\nDONE\n'
+    tally.equal("ick-json of a long weight", [json.loads(tally.tool("ick-json", given=long)[1].splitlines()[0])[name]
+                                              for name in ("numerator", "decimal")], [1, 0])
+    examples = [path for kind in ("runs", "list", "outcomes") for path in sorted(glob.glob(f"{TOP}/examples/*.{kind}"))]
+    listing = RUNS + OUTCOMES + b"".join(map(content, examples))
     status, out, err = tally.tool("ick-json", given=listing)
     bare = b"".join(json.dumps({key: value for key, value in json.loads(line).items() if key not in ("output", "text")})
                     .encode() + b"\n" for line in out.splitlines())
