@@ -140,6 +140,11 @@ RUN = [
     ran("DO :1 <- #65535$#65535 / DO .3 <- \"?:1$#1\"~\"#0$#65535\" / PLEASE READ OUT #1 / DO GIVE UP", faults(533, 3)),
     ran("DO :1 <- #0$#255 / DO .3 <- \"?:1$#1\"~\"#0$#65535\" / PLEASE READ OUT .3 / DO GIVE UP",
         prints(b"__\nXXMDCCCXLIV\n")),
+    # a field of .1 that is moved up by one place keeps its top bit, bit 8
+    ran("DO .1 <- #65535 / DO .2 <- '?.3$\"'\".1~#255\"$#0'~'#32767$#1'\"'~'#0$#65535' / PLEASE READ OUT .2 / DO GIVE UP",
+        prints(b"\nDX\n")),
+    # n~:1 has the width of the ones of :1, which here are two
+    ran("DO :1 <- #3 / DO :2 <- 'V:1~:1' / PLEASE READ OUT :2 / DO GIVE UP", prints(b"___\nXXXMMDCCLXXI\n")),
     # arrays
     ran(ELEMENTS, prints(b"\nVII\n_\n\n")),
     ran(LOST_ELEMENT, faults(241, 4)),
@@ -160,10 +165,14 @@ RUN = [
     ran("DO IGNORE .1 / DO .1 <- #1 / PLEASE RESUME .1", faults(621, 4)),
     ran("DO ,1 <- #2 / DO STASH ,1 / DO ,1 <- #3 / DO RETRIEVE ,1 / PLEASE ,1SUB#3 <- #1", faults(241, 6)),
     ran("DO ,1 <- #2 / DO IGNORE ,1 / PLEASE ,1 <- #0", faults(240, 4)),
+    ran("DO ,1 <- #3 / DO ,1 SUB #1 <- #7 / PLEASE IGNORE ,1 / DO .1 <- #1 / DO ,1 <- #3 / DO .1 <- #2 / "
+        "PLEASE READ OUT ,1 SUB #1 / DO GIVE UP", prints(b"\nVII\n")),
     # ABSTAIN and REINSTATE
     ran("DO ABSTAIN FROM (1) / (1) PLEASE GIVE UP", ENDS),
     ran("DO ABSTAIN FROM CALCULATING / PLEASE .1 <- #1 / DO RESUME .1", faults(621, 4)),
     ran("DO REINSTATE (1) / (1) PLEASE DO NOT GIVE UP", faults(633, 3)),
+    ran("DO REINSTATE CALCULATING / PLEASE FORGET #0 / DO NOT .1 <- #5 / DO .2 <- #1 / PLEASE READ OUT .1 / DO GIVE UP",
+        prints(b"\nV\n")),
     ran("DO (1) NEXT / PLEASE GIVE UP / (1) DO NOT RESUME #0", faults(633, 4)),
     ran("DO ABSTAIN FROM (5) DO READ OUT #1 (5) DO READ OUT #2 PLEASE GIVE UP", prints(ONE)),
     # input
