@@ -1,0 +1,148 @@
+"""Makes expressions from the rules of lowering, with their values by the definitions of the operators.
+
+The forms of the expressions are the examples in the table of rules of crates/ick_lowering/README.md. A form's masks get
+a bit more or less, its names become others, and a form may stand in another one.
+"""
+import functools
+import re
+from typing import NamedTuple
+
+from ick_widths import mingle, select, unary
+from tally import TOP, text_of
+
+LEAF = re.compile(r"(,\d+SUB#\d+)|([.:#])([&V?]?)(\d+)")
+NAMES = [".1", ".2", ".3", ":1", ":2", ",1SUB#2"]
+NUMBERS = [0, 0, 1, 2, 3, 255, 256, 32767, 32768, 65534, 65535]
+DEEPEST = 2
+
+
+class Node(NamedTuple):
+    """A part of an expression: an operator with its operands, a mesh with its number, or a name."""
+
+    kind: str
+    parts: tuple
+
+
+class Fault(Exception):
+    """A calculation has the fault of this number."""
+
+
+class Form:
+    """An example of the table, which is read into nodes."""
+
+    def __init__(self, text):
+        self.text, self.at = text, 0
+
+    def next(self):
+        return self.text[self.at:self.at + 1]
+
+    def take(self, choices):
+        """Takes the next character, if it is one of these."""
+        found = self.next()
+        if not found or found not in choices:
+            return ""
+        self.at += 1
+        return found
+
+    def expression(self, mark=""):
+        left = self.operand(mark)
+        operator = self.take("$~")
+        return Node(operator, (left, self.expression(mark))) if operator else left
+
+    def operand(self, mark):
+        leaf = LEAF.match(self.text, self.at)
+        if leaf:
+            self.at = leaf.end()
+            element, kind, operator, number = leaf.groups()
+            node = Node("name", (element or kind + number,)) if kind != "#" else Node("#", (int(number),))
+            return Node(operator, (node,)) if operator else node
+        opened = self.take("'\"".replace(mark, "") if mark else "'\"")
+        if not opened:
+            raise ValueError(self.text)
+        operator = self.take("&V?")
+        inner = self.expression(opened)
+        if not self.take(opened):
+            raise ValueError(self.text)
+        return Node(operator, (inner,)) if operator else inner
+
+
+@functools.lru_cache()
+def forms():
+    """Returns the expressions of the table."""
+    table = text_of(TOP, "crates", "ick_lowering", "README.md").split("\n## Rules\n")[1].split("\n## ")[0]
+    found = []
+    for row in re.findall(r"^\| .*", table, re.MULTILINE):
+        for text in re.findall(r"`([^`]*)`", row.split(" | ")[2]):
+            form = Form(text.rpartition("<- ")[2])
+            try:
+                node = form.expression()
+            except ValueError:
+                continue
+            if not form.next():
+                found.append(node)
+    return found
+
+
+def printed(node, mark="", is_operand=True):
+    """Returns the text of a part, which is inside a group with this mark."""
+    if node.kind in "#":
+        return f"#{node.parts[0]}"
+    if node.kind == "name":
+        return node.parts[0]
+    inner = "'" if mark == '"' or not mark else '"'
+    if node.kind in "$~":
+        if is_operand:
+            return inner + printed(node, inner, is_operand=False) + inner
+        left, right = node.parts
+        return printed(left, mark) + node.kind + printed(right, mark)
+    part = node.parts[0]
+    text = printed(part, inner, is_operand=False)
+    if part.kind in ("#", "name") and text[0] != ",":
+        return text[0] + node.kind + text[1:]
+    return inner + node.kind + text + inner
+
+
+def value(node, numbers):
+    """Returns the number and the width of a part, if the names have these numbers. It may raise a fault."""
+    if node.kind == "#":
+        return node.parts[0], 16
+    if node.kind == "name":
+        return numbers[node.parts[0]], 32 if node.parts[0][0] == ":" else 16
+    found = [value(part, numbers) for part in node.parts]
+    (left, width), (right, _) = found[0], found[-1]
+    if node.kind == "$":
+        if max(left, right) > 65535:
+            raise Fault(533)
+        return mingle(left, right), 32
+    if node.kind == "~":
+        return select(left, right), 32 if bin(right).count("1") > 16 else 16
+    return unary(node.kind.encode(), left, width), width
+
+
+def varied(random, node, depth=0):
+    """Returns a part that differs from another one a little."""
+    draw = random.random()
+    if node.kind == "#":
+        number = node.parts[0]
+        if draw < 0.3:
+            number ^= 1 << random.randrange(16)
+        elif draw < 0.36:
+            number = random.choice([number >> 1, number << 1 & 65535, number ^ 65535, random.choice(NUMBERS)])
+        return Node("#", (number,))
+    if node.kind == "name":
+        if draw < 0.12 and depth < DEEPEST:
+            return varied(random, random.choice(forms()), depth + 1)
+        return Node("name", (random.choice(NAMES),)) if draw < 0.5 else node
+    parts = tuple(varied(random, part, depth) for part in node.parts)
+    kind = node.kind
+    if kind in "&V?" and draw < 0.2:
+        kind = random.choice("&V?")
+    elif kind in "$~" and draw < 0.08:
+        kind, parts = random.choice([("$", parts), ("~", parts), (kind, parts[::-1])])
+    return Node(kind, parts)
+
+
+def number_for(random, most):
+    """Returns a number up to a power of two less 1."""
+    number = random.choice([*NUMBERS, random.getrandbits(32), random.getrandbits(16), 1 << random.randrange(32)])
+    return number & most
