@@ -90,6 +90,12 @@ def installed_programs(named):
 def try_programs(part, named, crate="ick"):
     """Tries each program by part(tally, program, folder).all(), and ends with the sum."""
     tally = Tally()
+    try_each(tally, part, named, crate)
+    tally.end()
+
+
+def try_each(tally, part, named, crate):
+    """Tries each program by part(tally, program, folder).all()."""
     for program in programs(named, crate):
         tally.say(f"== {program}")
         if not os.access(program, os.X_OK):
@@ -97,7 +103,6 @@ def try_programs(part, named, crate="ick"):
             continue
         with tempfile.TemporaryDirectory() as folder:
             part(tally, program, folder).all()
-    tally.end()
 
 
 def called(command, given=b"", environment=None):

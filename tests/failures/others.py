@@ -1,0 +1,91 @@
+"""Rows of ick-outcomes and ick-step over which every call of the system fails: words, what they are given, and what they
+leave. All answers are absolute: they come from chapters 16, 20 and 21 of docs/MANUAL.md, and not from a run of a program.
+"""
+from table import CHANCES, ECHOES, ENTERED, LISTED_RUNS, REFUSAL, REFUSED, SOURCE, TALKS, Answer, Given
+
+# Files beside the source, by the words that name them.
+FILES = {"listing": LISTED_RUNS, "entered": ENTERED}
+
+COINS = b"""DO %50 .1 <- '.1$#1'~'#32767$#1'
+DO %50 .1 <- '.1$#1'~'#32767$#1'
+PLEASE READ OUT .1
+DO GIVE UP
+"""
+TOSSED = b"""1 0.25 00 GIVE-UP "_\\n\\n"
+2 0.5 01 GIVE-UP "\\nI\\n"
+1 0.25 11 GIVE-UP "\\nIII\\n"
+DONE
+"""
+# Without its first WRITE IN the program takes two bytes of SIX, and its second number is the rest of this line.
+TALKED_OF = b"""1 0.5 0 E579@5 "\\nI\\n_\\n\\n"
+1 0.5 1 GIVE-UP "\\nI\\n\\nVI\\n\\nLXV\\n\\nI\\n\\nIX\\n"
+DONE
+"""
+OUTCOMES = [
+    (Given("outcomes", ["FILE"], COINS, b""), Answer(0, TOSSED, b"")),
+    (Given("outcomes of standard input", ["--total"], COINS, SOURCE), Answer(0, b"3 OUTCOMES, 4 RUNS\n", b"")),
+    (Given("outcomes with input", ["FILE"], TALKS, ENTERED), Answer(0, TALKED_OF, b"")),
+    (Given("choices that were asked", ["--asked", "listing", "FILE"], CHANCES, b""), Answer(0, b"2:50\n2:50\n", b"")),
+    (Given("too many states", ["--most", "1", "FILE"], COINS, b""), Answer(4, b"", b"TOO MANY STATES\n")),
+    (Given("outcomes of a refused source", ["FILE"], REFUSED, b""), REFUSAL),
+    (Given("outcomes of no file", ["no-such-file"], b"", b""), Answer(4, b"", b"FILE NOT READ\n")),
+]
+
+COMMANDS = b"""run
+choose 1
+step 2
+back
+print .1 ,1
+why .1
+cursor
+no
+"""
+ANSWERS = b"""0 1 1:1 "DO READ OUT #1"
+  prints "\\nI\\n"
+1 2 2:1 "DO %50 WRITE IN .1"
+  asks %50
+2 3 3:1 "PLEASE READ OUT .1"
+  prints "\\nVI\\n"
+4 5 5:1 "DO WRITE IN ,1 + .2"
+3 4 4:1 "DO ,1 <- #2"
+.1 = 6
+,1 = no dimensions
+.1 = 6, changed by statement 2
+1 2 2:1 "DO %50 WRITE IN .1"
+  asks %50
+-
+unknown command; help lists all commands
+"""
+TRACE = b"""0 1 1:1 "DO READ OUT #1"
+  prints "\\nI\\n"
+1 2 2:1 "DO %50 WRITE IN .1"
+  asks %50: 1
+  reads "SIX\\n"
+  .1 = 6
+2 3 3:1 "PLEASE READ OUT .1"
+  prints "\\nVI\\n"
+3 4 4:1 "DO ,1 <- #2"
+  ,1 = 2: 0 0
+4 5 5:1 "DO WRITE IN ,1 + .2"
+  reads "ABoh NINER\\n"
+  ,1 = 2: 65 1
+  .2 = 9
+5 6 6:1 "PLEASE READ OUT ,1SUB#1 + ,1SUB#2 + .2"
+  prints "\\nLXV\\n\\nI\\n\\nIX\\n"
+6 7 7:1 "DO GIVE UP"
+7 ended: GIVE UP
+"""
+WANTED = b"""0 1 1:1 "DO READ OUT #1"
+  prints "\\nI\\n"
+1 2 2:1 "DO %50 GIVE UP"
+  asks %50
+"""
+STEP = [
+    (Given("a session", ["--input", "entered", "FILE"], TALKS, COMMANDS), Answer(0, ANSWERS, b"")),
+    (Given("a trace", ["--trace", "--choices", "1", "--input", "entered", "FILE"], TALKS, b""), Answer(0, TRACE, b"")),
+    (Given("a trace of standard input", ["--trace"], CHANCES, SOURCE),
+     Answer(3, WANTED, b"CHOICE WANTED AFTER 1 STEPS\n")),
+    (Given("a session of a refused source", ["FILE"], REFUSED, b""), REFUSAL),
+    (Given("a session of no input", ["--input", "no-such-file", "FILE"], ECHOES, b""),
+     Answer(4, b"", b"FILE NOT READ\n")),
+]
