@@ -5,7 +5,7 @@ import random
 import re
 
 from checking import Checking
-from expressions import NAMES, Fault, forms, number_for, printed, value, varied
+from expressions import NAMES, Fault, nested_forms, number_for, printed, value, varied
 from ick_numerals import numeral
 from language import TEXTS
 from loops import Looping, Nesting
@@ -18,7 +18,9 @@ FEW = 79
 UNKNOWN = b"unknown command; help lists all commands\n"
 MOST_STEPS = [300, 3000, 12000]
 PLACES = 12
-EXPRESSIONS = 40
+EXPRESSIONS = 60
+# A variable that no expression reads. It gets each 0, so that the others keep numbers that tell more.
+UNREAD = ":3"
 
 
 class Compared(Checking):
@@ -119,8 +121,8 @@ class Valued(Checking):
 
     def calculate(self):
         """Adds a calculation and a READ OUT of its variable. A fault is rarely kept."""
-        node = varied(self.random, self.random.choice(forms()))
-        target = self.random.choice([*NAMES, ":2", ":2", ":2"])
+        node = varied(self.random, self.random.choice(nested_forms()), self.random.choice([0, 0.1, 0.3]))
+        target = self.random.choice([*NAMES, *[UNREAD] * 9])
         try:
             number, _ = value(node, self.numbers)
             if number > 65535 and target[0] != ":":
@@ -129,6 +131,8 @@ class Valued(Checking):
             if self.random.random() < 0.9:
                 return
             self.fault = fault.args[0]
+        if not self.fault and number == 0:
+            target = UNREAD
         self.put("CALCULATE", f"{target} <- {printed(node, is_operand=False)}")
         if not self.fault:
             self.numbers[target] = number

@@ -12,8 +12,9 @@ from tally import TOP, text_of
 
 LEAF = re.compile(r"(,\d+SUB#\d+)|([.:#])([&V?]?)(\d+)")
 NAMES = [".1", ".2", ".3", ":1", ":2", ",1SUB#2"]
+# The lowest bits of a number, which a field moves nowhere.
+WITHOUT_EXAMPLE = [".1~#255", ":1~#255"]
 NUMBERS = [0, 0, 1, 2, 3, 255, 256, 32767, 32768, 65534, 65535]
-DEEPEST = 2
 
 
 class Node(NamedTuple):
@@ -68,9 +69,9 @@ class Form:
 
 @functools.lru_cache()
 def forms():
-    """Returns the expressions of the table."""
+    """Returns the expressions of the table, and those that the rules have no example of."""
     table = text_of(TOP, "crates", "ick_lowering", "README.md").split("\n## Rules\n")[1].split("\n## ")[0]
-    found = []
+    found = [Form(text).expression() for text in WITHOUT_EXAMPLE]
     for row in re.findall(r"^\| .*", table, re.MULTILINE):
         for text in re.findall(r"`([^`]*)`", row.split(" | ")[2]):
             form = Form(text.rpartition("<- ")[2])
@@ -119,25 +120,45 @@ def value(node, numbers):
     return unary(node.kind.encode(), left, width), width
 
 
-def varied(random, node, depth=0):
-    """Returns a part that differs from another one a little."""
+def replaced(node, part):
+    """Yields the node with each of its names in turn replaced by a part."""
+    if node.kind == "name":
+        yield part
+    elif node.kind != "#":
+        for place, inner in enumerate(node.parts):
+            for other in replaced(inner, part):
+                yield Node(node.kind, (*node.parts[:place], other, *node.parts[place + 1:]))
+
+
+@functools.lru_cache()
+def nested_forms():
+    """Returns each form, and each form with one of its names replaced by another form."""
+    return forms() + [nested for form in forms() for part in forms() for nested in replaced(form, part)]
+
+
+def varied(random, node, rate):
+    """Returns a part that differs from another one a little: at this rate in its meshes, and in its operators at half of
+    the rate.
+    """
     draw = random.random()
     if node.kind == "#":
         number = node.parts[0]
-        if draw < 0.3:
+        if draw < rate * 0.7:
             number ^= 1 << random.randrange(16)
-        elif draw < 0.36:
-            number = random.choice([number >> 1, number << 1 & 65535, number ^ 65535, random.choice(NUMBERS)])
+        elif draw < rate:
+            low = (1 << random.randrange(17)) - 1
+            number = random.choice([number >> 1, number << 1 & 65535, number ^ 65535, low, random.choice(NUMBERS)])
         return Node("#", (number,))
     if node.kind == "name":
-        if draw < 0.12 and depth < DEEPEST:
-            return varied(random, random.choice(forms()), depth + 1)
-        return Node("name", (random.choice(NAMES),)) if draw < 0.5 else node
-    parts = tuple(varied(random, part, depth) for part in node.parts)
+        if draw < rate / 4:
+            return varied(random, random.choice(forms()), 0)
+        alike = [name for name in NAMES if name[0] == node.parts[0][0] or random.random() < rate]
+        return Node("name", (random.choice(alike),)) if draw < 0.3 else node
+    parts = tuple(varied(random, part, rate) for part in node.parts)
     kind = node.kind
-    if kind in "&V?" and draw < 0.2:
+    if kind in "&V?" and draw < rate / 2:
         kind = random.choice("&V?")
-    elif kind in "$~" and draw < 0.08:
+    elif kind in "$~" and draw < rate / 2:
         kind, parts = random.choice([("$", parts), ("~", parts), (kind, parts[::-1])])
     return Node(kind, parts)
 
