@@ -1,8 +1,8 @@
 """Reads wrong bodies: the gate's, one in each file crates/CRATE/must-fail/NAME.edit, and those of further.edits.
 
-A wrong body has a line `file: PATH`, and for each change a line `old: TEXT` and a line `new: TEXT`. The old text is once
-in the file. crates/CRATE/further.edits has a block for each of its wrong bodies, with an empty line between two. A block
-begins with `name: NAME`. It may end with `refused: DATE SUM`, which `further-edits` writes.
+A wrong body has a line `file: PATH`, and for each change a line `old: TEXT` and a line `new: TEXT`. The old text is
+exactly once in the file. crates/CRATE/further.edits has a block for each wrong body, with an empty line between two. A
+block begins with `name: NAME`. It may end with `refused: DATE SUM`, which `further-edits` writes.
 """
 import glob
 import os

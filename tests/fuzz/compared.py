@@ -63,7 +63,7 @@ class Compared(Checking):
         return {int(end.split()[0]): shown for end, *shown in zip(ends, ends, found[1::3], found[2::3])}
 
     def ended(self, end, limit):
-        """Returns the status and the error text of a run that is cut short at a limit, by the last line of a session."""
+        """Returns the status and the error text of a run with a limit, by the last line of a session."""
         steps, rest = end.split(b" ", 1)
         if rest.startswith(b"ended: "):
             fault = re.match(rb"ended: (ICL.*?RESUBNIT\n)", rest, re.DOTALL)

@@ -137,8 +137,8 @@ def nested_forms():
 
 
 def varied(random, node, rate):
-    """Returns a part that differs from another one a little: at this rate in its meshes, and in its operators at half of
-    the rate.
+    """Returns a part that differs from another one a little: in its meshes at this rate, and in its operators at half
+    of the rate.
     """
     draw = random.random()
     if node.kind == "#":

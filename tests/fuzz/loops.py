@@ -52,8 +52,8 @@ class Looping(Maker):
         mesh, mask = self.bodies.mesh(), self.bodies.mesh()
         body = self.random.choice([
             f".1 <- {self.narrow()}~{mask}", f".2 <- '?{self.narrow()}${mesh}'~'#0$#65535'",
-            f":1 <- {self.narrow()}${self.narrow()}", f".1 <- '&:1~:1'~{mask}", f".2 <- '{self.narrow()}${mesh}'~{mask}",
-            f":3 <- '?:1~{mask}'", f".1 <- {mesh}", f".2 <- {self.narrow()}",
+            f":1 <- {self.narrow()}${self.narrow()}", f".1 <- '&:1~:1'~{mask}",
+            f".2 <- '{self.narrow()}${mesh}'~{mask}", f":3 <- '?:1~{mask}'", f".1 <- {mesh}", f".2 <- {self.narrow()}",
         ])
         return "CALCULATE", body
 
