@@ -21,7 +21,7 @@ FAULTS = [
 # Gerunds whose statements a loop can do without.
 SPARED = ["CALCULATE", "STASH", "RETRIEVE", "IGNORE", "REMEMBER", "ABSTAIN", "REINSTATE", "WRITE-IN", "READ-OUT"]
 WEIGHTS = {
-    "calculated": 5, "stored": 3, "dimensioned": 3, "ignored": 3, "remembered": 3, "abstained": 4, "reinstated": 5,
+    "calculated": 4, "stored": 3, "dimensioned": 4, "ignored": 4, "remembered": 3, "abstained": 4, "reinstated": 7,
     "stashed": 3, "printed": 1, "entered": 0.3, "faulted": 2, "called": 3, "forgot": 1, "unknown": 0.1,
 }
 # About how many return addresses the bounds of traces and of the NEXT stack are.
@@ -34,7 +34,7 @@ class Looping(Maker):
     def __init__(self, random):
         super().__init__(random)
         self.often = random.choice([0, 0, 0.1, 0.3])
-        self.negated = random.choice([0, 0.2, 0.4])
+        self.negated = random.choice([0, 0.3, 0.5])
         # A program has half of the kinds of turns, since one kind may hide what another does.
         self.weights = {"calculated": 1, **{kind: it for kind, it in WEIGHTS.items() if random.random() < 0.5}}
 
@@ -69,13 +69,13 @@ class Looping(Maker):
         return "CALCULATE", f"{array} <- {' BY '.join(f'#{size}' for size in sizes)}"
 
     def ignored(self):
-        return "IGNORE", f"IGNORE {self.random.choice(['.1', '.2', ':1', ':3', ',1', ',1', ',2'])}"
+        return "IGNORE", f"IGNORE {self.random.choice(['.1', '.2', ':1', ',1', ',1', ',1', ',2'])}"
 
     def remembered(self):
         return self.bodies.remember()
 
     def named(self):
-        if self.random.random() < 0.5:
+        if self.random.random() < 0.3:
             return f"({self.random.choice(self.labels)})"
         if self.random.random() < 0.05:
             return self.random.choice(list(KINDS.values()))
@@ -133,6 +133,8 @@ class Looping(Maker):
             number = self.bodies.mesh() + (f"${self.bodies.mesh()}" if name[0] == ":" else "")
             self.put("CALCULATE", f"{name} <- {number}")
         self.put("CALCULATE", f"{COUNTER} <- #{self.random.randint(1, 32767)}")
+        if self.random.random() < 0.3:
+            self.put(*self.ignored())
 
     def show(self):
         sizes = [(array, size) for array in ",1 ,2".split() for size in self.bodies.sizes[array]]
