@@ -1,6 +1,6 @@
 """Rows over the built program: words, what it is given, and what it leaves. All answers are absolute: they come from
-the table of exit statuses and error lines in README.md, from docs/MANUAL.md and from the layout of clap, and not from
-a run of the program.
+docs/MANUAL.md, which has the exit statuses and the error lines, and from the layout of clap, and not from a run of the
+program.
 """
 import collections
 
