@@ -19,9 +19,10 @@ pub struct InStream<R> {
 }
 
 impl<R: BufRead> InStream<R> {
-    /// Returns a device over a stream. No call of the device has failed.
+    /// Returns a device over a stream. No call of the device has failed, and no byte is taken.
     pub fn new(stream: R) -> InStream<R>
-        ensures { result.failures ≡ 0 }
+        ensures failures { result.failures ≡ 0 }
+        ensures stream { result.stream ≡ stream }
     {
         InStream {
             stream,
@@ -87,9 +88,10 @@ pub struct OutStream<W> {
 }
 
 impl<W: Write> OutStream<W> {
-    /// Returns a device over a stream. No call of the device has failed.
+    /// Returns a device over a stream. No call of the device has failed, and no byte is written.
     pub fn new(stream: W) -> OutStream<W>
-        ensures { result.failures ≡ 0 }
+        ensures failures { result.failures ≡ 0 }
+        ensures stream { result.stream ≡ stream }
     {
         OutStream {
             stream,
