@@ -3,6 +3,7 @@
 Places are those of the language server protocol: a line and a count of UTF-16 units, both from 0.
 """
 import bisect
+import functools
 import importlib.machinery
 import importlib.util
 import os
@@ -17,6 +18,7 @@ from ick_faults import FAULTS
 ERROR, WARNING, INFORMATION = 1, 2, 3
 FUNCTION, QUICK_FIX = 12, "quickfix"
 MESSAGE = re.compile(rb"(?:ICL|E)(\d{3})I?")
+LINE_END = re.compile(rb"\r\n|\n|\r")
 
 # what a statement does, and the faults that it can have
 KINDS = {
@@ -55,14 +57,16 @@ def routines():
     return {int(label): (gives.decode(), stops.decode()) for label, gives, stops in rows}
 
 
-class Document:
-    """A program that an editor shows."""
+def encoded(text):
+    """The bytes of a text. Half a character of UTF-16 becomes a question mark."""
+    return text.encode("utf-8", "replace")
 
-    def __init__(self, uri, text):
-        self.uri, self.text, self.source = uri, text, text.encode("utf-8", "replace")
-        self.lines = [0] + [found.end() for found in re.finditer(b"\n", self.source)]
-        self.program = ADVICE.Program(uri, self.source)
-        self.statements = self.program.statements
+
+class Text:
+    """A text that an editor shows, and places in it."""
+
+    def __init__(self, source):
+        self.source, self.lines = source, [0] + [found.end() for found in LINE_END.finditer(source)]
 
     def place(self, at):
         line = bisect.bisect_right(self.lines, at) - 1
@@ -73,15 +77,40 @@ class Document:
         return {"start": self.place(start), "end": self.place(end)}
 
     def offset(self, place):
+        """Where a place is in the bytes. Behind a line it is the line's end, and inside a character its start."""
         if place["line"] >= len(self.lines):
             return len(self.source)
         start = self.lines[place["line"]]
-        line = self.source[start:].split(b"\n", 1)[0].decode("utf-8", "replace").encode("utf-16-le")
-        return start + len(line[:2 * place["character"]].decode("utf-16-le", "replace").encode())
+        line = self.source[start:self.line_end(start)].decode("utf-8", "replace").encode("utf-16-le")
+        return start + len(line[:2 * place["character"]].decode("utf-16-le", "ignore").encode())
+
+    def line_end(self, at):
+        """Where the line that has a place ends."""
+        found = LINE_END.search(self.source, at)
+        return found.start() if found else len(self.source)
+
+    def replaced(self, start, end, new):
+        """The text with new bytes from one place to another."""
+        start, end = self.offset(start), self.offset(end)
+        return Text(self.source[:start] + new + self.source[max(start, end):])
+
+
+class Document(Text):
+    """A program that an editor shows. It takes statements from the document before it, which can't be used any more."""
+
+    def __init__(self, uri, text, before=None):
+        self.uri, self.text, self.source, self.lines = uri, text, text.source, text.lines
+        self.statements = (ick_source.cut_again(self.source, before.source, before.statements) if before else
+                           ick_source.cut(self.source))
+
+    @functools.cached_property
+    def program(self):
+        return ADVICE.Program(self.uri, self.source, self.statements)
 
     def statement_at(self, at):
         """The statement that has a place, or that ends there."""
-        return next((one for one in self.statements if one.start <= at <= one.end), None)
+        first = max(0, bisect.bisect_left(self.statements, at, key=lambda one: one.start) - 1)
+        return next((one for one in self.statements[first:first + 2] if one.start <= at <= one.end), None)
 
     def diagnostics(self):
         """The advice: each from its place to the end of its statement in this line."""
@@ -91,13 +120,14 @@ class Document:
                 for at, text in ADVICE.look_over(self.program)]
 
     def end_of(self, at):
-        line = (self.source.find(b"\n", at) + 1 or len(self.source) + 1) - 1
-        statement = next((one for one in self.statements if one.start <= at < one.end), None)
-        return max(at, min(line, statement.end if statement else line))
+        line, index = self.line_end(at), bisect.bisect_right(self.statements, at, key=lambda one: one.start)
+        end = self.statements[index - 1].end if index else at
+        return min(line, end) if at < end else line
 
     def hover(self, at):
         """What a message's number means, or what the statement is, its faults, and the routine that it calls."""
-        for found in MESSAGE.finditer(self.source, self.lines[self.place(at)["line"]]):
+        line = self.lines[self.place(at)["line"]]
+        for found in MESSAGE.finditer(self.source, line, self.line_end(line)):
             if found.start() <= at <= found.end() and int(found[1]) in FAULTS:
                 return self.explained(int(found[1])), self.range(*found.span())
         one = self.statement_at(at)
@@ -147,7 +177,7 @@ class Document:
             return {"uri": self.uri, "range": self.label_range(one)}
         for name in ick_library.NAMES if label in ick_library.LABELS else ():
             path = ick_library.path(name)
-            library = path and Document(pathlib.Path(path).as_uri(), ick_tool.content(path).decode())
+            library = path and Document(pathlib.Path(path).as_uri(), Text(ick_tool.content(path)))
             if library and label in library.program.labelled:
                 return library.definition(label)
         return None

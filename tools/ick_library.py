@@ -12,7 +12,7 @@ import ick_tool
 
 PLACES = ("../library", "../../share/ick/library")  # in the repository, and as it is installed
 NAMES = ("text.i", "arithmetic.i")
-LABELS = range(1000, 2000)
+LABELS = frozenset(range(1000, 2000))  # a set, because None is looked up in a range by going through it
 FAULT = 1999  # labels the statement by which a routine ends the program
 LINE = b"DO NOTE: BELOW IS WHAT THIS PROGRAM CALLS OF THE LIBRARY"
 

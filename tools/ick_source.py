@@ -322,20 +322,62 @@ def front(text, end):
 
 def cut(source):
     """The statements of a text, in order."""
-    text, moved = without_wows(source)
+    return list(statements_from(source, 0, 1))
+
+
+def statements_from(source, start, number):
+    """Cuts a text from the start of the statement with a number on, or from its own start."""
+    text, moved = without_wows(source[start:])
+    is_moved = start > 0 or len(text) > len(source)
+
+    def there(at):
+        return start + moved(at)
+
     first = START.search(text)
     at = first.start() if first else len(text)
-    statements = [front(text, at)] if text[:at].strip(SPACES) else []
+    if text[:at].strip(SPACES):
+        statement = front(text, at)
+        yield move(statement, there) if is_moved else statement
+        number += 1
     while at < len(text):
-        statement = Statement(len(statements) + 1, at)
+        statement = Statement(number, at)
         after_head = head(text, statement)
         at = finish(text, statement, after_head)
         statement.body = min(WHITE.match(text, after_head).end(), at)
         statement.end = statement.start + len(text[statement.start:at].rstrip(SPACES))
-        statements.append(statement)
-    if len(text) > len(source):
-        move(statements, moved)
-    return statements
+        yield move(statement, there) if is_moved else statement
+        number += 1
+
+
+def cut_again(source, before, statements):
+    """The statements of a text, in order, if those of an earlier text are known. These can't be used any more.
+
+    A body has DO inside a word only in READOUT. So cutting a statement looks no further than to the body of the second
+    one behind it.
+    """
+    same = common_length(before, source)
+    same_end = len(before) - common_length(before[same:][::-1], source[same:][::-1])
+    grown = len(source) - len(before)
+    kept = max(0, bisect.bisect_left(statements, same, key=lambda one: one.body) - 2)
+    found = statements[:kept]
+    starts = {one.start + grown: at for at, one in enumerate(statements) if one.start >= same_end}
+    for one in statements_from(source, statements[kept].start if kept else 0, kept + 1):
+        if one.start in starts:
+            for same_one in statements[starts[one.start]:]:
+                found.append(move(same_one, lambda at: at + grown) if grown else same_one)
+                same_one.number = len(found)
+            return found
+        found.append(one)
+    return found
+
+
+def common_length(one, other):
+    """How many bytes two texts have in common at their starts."""
+    low, high = 0, min(len(one), len(other))
+    while low < high:
+        middle = (low + high + 1) // 2
+        low, high = (middle, high) if one[low:middle] == other[low:middle] else (low, middle - 1)
+    return low
 
 
 def without_wows(source):
@@ -344,15 +386,16 @@ def without_wows(source):
     return source.replace(b"!", b"'."), lambda at: at - bisect.bisect_left(wows, at)
 
 
-def move(statements, moved):
-    for statement in statements:
-        statement.start, statement.end, statement.body = map(moved, (statement.start, statement.end, statement.body))
-        if statement.stop is not None:
-            statement.stop = moved(statement.stop)
-        if statement.opened is not None:
-            statement.opened = moved(statement.opened)
-        for numbers in (statement.meshes, statement.names, statement.labels):
-            numbers[:] = [(number, moved(at)) for number, at in numbers]
+def move(statement, moved):
+    """Moves the places of a statement. Returns the statement."""
+    statement.start, statement.end, statement.body = map(moved, (statement.start, statement.end, statement.body))
+    if statement.stop is not None:
+        statement.stop = moved(statement.stop)
+    if statement.opened is not None:
+        statement.opened = moved(statement.opened)
+    for numbers in (statement.meshes, statement.names, statement.labels):
+        numbers[:] = [(number, moved(at)) for number, at in numbers]
+    return statement
 
 
 def refusals(statements):
