@@ -67,11 +67,14 @@ class Text:
 
     def __init__(self, source):
         self.source, self.lines = source, [0] + [found.end() for found in LINE_END.finditer(source)]
+        self.is_ascii = source.isascii()
 
     def place(self, at):
         line = bisect.bisect_right(self.lines, at) - 1
-        before = self.source[self.lines[line]:at].decode("utf-8", "replace")
-        return {"line": line, "character": len(before.encode("utf-16-le")) // 2}
+        start = self.lines[line]
+        before = b"" if self.is_ascii else self.source[start:at]  # a line can be as long as the text
+        units = len(before.decode("utf-8", "replace").encode("utf-16-le")) // 2
+        return {"line": line, "character": at - start if self.is_ascii else units}
 
     def range(self, start, end):
         return {"start": self.place(start), "end": self.place(end)}
@@ -86,8 +89,11 @@ class Text:
 
     def line_end(self, at):
         """Where the line that has a place ends."""
-        found = LINE_END.search(self.source, at)
-        return found.start() if found else len(self.source)
+        line = bisect.bisect_right(self.lines, at)
+        if line == len(self.lines):
+            return len(self.source)
+        end = self.lines[line]
+        return end - 2 if self.source[end - 2:end] == b"\r\n" else end - 1
 
     def replaced(self, start, end, new):
         """The text with new bytes from one place to another."""
@@ -99,7 +105,8 @@ class Document(Text):
     """A program that an editor shows. It takes statements from the document before it, which can't be used any more."""
 
     def __init__(self, uri, text, before=None):
-        self.uri, self.text, self.source, self.lines = uri, text, text.source, text.lines
+        self.uri, self.text = uri, text
+        self.source, self.lines, self.is_ascii = text.source, text.lines, text.is_ascii
         self.statements = (ick_source.cut_again(self.source, before.source, before.statements) if before else
                            ick_source.cut(self.source))
 
@@ -122,7 +129,7 @@ class Document(Text):
     def end_of(self, at):
         line, index = self.line_end(at), bisect.bisect_right(self.statements, at, key=lambda one: one.start)
         end = self.statements[index - 1].end if index else at
-        return min(line, end) if at < end else line
+        return max(at, min(line, end) if at < end else line)
 
     def hover(self, at):
         """What a message's number means, or what the statement is, its faults, and the routine that it calls."""
