@@ -253,6 +253,7 @@ def try_input(tally):
                     b"xyz", b"-5", b"", b"1.5", b"5 5", b"9" * 9, b"9" * 4000, b"\xff")))),
             (b"x" * 5000, "the head of a message has more than 4096 bytes"),
             (b"Content-Length: 99999999\r\n\r\n{}", "the input ends inside a message"),
+            (b"Content-Length: 99999\r\n\r\n" + b"x" * 9000, "the input ends inside a message"),
             (b"Content-Length: 5\r\n", "the input ends inside a message"), (b"C", "the input ends inside a message"),
             (b"", "the input ends before the message exit")):
         status, out, err = tally.tool("ick-lsp", given=framed({"id": 1, "method": "initialize"}) + given)
