@@ -1,6 +1,7 @@
 //! Makes steps until a run comes to a statement, or back from a NEXT.
 
-ghost use Rattle.std.specs.Prelude.{◌≡◌, ◌==◌, ◌<◌, ◌≤◌, ℕ, length, not, nat_lt, Err, IfOk, OnErr};
+ghost use Rattle.std.specs.Prelude.{◌≡◌, ◌==◌, ◌<◌, length, not, nat_lt, Err, IfErr, IfOk};
+ghost use Rattle.std.specs.Prelude.{OnErr};
 ghost use Rattle.ick_step.specs.Arrival.{has_come};
 
 use crate::session::Session;
@@ -30,7 +31,7 @@ fn is_at<M: Inspect>(machine: &M, target: Target) -> bool
 impl<M: Backtrack> Session<M> {
     ghost use Rattle.ick_step.specs.Session.{later, present, IsFull};
     ghost use Rattle.ick_step.specs.Sessions.{session};
-    ghost use Rattle.ick_step.specs.Arrival.{StopsFirst};
+    ghost use Rattle.ick_step.specs.Arrival.{Breaks, IsBreak, StopsFirst};
 
     /// Makes steps until the target, as `until` does.
     fn step_to<'c>(&mut self, target: Target, limit: u32) -> Result<u32, RunsError>
@@ -39,13 +40,19 @@ impl<M: Backtrack> Session<M> {
         ensures ok { IfOk result (λ k. session self.new ≡ later k (session self.old)) }
         ensures stops { IfOk result (λ k.
             StopsFirst (has_come target) (session self.old) limit k) }
-        ensures work_full { result ≡ Err RunsError.WorkFull → IsFull (session self.new) 1 }
-        ensures err { OnErr result ((k : ℕ) × (k ≤ limit)
-            × (session self.new ≡ later k (session self.old))) }
+        ensures full { IsFull (session self.old) 1 → 0 < limit →
+            result ≡ Err RunsError.WorkFull }
+        ensures errors { IfErr result (IsBreak (session self.new)) }
+        ensures err { OnErr result (Breaks (has_come target) (session self.old) limit
+            (session self.new)) }
     {
         let mut made = 0;
         'on: while made < limit {
-            let more = self.step(1)?;
+            // The clause `errors` speaks of this very error.
+            let more = match self.step(1) {
+                Ok(more) => more,
+                Err(error) => return Err(error),
+            };
             if more == 0 {
                 return Ok(made);
             }
@@ -60,17 +67,20 @@ impl<M: Backtrack> Session<M> {
     /// Makes at least one step, and stops as soon as the statement with this number is met next, or
     /// at a choice, the end of the run or the limit on steps. Returns the number of steps.
     ///
-    /// The refusals are `NoMemory`, and `WorkFull` if the count of work comes to its greatest
-    /// value. After both at most as many steps were made as the limit allows, each of them whole.
+    /// The refusals are `NoMemory`, and `WorkFull` if the count of work has come to its greatest
+    /// value before the run stops. After both at most as many steps were made as the limit allows,
+    /// each of them whole, and none but the last has led to the statement.
     pub fn until<'c>(&mut self, statement: u32, limit: u32) -> Result<u32, RunsError>
     where
         M: Asks<'c> + Inspect,
         ensures ok { IfOk result (λ k. session self.new ≡ later k (session self.old)) }
         ensures stops { IfOk result (λ k.
             StopsFirst (λ t. t.place == statement) (session self.old) limit k) }
-        ensures work_full { result ≡ Err RunsError.WorkFull → IsFull (session self.new) 1 }
-        ensures err { OnErr result ((k : ℕ) × (k ≤ limit)
-            × (session self.new ≡ later k (session self.old))) }
+        ensures full { IsFull (session self.old) 1 → 0 < limit →
+            result ≡ Err RunsError.WorkFull }
+        ensures errors { IfErr result (IsBreak (session self.new)) }
+        ensures err { OnErr result (Breaks (λ t. t.place == statement) (session self.old) limit
+            (session self.new)) }
     {
         self.step_to(Target::Statement(statement), limit)
     }
@@ -85,9 +95,12 @@ impl<M: Backtrack> Session<M> {
         ensures ok { IfOk result (λ k. session self.new ≡ later k (session self.old)) }
         ensures stops { let s = session self.old in IfOk result (λ k. StopsFirst
             (λ t. not (nat_lt (length (present s).returns) (length t.returns))) s limit k) }
-        ensures work_full { result ≡ Err RunsError.WorkFull → IsFull (session self.new) 1 }
-        ensures err { OnErr result ((k : ℕ) × (k ≤ limit)
-            × (session self.new ≡ later k (session self.old))) }
+        ensures full { IsFull (session self.old) 1 → 0 < limit →
+            result ≡ Err RunsError.WorkFull }
+        ensures errors { IfErr result (IsBreak (session self.new)) }
+        ensures err { let s = session self.old in OnErr result (Breaks
+            (λ t. not (nat_lt (length (present s).returns) (length t.returns))) s limit
+            (session self.new)) }
     {
         let depth = self.machine().return_addresses().len();
         self.step_to(Target::Depth(depth), limit)

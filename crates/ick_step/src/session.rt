@@ -167,6 +167,7 @@ impl<M: Backtrack> Session<M> {
         ensures ok { OnOk result ((session self.new).answers ≡ []) }
         ensures program { (session self.new).program ≡ (session self.old).program }
         ensures start { (session self.new).start ≡ (session self.old).start }
+        ensures few { (session self.new).work ≤ (session self.old).work + 1000 }
     {
         let steps = self.answers.len();
         self.back(steps)

@@ -1,4 +1,4 @@
-use Rattle.std.proofs.Common.{◌≡◌, ◌≤◌, ◌-◌}
+use Rattle.std.proofs.Common.{◌≡◌, ◌≤◌, ◌<◌, ◌+◌, ◌-◌, ◌^◌}
 use Rattle.ick_step.specs.Arrival.{has_come}
 use Rattle.ick_step.specs.Session.{seen_at, later}
 use Rattle.ick_step.proofs.ArrivalLaws.{NotYet}
@@ -11,6 +11,8 @@ invariant-on g l = record {
       ≡ later l.made (seen_at (g.M.Backtrack.seen l.initial.self.machine) l.initial.self.answers.items);
   before : NotYet (has_come l.target)
       (seen_at (g.M.Backtrack.seen l.initial.self.machine) l.initial.self.answers.items) l.made;
+  room : 0 < l.made →
+      (g.M.Backtrack.seen l.initial.self.machine).work + 1 < 2 ^ 64;
 }
 
 abbrev pub decreases-on : goal.decreases-on
