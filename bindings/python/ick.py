@@ -13,6 +13,7 @@ A source and an input are bytes, or a text that is written in UTF-8. An option t
 Each call but `serve`, `serve_outcomes` and `serve_step` raises Refused if ick doesn't do what was asked: the source is
 refused (status 2), memory runs out (4), or an argument is wrong (64). A run that ends by a fault (1), or for want of
 steps or choices (3), is an answer.
+`from ick import *` leaves out `list`, because Python has a function of that name: call `ick.list`.
 Ctrl-C ends a call in the main thread by KeyboardInterrupt.
 
 As a program, `python3 ick.py ARGUMENT..` does what ick does. If its last argument names a file that can be read, that
@@ -30,8 +31,8 @@ import sys
 import threading
 from typing import NamedTuple
 
-__all__ = ["Answer", "Asker", "Outcome", "Refused", "Run", "Statement", "Summary", "asked", "check", "list", "outcomes",
-           "run", "runs", "serve", "serve_outcomes", "serve_step", "steps", "trace"]
+__all__ = ["Answer", "Asker", "Outcome", "Refused", "Run", "Statement", "Summary", "asked", "check", "outcomes", "run",
+           "runs", "serve", "serve_outcomes", "serve_step", "steps", "trace"]
 
 ROOM = 1 << 16
 RUN = re.compile(rb'(\S+) (\S+) "(.*)"')
