@@ -1,12 +1,15 @@
 """The lines that `ick runs`, `ick list` and `ick-outcomes` print, and texts in quotes."""
 import re
 
-TEXT = rb'"((?:[ !#-\[\]-~]|\\(?:n|\\|"|x[0-9a-f]{2}))*)"'
+PLAIN = rb"[ !#-\[\]-~]*"
+QUOTED = rb'"(' + PLAIN + rb'(?:\\(?:n|\\|"|x[0-9a-f]{2})' + PLAIN + rb')*)"'
 CHOICES = rb"(-|[01]+|[01]\*[1-9][0-9]*(?:,[01]\*[1-9][0-9]*)*)"
-RUN = re.compile(CHOICES + rb" (GIVE-UP|LIMIT|E([0-9]{3})@([0-9]+)) " + TEXT)
-OUTCOME = re.compile(rb"(\*|[1-9][0-9]*) ([0-9]+(?:/[1-9][0-9]*|(?:\.[0-9]+)?(?:\.\.)?)) " + CHOICES
-                     + rb" (GIVE-UP|LIMIT|NEVER|E([0-9]{3})@([0-9]+)) " + TEXT)
-STATEMENT = re.compile(rb"([0-9]+) (\([0-9]+\)|-) (PLEASE|DO) (NOT|-) ([0-9]+) ([A-Z-]+) " + TEXT)
+FAULT = rb"E([0-9]{3})@([0-9]+)"
+WEIGHED = rb"(\*|[1-9][0-9]*) ([0-9]+(?:/[1-9][0-9]*|(?:\.[0-9]+)?(?:\.\.)?)) "
+RUN = re.compile(CHOICES + rb" (GIVE-UP|LIMIT|" + FAULT + rb") " + QUOTED)
+OUTCOME = re.compile(WEIGHED + CHOICES + rb" (GIVE-UP|LIMIT|NEVER|" + FAULT + rb") " + QUOTED)
+STATEMENT = re.compile(rb"([0-9]+) (\([0-9]+\)|-) (PLEASE|DO) (NOT|-) ([0-9]+) ([A-Z-]+) " + QUOTED)
+TEXT = re.compile(QUOTED)
 ENDS = (b"DONE", b"MORE")
 NAMED = {b"n": b"\n", b"\\": b"\\", b'"': b'"'}
 QUOTES = {byte: b"\\x%02x" % byte for byte in range(256) if not 32 <= byte <= 126}
@@ -26,12 +29,12 @@ def quoted(text):
 
 
 def choices_of(text, most):
-    """The first choices that a cursor's text stands for, as a string of 0 and 1, at most so many."""
-    if text == "-":
-        return ""
-    if "*" not in text:
+    """The first choices that a cursor's text stands for, as a text of 0 and 1, at most so many."""
+    if text == b"-":
+        return b""
+    if b"*" not in text:
         return text[:most]
-    found = ""
-    for group in text.split(","):
-        found += group[0] * min(int(group[2:]), most - len(found))
+    found = b""
+    for group in text.split(b","):
+        found += group[:1] * min(int(group[2:]), most - len(found))
     return found

@@ -56,3 +56,30 @@ def pieces(output):
             found.append(lines[place])
         place += 1
     return found
+
+
+def common_pieces(first, second):
+    """How many bytes the pieces have with which both outputs begin."""
+    most = common(first, second)
+    if most == len(first) == len(second):
+        return most
+    cut = first.rfind(b"\n", 0, most) + 1  # where the line begins in which they differ
+    if not cut:
+        return 0
+    bars = first.rfind(b"\n", 0, cut - 1) + 1
+    # an empty line can be the second one of the numeral 0, whose bars are _
+    if cut - bars > 1 or not (first.endswith(b"\n_\n", 0, bars) or bars == 2 and first.startswith(b"_")):
+        for output in (first, second):
+            end = output.find(b"\n", cut)
+            if end >= 0 and number_of(first[bars:cut - 1], output[cut:end]) is not None:
+                return bars
+    return cut
+
+
+def common(first, second):
+    """How many bytes both begin with."""
+    size = min(len(first), len(second))
+    if second.startswith(first):
+        return size
+    differing = int.from_bytes(first[:size], "big") ^ int.from_bytes(second[:size], "big")
+    return size - (differing.bit_length() + 7) // 8

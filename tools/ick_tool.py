@@ -10,6 +10,7 @@ import shutil
 import signal
 import subprocess
 import sys
+import time
 
 # What is known of each program: the variable that names it, the arguments by which ./preview names it, and what it
 # answers to an argument over an empty source.
@@ -21,6 +22,8 @@ PROGRAMS = {
 HERE = os.path.dirname(os.path.realpath(__file__))
 NAME = os.path.basename(sys.argv[0])
 PREVIEW = os.path.normpath(os.path.join(HERE, "../preview"))
+PAUSE = 0.3  # seconds between two lines of progress
+ERASE = "\r\033[K"  # what erases the line of a terminal
 
 
 def open_closed_streams():
@@ -86,8 +89,27 @@ def number_within(least, greatest):
 
 
 def say(text):
-    """Writes one line on standard error."""
-    print(f"{NAME}: {text}", file=sys.stderr)
+    """Writes one line on standard error. At a terminal it takes the place of the line of progress."""
+    print(f"{ERASE if sys.stderr.isatty() else ''}{NAME}: {text}", file=sys.stderr)
+
+
+def with_progress(parts, lines_of):
+    """Yields the parts of a listing while it is read. Standard error has a line of progress then, if it is a terminal.
+
+    `lines_of` counts the lines of a part.
+    """
+    is_shown = sys.stderr.isatty()
+    count, due = 0, time.monotonic() + PAUSE
+    try:
+        for part in parts:
+            count += lines_of(part)
+            if is_shown and time.monotonic() >= due:
+                due = time.monotonic() + PAUSE
+                print(f"{ERASE}{NAME}: {count:,} lines", end="", file=sys.stderr, flush=True)
+            yield part
+    finally:
+        if is_shown:
+            print(ERASE, end="", file=sys.stderr, flush=True)
 
 
 def end(text, status=2):

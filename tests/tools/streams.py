@@ -1,5 +1,9 @@
-"""Tries each tool with each standard stream closed, and with an output that is full or that its reader leaves early."""
+"""Tries each tool with each standard stream closed, and with an output that is full or that its reader leaves early.
+
+Tries the line of progress on a terminal too.
+"""
 import os
+import pty
 import subprocess
 import sys
 
@@ -39,7 +43,24 @@ def try_closed(tally, name, arguments, given):
                     f"{call} <&-: {status} {out!r} {err!r}")
 
 
+def try_progress(tally):
+    """A terminal on standard error shows how many lines are read. They are erased at the end and in front of an error."""
+    script = "import runpy, sys; sys.argv[:] = sys.argv[1:]; sys.path.insert(0, sys.argv.pop(0)); import ick_tool; " \
+             "ick_tool.PAUSE = 0; runpy.run_path(sys.argv[0])"
+    for name, arguments in (("ick-tree", ["--format", "dot"]), ("ick-json", [])):
+        for given, said in ((LISTING, b""), (b"NO LISTING\n" + LISTING, name.encode() + b": line 1 is no line of")):
+            ours, theirs = pty.openpty()
+            subprocess.run([sys.executable, "-c", script, TOOLS, os.path.join(TOOLS, name), *arguments], input=given,
+                           stdout=subprocess.DEVNULL, stderr=theirs, timeout=SECONDS, check=False)
+            os.write(theirs, b"\n")
+            shown = os.read(ours, 4096)
+            os.close(theirs)
+            os.close(ours)
+            tally.check(b" lines\r\033[K" + said in shown, f"progress of {name}: {shown!r}")
+
+
 def try_all(tally):
+    try_progress(tally)
     for name, arguments, given in WRITING:
         try_closed(tally, name, arguments, given)
         full_disk(tally, name, arguments, given or b"")

@@ -38,6 +38,20 @@ ROWS = (
     (b'00 E241@7 ""\n010 LIMIT ""\n011 E241@8 "X"\nDONE\n', ["--only", "E241@7"],
      ["3 runs", "3 runs", "E241@7", "2 runs: 1 E241, 1 LIMIT", ".."],
      [("0", "3 runs"), ("0", "E241@7"), ("1", "2 runs: 1 E241, 1 LIMIT"), ("1", "..")]),
+    # outcomes: each leaf has the number of its runs and their weight, and equal leaves aren't joined
+    (b'2 0.5 00 GIVE-UP ""\n1 1/4 10 LIMIT "\\nI\\n"\n1 1/4 11 LIMIT "\\nV\\n\\nI\\n"\nDONE\n', [],
+     ["3 outcomes", "1 outcome", "GIVE-UP 2 runs, weight 0.5", "..", "2 outcomes", "I LIMIT 1 run, weight 1/4",
+      "V, I LIMIT 1 run, weight 1/4"],
+     [("0", "1 outcome"), ("1", "2 outcomes"), ("0", "GIVE-UP 2 runs, weight 0.5"), ("1", ".."),
+      ("0", "I LIMIT 1 run, weight 1/4"), ("1", "V, I LIMIT 1 run, weight 1/4")]),
+    (b'1 0.5 0 GIVE-UP "A\\nI"\n1 0.25 10 E241@2 "B\\nI"\n1 0.25 11 LIMIT ""\nDONE\n', ["--depth", "1"],
+     ["3 outcomes", "A I GIVE-UP 1 run, weight 0.5", "2 outcomes: 1 E241, 1 LIMIT"],
+     [("0", "A I GIVE-UP 1 run, weight 0.5"), ("1", "2 outcomes: 1 E241, 1 LIMIT")]),
+    # numerals and lines behind each other: what is common ends with a whole numeral or line
+    (b'0 LIMIT "_\\n\\n\\nX"\n1 LIMIT "_\\n\\n\\nV\\n"\nDONE\n', ["--numerals"], ["0 2 runs", "X LIMIT", "5 LIMIT"],
+     [("0", "X LIMIT"), ("1", "5 LIMIT")]),
+    (b'0 LIMIT "\\nX\\n"\n1 LIMIT "\\nXX\\n"\nDONE\n', ["--numerals"], ["2 runs", "10 LIMIT", "20 LIMIT"],
+     [("0", "10 LIMIT"), ("1", "20 LIMIT")]),
     # what the listing doesn't have
     (b'0 GIVE-UP ""\nMORE\n', [], ["1 run", "GIVE-UP", ".."], [("0", "GIVE-UP"), ("1", "..")]),
 )
