@@ -117,7 +117,7 @@ def value(node, numbers):
         return mingle(left, right), 32
     if node.kind == "~":
         return select(left, right), 32 if bin(right).count("1") > 16 else 16
-    return unary(node.kind.encode(), left, width), width
+    return unary(node.kind.encode(), left, left, width)[1], width
 
 
 def replaced(node, part):
