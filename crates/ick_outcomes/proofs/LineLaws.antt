@@ -5,7 +5,8 @@ use Rattle.std.proofs.Common.{ap, sym, ◌∙◌, subst, append_assoc, arith, sl
 use Rattle.std.specs.Prelude.{codes}
 use Rattle.ick_outcomes.specs.Buffered.{AppendsLine}
 use Rattle.ick_outcomes.specs.Lines.{AreLines, no_line, one_more, IsSummaryText}
-use Rattle.ick_outcomes.specs.Seen.{natural, rows_of}
+use Rattle.ick_numbers.specs.Values.{natural}
+use Rattle.ick_outcomes.specs.Seen.{rows_of}
 use Rattle.ick_outcomes.specs.Summaries.{count_of}
 use Rattle.ick_outcomes.specs.declared.outcome.Outcome.{Outcome}
 use Rattle.ick_outcomes.proofs.Lists.{take-more, take-all}

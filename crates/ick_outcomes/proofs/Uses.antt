@@ -27,7 +27,8 @@ use Rattle.ick_outcomes.specs.Accounts.{AreBelow, AreOver, IsMostLeft, Makes, en
 use Rattle.ick_outcomes.proofs.Algebra.{none-join}
 use Rattle.ick_outcomes.proofs.Sums.{account-starts, account-goes_on, settles-more, settles-none}
 use Rattle.ick_outcomes.specs.Packed.{choices_of, IsEarlier}
-use Rattle.ick_outcomes.specs.Seen.{natural, pending_of, nodes_of, row_of, rows_of, AreSound}
+use Rattle.ick_numbers.specs.Values.{natural}
+use Rattle.ick_outcomes.specs.Seen.{pending_of, nodes_of, row_of, rows_of, AreSound}
 use Rattle.ick_outcomes.specs.declared.pending.Node.{Node}
 use Rattle.ick_outcomes.specs.declared.outcome.Outcome.{Outcome}
 use Rattle.ick_outcomes.proofs.PlaceByPlace.{lesser-before}

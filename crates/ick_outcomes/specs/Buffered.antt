@@ -2,7 +2,7 @@
 use Rattle.std.specs.Prelude.{◌≡◌, ℕ, Bool, List, ◌++◌}
 use Rattle.ick_bits.specs.Quoted.{quoted}
 use Rattle.ick_outcomes.specs.Lines.{IsLine}
-use Rattle.ick_outcomes.specs.Seen.{natural}
+use Rattle.ick_numbers.specs.Values.{natural}
 use Rattle.ick_outcomes.specs.Texts.{IsNumberText, IsWeightText}
 use Rattle.ick_outcomes.specs.declared.outcome.Outcome.{Outcome}
 

@@ -2,7 +2,6 @@ pub mod Weights
 pub mod Tallies
 pub mod Summaries
 pub mod Accounts
-pub mod Naturals
 pub mod Packed
 pub mod Seen
 pub mod Fractions

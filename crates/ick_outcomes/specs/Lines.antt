@@ -3,7 +3,8 @@ use Rattle.std.specs.Prelude.{◌≡◌, ℕ, Bool, List, [], ◌∷◌, ◌++�
 use Rattle.ick_bits.specs.Quoted.{quoted}
 use Rattle.ick_explorer.specs.ChoiceTexts.{choices_text}
 use Rattle.ick_outcomes.specs.Summaries.{count_of}
-use Rattle.ick_outcomes.specs.Seen.{natural, rows_of}
+use Rattle.ick_numbers.specs.Values.{natural}
+use Rattle.ick_outcomes.specs.Seen.{rows_of}
 use Rattle.ick_outcomes.specs.Texts.{IsNumberText, IsWeightText}
 use Rattle.ick_outcomes.specs.declared.outcome.Outcome.{Outcome}
 

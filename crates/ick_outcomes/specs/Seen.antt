@@ -1,19 +1,14 @@
 -- Defines what contracts see of numbers, outcomes and nodes.
 use Rattle.std.specs.Prelude.{ℕ, List, map}
 use Rattle.std.specs.List.{All}
-use Rattle.ick_outcomes.specs.Naturals.{value_of}
+use Rattle.ick_numbers.specs.Values.{natural}
 use Rattle.ick_outcomes.specs.Packed.{choices_of}
 use Rattle.ick_outcomes.specs.Accounts.{Configuration, Pending}
 use Rattle.ick_outcomes.specs.Summaries.{Row}
-use Rattle.ick_outcomes.specs.declared.natural.Natural.{Natural}
 use Rattle.ick_outcomes.specs.declared.pending.Node.{Node}
 use Rattle.ick_outcomes.specs.Fractions.{top_of}
 use Rattle.ick_outcomes.specs.Weights.{amount}
 use Rattle.ick_outcomes.specs.declared.outcome.Outcome.{Outcome}
-
--- the value of a number
-abbrev pub natural : Natural → ℕ
-natural n = value_of n.digits.items
 
 -- what a node represents, if `seen` is what contracts see of its state
 abbrev pub pending_of : {S : Type 0} → (S → Configuration) → Node S → Pending

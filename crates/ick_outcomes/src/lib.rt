@@ -12,7 +12,7 @@
 //! | `outcome`, `table`, `filing`, `index` | outcomes, and how runs are added to them |
 //! | `choices`, `comparing` | lists of choices, packed and one by one, and their order |
 //! | `following` | one run, and the statements that asked for its choices |
-//! | `natural`, `fraction`, `text`, `cut` | counts and weights of any length, and their texts |
+//! | `fraction`, `text`, `cut` | weights of any length; the texts of counts and weights |
 //! | `lines`, `quoting` | the text of a summary |
 //! | `laws` | laws of all summaries |
 #![tactic(auto)]
@@ -28,7 +28,6 @@ mod hints;
 mod index;
 mod laws;
 mod lines;
-mod natural;
 mod node;
 mod outcome;
 mod pending;
@@ -45,7 +44,6 @@ pub use following::{AskedBy, Followed, asked_text, follow, run_line};
 pub use fraction::Fraction;
 pub use laws::{one_summary, weights_are_products};
 pub use lines::{summary_text, total_text};
-pub use natural::Natural;
 pub use outcome::Outcome;
 pub use sorting::outcomes;
 pub use states::States;

@@ -3,16 +3,17 @@
 ghost use Rattle.std.specs.Prelude.{◌≡◌, Bool, IfOk, IfSome, OnOk};
 ghost use Rattle.ick_outcomes.specs.Buffered.{AppendsLine, AreTexts};
 ghost use Rattle.ick_outcomes.specs.Lines.{IsSummaryText, IsTotal};
-ghost use Rattle.ick_outcomes.specs.Seen.{natural, rows_of};
+ghost use Rattle.ick_numbers.specs.Values.{natural};
+ghost use Rattle.ick_outcomes.specs.Seen.{rows_of};
 ghost use Rattle.ick_outcomes.specs.Summaries.{count_of};
 
 use crate::cut::{renew_weight, write_weight};
-use crate::natural::Natural;
 use crate::outcome::Outcome;
 use crate::quoting::renew_quoted;
 use crate::text::{Buffers, number_text};
 use ick_bits::{NoMemory, append_decimal, append_quoted};
 use ick_explorer::append_choices;
+use ick_numbers::Natural;
 use std::alloc::Global;
 
 /// The texts of the count, of the weight and of the output of an outcome.

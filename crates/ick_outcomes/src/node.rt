@@ -9,7 +9,8 @@ ghost use Rattle.ick_outcomes.specs.Accounts.{Admits, CanMerge, Counts, Configur
 ghost use Rattle.ick_outcomes.specs.Accounts.{Makes};
 ghost use Rattle.ick_outcomes.specs.Accounts.{GoesOn, IsChoosing, AreOver, chosen, ended_row};
 ghost use Rattle.ick_outcomes.specs.Packed.{choices_of, IsEarlier};
-ghost use Rattle.ick_outcomes.specs.Seen.{AreSound, natural, pending_of, row_of, rows_of, nodes_of};
+ghost use Rattle.ick_numbers.specs.Values.{natural};
+ghost use Rattle.ick_outcomes.specs.Seen.{AreSound, pending_of, row_of, rows_of, nodes_of};
 ghost use Rattle.ick_outcomes.specs.Tallies.{lesser};
 ghost use Rattle.ick_outcomes.specs.Weights.{part};
 

@@ -7,16 +7,17 @@ ghost use Rattle.ick_backtrack.specs.Asked.{finish_of};
 ghost use Rattle.ick_explorer.specs.Lines.{end_text};
 ghost use Rattle.ick_outcomes.specs.Accounts.{AreApart, Counts, SameRow};
 ghost use Rattle.ick_outcomes.specs.Keys.{key_of};
-ghost use Rattle.ick_outcomes.specs.Seen.{natural, row_of, rows_of};
+ghost use Rattle.ick_numbers.specs.Values.{natural};
+ghost use Rattle.ick_outcomes.specs.Seen.{row_of, rows_of};
 ghost use Rattle.ick_outcomes.specs.Summaries.{Row};
 ghost use Rattle.ick_outcomes.specs.Tallies.{lesser};
 
 use crate::comparing::keeps;
 use crate::fraction::Fraction;
 use crate::index::row_key;
-use crate::natural::Natural;
 use ick_backtrack::End;
 use ick_bits::{NoMemory, append_decimal};
+use ick_numbers::Natural;
 use smallvec::SmallVec;
 use std::alloc::Global;
 

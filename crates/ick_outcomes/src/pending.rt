@@ -1,12 +1,12 @@
 //! Nodes of the search: states that still have steps to make.
 
 ghost use Rattle.std.specs.Prelude.{◌+◌, ◌<◌, ◌≤◌};
-ghost use Rattle.ick_outcomes.specs.Naturals.{value_of};
+ghost use Rattle.ick_numbers.specs.Naturals.{value_of};
 
 use crate::choices::Choices;
 use crate::fraction::Fraction;
 use crate::hints::Hints;
-use crate::natural::Natural;
+use ick_numbers::Natural;
 
 /// A state, how many steps it has left, how many runs lead to it, their weight together, and the
 /// choices of the first of them. An equal node is looked for by the hash, on which no contract

@@ -11,13 +11,13 @@ use crate::errors::OutcomesError;
 use crate::filing::no_rows;
 use crate::fraction::Fraction;
 use crate::hints::Hints;
-use crate::natural::Natural;
 use crate::node::{make, put};
 use crate::outcome::Outcome;
 use crate::pending::{Node, Waiting};
 use crate::states::States;
 use crate::table::Table;
 use ick_bits::NoMemory;
+use ick_numbers::Natural;
 use std::alloc::Global;
 
 /// Returns an empty list of nodes.

@@ -1,4 +1,4 @@
-use Rattle.ick_outcomes.specs.Seen.{natural}
+use Rattle.ick_numbers.specs.Values.{natural}
 use Rattle.ick_outcomes.proofs.LineLaws.{total_more}
 use Rattle.ick_outcomes.proofs.lines.total.Goals as goal
 

@@ -1,5 +1,6 @@
 use Rattle.std.proofs.Common.{◌≡◌, take}
-use Rattle.ick_outcomes.specs.Seen.{natural, rows_of}
+use Rattle.ick_numbers.specs.Values.{natural}
+use Rattle.ick_outcomes.specs.Seen.{rows_of}
 use Rattle.ick_outcomes.specs.Summaries.{count_of}
 use Rattle.ick_outcomes.proofs.lines.total.Given as goal
 

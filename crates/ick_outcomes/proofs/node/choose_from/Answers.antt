@@ -1,7 +1,8 @@
 use Rattle.std.proofs.Common.{◌-◌, refl, subst, ap, ◌∙◌, ◌++◌, ◌∷◌, []}
 use Rattle.ick_outcomes.specs.Fractions.{top_of, IsPart}
 use Rattle.ick_outcomes.specs.Packed.{choices_of}
-use Rattle.ick_outcomes.specs.Seen.{natural, pending_of}
+use Rattle.ick_numbers.specs.Values.{natural}
+use Rattle.ick_outcomes.specs.Seen.{pending_of}
 use Rattle.ick_outcomes.specs.Weights.{amount}
 use Rattle.ick_outcomes.proofs.Uses.{chosen_goes_on, part_of_copy}
 use Rattle.ick_outcomes.proofs.node.choose_from.Goals as goal

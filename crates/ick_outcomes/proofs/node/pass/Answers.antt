@@ -1,6 +1,7 @@
 use Rattle.std.proofs.Common.{◌≡◌, ◌∙◌, ◌-◌, ap, arith, refl, suc}
 use Rattle.ick_outcomes.specs.Fractions.{top_of}
-use Rattle.ick_outcomes.specs.Seen.{natural, pending_of}
+use Rattle.ick_numbers.specs.Values.{natural}
+use Rattle.ick_outcomes.specs.Seen.{pending_of}
 use Rattle.ick_outcomes.specs.Weights.{amount}
 use Rattle.ick_outcomes.proofs.Uses.{first_step, goes_on_runs, moved_on}
 use Rattle.ick_outcomes.proofs.node.pass.Goals as goal
