@@ -3,6 +3,7 @@
 ghost use Rattle.std.specs.Prelude.{◌≡◌, ◌≤◌, true, Some, IfOk};
 ghost use Rattle.ick_code.specs.meaning.Move.{ask, advance};
 ghost use Rattle.ick_backtrack.specs.Asked.{asked_of, IsGoing};
+ghost use Rattle.ick_backtrack.specs.Machine.{Program};
 ghost use Rattle.ick_backtrack.specs.Steps.{IsPlain, RunsOn};
 ghost use Rattle.ick_outcomes.specs.Accounts.{Configuration};
 
@@ -12,13 +13,16 @@ use ick_bits::NoMemory;
 /// A program over its input, for a search that keeps many states of it. A state holds only what
 /// states differ by. The program, and the tools that steps are made with, are lent for each call.
 ///
-/// Contracts see a state as a program and a state of the meaning (`seen`). Each call takes only
-/// states that are of this program (`suits`), and tools that are for it (`serves`). `'c` is the
-/// lifetime of the code: the message of a fault shows a text of it.
+/// Contracts see a state as a program and a state of the meaning (`seen`). The program is the same
+/// for all states (`text`, `law`). Each call takes only states that are of this program (`suits`),
+/// and tools that are for it (`serves`). `'c` is the lifetime of the code: the message of a fault
+/// shows a text of it.
 pub trait States<'c>: Drop {
     type State: Drop;
 
     type Tools: Drop;
+
+    ghost text: { Self → Program };
 
     ghost seen: { Self → Self.State → Configuration };
 
@@ -103,4 +107,8 @@ pub trait States<'c>: Drop {
     /// Returns a number that should be equal if the states are. No contract rests on it: it tells
     /// the search which states to compare.
     fn hash(&self, state: &Self::State) -> u64;
+
+    /// Says that the program of a state is that of all states. It does nothing.
+    fn law(&self, state: &Self::State)
+        ensures { (seen self.now state.now).program ≡ text self.now };
 }

@@ -154,11 +154,14 @@ impl<'c, 'a> Runs<'c, 'a> {
 }
 
 impl<'c, 'a> States<'c> for Runs<'c, 'a> {
+    ghost use Rattle.ick_machine.specs.RunIn.{program_of};
     ghost use Rattle.ick_states.specs.Seen.{CanGoOnFrom, CanServe, seen_of};
 
     type State = Box<KeptRun>;
 
     type Tools = Memory;
+
+    ghost text = { λ runs. program_of runs.lowered };
 
     ghost seen = { λ runs state. seen_of runs state.value };
 
@@ -232,6 +235,8 @@ impl<'c, 'a> States<'c> for Runs<'c, 'a> {
     fn hash(&self, state: &Box<KeptRun>) -> u64 {
         hash(&state.saved)
     }
+
+    fn law(&self, _state: &Box<KeptRun>) {}
 }
 
 impl<'c, 'a> Runs<'c, 'a> {

@@ -1,0 +1,14 @@
+use Rattle.std.proofs.Common.{◌≡◌, ◌≤◌, Some, length, slice_get}
+use Rattle.ick_chain.specs.Places.{AllTell, AllSuit, states_in}
+use Rattle.ick_chain.proofs.search.explore.Given as goal
+
+abbrev pub invariant-nodes : goal.invariant-nodes
+invariant-nodes g l = record {
+  long : length l.nodes.items ≡ l.at;
+  within : l.at ≤ length l.found.states.items;
+  each : AllTell (g.P.States.text l.program) (states_in (g.P.States.seen l.program) l.found.states.items) l.nodes.items;
+  first : slice_get (states_in (g.P.States.seen l.program) l.found.states.items) 0
+      ≡ Some ((g.P.States.seen l.program l.fn.state).state);
+  found : AllSuit (g.P.States.suits l.program) l.found.states.items;
+  tools : g.P.States.serves l.program l.tools;
+}

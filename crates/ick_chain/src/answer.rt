@@ -1,0 +1,75 @@
+//! Weighs all runs of a program without a limit.
+
+ghost use Rattle.std.specs.Prelude.{◌≡◌, ◌<◌, slice_get, Some, IfOk};
+ghost use Rattle.ick_numbers.specs.Values.{natural, naturals};
+ghost use Rattle.ick_chain.specs.Chains.{IsExact, passing, never, all_steps};
+ghost use Rattle.ick_chain.specs.Places.{states_in, state_or, IsFull};
+
+use crate::errors::ChainError;
+use crate::search::{Chain, explore};
+use crate::solving::solve;
+use crate::stuck::mark_stuck;
+use ick_numbers::Natural;
+use ick_outcomes::States;
+use std::alloc::Global;
+
+/// A chain, and how often its nodes are visited, in so many parts.
+#[derive(Drop)]
+pub struct Answer<S: Drop> {
+    pub chain: Chain<S>,
+    pub visits: Vec<Natural>,
+    pub parts: Natural,
+}
+
+/// Finds the chain of a program, with the nodes marked from which no end can be reached.
+fn find_chain<'c, P: States<'c>>(
+    alloc: Global,
+    program: &P,
+    tools: &mut P::Tools,
+    state: P::State,
+    stretch: u32,
+    most: usize,
+) -> Result<Chain<P::State>, ChainError>
+    requires tools { P.serves program.now tools.old }
+    requires state { P.suits program.now state }
+    requires stretch { stretch < 4294967295 }
+    ensures full { IfOk result (λ chain. IsFull (P.text program.now)
+        (states_in (P.seen program.now) chain.states.items) chain.nodes.items) }
+    ensures first { IfOk result (λ chain. slice_get
+        (states_in (P.seen program.now) chain.states.items) 0
+        ≡ Some (P.seen program.now state).state) }
+{
+    let mut chain = explore(alloc, program, tools, state, stretch, most)?;
+    mark_stuck(alloc, &mut chain.nodes)?;
+    Ok(chain)
+}
+
+/// Weighs all runs of a program from a state. Plain steps are made at most `stretch` at a time, and
+/// at most `most` states are kept.
+pub fn weigh<'c, P: States<'c>>(
+    alloc: Global,
+    program: &P,
+    tools: &mut P::Tools,
+    state: P::State,
+    stretch: u32,
+    most: usize,
+) -> Result<Answer<P::State>, ChainError>
+    requires tools { P.serves program.now tools.old }
+    requires state { P.suits program.now state }
+    requires stretch { stretch < 4294967295 }
+    ensures exact { IfOk result (λ a. IsExact (P.text program.now) (P.seen program.now state).state
+        (natural a.parts)
+        (λ q. passing (λ i. q (state_or (P.seen program.now state).state
+        (states_in (P.seen program.now) a.chain.states.items) i))
+        a.chain.nodes.items (naturals a.visits.items))
+        (never a.chain.nodes.items (naturals a.visits.items))
+        (all_steps a.chain.nodes.items (naturals a.visits.items))) }
+{
+    let chain = find_chain(alloc, program, tools, state, stretch, most)?;
+    let solution = solve(alloc, &chain.nodes)?;
+    Ok(Answer {
+        chain,
+        visits: solution.visits,
+        parts: solution.parts,
+    })
+}
