@@ -3,25 +3,11 @@ use Rattle.std.proofs.Common.{◌≡◌, ℕ, ◌+◌, ◌-◌, ◌*◌, ◌^◌
 use Rattle.std.proofs.Common.{◌∷◌, ◌++◌, length, length-append, refl, sym, ap, subst, ◌∙◌, arith}
 use Rattle.std.proofs.Math.Nat.{add-mul, mul_assoc, pow-succ'}
 use Rattle.std.proofs.lemmas.Bool.{and_parts}
-use Rattle.std.specs.Prelude.{if◌then◌else◌, cond}
+use Rattle.std.specs.Prelude.{cond}
 use Rattle.std.specs.List.{list_all}
 use Rattle.ick_source.specs.Position.{past_white}
 use Rattle.ick_source.specs.Token.{is_digit, begins_number, value_of_digits, IsNumber, digits}
-
--- the digits at the front
-unfoldable pub digits_of : List ℕ → List ℕ
-digits_of [] = []
-digits_of (b ∷ bs) = if is_digit b then b ∷ digits_of bs else []
-
--- what is left after them
-unfoldable pub past_digits : List ℕ → List ℕ
-past_digits [] = []
-past_digits (b ∷ bs) = if is_digit b then past_digits bs else b ∷ bs
-
--- the number that digits go on to from the one before them
-unfoldable pub value_after : ℕ → List ℕ → ℕ
-value_after n [] = n
-value_after n (d ∷ ds) = value_after (n * 10 + (d - 48)) ds
+use Rattle.ick_source.specs.Reading.{digits_of, past_digits, value_after}
 
 value-after : (ds : List ℕ) (n : ℕ) → value_after n ds ≡ n * 10 ^ length ds + value_of_digits ds
 unfolding value_after value_of_digits

@@ -4,9 +4,9 @@
 //!
 //! - `bytes`, `boundaries`, `qualifiers`: bytes, starts and ends of statements, and their heads
 //! - `lead`, `position`, `token`: characters, numbers and words, with `!` as two characters
-//! - `expression`: expressions and elements
-//! - `parsed`, `part`, `list`: answers of readers, the parts of bodies, and lists of parts
-//! - `verb`, `form`, `body_reader`, `body_bytes`: bodies
+//! - `parsed`, `cursor`: answers of readers; a reader that keeps its first refusal
+//! - `expression`, `part`, `verb`, `body`: expressions, the parts of bodies, and bodies
+//! - `body_bytes`: a body between bytes
 //! - `statement_reader`: a statement
 //! - `source`: the whole of a text
 //!
@@ -21,16 +21,15 @@
 //! `laws` states laws of every text.
 #![tactic(auto)]
 
+mod body;
 mod body_bytes;
-mod body_reader;
 mod boundaries;
 mod bytes;
+mod cursor;
 mod expression;
-mod form;
 mod labels;
 mod laws;
 mod lead;
-mod list;
 mod listing;
 mod parsed;
 mod part;
