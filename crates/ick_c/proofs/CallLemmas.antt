@@ -3,9 +3,11 @@ use Rattle.std.proofs.Common.{◌≡◌, inl, inr, ℕ, true, List, Some, arith,
 use Rattle.std.proofs.lemmas.List.{append-nil}
 use Rattle.clap.specs.Words.{Text}
 use Rattle.ick_explorer.specs.Written.{Written}
-use Rattle.ick_job.specs.JobEnd.{input_of}
-use Rattle.ick_cli.specs.Job.{job_of}
+use Rattle.ick_job.specs.Answer.{Answer}
+use Rattle.ick_job.specs.JobEnd.{input_of, source_of}
+use Rattle.ick_cli.specs.Job.{Asked, job_of}
 use Rattle.ick_cli.specs.Laws.{OneAnswer}
+use Rattle.ick_cli.specs.Tool.{IsToolAnswer}
 use Rattle.ick_job.specs.Notice.{notice_text}
 use Rattle.ick_job.specs.Serve.{Finishes, cut_by_memory, memory_failed}
 use Rattle.ick_job.specs.Usage.{help_without_memory, refused_without_memory, words_notice, words_status}
@@ -14,6 +16,7 @@ use Rattle.ick_job.specs.declared.words_fault.WordsFault.TheVariants.{NoMemory, 
 use Rattle.ick_c.specs.Arguments.{Holds}
 use Rattle.ick_c.specs.Call.{OfBytes, Serves, nothing, source_in}
 use Rattle.ick_c.proofs.ArgumentLemmas.{same_held}
+use Rattle.ick_c.proofs.OutcomesLemmas.{source_there}
 
 -- what any arguments leave if memory ran out before they were read
 pub without_memory : OneAnswer → (arguments : List Text) (file input : List ℕ) (writer errors errors' : Written)
@@ -67,3 +70,14 @@ from_nothing Leaves writer errors status code none none' same leaves =
     subst (λ (w : Written). Leaves w nothing code) none
     (subst (λ (w : Written). Leaves writer w code) none'
     (subst (λ (n : ℕ). Leaves writer errors n) (sym same) leaves))
+
+-- the tool's answer over devices that have these bytes
+pub tool_from : (job : Asked) (file file' input input' : List ℕ) (answer : Answer)
+    → IsToolAnswer job.task (source_of job.file (λ text. file') 0 0 input') (input_of job.file input') answer
+    → file' ≡ file → input' ≡ input
+    → IsToolAnswer job.task (Some (source_in job file input)) (input_of job.file input) answer
+tool_from job file file' input input' answer is same same' =
+    subst (λ s. IsToolAnswer job.task s (input_of job.file input) answer) (source_there job.file file input)
+    (subst (λ i. IsToolAnswer job.task (source_of job.file (λ text. file) 0 0 i) (input_of job.file i) answer) same'
+    (subst (λ f. IsToolAnswer job.task (source_of job.file (λ text. f) 0 0 input') (input_of job.file input') answer) same
+    is))

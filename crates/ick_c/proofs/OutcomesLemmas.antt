@@ -20,13 +20,14 @@ pub unserved : (arguments : List Text) (file listing input : List ℕ) (writer e
     → ServesOutcomes arguments file listing input writer writer errors errors' status
 unserved arguments file listing input writer errors errors' status done = record {
   job = λ has_job. (_, _, without_memory refl refl, done);
+  no_job = λ faults. inl (refl, (_, _, refused_without_memory, done));
   usage = λ mistakes. (refl, (_, _, refused_without_memory, done));
   help = λ requests. (_, _, help_without_memory refl refl, done);
   said = (_, _, as_ick _ _ (memory_failed refl), done);
   failed = λ bad. elim bad [ inl less ↦ absurd (omega arith) | inr less ↦ done.fault less ];
 }
 
-source_there : (name : Option Text) (file input : List ℕ) →
+pub source_there : (name : Option Text) (file input : List ℕ) →
     source_of name (λ text. file) 0 0 input ≡ Some (if is_some name then file else input)
 source_there None file input = refl
 source_there (Some text) file input = refl

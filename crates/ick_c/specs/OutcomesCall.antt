@@ -1,5 +1,5 @@
 -- What a call of `ick-outcomes` over a file, a listing and an input in memory leaves.
-use Rattle.std.specs.Prelude.{◌≡◌, ◌<◌, ◌⊎◌, if◌then◌else◌, ℕ, true, List, Option, Some, option_map}
+use Rattle.std.specs.Prelude.{◌≡◌, ◌≢◌, ◌<◌, ◌⊎◌, if◌then◌else◌, ℕ, true, List, [], Option, Some, option_map}
 use Rattle.clap.specs.Words.{Text, fault_of}
 use Rattle.ick_explorer.specs.Written.{Written}
 use Rattle.ick_job.specs.JobEnd.{input_of}
@@ -31,6 +31,8 @@ pub record ServesOutcomes (arguments : List Text) (file listing input : List ℕ
     (writer writer' errors errors' : Written) (status : ℕ) : Type 0 where
   pub job : HasJob arguments → JobServed (job_of arguments) (Some (source_in (job_of arguments) file input))
       (listing_in (job_of arguments) listing) input writer writer' errors errors' status
+  pub no_job : fault_of outcomes_app arguments ≢ [] → ((writer' ≡ writer) × Reports IsRefused errors errors' status)
+      ⊎ Reports (IsHelped true writer.failures writer'.failures writer.bytes writer'.bytes) errors errors' status
   pub usage : AreMistakes (fault_of outcomes_app arguments)
       → (writer' ≡ writer) × Reports IsRefused errors errors' status
   pub help : AreRequests (fault_of outcomes_app arguments)

@@ -175,3 +175,12 @@ pub extern "C" fn ick_step_serve(
     hand_over(&writer, &said, output, errors, lengths);
     status.code()
 }
+
+/// Returns the library's version as a number: 1,000,000 times its first number, 1,000 times its
+/// second number, and its third number.
+#[unsafe(no_mangle)]
+pub extern "C" fn ick_version() -> u32
+    ensures { result ≡ 1000 }
+{
+    1000
+}

@@ -1,9 +1,9 @@
 -- What work leaves in the reader.
-use Rattle.std.proofs.Common.{◌≡◌, ◌<◌, ◌+◌, ℕ, Bool, true, false, List, [], Option, Some, None, ap}
+use Rattle.std.proofs.Common.{◌≡◌, ◌<◌, ◌+◌, ℕ, Bool, false, List, [], Option, Some, None}
 use Rattle.std.proofs.Common.{arith, drop}
 use Rattle.std.proofs.Common.{length, subst, sym, take}
 use Rattle.std.proofs.lemmas.List.{length-take, take_all}
-use Rattle.std.specs.Prelude.{is_some, unwrap_or}
+use Rattle.std.specs.Prelude.{unwrap_or}
 use Rattle.ick_bits.specs.declared.faults.FaultKind.{FaultKind}
 use Rattle.ick_source.specs.RefusalAnswers.{IsOnlyRefused}
 use Rattle.ick_source.specs.Refusals.{Compiles, longest}
@@ -108,9 +108,3 @@ pub without_file : (a : Asked) (named : List ℕ → List ℕ) (before left : Li
     → IsPlanned a.task plan → left ≡ drop (longest + 1) before → IsLeft a named before left
 without_file a named before left plan none is same =
     subst (λ (l : List ℕ). IsLeft a named before l) (sym same) (left_without_file plan none is)
-
-pub no_file : (file : Option (List ℕ)) (name : List ℕ) → file ≡ Some name → is_some file ≡ false → ⊥
-no_file file name is none = let some : is_some file ≡ true = ap is_some is in cc
-
-pub some_file : (file : Option (List ℕ)) → file ≡ None → is_some file ≡ true → ⊥
-some_file file is some = let none : is_some file ≡ false = ap is_some is in cc

@@ -1,5 +1,6 @@
 pub mod Answered
 pub mod Beginnings
+pub mod Doing
 pub mod Executed
 pub mod FirstFault
 pub mod Left

@@ -4,6 +4,7 @@ pub mod Laws
 pub mod Left
 pub mod Placed
 pub mod Plan
+pub mod Program
 pub mod Stopped
 pub mod Summary
 pub mod Tool

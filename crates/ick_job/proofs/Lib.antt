@@ -5,6 +5,7 @@ pub mod Errors
 pub mod Lines
 pub mod Numbers
 pub mod OneReading
+pub mod Programs
 pub mod Served
 pub mod Texts
 pub mod TextsRead

@@ -5,6 +5,7 @@ pub mod Descriptions
 pub mod Input
 pub mod JobEnd
 pub mod Notice
+pub mod Program
 pub mod Refusing
 pub mod Serve
 pub mod Stopped

@@ -42,6 +42,11 @@ pub record AreValues (rows : List Row) (v : Values) : Type 0 where
   pub exact : v.exact ≡ flag_in (codes "exact") rows
   pub total : v.total ≡ flag_in (codes "total") rows
   pub asked : option_map (λ s. s.now) v.asked ≡ text_in (codes "asked") rows
+  pub tree : v.tree ≡ flag_in (codes "tree") rows
+  pub operations : v.operations ≡ flag_in (codes "operations") rows
+  pub rules : v.rules ≡ flag_in (codes "rules") rows
+  pub instructions : v.instructions ≡ flag_in (codes "instructions") rows
+  pub statement : v.statement ≡ number_in 32 (codes "statement") rows
 
 -- the values that parsed arguments give: those of the command that is named, or else of the program
 pub record AreGiven (rows : List Row) (found : Option (Text × List Row)) (v : Values) : Type 0 where

@@ -42,7 +42,8 @@ pub use status::Status;
 pub use stopped::{Stop, stopped_run};
 pub use usage::answer_words;
 pub use words::{
-    ASKED, Argument, BUG, CHOICES, COUNT, Description, EXACT, FILE, FROM, Form, INPUT, LIMIT, MOST,
-    SEED, TOTAL, TRACE, Values, values_given,
+    ASKED, Argument, BUG, CHOICES, COUNT, Description, EXACT, FILE, FROM, Form, INPUT,
+    INSTRUCTIONS, LIMIT, MOST, OPERATIONS, RULES, SEED, STATEMENT, TOTAL, TRACE, TREE, Values,
+    values_given,
 };
 pub use words_fault::{WordsFault, refuse_words};

@@ -8,7 +8,8 @@ mod values;
 
 pub use argument::{Argument, Form};
 pub use arguments::{
-    ASKED, BUG, CHOICES, COUNT, EXACT, FILE, FROM, INPUT, LIMIT, MOST, SEED, TOTAL, TRACE,
+    ASKED, BUG, CHOICES, COUNT, EXACT, FILE, FROM, INPUT, INSTRUCTIONS, LIMIT, MOST, OPERATIONS,
+    RULES, SEED, STATEMENT, TOTAL, TRACE, TREE,
 };
 pub use description::Description;
 pub use given::{Values, values_given};

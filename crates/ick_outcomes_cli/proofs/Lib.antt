@@ -1,3 +1,5 @@
+pub mod Doing
 pub mod Giving
+pub mod Leaving
 pub mod Explaining
 pub mod Serving

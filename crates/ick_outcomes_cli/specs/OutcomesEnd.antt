@@ -1,6 +1,6 @@
 -- What the work leaves, by how it ends.
 use Rattle.std.specs.Prelude.{◌≡◌, ◌==◌, if◌then◌else◌, ℕ, List, Option, Some, None}
-use Rattle.ick_job.specs.JobEnd.{Answers, Leaves, job_end_status, job_end_text}
+use Rattle.ick_job.specs.JobEnd.{Answers, Leaves, WhereAnswered, job_end_status, job_end_text}
 use Rattle.ick_job.specs.Notice.{notice_text}
 use Rattle.ick_job.specs.Answer.{Answer, refusal}
 use Rattle.ick_job.specs.declared.job_end.JobEnd.TheVariants.{Answered, NoMemory, InputTooLong, FileNotRead}
@@ -31,6 +31,11 @@ LeavesAll (By job_end) files files' reads reads' writes writes' =
     Leaves job_end files files' reads reads' writes writes'
 LeavesAll (Refused line) files files' reads reads' writes writes' =
     IsRefusal line × (files' ≡ files) × (reads' ≡ reads) × (writes' ≡ writes)
+
+-- a fact that holds if the work ended with an answer
+abbrev pub WhereGiven : OutcomesEnd → Type 0 → Type 0
+WhereGiven (By job_end) Fact = WhereAnswered job_end Fact
+WhereGiven (Refused line) Fact = Unit {0}
 
 -- there is an answer, and the job's end has it, behind what was written
 abbrev pub HasSome : (Answer → Type 0) → (Answer → Type 0) → Type 0

@@ -1,12 +1,16 @@
 //! From a job to its answer: the source is read, then compiled, then the input is read, then the
 //! code answers.
 
-ghost use Rattle.std.specs.Prelude.{◌≡◌, ◌+◌, ◌<◌, ◌^◌, IfOk, None, Some, true};
+ghost use Rattle.std.specs.Prelude.{◌≡◌, ◌+◌, ◌<◌, ◌^◌, IfOk, None, Some};
+ghost use Rattle.std.specs.Prelude.{drop, false, true};
 ghost use Rattle.ick_code.specs.Compiled.{code_program};
 ghost use Rattle.ick_job.specs.JobEnd.{EndsBy, input_of, source_of};
 ghost use Rattle.ick_outcomes_cli.specs.Asked.{foreign_text};
-ghost use Rattle.ick_outcomes_cli.specs.OutcomesEnd.{Gives, LeavesAll, listing_of};
-ghost use Rattle.ick_outcomes_cli.specs.Job.{wanted};
+ghost use Rattle.ick_job.specs.Input.{longest_input};
+ghost use Rattle.ick_outcomes_cli.specs.OutcomesEnd.{Gives, LeavesAll, WhereGiven};
+ghost use Rattle.ick_outcomes_cli.specs.OutcomesEnd.{listing_of};
+ghost use Rattle.ick_outcomes_cli.specs.Job.{has_file, wanted};
+ghost use Rattle.ick_outcomes_cli.specs.Left.{IsLeft, IsLeftBySource};
 ghost use Rattle.ick_outcomes_cli.specs.Tool.{HasMoreStates, HasTooMany, IsExplained, IsStopped};
 ghost use Rattle.ick_outcomes_cli.specs.Tool.{IsOutcomesAnswer, IsProgramAnswer, IsSourceAnswer};
 ghost use Rattle.ick_outcomes_cli.specs.Tool.{IsSummed, IsTextFound, IsToldOf, MayStop};
@@ -52,6 +56,12 @@ pub fn perform<F: Files, L: Files, R: ByteSource, W: ByteSink>(
         Gives (IsOutcomesAnswer job input (listing_of job.listing (L.named listings.old)
         (L.failed listings.old) (L.failed listings.new)) source) (MayStop job input source)
         result (W.written writer.old) (W.written writer.new) }
+    ensures left { F.told ≡ true → R.told ≡ true → WhereGiven result (IsLeft (wanted job.now)
+        (F.named files.old) (R.left reader.old) (R.left reader.new)) }
+    ensures files_kept { has_file (wanted job.now) ≡ false → files.new ≡ files.old }
+    ensures listings_kept { (wanted job.now).listing ≡ None → listings.new ≡ listings.old }
+    ensures source_first { has_file (wanted job.now) ≡ false
+        → R.failed reader.old < R.failed reader.new → writer.new ≡ writer.old }
 {
     match job.file {
         Some(name) => match read_file(alloc, name, files) {
@@ -96,6 +106,9 @@ fn answer_source<L: Files, R: ByteSource, W: ByteSink>(
         (L.failed listings.old) (L.failed listings.new)))
         (HasMoreStates job source.now (R.left reader.old))
         result (W.written writer.old) (W.written writer.new) }
+    ensures left { R.told ≡ true → WhereGiven result (IsLeftBySource source.now
+        (R.left reader.old) (R.left reader.new)) }
+    ensures listings_kept { (wanted job.now).listing ≡ None → listings.new ≡ listings.old }
 {
     let program = match read_source(alloc, source) {
         Ok(program) => program,
@@ -129,6 +142,9 @@ fn answer_code<L: Files, R: ByteSource, W: ByteSink>(
         ((job.listing ≡ None)
         × HasTooMany (code_program code.now) (R.left reader.old) job.limit job.question)
         result (W.written writer.old) (W.written writer.new) }
+    ensures left { R.told ≡ true → WhereGiven result
+        (R.left reader.new ≡ drop (longest_input + 1) (R.left reader.old)) }
+    ensures listings_kept { (wanted job.now).listing ≡ None → listings.new ≡ listings.old }
 {
     match read_input(alloc, reader) {
         Ok(input) => match job.listing {

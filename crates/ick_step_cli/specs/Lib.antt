@@ -1,4 +1,5 @@
 pub mod Words
 pub mod Job
+pub mod Program
 pub mod Trace
 pub mod Talk

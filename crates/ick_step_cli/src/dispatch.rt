@@ -220,6 +220,7 @@ fn traced<'c, W: ByteSink>(
     let mut out = Text::new(alloc);
     trace(
         &mut machines,
+        code,
         positions,
         &mut given,
         limit,

@@ -1,11 +1,9 @@
 //! The whole of the program over its devices.
 
-ghost use Rattle.std.specs.Prelude.{◌≡◌, ◌≢◌, ◌+◌, ◌<◌, ◌^◌, []};
+ghost use Rattle.std.specs.Prelude.{◌+◌, ◌<◌, ◌^◌};
 ghost use Rattle.clap.specs.Walk.{texts};
-ghost use Rattle.clap.specs.Words.{fault_of};
-ghost use Rattle.ick_job.specs.Serve.{FinishesDue, IsDue, IsStatus, counts};
-ghost use Rattle.ick_job.specs.Usage.{AreMistakes, AreRequests, IsHelped, IsRefused};
-ghost use Rattle.ick_step_cli.specs.Words.{step_app};
+ghost use Rattle.ick_job.specs.Program.{ServesArguments, files_by, stream};
+ghost use Rattle.ick_step_cli.specs.Program.{step};
 
 use crate::dispatch::perform;
 use crate::words::read_job;
@@ -35,27 +33,11 @@ pub fn serve_step<F: Files, R: ByteSource, W: ByteSink, E: ByteSink>(
     requires reader_sound { R.failed reader.old + 1 < 2 ^ 64 }
     requires writer_sound { W.failed writer.old + 1 < 2 ^ 64 }
     requires errors_sound { E.failed errors.old + 1 < 2 ^ 64 }
-
-    // Arguments that ask for no job: a mistake in them, or a request for help.
-    ensures usage { AreMistakes (fault_of step_app (texts words.entry.now))
-        → (writer.new ≡ writer.old) × FinishesDue IsRefused
-        E.told (E.failed errors.old) (E.failed errors.new)
-        (E.written errors.old) (E.written errors.new) result }
-    ensures help { AreRequests (fault_of step_app (texts words.entry.now)) → FinishesDue
-        (IsHelped W.told (W.failed writer.old) (W.failed writer.new)
-        (W.written writer.old) (W.written writer.new))
-        E.told (E.failed errors.old) (E.failed errors.new)
-        (E.written errors.old) (E.written errors.new) result }
-    ensures untouched { (fault_of step_app (texts words.entry.now) ≢ [])
-        → (files.new ≡ files.old) × (reader.new ≡ reader.old) }
-
-    // Any arguments, over any devices.
-    ensures said { FinishesDue (IsDue
-        (counts (F.failed files.old) (R.failed reader.old) (W.failed writer.old))
-        (counts (F.failed files.new) (R.failed reader.new) (W.failed writer.new)))
-        E.told (E.failed errors.old) (E.failed errors.new)
-        (E.written errors.old) (E.written errors.new) result }
-    ensures status { IsStatus result }
+    ensures { ServesArguments step (texts words.entry.now)
+        (files_by F.told F.failed F.named files.old files.new)
+        (stream R.told R.failed R.left reader.old reader.new)
+        (stream W.told W.failed W.written writer.old writer.new)
+        (stream E.told E.failed E.written errors.old errors.new) result }
 {
     match read_job(alloc, words) {
         Ok(job) => {

@@ -1,10 +1,12 @@
 //! The lines of all steps of a run.
 
 ghost use Rattle.std.specs.Prelude.{◌≡◌, ◌+◌, ◌<◌, ◌^◌, IfErr, IfOk, length};
+ghost use Rattle.ick_code.specs.Compiled.{code_program};
 ghost use Rattle.ick_explorer.specs.Writes.{write_failures};
 ghost use Rattle.ick_machine.specs.Seen.{trailed_machine};
 ghost use Rattle.ick_step_cli.specs.Trace.{IsTraceError};
 
+use ick_code::Code;
 use ick_explorer::{ByteSink, RunsError, write_whole};
 use ick_inspect::{Position, Text};
 use ick_machine::{Ask, Asks, End, Trailed};
@@ -50,10 +52,11 @@ fn flush_block<W: ByteSink>(out: &mut Text, writer: &mut W) -> Result<(), RunsEr
     flush(out, writer)
 }
 
-/// Makes at most `limit` steps, and appends the lines of each. Returns how the run stopped. Lines
-/// are written as soon as there are enough of them.
+/// Makes at most `limit` steps, and appends the lines of each. `code` is the code that the machines
+/// run. Returns how the run stopped. Lines are written as soon as there are enough of them.
 fn trace_steps<'c, 'a, W: ByteSink>(
     machines: &mut Pair<'c, 'a>,
+    code: &Code<'_>,
     positions: &[Position],
     given: &mut Given,
     limit: u32,
@@ -61,6 +64,7 @@ fn trace_steps<'c, 'a, W: ByteSink>(
     writer: &mut W,
 ) -> Result<Stopped<'c>, RunsError>
     requires same { trailed_machine machines.old.after ≡ trailed_machine machines.old.before }
+    requires code { code_program code.now ≡ (trailed_machine machines.old.before).program }
     requires room { (trailed_machine machines.old.before).work + limit < 2 ^ 64 }
     requires positions { length positions.now
         ≡ length (trailed_machine machines.old.before).program }
@@ -98,7 +102,7 @@ fn trace_steps<'c, 'a, W: ByteSink>(
         } else {
             append_place(out, positions, steps as usize, &machines.before.present());
         }
-        trace_step(machines, out, done)?;
+        trace_step(machines, code, out, done)?;
         steps += 1;
         flush_block(out, writer)?;
     }
@@ -106,11 +110,13 @@ fn trace_steps<'c, 'a, W: ByteSink>(
 
 /// Traces a run of at most `limit` steps: writes the lines of each step, and where the run stopped.
 /// Returns how it stopped. Both machines must be in the same state, with the same count of work.
-/// The count must have room for `limit` steps. `positions` has one position for each statement.
+/// The count must have room for `limit` steps. `code` is the code that they run. `positions` has one
+/// position for each statement.
 ///
 /// The refusals are `NoMemory`, and `Write` if the writer fails.
 pub fn trace<'c, 'a, W: ByteSink>(
     machines: &mut Pair<'c, 'a>,
+    code: &Code<'_>,
     positions: &[Position],
     given: &mut Given,
     limit: u32,
@@ -118,6 +124,7 @@ pub fn trace<'c, 'a, W: ByteSink>(
     writer: &mut W,
 ) -> Result<Stopped<'c>, RunsError>
     requires same { trailed_machine machines.old.after ≡ trailed_machine machines.old.before }
+    requires code { code_program code.now ≡ (trailed_machine machines.old.before).program }
     requires room { (trailed_machine machines.old.before).work + limit < 2 ^ 64 }
     requires positions { length positions.now
         ≡ length (trailed_machine machines.old.before).program }
@@ -125,7 +132,7 @@ pub fn trace<'c, 'a, W: ByteSink>(
     ensures writes { W.failed writer.new ≡ W.failed writer.old + write_failures result }
     ensures errors { IfErr result IsTraceError }
 {
-    let stopped = trace_steps(machines, positions, given, limit, out, writer)?;
+    let stopped = trace_steps(machines, code, positions, given, limit, out, writer)?;
     append_here(out, positions, stopped.steps as usize, &machines.before);
     flush(out, writer)?;
     Ok(stopped)

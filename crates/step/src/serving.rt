@@ -1,9 +1,7 @@
 //! The arguments served over any devices.
-ghost use Rattle.std.specs.Prelude.{◌≡◌, ◌≢◌, ◌+◌, ◌<◌, ◌^◌, []};
-ghost use Rattle.clap.specs.Words.{fault_of};
-ghost use Rattle.ick_job.specs.Serve.{FinishesDue, IsDue, IsStatus, counts};
-ghost use Rattle.ick_job.specs.Usage.{AreMistakes, AreRequests, IsHelped, IsRefused};
-ghost use Rattle.ick_step_cli.specs.Words.{step_app};
+ghost use Rattle.std.specs.Prelude.{◌+◌, ◌<◌, ◌^◌, IfErr, IfOk};
+ghost use Rattle.ick_job.specs.Program.{RefusesUnread, ServesArguments, files_by, stream};
+ghost use Rattle.ick_step_cli.specs.Program.{step};
 ghost use Rattle.ick_system.specs.Arguments.{after_name};
 
 use ick_explorer::{ByteSink, ByteSource};
@@ -12,9 +10,39 @@ use ick_step_cli::serve_step;
 use ick_system::words_of;
 use std::alloc::Global;
 
-/// Serves all arguments after the program's own name, and returns the exit status. The clauses are
-/// those of `serve_step`. If memory runs out for the arguments, files, reader and writer are
-/// unchanged.
+/// Answers the arguments that the system hands over, and returns the exit status. Arguments that
+/// can't be read get their line, and files, reader and writer are unchanged.
+pub fn answer<F: Files, R: ByteSource, W: ByteSink, E: ByteSink>(
+    alloc: Global,
+    arguments: Result<Vec<String>, WordsFault>,
+    files: &mut F,
+    reader: &mut R,
+    writer: &mut W,
+    errors: &mut E,
+) -> Status
+    requires files_sound { F.failed files.old + 1 < 2 ^ 64 }
+    requires reader_sound { R.failed reader.old + 1 < 2 ^ 64 }
+    requires writer_sound { W.failed writer.old + 1 < 2 ^ 64 }
+    requires errors_sound { E.failed errors.old + 1 < 2 ^ 64 }
+    ensures served { IfOk arguments (λ a. ServesArguments step (after_name a.items)
+        (files_by F.told F.failed F.named files.old files.new)
+        (stream R.told R.failed R.left reader.old reader.new)
+        (stream W.told W.failed W.written writer.old writer.new)
+        (stream E.told E.failed E.written errors.old errors.new) result) }
+    ensures unread { IfErr arguments (λ fault. RefusesUnread fault
+        (files_by F.told F.failed F.named files.old files.new)
+        (stream R.told R.failed R.left reader.old reader.new)
+        (stream W.told W.failed W.written writer.old writer.new)
+        (stream E.told E.failed E.written errors.old errors.new) result) }
+{
+    match arguments {
+        Ok(arguments) => serve_arguments(alloc, &arguments, files, reader, writer, errors),
+        Err(fault) => refuse_words(fault, errors),
+    }
+}
+
+/// Serves all arguments after the program's own name, and returns the exit status. If memory runs
+/// out for the arguments, files, reader and writer are unchanged.
 pub fn serve_arguments<F: Files, R: ByteSource, W: ByteSink, E: ByteSink>(
     alloc: Global,
     arguments: &[String],
@@ -27,27 +55,11 @@ pub fn serve_arguments<F: Files, R: ByteSource, W: ByteSink, E: ByteSink>(
     requires reader_sound { R.failed reader.old + 1 < 2 ^ 64 }
     requires writer_sound { W.failed writer.old + 1 < 2 ^ 64 }
     requires errors_sound { E.failed errors.old + 1 < 2 ^ 64 }
-
-    // Arguments that ask for no job.
-    ensures usage { AreMistakes (fault_of step_app (after_name arguments.now))
-        → (writer.new ≡ writer.old) × FinishesDue IsRefused
-        E.told (E.failed errors.old) (E.failed errors.new)
-        (E.written errors.old) (E.written errors.new) result }
-    ensures help { AreRequests (fault_of step_app (after_name arguments.now)) → FinishesDue
-        (IsHelped W.told (W.failed writer.old) (W.failed writer.new)
-        (W.written writer.old) (W.written writer.new))
-        E.told (E.failed errors.old) (E.failed errors.new)
-        (E.written errors.old) (E.written errors.new) result }
-    ensures untouched { (fault_of step_app (after_name arguments.now) ≢ [])
-        → (files.new ≡ files.old) × (reader.new ≡ reader.old) }
-
-    // Any arguments.
-    ensures said { FinishesDue (IsDue
-        (counts (F.failed files.old) (R.failed reader.old) (W.failed writer.old))
-        (counts (F.failed files.new) (R.failed reader.new) (W.failed writer.new)))
-        E.told (E.failed errors.old) (E.failed errors.new)
-        (E.written errors.old) (E.written errors.new) result }
-    ensures status { IsStatus result }
+    ensures { ServesArguments step (after_name arguments.now)
+        (files_by F.told F.failed F.named files.old files.new)
+        (stream R.told R.failed R.left reader.old reader.new)
+        (stream W.told W.failed W.written writer.old writer.new)
+        (stream E.told E.failed E.written errors.old errors.new) result }
 {
     match words_of(alloc, arguments) {
         Ok(words) => serve_step(alloc, words.as_slice(), files, reader, writer, errors),

@@ -94,3 +94,38 @@ pub const ASKED: Argument<'static> = Argument {
     help: "Prints which statements asked in each run of LISTING, a file that `ick runs` wrote, \
            and no outcomes",
 };
+
+/// The option by which the tree of each statement is printed.
+pub const TREE: Argument<'static> = Argument {
+    name: "tree",
+    form: Form::Flag,
+    help: "Prints the tree of each statement",
+};
+
+/// The option by which the operations of each statement are printed.
+pub const OPERATIONS: Argument<'static> = Argument {
+    name: "operations",
+    form: Form::Flag,
+    help: "Prints the operations of each statement, and how deep the stack is behind each",
+};
+
+/// The option by which the steps of lowering are printed.
+pub const RULES: Argument<'static> = Argument {
+    name: "rules",
+    form: Form::Flag,
+    help: "Prints the steps of lowering with their rules, and what is dropped",
+};
+
+/// The option by which the instructions of each statement are printed.
+pub const INSTRUCTIONS: Argument<'static> = Argument {
+    name: "instructions",
+    form: Form::Flag,
+    help: "Prints the instructions of each statement, and the operations that they come of",
+};
+
+/// The option for the only statement that is shown.
+pub const STATEMENT: Argument<'static> = Argument {
+    name: "statement",
+    form: Form::Number(ValueParser::Signed(1, 4_294_967_295)),
+    help: "Shows this statement alone",
+};

@@ -28,6 +28,11 @@ pub struct Values<'a> {
     pub exact: bool,
     pub total: bool,
     pub asked: Option<&'a str>,
+    pub tree: bool,
+    pub operations: bool,
+    pub rules: bool,
+    pub instructions: bool,
+    pub statement: Option<u32>,
 }
 
 /// Returns the values that the arguments of a program give. The arguments come without the
@@ -81,5 +86,10 @@ fn values_of<'a>(command: Option<&'a str>, matches: &ArgMatches<'a>) -> Values<'
         exact: flag_value(matches, "exact"),
         total: flag_value(matches, "total"),
         asked: text_value(matches, "asked"),
+        tree: flag_value(matches, "tree"),
+        operations: flag_value(matches, "operations"),
+        rules: flag_value(matches, "rules"),
+        instructions: flag_value(matches, "instructions"),
+        statement: number_value(matches, "statement"),
     }
 }

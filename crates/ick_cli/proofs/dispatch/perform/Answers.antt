@@ -8,10 +8,10 @@ use Rattle.ick_cli.specs.Tool.{IsSourceAnswer}
 use Rattle.ick_cli.proofs.Answered.{answer_of_front, answers_unopened, file_named, file_unnamed, read_source_of}
 use Rattle.ick_cli.proofs.Answered.{source_read}
 use Rattle.ick_job.proofs.Ends.{answers_cut, leaves_as, where_answered, where_cut, where_other, where_unopened}
-use Rattle.ick_cli.proofs.Left.{left_of_front, no_file, some_file, where_unplanned, without_file}
+use Rattle.ick_cli.proofs.Left.{left_of_front, where_unplanned, without_file}
 use Rattle.ick_cli.proofs.Lines.{answer_planned, answered_unplanned, refused_by_line}
 use Rattle.ick_job.proofs.Lines.{leaves_by_line}
-use Rattle.ick_job.proofs.Texts.{given_none, given_some}
+use Rattle.ick_job.proofs.Texts.{given_none, given_some, no_file, some_file}
 use Rattle.ick_cli.proofs.Planned.{input_of_plan, planned_not_unplanned}
 use Rattle.ick_cli.proofs.Works.{of_source, same_source}
 use Rattle.ick_cli.proofs.dispatch.perform.Given.{Over}

@@ -1,10 +1,12 @@
 use Rattle.std.proofs.Common.{◌≤◌, ◌∙◌, ℕ, List, arith, length, subst}
 use Rattle.ick_code.specs.Compiled.{code_program}
 use Rattle.ick_job.specs.Input.{longest_input}
+use Rattle.ick_job.proofs.Ends.{where_unread}
 use Rattle.ick_job.proofs.Texts.{given_none, given_some}
 use Rattle.ick_outcomes_cli.specs.Tool.{HasTooMany, IsProgramAnswer, input_too_long}
 use Rattle.ick_outcomes_cli.specs.declared.outcomes_end.OutcomesEnd.TheVariants.{By}
 use Rattle.ick_outcomes_cli.proofs.Giving.{gives_so, gives_unread, leaves_all_as, program_listing, program_outcomes}
+use Rattle.ick_outcomes_cli.proofs.Leaving.{not_both, where_given}
 use Rattle.ick_outcomes_cli.proofs.dispatch.answer_code.Goals as goal
 
 pub returns-in-None-clause-leaves : goal.returns-in-None-clause-leaves
@@ -49,3 +51,17 @@ returns-clause-gives g c = λ listings_told reader_told writer_told.
     gives_unread
     (IsProgramAnswer (code_program c.args.code.now) (g.R.ByteSource.left c.args.reader.now) c.args.job.now.limit
     c.args.job.now.question _ _) _ c.in-Err.job_end _ (c.in-Err.ensures.unread reader_told) (λ long. input_too_long _ long)
+
+-- the input was read
+pub returns-in-None-clause-left : goal.returns-in-None-clause-left
+returns-in-None-clause-left g c = λ reader_told. where_given c.answer_outcomes.result _ (c.in-Ok.ensures.rest reader_told)
+
+pub returns-in-Ok-clause-left : goal.returns-in-Ok-clause-left
+returns-in-Ok-clause-left g c = λ reader_told. where_given c.answer_listing.result _ (c.in-Ok.ensures.rest reader_told)
+
+pub returns-clause-left : goal.returns-clause-left
+returns-clause-left g c = λ reader_told. where_unread _ c.in-Err.job_end _ (c.in-Err.ensures.unread reader_told)
+
+-- a listing is opened
+pub returns-in-Ok-clause-listings_kept : goal.returns-in-Ok-clause-listings_kept
+returns-in-Ok-clause-listings_kept g c = λ none. absurd (not_both _ _ (given_some _ _ _ c.in-Some.is) none)

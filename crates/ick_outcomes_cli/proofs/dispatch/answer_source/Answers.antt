@@ -3,6 +3,7 @@ use Rattle.ick_code.specs.Compiled.{code_program}
 use Rattle.ick_outcomes_cli.specs.Job.{wanted}
 use Rattle.ick_outcomes_cli.proofs.Giving.{gives_refused, gives_so, leaves_nothing, leaves_refused, source_compiled}
 use Rattle.ick_outcomes_cli.proofs.Giving.{stop_compiled}
+use Rattle.ick_outcomes_cli.proofs.Leaving.{compiled_left, refused_left, where_given_other}
 use Rattle.ick_outcomes_cli.proofs.dispatch.answer_source.Goals as goal
 
 pub returns-in-Err-clause-leaves : goal.returns-in-Err-clause-leaves
@@ -26,3 +27,15 @@ returns-in-Ok-compile-clause-gives g c = λ listings_told reader_told writer_tol
 
 pub returns-clause-leaves : goal.returns-clause-leaves
 returns-clause-leaves g c = leaves_nothing _ _ _
+
+-- what is left in the reader
+pub returns-in-Err-clause-left : goal.returns-in-Err-clause-left
+returns-in-Err-clause-left g c = λ reader_told.
+    refused_left _ _ c.in-Err.refusal c.refused.result c.in-Err.ensures.refused c.refused.ensures
+
+pub returns-in-Ok-compile-clause-left : goal.returns-in-Ok-compile-clause-left
+returns-in-Ok-compile-clause-left g c = λ reader_told.
+    where_given_other c.answer_code.result _ _
+    (λ h. compiled_left c.args.source.now (g.R.ByteSource.left c.args.reader.now)
+    (g.R.ByteSource.left c.answer_code.new.reader) (trees_of c.in-Ok.program) c.in-Ok.ensures.compiles h)
+    (c.answer_code.ensures.left reader_told)
