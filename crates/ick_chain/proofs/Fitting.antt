@@ -1,7 +1,7 @@
 -- Proves that means that fit the nodes of a chain are exact.
 use Prim.Native.Nat.{zero, suc}
 use Rattle.std.proofs.Common.{◌≡◌, ◌⊎◌, inl, inr, ℕ, ◌+◌, ◌*◌, ◌<◌, ◌≤◌, List, [], ◌∷◌, Some, None, length, slice_get}
-use Rattle.std.proofs.Common.{slice_index_or, refl, ap, sym, ◌∙◌, subst, arith}
+use Rattle.std.proofs.Common.{slice_index_or, refl, ap, sym, subst, arith}
 use Rattle.ick_code.specs.meaning.State.{State}
 use Rattle.ick_backtrack.specs.Machine.{Program}
 use Rattle.ick_numbers.specs.Values.{natural}
@@ -9,8 +9,7 @@ use Rattle.ick_numbers.specs.declared.natural.Natural.{Natural}
 use Rattle.ick_chain.specs.declared.chain.Fork.{Fork}
 use Rattle.ick_chain.specs.declared.chain.Node.{Node}
 use Rattle.ick_chain.specs.declared.chain.Node.TheVariants.{Ends, Goes, Stuck}
-use Rattle.ick_chain.specs.Chains.{IsChain, IsInside}
-use Rattle.ick_chain.specs.Means.{IsMean, IsFitting, FitAll, AreExactMeans, IsBounded, value_at, value_or}
+use Rattle.ick_chain.specs.Means.{IsMean, IsFitting, FitAll, AreExactMeans, value_at}
 use Rattle.ick_chain.proofs.MeanLaws.{mean_pinned}
 
 pub value_is : (xs : List Natural) (i : ℕ) (x : Natural) → i < length xs → x ≡ slice_index_or xs i x →

@@ -1,12 +1,10 @@
 -- Proves how visits carry inequalities of the nodes' values to the first node.
-use Prim.Native.Nat.{zero, suc}
-use Rattle.std.proofs.Common.{◌≡◌, ℕ, ◌+◌, ◌*◌, ◌-◌, ◌^◌, ◌<◌, ◌≤◌, Bool, true, false, List, [], ◌∷◌, Some}
-use Rattle.std.proofs.Common.{length, slice_get, refl, ap, sym, ◌∙◌, subst, arith}
+use Prim.Native.Nat.{suc}
+use Rattle.std.proofs.Common.{◌≡◌, ℕ, ◌+◌, ◌*◌, ◌-◌, ◌≤◌, Bool, true, false, List, [], ◌∷◌, Some}
+use Rattle.std.proofs.Common.{length, slice_get, refl, ap, arith}
 use Rattle.std.proofs.Math.Nat.{mul-le-mul_left}
-use Rattle.ick_chain.specs.declared.chain.Fork.{Fork}
 use Rattle.ick_chain.specs.declared.chain.Node.{Node}
 use Rattle.ick_chain.specs.declared.chain.Node.TheVariants.{Ends, Goes, Stuck}
-use Rattle.ick_outcomes.specs.Weights.{part}
 use Rattle.ick_chain.specs.Limits.{all_if}
 use Rattle.ick_chain.specs.Chains.{dot, out, out_of, poured, AreVisits, passing_at, passing, stuck_at, never}
 use Rattle.ick_chain.specs.Chains.{steps_at, all_steps, negate}

@@ -1,21 +1,19 @@
 -- Proves that mean numbers of steps that fit a chain without stuck nodes are exact.
 use Prim.Native.Nat.{zero, suc}
-use Rattle.std.proofs.Common.{◌≡◌, ◌⊎◌, inl, inr, ℕ, ◌+◌, ◌*◌, ◌-◌, ◌^◌, ◌<◌, ◌≤◌, Bool, true, false, List, Some}
+use Rattle.std.proofs.Common.{◌≡◌, inl, inr, ℕ, ◌+◌, ◌*◌, ◌-◌, ◌^◌, ◌<◌, ◌≤◌, true, false, List, Some}
 use Rattle.std.proofs.Common.{slice_get, refl, ap, sym, ◌∙◌, subst, arith}
 use Rattle.std.proofs.Math.Nat.{mul-le-mul_left}
 use Rattle.ick_code.specs.meaning.State.{State, Ending}
-use Rattle.ick_code.specs.meaning.Move.{Asking, plain, choice, ended, ask, advance}
+use Rattle.ick_code.specs.meaning.Move.{plain, choice, ended, ask, advance}
 use Rattle.ick_code.proofs.AskLaws.{chance_between}
 use Rattle.ick_backtrack.specs.Machine.{Program}
 use Rattle.ick_backtrack.specs.Steps.{after_steps, IsPlain, RunsOn}
-use Rattle.ick_chain.specs.declared.chain.Edge.{Edge}
 use Rattle.ick_chain.specs.declared.chain.Fork.{Fork}
 use Rattle.ick_chain.specs.declared.chain.Node.{Node}
 use Rattle.ick_chain.specs.declared.chain.Node.TheVariants.{Ends, Goes, Stuck}
-use Rattle.ick_outcomes.specs.Weights.{part}
 use Rattle.ick_chain.specs.Limits.{going_weight, mean_steps}
-use Rattle.ick_chain.specs.Chains.{Leads, IsFork, IsNode, IsChain, out, steps_at}
-use Rattle.ick_chain.specs.Means.{IsMean, AreMeans, IsPinned, IsBounded, AreBounded}
+use Rattle.ick_chain.specs.Chains.{IsFork, IsNode, IsChain, out, steps_at}
+use Rattle.ick_chain.specs.Means.{AreMeans, IsPinned, IsBounded, AreBounded}
 use Rattle.ick_chain.proofs.LimitLaws.{going-zero, going-suc, steps-zero, steps-suc, hundred, parts-hundred}
 
 after-shift : (p : Program) (s : State) (k : ℕ) → after_steps p s (suc k) ≡ after_steps p (advance p s false) k

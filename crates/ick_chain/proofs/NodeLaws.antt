@@ -1,22 +1,21 @@
 -- Proves how weights and steps under a limit pass along the edges of a chain.
 use Prim.Native.Nat.{zero, suc}
-use Rattle.std.proofs.Common.{◌≡◌, ◌⊎◌, inl, inr, ℕ, ◌+◌, ◌*◌, ◌-◌, ◌^◌, ◌<◌, ◌≤◌, Bool, true, false, List, Some}
-use Rattle.std.proofs.Common.{slice_get, refl, ap, sym, ◌∙◌, subst, arith}
+use Rattle.std.proofs.Common.{◌≡◌, inl, inr, ℕ, ◌+◌, ◌*◌, ◌-◌, ◌^◌, ◌<◌, ◌≤◌, Bool, true, false, List}
+use Rattle.std.proofs.Common.{refl, ap, sym, ◌∙◌, subst, arith}
 use Rattle.std.proofs.Math.Nat.{mul-le-mul_left}
-use Rattle.ick_code.specs.meaning.State.{State, Ending}
+use Rattle.ick_code.specs.meaning.State.{State}
 use Rattle.ick_code.specs.meaning.Move.{Asking, plain, choice, ended, ask, advance}
 use Rattle.ick_code.proofs.AskLaws.{chance_between}
 use Rattle.ick_backtrack.specs.Machine.{Program}
-use Rattle.ick_backtrack.specs.Steps.{after_steps, IsPlain, RunsOn}
+use Rattle.ick_backtrack.specs.Steps.{after_steps, IsPlain}
 use Rattle.ick_chain.specs.declared.chain.Edge.{Edge}
 use Rattle.ick_chain.specs.declared.chain.Fork.{Fork}
 use Rattle.ick_chain.specs.declared.chain.Node.{Node}
-use Rattle.ick_chain.specs.declared.chain.Node.TheVariants.{Ends, Goes, Stuck}
-use Rattle.ick_outcomes.specs.Weights.{part}
-use Rattle.ick_chain.specs.Limits.{Test, all_if, ended_on, ended_weight, going_weight, mean_steps, steps_on}
-use Rattle.ick_chain.specs.Chains.{Leads, IsChoice, IsPass, IsFork, IsNode, IsChain, IsStuck, IsClosed, out, steps_at}
+use Rattle.ick_chain.specs.declared.chain.Node.TheVariants.{Goes, Stuck}
+use Rattle.ick_chain.specs.Limits.{Test, ended_weight, going_weight, mean_steps, steps_on}
+use Rattle.ick_chain.specs.Chains.{Leads, IsFork, IsChain, IsStuck, IsClosed, out, steps_at}
 use Rattle.ick_chain.proofs.LimitLaws.{ended-zero, ended-suc, ended-plain, ended-choice, going-plain, going-choice}
-use Rattle.ick_chain.proofs.LimitLaws.{steps-zero, steps-suc, steps-plain, steps-choice, whole, parts-hundred, hundred}
+use Rattle.ick_chain.proofs.LimitLaws.{steps-zero, steps-suc, steps-plain, steps-choice, parts-hundred, hundred}
 
 -- along plain steps
 ended-on : (p : Program) (q : Test) (s : State) (l k : ℕ) →

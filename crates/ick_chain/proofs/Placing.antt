@@ -1,7 +1,7 @@
 -- Proves what the search keeps while states are appended.
 use Prim.Native.Nat.{zero, suc}
-use Rattle.std.proofs.Common.{◌≡◌, ◌⊎◌, inl, inr, ℕ, ◌+◌, ◌-◌, ◌<◌, ◌≤◌, Bool, true, false, List, [], ◌∷◌, ◌++◌, Some, None}
-use Rattle.std.proofs.Common.{length, map, slice_get, slice_index_or, refl, ap, sym, ◌∙◌, subst, arith}
+use Rattle.std.proofs.Common.{◌≡◌, ◌⊎◌, inl, inr, ℕ, ◌+◌, ◌-◌, ◌<◌, Bool, true, false, List, [], ◌∷◌, ◌++◌, Some, None}
+use Rattle.std.proofs.Common.{length, slice_get, slice_index_or, refl, ap, sym, ◌∙◌, subst, arith}
 use Rattle.ick_code.specs.meaning.State.{State, Ending, gave_up, faulted}
 use Rattle.ick_code.specs.meaning.Move.{Asking, plain, choice, ended, advance}
 use Rattle.ick_backtrack.specs.Asked.{asked_of, IsGoing}
@@ -15,7 +15,7 @@ use Rattle.ick_chain.specs.declared.chain.Edge.{Edge}
 use Rattle.ick_chain.specs.declared.chain.Fork.{Fork}
 use Rattle.ick_chain.specs.declared.chain.Node.{Node}
 use Rattle.ick_chain.specs.declared.chain.Node.TheVariants.{Ends, Goes, Stuck}
-use Rattle.ick_chain.specs.Places.{Reaches, ForksByChoice, ForksByPass, Forks, Tells, AllTell, Extends, IsFull}
+use Rattle.ick_chain.specs.Places.{Reaches, Forks, Tells, AllTell, Extends, IsFull}
 use Rattle.ick_chain.specs.Places.{state_or, states_in}
 use Rattle.ick_chain.specs.Chains.{Leads, IsFork, IsNode, IsChain}
 
@@ -152,7 +152,7 @@ got_or [] i d lt = absurd (let z : ⊥ = omega (arith, lt) in z)
 got_or (x ∷ ss) zero d lt = refl
 got_or (x ∷ ss) (suc i) d lt = got_or ss i d (omega (arith, lt))
 
-or_got : (ss : List State) (i : ℕ) (d s : State) → slice_get ss i ≡ Some s → slice_index_or ss i d ≡ s
+pub or_got : (ss : List State) (i : ℕ) (d s : State) → slice_get ss i ≡ Some s → slice_index_or ss i d ≡ s
 or_got [] i d s h = let z : None ≡ Some s = h in cc
 or_got (x ∷ ss) zero d s h = let e : x ≡ s = cc in e
 or_got (x ∷ ss) (suc i) d s h = or_got ss i d s h

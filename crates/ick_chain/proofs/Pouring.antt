@@ -1,13 +1,13 @@
 -- Proves how sums over the nodes grow.
 use Prim.Native.Nat.{zero, suc}
-use Rattle.std.proofs.Common.{◌≡◌, ◌⊎◌, inl, inr, ℕ, ◌+◌, ◌*◌, ◌-◌, ◌<◌, ◌≤◌, List, [], ◌∷◌, ◌++◌, Some, None, take, map}
+use Rattle.std.proofs.Common.{◌≡◌, ◌⊎◌, inl, inr, ℕ, ◌+◌, ◌*◌, ◌<◌, ◌≤◌, List, [], ◌∷◌, ◌++◌, Some, None, take}
 use Rattle.std.proofs.Common.{length, slice_get, slice_set, slice_index_or, refl, ap, sym, ◌∙◌, subst, arith}
 use Rattle.ick_numbers.specs.Values.{natural, naturals}
 use Rattle.ick_numbers.specs.declared.natural.Natural.{Natural}
 use Rattle.ick_chain.specs.declared.chain.Fork.{Fork}
 use Rattle.ick_chain.specs.declared.chain.Node.{Node}
-use Rattle.ick_chain.specs.declared.chain.Node.TheVariants.{Ends, Goes, Stuck}
-use Rattle.ick_chain.specs.Chains.{dot, out, out_of, poured, IsClosed, IsStuck, StaysStuck}
+use Rattle.ick_chain.specs.declared.chain.Node.TheVariants.{Stuck}
+use Rattle.ick_chain.specs.Chains.{dot, out_of, poured, IsClosed, StaysStuck}
 
 -- an element is replaced by a greater one
 pub dot_at : (u : ℕ → ℕ) (xs : List Natural) (i : ℕ) (x y : Natural) (more : ℕ) → i < length xs →

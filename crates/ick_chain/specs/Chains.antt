@@ -1,7 +1,7 @@
 -- Defines the chain of a program, the visits of its nodes, and what an answer without a limit claims.
-use Prim.Native.Nat.{zero, suc}
+use Prim.Native.Nat.{suc}
 use Rattle.std.specs.Prelude.{◌≡◌, ◌⊎◌, ℕ, ◌+◌, ◌*◌, ◌-◌, ◌^◌, ◌<◌, ◌≤◌, Bool, true, false, List, [], ◌∷◌}
-use Rattle.std.specs.Prelude.{length, slice_get, Option, Some, None}
+use Rattle.std.specs.Prelude.{length, slice_get, Some}
 use Rattle.ick_code.specs.meaning.State.{State, Ending}
 use Rattle.ick_code.specs.meaning.Move.{plain, choice, ended, ask, advance}
 use Rattle.ick_backtrack.specs.Machine.{Program}

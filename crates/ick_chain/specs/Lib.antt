@@ -4,3 +4,10 @@ pub mod Places
 pub mod Marks
 pub mod Means
 pub mod Tallied
+pub mod Rows
+pub mod RowKeys
+pub mod Ratios
+pub mod Shown
+pub mod Answers
+pub mod RowLimits
+pub mod Counts

@@ -1,7 +1,7 @@
 -- Defines what the runs of a program do under a limit on steps: the weight of those that have ended, the weight of
 -- those that still go on, and their steps.
 use Prim.Native.Nat.{zero, suc}
-use Rattle.std.specs.Prelude.{ℕ, ◌+◌, ◌*◌, ◌-◌, ◌^◌, Bool, true, false, if◌then◌else◌}
+use Rattle.std.specs.Prelude.{ℕ, ◌+◌, ◌*◌, ◌^◌, Bool, true, false}
 use Rattle.ick_code.specs.meaning.State.{State}
 use Rattle.ick_code.specs.meaning.Move.{Asking, plain, choice, ended, ask, advance}
 use Rattle.ick_backtrack.specs.Machine.{Program}

@@ -3,7 +3,8 @@
 ghost use Rattle.std.specs.Prelude.{◌≡◌, ◌<◌, slice_get, Some, IfOk};
 ghost use Rattle.ick_numbers.specs.Values.{natural, naturals};
 ghost use Rattle.ick_chain.specs.Chains.{IsExact, passing, never, all_steps};
-ghost use Rattle.ick_chain.specs.Places.{states_in, state_or, IsFull};
+ghost use Rattle.ick_chain.specs.Answers.{IsAnswer};
+ghost use Rattle.ick_chain.specs.Places.{states_in, state_or, AllSuit, IsFull};
 
 use crate::errors::ChainError;
 use crate::search::{Chain, explore};
@@ -13,11 +14,14 @@ use ick_numbers::Natural;
 use ick_outcomes::States;
 use std::alloc::Global;
 
-/// A chain, and how often its nodes are visited, in so many parts.
+/// The chain of a program, and how often its nodes are visited.
 #[derive(Drop)]
 pub struct Answer<S: Drop> {
+    /// The states of the program, and where they lead.
     pub chain: Chain<S>,
+    /// How often each node is visited, in parts.
     pub visits: Vec<Natural>,
+    /// The number of parts that weigh 1 together.
     pub parts: Natural,
 }
 
@@ -38,14 +42,18 @@ fn find_chain<'c, P: States<'c>>(
     ensures first { IfOk result (λ chain. slice_get
         (states_in (P.seen program.now) chain.states.items) 0
         ≡ Some (P.seen program.now state).state) }
+    ensures states { IfOk result (λ chain. AllSuit (P.suits program.now) chain.states.items) }
 {
     let mut chain = explore(alloc, program, tools, state, stretch, most)?;
     mark_stuck(alloc, &mut chain.nodes)?;
     Ok(chain)
 }
 
-/// Weighs all runs of a program from a state. Plain steps are made at most `stretch` at a time, and
-/// at most `most` states are kept.
+/// Weighs all runs of a program from a state, without a limit on steps. `list_outcomes` lists the
+/// outcomes of the answer. Plain steps are made at most `stretch` at a time, and at most `most`
+/// states are kept. The state must be of the program, and the tools must be for it.
+///
+/// The refusals are `NoMemory`, `TooManyStates` and `NotSolved`. No contract speaks of them.
 pub fn weigh<'c, P: States<'c>>(
     alloc: Global,
     program: &P,
@@ -64,12 +72,17 @@ pub fn weigh<'c, P: States<'c>>(
         a.chain.nodes.items (naturals a.visits.items))
         (never a.chain.nodes.items (naturals a.visits.items))
         (all_steps a.chain.nodes.items (naturals a.visits.items))) }
+    ensures answer { IfOk result
+        (IsAnswer (P.text program.now) (P.seen program.now) (P.suits program.now)) }
+    ensures first { IfOk result (λ a. slice_get
+        (states_in (P.seen program.now) a.chain.states.items) 0
+        ≡ Some (P.seen program.now state).state) }
 {
     let chain = find_chain(alloc, program, tools, state, stretch, most)?;
     let solution = solve(alloc, &chain.nodes)?;
     Ok(Answer {
         chain,
-        visits: solution.visits,
+        visits: solution.numbers,
         parts: solution.parts,
     })
 }

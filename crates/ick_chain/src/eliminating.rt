@@ -341,7 +341,96 @@ fn eliminate_ordered(
     Ok(equations)
 }
 
-/// Puts the visits of eliminated nodes into their places, the last one first.
+/// Eliminates a node from the equations of means: each of its sources gets what the node would add.
+fn eliminate_mean(
+    alloc: Global,
+    system: &mut System,
+    own: &mut [u32],
+    node: usize,
+) -> Result<Equation, NoMemory> {
+    let mut equation = Equation {
+        node,
+        own: 0,
+        parts: Vec::new(alloc),
+    };
+    if node < system.rows.len() && node < system.gone.len() {
+        let round = take_part(&mut system.rows[node], node);
+        let factor = factor_of(round, system.prime);
+        let row = system.rows[node].clone()?;
+        let mine = number_at(own, node);
+        system.gone[node] = true;
+        let sources = redirect(alloc, system, node, factor, &row)?;
+        add_all(own, &sources, mine, system.prime);
+        equation.own = times(mine, factor, system.prime);
+        equation.parts = scaled(alloc, &row, factor, system.prime)?;
+    }
+    Ok(equation)
+}
+
+/// Adds parts of a number to the numbers that entries name.
+fn add_all(numbers: &mut [u32], entries: &[Entry], number: u32, prime: u32) {
+    'entries: for at in 0..entries.len() {
+        let more = times(entries[at].part, number, prime);
+        add_number(numbers, entries[at].to, more, prime);
+    }
+}
+
+/// Returns entries with all parts multiplied by a factor.
+fn scaled(
+    alloc: Global,
+    entries: &[Entry],
+    factor: u32,
+    prime: u32,
+) -> Result<Vec<Entry>, NoMemory> {
+    let mut scaled = Vec::new(alloc);
+    'entries: for at in 0..entries.len() {
+        scaled.push(Entry {
+            to: entries[at].to,
+            part: times(entries[at].part, factor, prime),
+        })?;
+    }
+    Ok(scaled)
+}
+
+/// Returns the mean number of steps from each node to the next, modulo a prime.
+fn steps_modulo(alloc: Global, nodes: &[Node], prime: u32) -> Result<Vec<u32>, NoMemory> {
+    let hundredth = inverse(100, prime);
+    let mut steps = Vec::new(alloc);
+    'nodes: for at in 0..nodes.len() {
+        let mut mean = 0;
+        if let Node::Goes(fork) = nodes[at] {
+            let (zero, one) = hundredths(fork.chance);
+            let first = times(fork.zero.steps, zero, prime);
+            let second = times(fork.one.steps, one, prime);
+            mean = times(plus(first, second, prime), hundredth, prime);
+        }
+        steps.push(mean)?;
+    }
+    Ok(steps)
+}
+
+/// Returns the mean numbers of steps from all nodes modulo a prime, by an order of elimination.
+pub(crate) fn means_modulo(
+    alloc: Global,
+    nodes: &[Node],
+    order: &[usize],
+    prime: u32,
+) -> Result<Vec<u32>, NoMemory> {
+    let mut system = system_of(alloc, nodes, prime)?;
+    let mut own = steps_modulo(alloc, nodes, prime)?;
+    let mut equations = Vec::new(alloc);
+    'nodes: for turn in 0..order.len() {
+        equations.push(eliminate_mean(alloc, &mut system, &mut own, order[turn])?)?;
+    }
+    let mut means = Vec::new(alloc);
+    'zeros: for at in 0..nodes.len() {
+        means.push(0)?;
+    }
+    put_back(&mut means, &equations, prime);
+    Ok(means)
+}
+
+/// Puts the numbers of eliminated nodes into their places, the last one first.
 fn put_back(visits: &mut [u32], equations: &[Equation], prime: u32) {
     'back: for back in 0..equations.len() {
         let at = equations.len() - 1 - back;

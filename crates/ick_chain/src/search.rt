@@ -77,7 +77,7 @@ fn place<'c, P: States<'c>>(
 }
 
 /// Returns what is asked at a state.
-fn asked<'c, P: States<'c>>(program: &P, state: &P::State) -> Ask<'c>
+pub(crate) fn asked<'c, P: States<'c>>(program: &P, state: &P::State) -> Ask<'c>
     requires { P.suits program.now state.now }
     ensures { asked_of result
         ≡ Some (ask (P.text program.now) (P.seen program.now state.now).state) }
@@ -294,6 +294,7 @@ pub fn explore<'c, P: States<'c>>(
     ensures first { IfOk result (λ chain. slice_get
         (states_in (P.seen program.now) chain.states.items) 0
         ≡ Some (P.seen program.now state).state) }
+    ensures states { IfOk result (λ chain. AllSuit (P.suits program.now) chain.states.items) }
 {
     let mut found = begin(alloc, program, state)?;
     let mut nodes = Vec::new(alloc);

@@ -11,7 +11,12 @@ use ick_numbers::Natural;
 use std::alloc::Global;
 
 /// Adds a number of hundredths of visits to the number of a node.
-fn pour(into: &mut Vec<Natural>, to: usize, visits: &Natural, part: u8) -> Result<(), NoMemory>
+pub(crate) fn pour(
+    into: &mut Vec<Natural>,
+    to: usize,
+    visits: &Natural,
+    part: u8,
+) -> Result<(), NoMemory>
     requires to { to < length into.old.items }
     ensures poured { OnOk result ((u : ℕ → ℕ) → dot u (naturals into.new.items)
         ≡ dot u (naturals into.old.items) + natural visits.now * part * u to) }
@@ -99,7 +104,7 @@ fn are_hundredfold(sums: &[Natural], visits: &[Natural]) -> Result<bool, NoMemor
 }
 
 /// Returns so many zeros.
-fn zeros(alloc: Global, count: usize) -> Result<Vec<Natural>, NoMemory>
+pub(crate) fn zeros(alloc: Global, count: usize) -> Result<Vec<Natural>, NoMemory>
     ensures same { IfOk result (λ zeros. length zeros.items ≡ count) }
     ensures none { IfOk result (λ zeros. (u : ℕ → ℕ) → dot u (naturals zeros.items) ≡ 0) }
 {
@@ -133,7 +138,7 @@ pub fn are_visits(
 }
 
 /// Returns whether a node is stuck.
-fn is_stuck(nodes: &[Node], at: usize) -> bool
+pub(crate) fn is_stuck(nodes: &[Node], at: usize) -> bool
     ensures { result ≡ true → IsStuck nodes.now at }
 {
     at < nodes.len() && matches!(nodes[at], Node::Stuck(_))
@@ -164,7 +169,7 @@ pub fn is_closed(nodes: &[Node]) -> bool
 
 /// Returns whether a number isn't 0.
 #[tactic(auto, using(crate::proofs::Digits::some_digit))]
-fn is_some(number: &Natural) -> bool
+pub(crate) fn is_some(number: &Natural) -> bool
     ensures { result ≡ true → 0 < natural number.now }
 {
     'digits: for at in 0..number.digits.len() {

@@ -1,4 +1,4 @@
-use Rattle.std.proofs.Common.{subst, sym}
+use Rattle.std.proofs.Common.{subst}
 use Rattle.ick_numbers.specs.Values.{natural, naturals}
 use Rattle.ick_chain.specs.Chains.{IsExact, IsSolution, passing, never, all_steps}
 use Rattle.ick_chain.specs.Places.{states_in, state_or}
@@ -14,7 +14,7 @@ returns g c =
     let chain = c.in_ok-chain.chain in
     let ss = states_in seen chain.states.items in
     let nodes = chain.nodes.items in
-    let visits = naturals c.in_ok-solution.solution.visits.items in
+    let visits = naturals c.in_ok-solution.solution.numbers.items in
     let parts = natural c.in_ok-solution.solution.parts in
     let h : IsSolution nodes parts visits =
     subst (λ z. IsSolution z parts visits) c.deref.ensures.value c.in_ok-solution.ensures in
@@ -24,4 +24,10 @@ returns g c =
           (first_is ss s s c.in_ok-chain.ensures.first)
           (exact p (state_or s ss) nodes (chain_of p ss nodes s c.in_ok-chain.ensures.full) h.closed 0 parts visits
           h.some h.are_visits);
+      answer = record {
+        states = c.in_ok-chain.ensures.states;
+        full = c.in_ok-chain.ensures.full;
+        solution = h;
+      };
+      first = c.in_ok-chain.ensures.first;
     }

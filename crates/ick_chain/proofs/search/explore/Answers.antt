@@ -1,4 +1,4 @@
-use Rattle.std.proofs.Common.{◌≡◌, ◌<◌, ◌++◌, ◌∷◌, [], Some, length, slice_get, sym, subst, arith}
+use Rattle.std.proofs.Common.{◌≡◌, ◌<◌, Some, length, slice_get, sym, subst, arith}
 use Rattle.ick_chain.specs.Places.{AllTell, states_in}
 use Rattle.ick_chain.proofs.Placing.{tell_more, got_on, states_long, length_more}
 use Rattle.ick_chain.proofs.search.explore.Goals as goal
