@@ -1,13 +1,13 @@
 -- The answers to commands that show something, and the others.
 use Rattle.std.proofs.Common.{◌≡◌, ◌≢◌, ◌==◌, inl, inr, ℕ, Bool, true, false, List, [], Option, Some, None, is_some}
-use Rattle.std.proofs.Common.{refl, ap, sym, subst, ◌∙◌, ◌++◌, ◌<◌, codes, length}
-use Rattle.std.specs.Prelude.{Result, OnOk, option_map}
+use Rattle.std.proofs.Common.{arith, refl, ap, sym, subst, ◌∙◌, ◌++◌, ◌<◌, codes, length}
+use Rattle.std.specs.Prelude.{◌⊎◌, ◌≤◌, ◌+◌, ◌^◌, Result, Ok, Err, IfErr, OnOk, option_map}
 use Rattle.ick_explorer.specs.declared.errors.RunsError.{RunsError}
-use Rattle.ick_explorer.specs.declared.errors.RunsError.TheVariants.{WorkFull}
+use Rattle.ick_explorer.specs.declared.errors.RunsError.TheVariants.{NoMemory, WorkFull}
 use Rattle.ick_inspect.specs.Text.{Adds}
 use Rattle.ick_inspect.specs.declared.text.Text.{Text}
 use Rattle.ick_inspect.specs.declared.positions.Position.{Position}
-use Rattle.ick_step.specs.Session.{Seen, IsFull, present}
+use Rattle.ick_step.specs.Session.{Seen, present}
 use Rattle.ick_syntax.specs.declared.tree.Name.{Name}
 use Rattle.ick_inspect.specs.Names.{variable_text}
 use Rattle.ick_session.specs.Answers.{AnswersCommand, changed_text, shown, watched_text}
@@ -20,7 +20,7 @@ use Rattle.ick_session.specs.Commands.{Order, first_word, order_in, order_of, to
 use Rattle.ick_session.specs.Commands.{to_print, to_quit, to_run, to_run_until, to_show_cursor, to_show_output}
 use Rattle.ick_session.specs.Commands.{to_show_stack, to_show_state, to_step, to_watch}
 use Rattle.ick_session.specs.Lines.{unknown_text}
-use Rattle.ick_session.specs.Stepper.{Fixed, IsStepError}
+use Rattle.ick_session.specs.Stepper.{Fixed, HasNoRoom, IsStepError, most_work}
 use Rattle.ick_session.specs.declared.commands.Command.{Command}
 use Rattle.ick_session.specs.declared.commands.Command.TheVariants as command
 
@@ -82,9 +82,24 @@ not_quit command.Cursor h = λ e. cc
 not_quit command.Help h = λ e. cc
 not_quit command.Quit h = absurd (h refl)
 
-pub full_at : (s : Seen) (e : RunsError) → e ≡ WorkFull → IsStepError s e → IsFull s 1000
-full_at s e is (inl memory) = absurd (cc)
-full_at s e is (inr full) = full.1
+-- a command that has room for its steps doesn't find the count of work full
+pub no_full : {A : Type 0} (r : Result A RunsError) (limit : ℕ) (s t : Seen) → IfErr r (IsStepError t) →
+    t.work ≤ s.work + most_work limit s → s.work + (most_work limit s + 1000) < 2 ^ 64 →
+    IfErr r (λ e. (e ≡ NoMemory) ⊎ ((e ≡ WorkFull) × HasNoRoom limit s × (t ≡ s)))
+no_full (Ok x) limit s t errors few room = tt
+no_full (Err e) limit s t (inl memory) few room = inl memory
+no_full (Err e) limit s t (inr full) few room = absurd (omega (arith, full.1))
+
+-- the count of work was full, and nothing has changed
+pub had_no_room : (limit : ℕ) (s t : Seen) (e : RunsError) → e ≡ WorkFull →
+    (e ≡ NoMemory) ⊎ ((e ≡ WorkFull) × HasNoRoom limit s × (t ≡ s)) → HasNoRoom limit s × (t ≡ s)
+had_no_room limit s t e is (inl memory) = absurd (cc)
+had_no_room limit s t e is (inr full) = (full.1, full.2)
+
+-- a command that shows something isn't refused so
+pub not_shown : (o : Option (List ℕ)) (e : RunsError) → e ≡ WorkFull → (is_some o ≡ true → e ≡ NoMemory) → o ≡ None
+not_shown None e is h = refl
+not_shown (Some text) e is h = let memory = h refl in absurd (cc)
 
 -- the answer to a line that is no command
 pub unknown_is : (line word : List ℕ) (r : Bool) → word ≡ first_word line → r ≡ (length word == 0) → r ≡ false →

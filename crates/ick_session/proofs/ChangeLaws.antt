@@ -1,19 +1,27 @@
 -- The texts of what has changed.
-use Rattle.std.proofs.Common.{◌≡◌, ◌≤◌, ℕ, ◌++◌, List, Bool, true, false, not, ap, sym, refl, ◌∙◌, arith, codes, length}
-use Rattle.std.proofs.Common.{[], ◌<◌, ◌+◌, ◌-◌, append_assoc, get_or, take}
+use Rattle.std.proofs.Common.{◌≡◌, ℕ, ◌++◌, List, Bool, true, false, not, ap, sym, refl, ◌∙◌, arith, codes, length}
+use Rattle.std.proofs.Common.{[], ◌∷◌, ◌<◌, ◌+◌, ◌-◌, ◌&&◌, append_assoc, get_or, subst, take, if◌then◌else◌}
 use Rattle.std.specs.Prelude.{Result, Ok, Err, OnOk}
-use Rattle.std.proofs.lemmas.Bool.Decides.{nat_tests}
 use Rattle.std.specs.Prelude.{bytes_eq, decimal, reverse}
+use Rattle.std.specs.List.{flat_map, range_with_len}
 use Rattle.std.proofs.lemmas.List.{append-nil, get_or-reverse, length-reverse, reverse-reverse}
 use Rattle.std.proofs.lemmas.Slice.Eq.{bytes_eq-Decides}
 use Rattle.ick_code.specs.declared.code.Code.{Code}
-use Rattle.ick_code.specs.Compiled.{code_ops, code_program}
-use Rattle.ick_code.specs.meaning.State.{State}
+use Rattle.ick_syntax.specs.declared.tree.Name.{Name}
+use Rattle.ick_code.specs.Compiled.{IsCompiled, code_program, code_slots}
+use Rattle.ick_code.specs.meaning.Move.{advance}
+use Rattle.ick_code.specs.meaning.State.{State, statement_at}
+use Rattle.ick_backtrack.specs.Machine.{Program}
+use Rattle.ick_inspect.specs.Names.{variable_text}
 use Rattle.ick_inspect.specs.Summary.{stack_text}
 use Rattle.ick_inspect.specs.Text.{numbers_text}
-use Rattle.ick_session.specs.Changes.{abstained_lines, change_text, changes_text, newly_line, newly_text, ops_at}
-use Rattle.ick_session.specs.Changes.{moved_line, printed_text, returned_text}
+use Rattle.ick_session.specs.Changes.{abstained_text, alike, change_text, changes_text, had_at, moved_line, name_line}
+use Rattle.ick_session.specs.Changes.{names_text, newly_line, newly_text, passed_text, printed_text, read_text}
+use Rattle.ick_session.specs.Changes.{returned_text, step_text}
+use Rattle.ick_session.specs.Laws.{line_of}
+use Rattle.ick_session.specs.Targets.{ops_at}
 use Rattle.ick_inspect.proofs.AddLaws.{pieces_taken}
+use Rattle.ick_session.proofs.StepLaws.{HasPiece, changed_has_piece}
 
 pub newly_is : (word : List ℕ) (s t : State) (n k : ℕ) → t.abstained n ≡ true → s.abstained n ≡ false → k ≡ n →
     word ++ decimal k ++ codes "\n" ≡ newly_line word s t n
@@ -69,17 +77,34 @@ none_returned s t xs ys r e f h is =
     let both = (bytes_eq-Decides s.returns t.returns).1 (e ∙ (ap reverse equal ∙ sym f)) in
     rw both refl
 
-pub abstained_is : (s t : State) (n a b : ℕ) (is : Bool) → a ≡ n → b ≡ n → is ≡ true →
-    newly_text (codes "  abstains from ") s t a ++ newly_text (codes "  reinstates ") t s b
-    ≡ abstained_lines n s t is
-abstained_is s t n a b is e f h = rw (e, f, h) refl
+pub abstained_is : (s t : State) (n a b : ℕ) → a ≡ n → b ≡ n →
+    newly_text (codes "  abstains from ") s t a ++ newly_text (codes "  reinstates ") t s b ≡ abstained_text n s t
+abstained_is s t n a b e f = rw (e, f) refl
+
+no_line : (line : List ℕ) (b c : Bool) → b ≡ c → (if b && not c then line else []) ≡ []
+no_line line true true e = refl
+no_line line true false e = absurd (cc)
+no_line line false c e = refl
+
+no_pieces : (f : ℕ → List ℕ) → ((n : ℕ) → f n ≡ []) → (ns : List ℕ) → flat_map f ns ≡ []
+no_pieces f none [] = refl
+no_pieces f none (n ∷ ns) = ap (λ l. l ++ flat_map f ns) (none n) ∙ no_pieces f none ns
+
+no_newly : (word : List ℕ) (s t : State) (count : ℕ) → t.abstained ≡ s.abstained → newly_text word s t count ≡ []
+no_newly word s t count same =
+    no_pieces (newly_line word s t)
+    (λ n. no_line (word ++ decimal n ++ codes "\n") (t.abstained n) (s.abstained n) (ap (λ flags. flags n) same))
+    (range_with_len 1 count)
+
+pub none_newly : (s t : State) (count : ℕ) → t.abstained ≡ s.abstained → [] ≡ abstained_text count s t
+none_newly s t count same =
+    sym (ap (λ l. l ++ newly_text (codes "  reinstates ") t s count)
+    (no_newly (codes "  abstains from ") s t count same)
+    ∙ no_newly (codes "  reinstates ") t s count (sym same))
 
 pub printed_same : (s t : State) (xs : List ℕ) → s.output ≡ xs →
     printed_text (length xs) t ≡ printed_text (length s.output) t
 printed_same s t xs e = ap (λ l. printed_text (length l) t) (sym e)
-
-pub ops_are : (code : Code) (n : ℕ) → 1 ≤ n → n ≤ length (code_program code) → ops_at code n ≡ code_ops code n
-ops_are code n low high = grind (arith, nat_tests)
 
 pub changes_same : (code : Code) (n : ℕ) (s t u v : State) → u ≡ s → v ≡ t → u.place ≡ n →
     changes_text code n u v ≡ changes_text code s.place s t
@@ -97,3 +122,44 @@ change_is changed n k is e = rw (is, e) refl
 
 pub no_change : (changed : Bool) (n : ℕ) → changed ≡ false → [] ≡ change_text changed n
 no_change changed n is = rw is refl
+
+-- the piece of a text is in a longer one
+within : (front back text piece whole : List ℕ) → HasPiece text piece → whole ≡ front ++ text ++ back →
+    HasPiece whole piece
+within front back text piece whole h e = record {
+  front = front ++ h.front;
+  back = h.back ++ back;
+  text_is = e ∙ (ap (λ l. front ++ l ++ back) h.text_is
+      ∙ (ap (λ l. front ++ l ++ back) (append_assoc h.front piece h.back)
+      ∙ (ap (λ l. l ++ back) (sym (append_assoc front h.front (piece ++ h.back)))
+      ∙ (append_assoc (front ++ h.front) (piece ++ h.back) back
+      ∙ (ap (λ l. front ++ h.front ++ l) (append_assoc piece h.back back)
+      ∙ sym (append_assoc (front ++ h.front) piece (h.back ++ back)))))));
+}
+
+-- the line of a name that isn't as before
+line_is : (s t : State) (name : Name) → alike (had_at s name) (had_at t name) ≡ false →
+    name_line s t name ≡ line_of name t
+line_is s t name differs =
+    ap (λ b. if b then [] else codes "  " ++ variable_text t name ++ codes "\n") differs
+
+whole_text : (a b c d e f : List ℕ) → a ++ (b ++ c ++ d ++ e ++ f) ≡ a ++ b ++ c ++ (d ++ e ++ f)
+whole_text a b c d e f =
+    ap (λ l. a ++ l) (ap (λ l. l ++ f) (append_assoc (b ++ c) d e) ∙ append_assoc (b ++ c) (d ++ e) f)
+    ∙ (ap (λ l. a ++ l) (append_assoc b c (d ++ e ++ f)) ∙ (sym (append_assoc a b (c ++ (d ++ e ++ f)))
+    ∙ sym (append_assoc (a ++ b) c (d ++ e ++ f))))
+
+pub change_shown : (p : Program) (code : Code) (s : State) (chosen : Bool) (name : Name) → IsCompiled p code →
+    alike (had_at s name) (had_at (advance p s chosen) name) ≡ false →
+    HasPiece (step_text p code s chosen) (line_of name (advance p s chosen))
+change_shown p code s chosen name is differs =
+    let t = advance p s chosen in
+    let ops = ops_at code s.place in
+    let names = names_text (code_slots code) ops s t in
+    subst (λ piece. HasPiece (step_text p code s chosen) piece) (line_is s t name differs)
+    (within (passed_text (statement_at p s.place) s chosen ++ read_text s t)
+    (abstained_text (length (code_program code)) s t ++ returned_text s t ++ printed_text (length s.output) t)
+    names (name_line s t name) (step_text p code s chosen)
+    (changed_has_piece (name_line s t) p code s chosen name is differs)
+    (whole_text (passed_text (statement_at p s.place) s chosen) (read_text s t) names
+    (abstained_text (length (code_program code)) s t) (returned_text s t) (printed_text (length s.output) t)))

@@ -3,6 +3,9 @@ pub mod AnswerLaws
 pub mod WordLaws
 pub mod GivenLaws
 pub mod ShownLaws
+pub mod FrameLaws
+pub mod StepLaws
 pub mod ChangeLaws
 pub mod TravelLaws
 pub mod PrintLaws
+pub mod RoomLaws

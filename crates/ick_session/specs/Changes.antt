@@ -1,7 +1,7 @@
 -- What a step has changed, as a text.
-use Rattle.std.specs.Prelude.{ℕ, ◌-◌, ◌==◌, ◌&&◌, nat_lt, Bool, true, false, not, List, [], ◌∷◌}
+use Rattle.std.specs.Prelude.{ℕ, ◌-◌, ◌==◌, ◌&&◌, nat_lt, Bool, not, List, [], ◌∷◌}
 use Rattle.std.specs.Prelude.{◌++◌, length, take}
-use Rattle.std.specs.Prelude.{bytes_eq, drop, codes, decimal, Option, Some, None, slice_get, if◌then◌else◌}
+use Rattle.std.specs.Prelude.{bytes_eq, drop, codes, decimal, Option, Some, None, if◌then◌else◌}
 use Rattle.std.specs.Bool.{beq}
 use Rattle.std.specs.List.{flat_map, range_with_len}
 use Rattle.ick_bits.specs.Quoted.{quoted}
@@ -9,18 +9,16 @@ use Rattle.ick_syntax.specs.StatementTree.{StatementTree}
 use Rattle.ick_syntax.specs.declared.tree.Name.{Name}
 use Rattle.ick_code.specs.declared.code.Code.{Code}
 use Rattle.ick_code.specs.declared.op.Op.{Op}
-use Rattle.ick_code.specs.declared.op.Op.TheVariants as op
-use Rattle.ick_code.specs.declared.op.SlotName.{SlotName}
-use Rattle.ick_code.specs.declared.op.SlotName.TheVariants.{Scalar, Array}
-use Rattle.ick_code.specs.Compiled.{IsCompiled, code_ops, code_program, code_slots}
+use Rattle.ick_code.specs.Compiled.{code_program, code_slots}
 use Rattle.ick_backtrack.specs.Machine.{Program}
 use Rattle.ick_code.specs.Effects.{Slots}
+use Rattle.ick_code.specs.Names.{is_among}
 use Rattle.ick_code.specs.meaning.Move.{advance, is_done}
 use Rattle.ick_code.specs.meaning.State.{State, statement_at}
 use Rattle.ick_inspect.specs.Names.{variable_text}
 use Rattle.ick_inspect.specs.Summary.{stack_text}
-use Rattle.ick_inspect.specs.Text.{Adds, numbers_text}
-use Rattle.ick_inspect.specs.declared.text.Text.{Text}
+use Rattle.ick_inspect.specs.Text.{numbers_text}
+use Rattle.ick_session.specs.Targets.{ops_at, targets_of}
 
 -- what a state has at a name; of stashed values the number
 pub record Had : Type 0 where
@@ -60,32 +58,6 @@ read_text s t = bytes_text (codes "  reads ") (take (length s.input - length t.i
 abbrev pub printed_text : ℕ → State → List ℕ
 printed_text n t = bytes_text (codes "  prints ") (drop n t.output)
 
--- the name that an operation may change, if it may change one
-abbrev pub slot_name : Slots → SlotName → Option Name
-slot_name slots (Scalar slot) = slice_get slots.scalars slot
-slot_name slots (Array slot) = slice_get slots.arrays slot
-
-abbrev pub changed_name : Slots → Op → Option Name
-changed_name slots (op.Store slot) = slice_get slots.scalars slot
-changed_name slots (op.ReadTo slot) = slice_get slots.scalars slot
-changed_name slots (op.StoreAt slot count) = slice_get slots.arrays slot
-changed_name slots (op.Resize slot count) = slice_get slots.arrays slot
-changed_name slots (op.ReadAt slot count) = slice_get slots.arrays slot
-changed_name slots (op.ReadArray slot) = slice_get slots.arrays slot
-changed_name slots (op.Save name) = slot_name slots name
-changed_name slots (op.Restore name) = slot_name slots name
-changed_name slots (op.Hide name) = slot_name slots name
-changed_name slots (op.Show name) = slot_name slots name
-changed_name slots _ = None
-
--- whether it may change which statements are abstained from
-abbrev pub is_of_abstaining : Op → Bool
-is_of_abstaining (op.AbstainOne n) = true
-is_of_abstaining (op.ReinstateOne n) = true
-is_of_abstaining (op.AbstainKind gerund) = true
-is_of_abstaining (op.ReinstateKind gerund) = true
-is_of_abstaining _ = false
-
 -- the line of a name that has changed
 abbrev pub name_line : State → State → Name → List ℕ
 name_line s t name =
@@ -99,20 +71,19 @@ newly_line word s t n =
 abbrev pub newly_text : List ℕ → State → State → ℕ → List ℕ
 newly_text word s t count = flat_map (newly_line word s t) (range_with_len 1 count)
 
--- what an operation has changed
-abbrev pub option_line : State → State → Option Name → List ℕ
-option_line s t None = []
-option_line s t (Some name) = name_line s t name
-
-abbrev pub abstained_lines : ℕ → State → State → Bool → List ℕ
-abstained_lines count s t false = []
-abstained_lines count s t true =
+-- a line for each statement that only one of two states abstains from
+abbrev pub abstained_text : ℕ → (before after : State) → List ℕ
+abstained_text count s t =
     newly_text (codes "  abstains from ") s t count ++ newly_text (codes "  reinstates ") t s count
 
-abbrev pub op_text : Code → State → State → Op → List ℕ
-op_text code s t op =
-    option_line s t (changed_name (code_slots code) op)
-    ++ abstained_lines (length (code_program code)) s t (is_of_abstaining op)
+-- a line for each name that the operations of a statement have changed, in their order
+abbrev pub names_text : Slots → List Op → (before after : State) → List ℕ
+names_text slots ops s t = flat_map (name_line s t) (targets_of slots ops)
+
+-- the piece of a name, if there is one that isn't among others
+abbrev pub piece_unless : (Name → List ℕ) → List Name → Option Name → List ℕ
+piece_unless f names None = []
+piece_unless f names (Some name) = if is_among name names then [] else f name
 
 -- so many of the return addresses behind a word, the newest first
 abbrev pub newest_line : List ℕ → List ℕ → ℕ → List ℕ
@@ -130,17 +101,12 @@ abbrev pub returned_text : State → State → List ℕ
 returned_text s t =
     if bytes_eq s.returns t.returns then [] else moved_line s.returns t.returns ++ codes "  " ++ stack_text t
 
--- the operations of a statement, if there is one of this number
-abbrev pub ops_at : Code → ℕ → List Op
-ops_at code n =
-    if nat_lt n 1 then [] else if nat_lt (length (code_program code)) n then [] else code_ops code n
-
--- what a step at a statement has changed: what it read, the names and the abstentions of its operations, the return
--- addresses that it pushed or removed and those that there are then, and what it printed
+-- what a step at a statement has changed: what it read, the names, the statements that are abstained from or no longer,
+-- the return addresses that it pushed or removed and those that there are then, and what it printed
 abbrev pub changes_text : Code → (statement : ℕ) → (before after : State) → List ℕ
 changes_text code n s t =
-    read_text s t ++ flat_map (op_text code s t) (ops_at code n) ++ returned_text s t
-    ++ printed_text (length s.output) t
+    read_text s t ++ names_text (code_slots code) (ops_at code n) s t
+    ++ abstained_text (length (code_program code)) s t ++ returned_text s t ++ printed_text (length s.output) t
 
 -- that a statement is passed over: it is abstained from, or its chance is 0, or a choice wouldn't do it
 abbrev pub passed_line : Bool → List ℕ
@@ -154,9 +120,6 @@ passed_text (Some statement) s chosen = passed_line (is_done statement (s.abstai
 abbrev pub step_text : Program → Code → State → (chosen : Bool) → List ℕ
 step_text p code s chosen =
     passed_text (statement_at p s.place) s chosen ++ changes_text code s.place s (advance p s chosen)
-
-abbrev pub ShowsStep : Program → State → (chosen : Bool) → (old new : Text) → Type 0
-ShowsStep p s chosen old new = (code : Code) × IsCompiled p code × Adds old new (step_text p code s chosen)
 
 -- which statement changed a name, if one did
 abbrev pub change_text : Bool → (statement : ℕ) → List ℕ

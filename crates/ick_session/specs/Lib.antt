@@ -4,9 +4,11 @@ pub mod Drawn
 pub mod Given
 pub mod Counted
 pub mod Shown
+pub mod Targets
 pub mod Changes
 pub mod Held
 pub mod Travel
 pub mod Stepper
 pub mod Answers
 pub mod Lines
+pub mod Laws

@@ -1,5 +1,5 @@
 -- How a place in a run and its end are shown.
-use Rattle.std.specs.Prelude.{ℕ, nat_lt, List, [], ◌++◌, length, codes, decimal, if◌then◌else◌}
+use Rattle.std.specs.Prelude.{ℕ, nat_lt, Bool, List, [], ◌++◌, length, codes, decimal, if◌then◌else◌}
 use Rattle.ick_bits.specs.Faults.{message_of}
 use Rattle.ick_code.specs.meaning.State.{State, gave_up, faulted}
 use Rattle.ick_code.specs.meaning.Move.{Asking, plain, choice, ended, ask}
@@ -24,6 +24,11 @@ place_text p positions steps s =
 
 abbrev pub asked_text : ℕ → List ℕ
 asked_text chance = codes "  asks %" ++ decimal chance ++ codes "\n"
+
+-- which choice was answered there
+abbrev pub answered_text : (chance : ℕ) → (done : Bool) → List ℕ
+answered_text chance done =
+    codes "  asks %" ++ decimal chance ++ (if done then codes ": 1\n" else codes ": 0\n")
 
 -- how a run has ended
 abbrev pub over_text : Program → List Position → Finish → State → List ℕ

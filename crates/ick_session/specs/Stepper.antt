@@ -1,5 +1,5 @@
 -- What contracts see of a session with its choices, and why a command is refused.
-use Rattle.std.specs.Prelude.{◌≡◌, ◌⊎◌, ℕ}
+use Rattle.std.specs.Prelude.{◌≡◌, ◌⊎◌, ◌+◌, ◌-◌, ℕ, length}
 use Rattle.ick_code.specs.meaning.State.{State}
 use Rattle.ick_backtrack.specs.Machine.{Program}
 use Rattle.ick_runs.specs.Chosen.{Chosen}
@@ -28,6 +28,14 @@ fixed s = record {
   given = given_by s.given;
   limit = s.limit;
 }
+
+-- how many steps a command makes at most: further ones, or all again, and those behind a mark twice
+abbrev pub most_work : (limit : ℕ) → Seen → ℕ
+most_work limit s = limit - length s.answers + length s.answers + 2000
+
+-- the count of work has no room for them, with 1,000 to spare
+abbrev pub HasNoRoom : (limit : ℕ) → Seen → Type 0
+HasNoRoom limit s = IsFull s (most_work limit s + 1000)
 
 -- memory ran out, or the count of work is full
 abbrev pub IsStepError : Seen → RunsError → Type 0

@@ -1,17 +1,20 @@
 //! What a step has changed.
 
-ghost use Rattle.std.specs.Prelude.{◌≡◌, ◌≤◌, ◌++◌, length, reverse, slice_get};
-ghost use Rattle.std.specs.List.{flat_map};
+ghost use Rattle.std.specs.Prelude.{◌≡◌, ◌≤◌, ◌++◌, false, length, reverse};
+ghost use Rattle.std.specs.List.{list_any};
 ghost use Rattle.ick_code.specs.Compiled.{code_program, code_slots};
 ghost use Rattle.ick_inspect.specs.Text.{Adds};
 ghost use Rattle.ick_machine.specs.Present.{present_program, present_state};
-ghost use Rattle.ick_session.specs.Changes.{abstained_lines, alike, bytes_text, change_text};
-ghost use Rattle.ick_session.specs.Changes.{changed_name, changes_text, had_at, is_of_abstaining};
-ghost use Rattle.ick_session.specs.Changes.{moved_line, name_line, newest_line, newly_line};
-ghost use Rattle.ick_session.specs.Changes.{newly_text, op_text, ops_at, option_line};
-ghost use Rattle.ick_session.specs.Changes.{printed_text, read_text, returned_text, slot_name};
+ghost use Rattle.ick_session.specs.Changes.{abstained_text, alike, bytes_text, change_text};
+ghost use Rattle.ick_session.specs.Changes.{changes_text, had_at, moved_line, name_line};
+ghost use Rattle.ick_session.specs.Changes.{names_text, newest_line, newly_line, newly_text};
+ghost use Rattle.ick_session.specs.Changes.{piece_unless, printed_text, read_text};
+ghost use Rattle.ick_session.specs.Changes.{returned_text};
+ghost use Rattle.ick_session.specs.Targets.{changed_name, is_of_abstaining};
+ghost use Rattle.ick_session.specs.Targets.{names_changed_by, ops_at};
 
-use ick_code::{Code, Op, SlotName};
+use crate::targets::{changed_by, is_changed_by, may_abstain, ops_of};
+use ick_code::{Code, Op};
 use ick_inspect::{
     Present, Text, append_stack, append_variable, dimensions, elements, input_left,
     is_abstained_from, is_ignored, number, output, return_addresses, stashed_arrays,
@@ -31,65 +34,6 @@ fn is_same_at(name: Name, before: &Present<'_, '_, '_>, after: &Present<'_, '_, 
         && stashed_arrays(before, name).len() == stashed_arrays(after, name).len()
         && dimensions(before, name) == dimensions(after, name)
         && elements(before, name) == elements(after, name)
-}
-
-/// Returns the scalar of a slot, if there is one.
-fn scalar_of(code: &Code<'_>, slot: u32) -> Option<Name>
-    ensures { result ≡ slice_get (code_slots code.now).scalars slot }
-{
-    if slot < code.scalars() {
-        return Some(code.scalar(slot));
-    }
-    None
-}
-
-/// Returns the array of a slot, if there is one.
-fn array_of(code: &Code<'_>, slot: u32) -> Option<Name>
-    ensures { result ≡ slice_get (code_slots code.now).arrays slot }
-{
-    if slot < code.arrays() {
-        return Some(code.array(slot));
-    }
-    None
-}
-
-/// Returns the name of a slot, if there is one.
-fn named(code: &Code<'_>, name: SlotName) -> Option<Name>
-    ensures { result ≡ slot_name (code_slots code.now) name }
-{
-    match name {
-        SlotName::Scalar(slot) => scalar_of(code, slot),
-        SlotName::Array(slot) => array_of(code, slot),
-    }
-}
-
-/// Returns the name that an operation may change, if it may change one.
-fn changed_by(code: &Code<'_>, op: Op) -> Option<Name>
-    ensures { result ≡ changed_name (code_slots code.now) op }
-{
-    match op {
-        Op::Store(slot) => scalar_of(code, slot),
-        Op::ReadTo(slot) => scalar_of(code, slot),
-        Op::StoreAt(slot, _) => array_of(code, slot),
-        Op::Resize(slot, _) => array_of(code, slot),
-        Op::ReadAt(slot, _) => array_of(code, slot),
-        Op::ReadArray(slot) => array_of(code, slot),
-        Op::Save(name) => named(code, name),
-        Op::Restore(name) => named(code, name),
-        Op::Hide(name) => named(code, name),
-        Op::Show(name) => named(code, name),
-        _ => None,
-    }
-}
-
-/// Returns whether an operation may change which statements are abstained from.
-fn abstains(op: Op) -> bool
-    ensures { result ≡ is_of_abstaining op }
-{
-    matches!(
-        op,
-        Op::AbstainOne(_) | Op::ReinstateOne(_) | Op::AbstainKind(_) | Op::ReinstateKind(_)
-    )
 }
 
 /// Appends a line for a statement, if the second state abstains from it and the first doesn't.
@@ -130,21 +74,23 @@ fn append_all_newly(
     }
 }
 
-/// Appends a line for each statement that only one of two states abstains from, if an operation may
-/// change which statements are abstained from.
+/// Appends a line for each statement that only one of two states abstains from. The operations are
+/// those of the step between the states.
 fn append_abstained(
     out: &mut Text,
     code: &Code<'_>,
-    op: Op,
+    ops: &[Op],
     before: &Present<'_, '_, '_>,
     after: &Present<'_, '_, '_>,
 )
     requires before { code_program code.now ≡ present_program before.now }
     requires after { code_program code.now ≡ present_program after.now }
-    ensures { Adds out.old out.new (abstained_lines (length (code_program code.now))
-        (present_state before.now) (present_state after.now) (is_of_abstaining op)) }
+    requires still { list_any is_of_abstaining ops.now ≡ false →
+        (present_state after.now).abstained ≡ (present_state before.now).abstained }
+    ensures { Adds out.old out.new (abstained_text (length (code_program code.now))
+        (present_state before.now) (present_state after.now)) }
 {
-    if abstains(op) {
+    if may_abstain(ops) {
         append_all_newly(out, b"  abstains from ", code.count(), before, after);
         append_all_newly(out, b"  reinstates ", code.count(), after, before);
     }
@@ -167,37 +113,28 @@ fn append_name(
     }
 }
 
-/// Appends the line of the name that an operation has changed, if it has changed one.
+/// Appends the line of the name that an operation has changed, if it has changed one. It appends
+/// nothing if an earlier operation of the statement may change the same name.
 fn append_changed(
     out: &mut Text,
-    name: Option<Name>,
-    before: &Present<'_, '_, '_>,
-    after: &Present<'_, '_, '_>,
-)
-    ensures { Adds out.old out.new (option_line (present_state before.now)
-        (present_state after.now) name) }
-{
-    match name {
-        Some(name) => append_name(out, name, before, after),
-        None => {}
-    }
-}
-
-/// Appends what an operation of the statement has changed between two states.
-fn append_by(
-    out: &mut Text,
     code: &Code<'_>,
+    earlier: &[Op],
     op: Op,
     before: &Present<'_, '_, '_>,
     after: &Present<'_, '_, '_>,
 )
-    requires before { code_program code.now ≡ present_program before.now }
-    requires after { code_program code.now ≡ present_program after.now }
-    ensures { Adds out.old out.new (op_text code.now (present_state before.now)
-        (present_state after.now) op) }
+    ensures { let slots = code_slots code.now in Adds out.old out.new (piece_unless
+        (name_line (present_state before.now) (present_state after.now))
+        (names_changed_by slots earlier.now) (changed_name slots op)) }
 {
-    append_changed(out, changed_by(code, op), before, after);
-    append_abstained(out, code, op, before, after);
+    match changed_by(code, op) {
+        Some(name) => {
+            if !is_changed_by(code, earlier, name) {
+                append_name(out, name, before, after);
+            }
+        }
+        None => {}
+    }
 }
 
 /// Appends a word and, behind it, bytes in quotes. If there are no bytes, it appends nothing.
@@ -229,28 +166,19 @@ fn append_read(out: &mut Text, before: &Present<'_, '_, '_>, after: &Present<'_,
     append_bytes(out, b"  reads ", &left[..size]);
 }
 
-/// Appends what the operations of a statement have changed between two states.
+/// Appends a line for each name that the operations of a statement have changed between two states.
 fn append_names(
     out: &mut Text,
     code: &Code<'_>,
-    statement: u32,
+    ops: &[Op],
     before: &Present<'_, '_, '_>,
     after: &Present<'_, '_, '_>,
 )
-    requires before { code_program code.now ≡ present_program before.now }
-    requires after { code_program code.now ≡ present_program after.now }
-    ensures { Adds out.old out.new (flat_map (op_text code.now (present_state before.now)
-        (present_state after.now)) (ops_at code.now statement)) }
+    ensures { Adds out.old out.new (names_text (code_slots code.now) ops.now
+        (present_state before.now) (present_state after.now)) }
 {
-    if statement < 1 {
-        return;
-    }
-    if code.count() < statement {
-        return;
-    }
-    let ops = code.ops(statement);
-    for op in ops {
-        append_by(out, code, *op, before, after);
+    for at in 0..ops.len() {
+        append_changed(out, code, &ops[..at], ops[at], before, after);
     }
 }
 
@@ -305,21 +233,27 @@ pub fn append_change(out: &mut Text, changed: bool, statement: u32)
 
 /// Appends the lines of a step from one state to another, at a statement. They show the input that
 /// the step read, the names that it changed and the statements that it abstained from or
-/// reinstated. Then come the return addresses that it pushed or removed, the NEXT stack after that,
-/// and the output.
-#[tactic(auto, unfolding(ick_machine::specs::Present::present_program))]
+/// reinstated, each of them once. Then come the return addresses that it pushed or removed, the NEXT
+/// stack after that, and the output. `code` is the code of the program. Only a statement of
+/// abstaining may change which statements are abstained from.
 pub fn append_changes(
     out: &mut Text,
+    code: &Code<'_>,
     statement: u32,
     before: &Present<'_, '_, '_>,
     after: &Present<'_, '_, '_>,
 )
-    requires { present_program after.now ≡ present_program before.now }
-    ensures { Adds out.old out.new (changes_text after.now.lowered.now.code.now statement
+    requires before { code_program code.now ≡ present_program before.now }
+    requires after { code_program code.now ≡ present_program after.now }
+    requires still { list_any is_of_abstaining (ops_at code.now statement) ≡ false →
+        (present_state after.now).abstained ≡ (present_state before.now).abstained }
+    ensures { Adds out.old out.new (changes_text code.now statement
         (present_state before.now) (present_state after.now)) }
 {
+    let ops = ops_of(code, statement);
     append_read(out, before, after);
-    append_names(out, after.lowered.code, statement, before, after);
+    append_names(out, code, ops, before, after);
+    append_abstained(out, code, ops, before, after);
     append_returned(out, before, after);
     append_printed(out, output(before).len(), after);
 }

@@ -1,6 +1,6 @@
 //! The last step of a session that changed a name.
 
-ghost use Rattle.std.specs.Prelude.{◌≡◌, ℕ, Option, Some, None, IfErr, IfOk, OnOk, length};
+ghost use Rattle.std.specs.Prelude.{◌≡◌, ◌≤◌, ◌+◌, ℕ, Option, Some, None, IfErr, IfOk, OnOk, length};
 ghost use Rattle.std.specs.Prelude.{true, false};
 ghost use Rattle.ick_code.specs.meaning.Move.{ask};
 ghost use Rattle.ick_step.specs.History.{Answers, IsHistory};
@@ -24,6 +24,8 @@ pub fn go_before_change(
 ) -> Result<bool, RunsError>
     ensures program { (session run.new).program ≡ (session run.old).program }
     ensures start { (session run.new).start ≡ (session run.old).start }
+    ensures few { let s = session run.old in
+        (session run.new).work ≤ s.work + (length s.answers + 2000) }
     ensures errors { IfErr result (IsStepError (session run.new)) }
     ensures found { let s = session run.old in IfOk result (λ found. found ≡ true →
         (at : ℕ) × IsLastChange s name (length s.answers) (Some at)
@@ -54,6 +56,8 @@ fn last_change(
     requires history { let s = session run.old in IsHistory s.program s.start answers.now }
     ensures program { (session run.new).program ≡ (session run.old).program }
     ensures start { (session run.new).start ≡ (session run.old).start }
+    ensures few { let s = session run.old in
+        (session run.new).work ≤ s.work + (length s.answers + 1000) }
     ensures errors { IfErr result (IsStepError (session run.new)) }
     ensures same { let s = session run.old in
         OnOk result (IsAt s (session run.new) (length s.answers)) }
@@ -78,6 +82,7 @@ fn repeat(run: &mut Session<Trailed<'_, '_>>, answer: Option<bool>) -> Result<()
     requires { let s = session run.old in Answers (ask s.program (present s)) answer }
     ensures program { (session run.new).program ≡ (session run.old).program }
     ensures start { (session run.new).start ≡ (session run.old).start }
+    ensures few { (session run.new).work ≤ (session run.old).work + 1 }
     ensures errors { IfErr result (IsStepError (session run.new)) }
     ensures made { OnOk result (session run.new ≡ with_answer answer (session run.old)) }
 {

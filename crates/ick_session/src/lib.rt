@@ -10,9 +10,11 @@
 //! | `held` | what a state has at a name |
 //! | `last_change` | the last step of a session that changed a name |
 //! | `shown` | where a run is, and how it has ended |
+//! | `targets` | the names that a statement may change |
 //! | `changes` | what a step has changed |
 //! | `passed` | statements that are passed over |
 //! | `trace` | the lines of a traced step |
+//! | `laws` | each change is shown, and few lines have room |
 //! | `stepper` | a session with its choices, and the answer to each command |
 //! | `lines` | the answer to a line |
 #![tactic(auto)]
@@ -24,16 +26,19 @@ mod given;
 mod held;
 mod help;
 mod last_change;
+mod laws;
 mod lines;
 mod passed;
 mod shown;
 mod stepper;
+mod targets;
 mod trace;
 
 pub use commands::{Command, Verb, read_command};
 pub use given::{Given, Words};
 pub use ick_inspect::{Position, Text};
 pub use ick_step::RunsError;
+pub use laws::{each_change_is_shown, few_lines_have_room};
 pub use lines::answer_line;
 pub use shown::{append_here, append_place};
 pub use stepper::Stepper;

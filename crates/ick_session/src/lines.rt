@@ -13,7 +13,8 @@ use std::alloc::Global;
 
 /// Answers a line, and puts the answer into `out` in place of what is there. Returns whether the
 /// session goes on, which it does unless the line is the command `quit`. A line that is no command
-/// changes nothing. There is a position for each statement.
+/// changes nothing. If the count of work has no room for the steps that a command may make, the
+/// answer says so, and nothing else changes. There is a position for each statement.
 ///
 /// `NoMemory` is the only refusal.
 pub fn answer_line(

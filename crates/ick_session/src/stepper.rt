@@ -49,8 +49,8 @@ pub enum Target<'h> {
 }
 
 impl<'c, 'a> Stepper<'c, 'a> {
-    ghost use Rattle.std.specs.Prelude.{◌≡◌, ◌<◌, ◌-◌, ◌++◌, ℕ, Bool, true};
-    ghost use Rattle.std.specs.Prelude.{false, Option};
+    ghost use Rattle.std.specs.Prelude.{◌≡◌, ◌⊎◌, ◌<◌, ◌≤◌, ◌+◌, ◌-◌, ◌^◌, ◌++◌, ℕ, Bool, true};
+    ghost use Rattle.std.specs.Prelude.{false, nat_lt, Option};
     ghost use Rattle.std.specs.Prelude.{Some, None, IfErr, IfOk, OnOk, [], codes, is_some};
     ghost use Rattle.std.specs.Prelude.{length, min, List};
     ghost use Rattle.ick_code.specs.meaning.Move.{ask, choice};
@@ -70,7 +70,7 @@ impl<'c, 'a> Stepper<'c, 'a> {
     ghost use Rattle.ick_session.specs.Changes.{had_at, printed_text};
     ghost use Rattle.ick_session.specs.Commands.{names_of, order_of};
     ghost use Rattle.ick_session.specs.Given.{given_by};
-    ghost use Rattle.ick_session.specs.Stepper.{IsStepError, fixed, seen};
+    ghost use Rattle.ick_session.specs.Stepper.{HasNoRoom, IsStepError, fixed, most_work, seen};
     ghost use Rattle.ick_session.specs.Travel.{IsAt, IsLastChange, Steps, StopsFirst, differs};
     ghost use Rattle.ick_session.specs.Travel.{has_come, last_statement, next_answer, steps_left};
     ghost use Rattle.ick_session.specs.Travel.{way_text, where_text};
@@ -124,6 +124,7 @@ impl<'c, 'a> Stepper<'c, 'a> {
     /// Takes steps back.
     fn back(&mut self, steps: usize) -> Result<(), RunsError>
         ensures fixed { fixed self.new ≡ fixed self.old }
+        ensures few { (seen self.new).work ≤ (seen self.old).work + 1000 }
         ensures errors { IfErr result (IsStepError (seen self.new)) }
         ensures back { let s = seen self.old in
             OnOk result (IsAt s (seen self.new) (length s.answers - steps)) }
@@ -136,6 +137,7 @@ impl<'c, 'a> Stepper<'c, 'a> {
     /// Makes the step at which a choice is asked. Returns whether one is asked.
     fn choose(&mut self, done: bool) -> Result<bool, RunsError>
         ensures fixed { fixed self.new ≡ fixed self.old }
+        ensures few { (seen self.new).work ≤ (seen self.old).work + 1 }
         ensures errors { IfErr result (IsStepError (seen self.new)) }
         ensures asked { let s = seen self.old in
             IfOk result (λ chosen. chosen ≡ asks_choice (ask s.program (present s))) }
@@ -158,6 +160,7 @@ impl<'c, 'a> Stepper<'c, 'a> {
     fn choose_given(&mut self, chance: u8) -> Result<bool, RunsError>
         requires { let s = seen self.old in ask s.program (present s) ≡ choice chance }
         ensures fixed { fixed self.new ≡ fixed self.old }
+        ensures few { (seen self.new).work ≤ (seen self.old).work + 1 }
         ensures errors { IfErr result (IsStepError (seen self.new)) }
         ensures made { IfOk result (λ made. made ≡ true →
             Steps (given_by self.old.given) (seen self.old) (seen self.new)) }
@@ -179,6 +182,8 @@ impl<'c, 'a> Stepper<'c, 'a> {
     /// was made.
     fn travel(&mut self, target: &Target<'_>, most: u32) -> Result<u32, RunsError>
         ensures fixed { fixed self.new ≡ fixed self.old }
+        ensures few { let s = seen self.old in
+            (seen self.new).work ≤ s.work + steps_left self.old.limit s }
         ensures errors { IfErr result (IsStepError (seen self.new)) }
         ensures stops { let s = seen self.old in OnOk result (StopsFirst (given_by self.old.given)
             (has_come target.now) (min most (steps_left self.old.limit s)) s
@@ -205,6 +210,7 @@ impl<'c, 'a> Stepper<'c, 'a> {
     /// whether a step was made.
     fn step(&mut self) -> Result<bool, RunsError>
         ensures fixed { fixed self.new ≡ fixed self.old }
+        ensures few { (seen self.new).work ≤ (seen self.old).work + 1 }
         ensures errors { IfErr result (IsStepError (seen self.new)) }
         ensures made { IfOk result (λ made. made ≡ true →
             Steps (given_by self.old.given) (seen self.old) (seen self.new)) }
@@ -286,6 +292,8 @@ impl<'c, 'a> Stepper<'c, 'a> {
     ) -> Result<(), RunsError>
         requires { length positions.now ≡ length (seen self.old).program }
         ensures fixed { fixed self.new ≡ fixed self.old }
+        ensures few { let s = seen self.old in
+            (seen self.new).work ≤ s.work + steps_left self.old.limit s }
         ensures errors { IfErr result (IsStepError (seen self.new)) }
         ensures stops { let s = seen self.old in OnOk result (StopsFirst (given_by self.old.given)
             (has_come target.now) (min most (steps_left self.old.limit s)) s
@@ -310,6 +318,7 @@ impl<'c, 'a> Stepper<'c, 'a> {
     ) -> Result<(), RunsError>
         requires { length positions.now ≡ length (seen self.old).program }
         ensures fixed { fixed self.new ≡ fixed self.old }
+        ensures few { (seen self.new).work ≤ (seen self.old).work + 1 }
         ensures errors { IfErr result (IsStepError (seen self.new)) }
         ensures answers { OnOk result ((text : List ℕ)
             × Chooses (fixed self.old) positions.now done (seen self.old) (seen self.new) text
@@ -381,6 +390,8 @@ impl<'c, 'a> Stepper<'c, 'a> {
     ) -> Result<(), RunsError>
         requires { length positions.now ≡ length (seen self.old).program }
         ensures fixed { fixed self.new ≡ fixed self.old }
+        ensures few { let s = seen self.old in
+            (seen self.new).work ≤ s.work + steps_left self.old.limit s }
         ensures errors { IfErr result (IsStepError (seen self.new)) }
         ensures answers { let s = seen self.old in OnOk result ((way : List ℕ)
             × Goes (fixed self.old) positions.now (differs (had_at (present s) name) name)
@@ -400,6 +411,8 @@ impl<'c, 'a> Stepper<'c, 'a> {
     /// there is such a step. If there is none, the state is as before.
     fn before_change(&mut self, alloc: Global, name: Name) -> Result<bool, RunsError>
         ensures fixed { fixed self.new ≡ fixed self.old }
+        ensures few { let s = seen self.old in
+            (seen self.new).work ≤ s.work + (length s.answers + 2000) }
         ensures errors { IfErr result (IsStepError (seen self.new)) }
         ensures found { let s = seen self.old in IfOk result (λ found. found ≡ true →
             (at : ℕ) × IsLastChange s name (length s.answers) (Some at)
@@ -424,6 +437,8 @@ impl<'c, 'a> Stepper<'c, 'a> {
     ) -> Result<(), RunsError>
         requires { length positions.now ≡ length (seen self.old).program }
         ensures fixed { fixed self.new ≡ fixed self.old }
+        ensures few { let s = seen self.old in
+            (seen self.new).work ≤ s.work + (length s.answers + 2000) }
         ensures errors { IfErr result (IsStepError (seen self.new)) }
         ensures answers { OnOk result ((text : List ℕ)
             × Explains (fixed self.old) positions.now name (seen self.old) (seen self.new) text
@@ -465,6 +480,8 @@ impl<'c, 'a> Stepper<'c, 'a> {
         requires moves { is_some (shown positions.now (seen self.old) (order_of command))
             ≡ false }
         ensures fixed { fixed self.new ≡ fixed self.old }
+        ensures few { let s = seen self.old in
+            (seen self.new).work ≤ s.work + most_work self.old.limit s }
         ensures errors { IfErr result (IsStepError (seen self.new)) }
         ensures answers { OnOk result ((text : List ℕ)
             × AnswersCommand (fixed self.old) positions.now (seen self.old)
@@ -499,6 +516,7 @@ impl<'c, 'a> Stepper<'c, 'a> {
     ) -> Result<(), RunsError>
         requires { length positions.now ≡ length (seen self.old).program }
         ensures fixed { fixed self.new ≡ fixed self.old }
+        ensures few { (seen self.new).work ≤ (seen self.old).work + 1000 }
         ensures errors { IfErr result (IsStepError (seen self.new)) }
         ensures back { let s = seen self.old in
             OnOk result (IsAt s (seen self.new) (length s.answers - steps)) }
@@ -561,9 +579,21 @@ impl<'c, 'a> Stepper<'c, 'a> {
         }
     }
 
+    /// Returns whether the count of work has no room for the steps that a command may make.
+    fn is_full(&self) -> bool
+        ensures full { result ≡ true → HasNoRoom self.now.limit (seen self.now) }
+        ensures room { let s = seen self.now in
+            result ≡ false → s.work + (most_work self.now.limit s + 1000) < 2 ^ 64 }
+    {
+        let most = self.left() as u64 + self.steps() as u64 + 3000;
+        u64::MAX - self.session.machine().work() < most
+    }
+
     /// Does a command, and appends the answer. `Quit` does nothing and has no answer.
     ///
-    /// The refusals are `NoMemory`, and `WorkFull` if too many steps were made in all.
+    /// The refusals are `NoMemory`, and `WorkFull` if the count of work has no room for the steps
+    /// that a command may make. After `WorkFull` nothing has changed. A command that shows a part of
+    /// the state is never refused by `WorkFull`.
     pub fn answer(
         &mut self,
         alloc: Global,
@@ -573,7 +603,10 @@ impl<'c, 'a> Stepper<'c, 'a> {
     ) -> Result<(), RunsError>
         requires { length positions.now ≡ length (seen self.old).program }
         ensures fixed { fixed self.new ≡ fixed self.old }
-        ensures errors { IfErr result (IsStepError (seen self.new)) }
+        ensures few { let s = seen self.old in
+            (seen self.new).work ≤ s.work + most_work self.old.limit s }
+        ensures errors { IfErr result (λ e. (e ≡ RunsError.NoMemory) ⊎ ((e ≡ RunsError.WorkFull)
+            × HasNoRoom self.old.limit (seen self.old) × (seen self.new ≡ seen self.old))) }
         ensures shows { is_some (shown positions.now (seen self.old) (order_of command.entry))
             ≡ true → (self.new ≡ self.old) × IfErr result (λ e. e ≡ RunsError.NoMemory) }
         ensures answers { OnOk result ((text : List ℕ)
@@ -583,6 +616,9 @@ impl<'c, 'a> Stepper<'c, 'a> {
     {
         if self.answer_shown(alloc, positions, command, out)? {
             return Ok(());
+        }
+        if self.is_full() {
+            return Err(RunsError::WorkFull);
         }
         self.answer_move(alloc, positions, command, out)
     }

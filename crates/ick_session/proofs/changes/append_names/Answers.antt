@@ -1,11 +1,16 @@
 use Rattle.std.proofs.Common.{sym}
+use Rattle.ick_code.specs.Compiled.{code_slots}
 use Rattle.ick_machine.specs.Present.{present_state}
-use Rattle.ick_session.specs.Changes.{op_text}
-use Rattle.ick_inspect.proofs.AddLaws.{pieces_taken, same, then}
+use Rattle.ick_session.specs.Changes.{name_line}
+use Rattle.ick_inspect.proofs.AddLaws.{nothing, same, then}
+use Rattle.ick_session.proofs.StepLaws.{targets_more}
 use Rattle.ick_session.proofs.changes.append_names.Goals as goal
 
-pub loop-op-preserved : goal.loop-op-preserved
-loop-op-preserved c =
-    same (sym (pieces_taken (op_text c.args.code.now (present_state c.args.before.now)
-    (present_state c.args.after.now)) c.ops-ops.result.now c.loop-op.op-index _ c.loop-op-test.true))
-    (then c.loop-op.invariant c.append_by.ensures)
+pub loop-at-init : goal.loop-at-init
+loop-at-init c = nothing c.args.out.now
+
+pub loop-at-preserved : goal.loop-at-preserved
+loop-at-preserved c =
+    same (sym (targets_more (name_line (present_state c.args.before.now) (present_state c.args.after.now))
+    (code_slots c.args.code.now) c.args.ops.now c.loop-at.at _ c.loop-at-test.true))
+    (then c.loop-at.invariant c.append_changed.ensures)

@@ -34,6 +34,7 @@ loop-at-preserved c =
           let differs : c.is_in.result ≡ false = w.if-not-is_in.true in
           record {
             place = place;
+            work = omega (arith, c.repeat.ensures.few, c.loop-at.invariant.work);
             held = rw w.held-is (keeps_in _ _ _ _ (w.present-then-not-is_in.ensures.state
                 ∙ w.machine-then-not-is_in.ensures.state) w.in_ok-held-2.ensures);
             last = rw w.last-is (last_is s c.args.name n (sym kept ∙ differs));
@@ -42,6 +43,7 @@ loop-at-preserved c =
           let same : c.is_in.result ≡ true = w.if-not-is_in.false in
           record {
             place = place;
+            work = omega (arith, c.repeat.ensures.few, c.loop-at.invariant.work);
             held = rw w.held-is (keeps_on held (present t) (present u) c.args.name c.is_in.result
                 c.loop-at.invariant.held tests same);
             last = rw w.last-is (last_stays s c.args.name n c.loop-at.last (sym kept ∙ same) c.loop-at.invariant.last);
@@ -54,3 +56,33 @@ returns-clause-last c =
     let e : c.loop-at.at ≡ length s.answers =
     omega (arith, c.loop-at-test.false, c.loop-at.auto.at-end, ap length c.requires.answers) in
     subst (λ n. IsLastChange s c.args.name n c.loop-at.last) e c.loop-at.invariant.last
+
+pub returns-in_err-repeat-clause-few : goal.returns-in_err-repeat-clause-few
+returns-in_err-repeat-clause-few c =
+    omega (
+      arith,
+      c.repeat.ensures.few,
+      c.loop-at.invariant.work,
+      c.loop-at-test.true,
+      ap length c.requires.answers,
+    )
+
+pub returns-in_err-held-2-clause-few : goal.returns-in_err-held-2-clause-few
+returns-in_err-held-2-clause-few c =
+    omega (
+      arith,
+      c.repeat.ensures.few,
+      c.loop-at.invariant.work,
+      c.loop-at-test.true,
+      ap length c.requires.answers,
+    )
+
+pub returns-clause-few : goal.returns-clause-few
+returns-clause-few c =
+    omega (
+      arith,
+      c.loop-at.invariant.work,
+      c.loop-at-test.false,
+      c.loop-at.auto.at-end,
+      ap length c.requires.answers,
+    )

@@ -28,6 +28,7 @@ loop-made-preserved c =
     (ap (λ f. f.given) c.loop-made.invariant.fixed) (c.in_ok-step.ensures.made stepped) in
     record {
       fixed = c.step.ensures.fixed ∙ c.loop-made.invariant.fixed;
+      work = omega (arith, c.step.ensures.few, c.loop-made.invariant.work);
       made =
           made_more chosen (has_come c.args.target.now) c.loop-made._made s (seen c.loop-made.self)
           (seen c.step.new.self) c.loop-made.invariant.made made
@@ -39,3 +40,47 @@ pub returns-then-has_come-clause-last : goal.returns-then-has_come-clause-last
 returns-then-has_come-clause-last c =
     let stepped : c.in_ok-step.field-0 ≡ true = c.if-not-branch.false in
     λ _. c.place-statement.ensures ∙ sym (last_made _ _ _ (c.in_ok-step.ensures.made stepped))
+
+pub returns-in_err-step-clause-few : goal.returns-in_err-step-clause-few
+returns-in_err-step-clause-few c =
+    omega (
+      arith,
+      c.step.ensures.few,
+      c.loop-made.invariant.work,
+      c.loop-made-test.true,
+      c.min-limit.ensures,
+      c.left.ensures,
+    )
+
+pub returns-then-not-branch-clause-few : goal.returns-then-not-branch-clause-few
+returns-then-not-branch-clause-few c =
+    omega (
+      arith,
+      c.step.ensures.few,
+      c.loop-made.invariant.work,
+      c.loop-made-test.true,
+      c.min-limit.ensures,
+      c.left.ensures,
+    )
+
+pub returns-then-has_come-clause-few : goal.returns-then-has_come-clause-few
+returns-then-has_come-clause-few c =
+    omega (
+      arith,
+      c.step.ensures.few,
+      c.loop-made.invariant.work,
+      c.loop-made-test.true,
+      c.min-limit.ensures,
+      c.left.ensures,
+    )
+
+pub returns-clause-few : goal.returns-clause-few
+returns-clause-few c =
+    omega (
+      arith,
+      c.loop-made.invariant.work,
+      c.loop-made-test.false,
+      c.loop-made.auto._made-end,
+      c.min-limit.ensures,
+      c.left.ensures,
+    )
