@@ -1,5 +1,5 @@
-# Completes in bash the commands, options and files of ick, ick-outcomes and ick-step, and the options of the tools
-# ick-NAME as their --help lists them.
+# Completes in bash the commands, options and files of ick, ick-outcomes, ick-step and ick-stages, and the options of
+# the tools ick-NAME as their --help lists them.
 
 _ick_words() { mapfile -t COMPREPLY < <(compgen -W "$1" -- "$2"); }
 
@@ -48,6 +48,8 @@ _ick_outcomes() { _ick_arguments '-b --limit --most --exact --total --asked --he
 
 _ick_step() { _ick_arguments '-b --input --choices --seed --limit --trace --help' '--choices --seed --limit'; }
 
+_ick_stages() { _ick_arguments '-b --tree --operations --rules --instructions --statement --help' '--statement'; }
+
 _ick_tool() {
     local word=${COMP_WORDS[COMP_CWORD]} commands='' command=''
     case ${1##*/} in
@@ -67,3 +69,4 @@ for _ick_name in $(compgen -c ick-); do complete -F _ick_tool "$_ick_name"; done
 unset _ick_name
 complete -F _ick_outcomes ick-outcomes
 complete -F _ick_step ick-step
+complete -F _ick_stages ick-stages

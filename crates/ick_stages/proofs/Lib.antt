@@ -1,0 +1,7 @@
+mod TextLaws
+mod PairLaws
+mod TreeTexts
+mod StepLaws
+mod LeftLaws
+mod StageLaws
+mod StagesLaws

@@ -1,0 +1,13 @@
+pub mod Names
+pub mod Trees
+pub mod Bodies
+pub mod Operations
+pub mod Registers
+pub mod Tables
+pub mod Instructions
+pub mod Values
+pub mod Rules
+pub mod Steps
+pub mod Left
+pub mod Statements
+pub mod Stages

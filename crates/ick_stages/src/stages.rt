@@ -1,0 +1,306 @@
+//! The stages of a whole program.
+
+ghost use Rattle.std.specs.Prelude.{◌≡◌, ◌<◌, ◌≤◌, ◌&&◌, Some, length, slice_get, OnOk};
+ghost use Rattle.ick_code.specs.Compiled.{code_ops, code_program, code_slots};
+ghost use Rattle.ick_inspect.specs.Text.{Adds};
+ghost use Rattle.ick_lowering.specs.Programs.{CanLower, LowersTo};
+ghost use Rattle.ick_stages.specs.Left.{dropped_text, instructions_text, kept_of, sorts_of};
+ghost use Rattle.ick_stages.specs.Operations.{operations_text};
+ghost use Rattle.ick_stages.specs.Registers.{drafted, lowered_names};
+ghost use Rattle.ick_stages.specs.Stages.{AddsStage, AddsStages, bottom_text, is_shown as shows};
+ghost use Rattle.ick_stages.specs.Stages.{top_text, tree_line};
+ghost use Rattle.ick_stages.specs.Steps.{asked_text, made_of};
+ghost use Rattle.ick_syntax.specs.BodyTree.{body_tree_of};
+ghost use Rattle.ick_syntax.specs.Programs.{trees_of};
+ghost use Rattle.ick_syntax.specs.StatementTree.{statement_tree_of};
+
+use crate::body::append_body;
+use crate::left::{Sorted, append_dropped, append_instructions, instructions_of};
+use crate::operation::append_operations;
+use crate::registers::Registers;
+use crate::statement::append_line;
+use crate::steps::{Makers, append_steps};
+use ick_bits::NoMemory;
+use ick_code::Code;
+use ick_inspect::{Position, Text, positions_of};
+use ick_instructions::{Layout, Lowered};
+use ick_lowering::draft::Draft;
+use ick_lowering::lower;
+use ick_lowering::lowering::layout_of;
+use ick_syntax::{Body, Program, Statement};
+use std::alloc::Global;
+
+/// Which lines of statements are asked for. The line of a statement always is.
+#[derive(Clone, Copy)]
+pub struct Asked {
+    pub tree: bool,
+    pub operations: bool,
+    pub rules: bool,
+    pub instructions: bool,
+    /// The number of the only statement that is shown.
+    pub only: Option<u32>,
+}
+
+/// A statement that is lowered again: its draft, the operations that made the instructions, and
+/// what becomes of these.
+#[derive(Drop)]
+struct Work {
+    draft: Draft,
+    makers: Makers,
+    sorted: Sorted,
+}
+
+/// Returns whether a statement is shown.
+fn is_shown(only: Option<u32>, n: u32) -> bool
+    ensures { result ≡ shows only n }
+{
+    match only {
+        None => true,
+        Some(only) => only == n,
+    }
+}
+
+/// Returns whether a statement is shown and its lines are asked for.
+fn are_both(shown: bool, asked: bool) -> bool
+    ensures { result ≡ shown && asked }
+{
+    shown && asked
+}
+
+/// Appends the tree of a statement, if it is asked for.
+fn append_tree_line(text: &mut Text, body: &Body, asked: bool)
+    ensures { Adds text.old text.new (asked_text asked (tree_line (body_tree_of body.now))) }
+{
+    if asked {
+        append_tree_of(text, body);
+    }
+}
+
+/// Appends the tree of a statement.
+fn append_tree_of(text: &mut Text, body: &Body)
+    ensures { Adds text.old text.new (tree_line (body_tree_of body.now)) }
+{
+    text.push(b"  tree ");
+    append_body(text, body);
+    text.push(b"\n");
+}
+
+/// Appends the operations of a statement, if they are asked for.
+fn append_operation_lines(text: &mut Text, code: &Code<'_>, n: u32, asked: bool)
+    requires first { 1 ≤ n }
+    requires last { n ≤ length (code_program code.now) }
+    ensures { Adds text.old text.new (asked_text asked
+        (operations_text (code_slots code.now) (code_ops code.now n))) }
+{
+    if asked {
+        append_operations(text, code, code.ops(n));
+    }
+}
+
+/// Appends the lines of a statement that its text gives: its own line, its tree and its operations.
+#[tactic(auto, unfolding(crate::specs::Stages::top_text))]
+fn append_top(
+    text: &mut Text,
+    code: &Code<'_>,
+    statement: &Statement<'_>,
+    position: Position,
+    n: u32,
+    asked: &Asked,
+)
+    requires first { 1 ≤ n }
+    requires last { n ≤ length (code_program code.now) }
+    ensures { Adds text.old text.new
+        (top_text code.now asked.now n (statement_tree_of statement.now) position) }
+{
+    append_line(text, n, statement, position);
+    append_tree_line(text, &statement.body, asked.tree);
+    append_operation_lines(text, code, n, asked.operations);
+}
+
+/// Appends the lines of the instructions of a draft that are dropped, if they are asked for.
+fn append_dropped_lines(text: &mut Text, work: &Work, code: &Code<'_>, layout: Layout, asked: bool)
+    ensures { Adds text.old text.new (asked_text asked (dropped_text
+        (drafted code.now layout work.now.draft) work.now.draft.instructions.items
+        (made_of work.now.makers).first (sorts_of work.now.sorted).dropped)) }
+{
+    if asked {
+        let registers = Registers::of_draft(&*code, layout, &work.draft);
+        append_dropped(
+            text,
+            &registers,
+            &work.draft,
+            &work.makers,
+            &work.sorted.dropped,
+        );
+    }
+}
+
+/// Appends the lines of the instructions of a statement, if they are asked for.
+fn append_instruction_lines(
+    text: &mut Text,
+    work: &Work,
+    lowered: &Lowered<'_, '_>,
+    n: u32,
+    asked: bool,
+)
+    requires { n < 4294967295 }
+    ensures { Adds text.old text.new (asked_text asked (instructions_text
+        (lowered_names lowered.now) (made_of work.now.makers) (sorts_of work.now.sorted).left
+        (kept_of lowered.now.parts n))) }
+{
+    if asked {
+        let registers = Registers::of_lowered(&*lowered);
+        let kept = instructions_of(&*lowered, n);
+        append_instructions(text, &registers, &work.makers, &work.sorted.left, kept);
+    }
+}
+
+/// Appends the lines of a statement that its draft and its instructions give.
+fn append_bottom(
+    text: &mut Text,
+    work: &Work,
+    lowered: &Lowered<'_, '_>,
+    layout: Layout,
+    n: u32,
+    asked: &Asked,
+)
+    requires { n < 4294967295 }
+    ensures { Adds text.old text.new (bottom_text lowered.now layout asked.now n work.now.draft
+        (made_of work.now.makers) (sorts_of work.now.sorted)) }
+{
+    append_dropped_lines(text, work, lowered.code, layout, asked.rules);
+    append_instruction_lines(text, work, lowered, n, asked.instructions);
+}
+
+/// Appends the lines that the text of a statement gives, if the statement is shown.
+fn append_top_if(
+    text: &mut Text,
+    code: &Code<'_>,
+    statement: &Statement<'_>,
+    position: Position,
+    n: u32,
+    asked: &Asked,
+    shown: bool,
+)
+    requires first { 1 ≤ n }
+    requires last { n ≤ length (code_program code.now) }
+    ensures { Adds text.old text.new (asked_text shown
+        (top_text code.now asked.now n (statement_tree_of statement.now) position)) }
+{
+    if shown {
+        append_top(text, code, statement, position, n, asked);
+    }
+}
+
+/// Appends the lines that the draft and the instructions of a statement give, if it is shown.
+fn append_bottom_if(
+    text: &mut Text,
+    work: &Work,
+    lowered: &Lowered<'_, '_>,
+    layout: Layout,
+    n: u32,
+    asked: &Asked,
+    shown: bool,
+)
+    requires { n < 4294967295 }
+    ensures { Adds text.old text.new (asked_text shown (bottom_text lowered.now layout asked.now n
+        work.now.draft (made_of work.now.makers) (sorts_of work.now.sorted))) }
+{
+    if shown {
+        append_bottom(text, work, lowered, layout, n, asked);
+    }
+}
+
+/// Lowers statement `n` again, and appends the lines of its stages that are asked for.
+fn append_stage(
+    text: &mut Text,
+    work: &mut Work,
+    lowered: &Lowered<'_, '_>,
+    layout: Layout,
+    statement: &Statement<'_>,
+    position: Position,
+    n: u32,
+    asked: &Asked,
+) -> Result<(), NoMemory>
+    requires first { 1 ≤ n }
+    requires last { n ≤ length (code_program lowered.now.code.now) }
+    requires few { n < 4294967295 }
+    requires lowers { CanLower lowered.now.code.now layout (code_ops lowered.now.code.now n)
+        work.old.draft }
+    ensures lowers { OnOk result (LowersTo lowered.now.code.now layout
+        (code_ops lowered.now.code.now n) work.old.draft work.new.draft) }
+    ensures stage { OnOk result (AddsStage lowered.now layout asked.now n
+        (statement_tree_of statement.now) position work.old.draft work.new.draft
+        text.old text.new) }
+{
+    let shown = is_shown(asked.only, n);
+    append_top_if(text, lowered.code, statement, position, n, asked, shown);
+    let lines = are_both(shown, asked.rules);
+    append_steps(
+        text,
+        &mut work.draft,
+        &mut work.makers,
+        lowered.code,
+        layout,
+        n,
+        lines,
+    )?;
+    let kept = instructions_of(&*lowered, n);
+    work.sorted.sort_all(&work.draft, &work.makers, kept)?;
+    append_bottom_if(text, &*work, lowered, layout, n, asked, shown);
+    Ok(())
+}
+
+/// Returns the position of the statement at an index.
+fn position_at(positions: &Vec<Position>, at: usize) -> Position
+    requires { at < length positions.now.items }
+    ensures { slice_get positions.now.items at ≡ Some result }
+{
+    positions[at]
+}
+
+/// Appends the lines of the stages of a program that are asked for, statement by statement, and
+/// `DONE`. The code is that of the program, which was read from the source. `NoMemory` is the only
+/// refusal.
+pub fn append_stages(
+    alloc: Global,
+    text: &mut Text,
+    source: &[u8],
+    program: &Program<'_>,
+    code: &Code<'_>,
+    asked: &Asked,
+) -> Result<(), NoMemory>
+    requires { trees_of program.now ≡ code_program code.now }
+    ensures { OnOk result (AddsStages code.now source.now asked.now text.old text.new) }
+{
+    // What is lowered again needs that the operations are those of the program.
+    code.law();
+    let lowered = lower(alloc, code)?;
+    let layout = layout_of(code)?;
+    let positions = positions_of(alloc, source, code)?;
+    let statements = program.statements();
+    let mut work = Work {
+        draft: Draft::new(alloc),
+        makers: Makers {
+            first: Vec::new(alloc),
+            store: 0,
+        },
+        sorted: Sorted::new(alloc),
+    };
+    for at in 0..code.count() {
+        let position = position_at(&positions, at as usize);
+        let statement = &statements[at as usize];
+        append_stage(
+            text,
+            &mut work,
+            &lowered,
+            layout,
+            statement,
+            position,
+            at + 1,
+            asked,
+        )?;
+    }
+    text.push(b"DONE\n");
+    Ok(())
+}

@@ -1,0 +1,4 @@
+pub mod Words
+pub mod Job
+pub mod Tool
+pub mod Gives

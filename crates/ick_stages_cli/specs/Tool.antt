@@ -1,0 +1,50 @@
+-- What is answered to a job, by its source.
+use Rattle.std.specs.Prelude.{ℕ, ◌≡◌, ◌<◌, Bool, true, false, List, [], Option, Some, None, codes, length, nat_le}
+use Rattle.ick_bits.specs.Faults.{message_of}
+use Rattle.ick_bits.specs.declared.faults.FaultKind.{FaultKind}
+use Rattle.ick_source.specs.Refusals.{Compiles, IsRefused, longest}
+use Rattle.ick_syntax.specs.StatementTree.{StatementTree}
+use Rattle.ick_code.specs.Compiled.{IsCompiled, code_program}
+use Rattle.ick_code.specs.declared.code.Code.{Code}
+use Rattle.ick_inspect.specs.declared.text.Text.{Text}
+use Rattle.ick_job.specs.Answer.{Answer, refusal, shown}
+use Rattle.ick_job.specs.Notice.{notice_text}
+use Rattle.ick_job.specs.declared.notice.Notice.TheVariants as notice
+use Rattle.ick_stages.specs.Stages.{HasStages}
+use Rattle.ick_stages.specs.declared.stages.Asked.{Asked}
+use Rattle.ick_stages_cli.specs.Job.{Wanted}
+
+-- there is the only statement that is asked for
+abbrev pub is_there : (only : Option ℕ) → (count : ℕ) → Bool
+is_there None count = true
+is_there (Some n) count = nat_le n count
+
+abbrev pub no_statement : List ℕ
+no_statement = codes "NO SUCH STATEMENT\n"
+
+-- the answer by the stages of a code
+pub data IsCodeAnswer (asked : Asked) (source : List ℕ) (code : Code) : Answer → Type 0 where
+  no_such : is_there asked.only (length (code_program code)) ≡ false
+      → IsCodeAnswer asked source code (refusal 64 no_statement)
+  stages : (text : List ℕ) → is_there asked.only (length (code_program code)) ≡ true
+      → HasStages code source asked text → IsCodeAnswer asked source code (shown text)
+
+-- the answer to a source: it is too long, or it is refused, or it compiles to a code
+pub data IsSourceAnswer (asked : Asked) (source : List ℕ) : Answer → Type 0 where
+  too_long : longest < length source
+      → IsSourceAnswer asked source (refusal 2 (notice_text notice.SourceTooLong))
+  refused : (kind : FaultKind) (n : ℕ) → IsRefused source kind n
+      → IsSourceAnswer asked source (refusal 2 (message_of kind n []))
+  compiled : (code : Code) (answer : Answer) → Compiles source (code_program code)
+      → IsCompiled (code_program code) code → IsCodeAnswer asked source code answer
+      → IsSourceAnswer asked source answer
+
+-- the answer to a job, which has no source if the file did not open or a read of it failed
+pub data IsStagesAnswer (w : Wanted) : Option (List ℕ) → Answer → Type 0 where
+  not_read : IsStagesAnswer w None (refusal 4 (notice_text notice.FileNotRead))
+  read : (source : List ℕ) (answer : Answer) → IsSourceAnswer w.asked source answer
+      → IsStagesAnswer w (Some source) answer
+
+-- the answer that shows a text for which memory was not refused
+abbrev pub IsShown : Text → Answer → Type 0
+IsShown text answer = (text.refused ≡ false) × (answer ≡ shown text.bytes.items)
