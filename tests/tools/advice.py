@@ -186,15 +186,36 @@ def try_messages(tally):
     marks = {"E": "is fault 000 when it is done", "G": "no GIVE UP is ever done: the program can only end by a fault"}
     for source, wanted in ROWS:
         wanted = "".join(f"-:{line}\n" for line in wanted.format(**marks).splitlines()).encode()
-        found = tally.tool("ick-advice", given=source.encode())
+        found = tally.tool("ick-advice", "--brief", given=source.encode())
         tally.equal(f"advice on {source!r}", found, (1 if wanted else 0, wanted, b""))
+
+
+def try_pictures(tally):
+    """Without --brief each line has its text, a mark under the place, and the sentence."""
+    given = "no GIVE UP is ever done: the program can only end by a fault"
+    for source, wanted in (
+            (b"", f" --> -:1:1\n1 |\n  | ^\n  = {given}\n"),
+            (b"DO READ OUT .1\r\n\n", f" --> -:1:15\n1 | DO READ OUT .1\n  |               ^\n  = {given}\n"),
+            (b"PLEASE GIVE UP\n" * 9 + b"\tDO \xe6\x97\xa5\x1b\xff NOT.1 DO .1 <- 5", "  --> -:10:17\n"
+             "10 |  DO \u65e5?\ufffd NOT.1 DO .1 <- 5\n   |                ^\n"
+             "   = refused, E099: 11 statements, 9 with PLEASE: say PLEASE in 6 fewer\n"),
+            (b"PLEASE GIVE UP (1) DO NOTE \xe6\x97\xa5\x1b\xff\tDO .1 <- 5\n(2) DO DO NOT", " --> -:1:34\n"
+             "1 | PLEASE GIVE UP (1) DO NOTE \u65e5?\ufffd DO .1 <- 5\n  |                                 ^\n"),
+            (b"DO GIVE UP PLEASE NOTE " + b"A" * 200 + b"(7) DO NOTE " + b"B" * 200,
+             f" --> -:1:224\n1 | ..{'A' * 60}(7) DO NOTE {'B' * 22}..\n  | {' ' * 62}^\n"
+             "  = the comment in front hands its (7) to statement 3 as its label\n")):
+        status, out, err = tally.tool("ick-advice", given=source)
+        tally.check((status, err) == (1, b"") and wanted in out.decode(), f"the picture of {source!r}: {out.decode()}")
+        brief = tally.tool("ick-advice", "--brief", given=source)[1]
+        told = re.findall(r"^ *--> (.*)\n.*\n.*\n *= (.*)\n", out.decode(), re.MULTILINE)
+        tally.equal(f"--brief and else of {source!r}", [": ".join(one) for one in told], brief.decode().splitlines())
 
 
 def try_examples(tally):
     wanted = {"bodies.i": b"ick-convert --widths", "trap.i": b"cut at RANDOM", "edge.i": b"no GIVE UP", "lagoon.i": b"no GIVE UP"}
     for path in EXAMPLES:
         name = path.rsplit("/", 1)[1]
-        _, out, err = tally.tool("ick-advice", given=content(path))
+        _, out, err = tally.tool("ick-advice", "--brief", given=content(path))
         good = wanted[name] in out and out.count(b"\n") == 1 if name in wanted else not out
         tally.check(good and not err, f"advice on {path}: {out!r} {err!r}")
 
@@ -210,7 +231,7 @@ def try_peer(tally):
         if not refusals:
             continue
         number = refusals[0][0]
-        _, out, _ = tally.tool("ick-advice", path)
+        _, out, _ = tally.tool("ick-advice", "--brief", path)
         reason = {182: rb"refused, E182: .* since .* hands it on",
                   129: rb"the library has|refused, E129: .*floatlib"}.get(number, rb"$.")
         tally.check(re.search(reason, out) is not None, f"no reason for E{number} in {path}: {out[:400]!r}")
@@ -228,8 +249,8 @@ def try_explained(tally):
     for name in ("E017", "ICL017I"):
         tally.equal(name, tally.tool("ick-advice", "--explain", name), tally.tool("ick-advice", "--explain", "17"))
     manual, told = content(f"{TOP}/docs/MANUAL.md").decode(), {"SOURCE TOO LONG"}
-    for chapter in ("16", "20"):
-        text = manual.split(f"\n## {chapter} ")[1].split("\n## ")[0]
+    for title in ("Exit statuses", "Outcomes"):
+        text = re.split(rf"\n## \d+ {title}\n", manual)[1].split("\n## ")[0]
         found = re.findall(r"^\| \d+ \| `([A-Zn ]+?)(?: AFTER n STEPS)?` \|", text, re.MULTILINE)
         told |= {name.replace("n", "N") for name in found}
     tally.equal("the messages of the manual", told, set(ick_faults.MESSAGES))
@@ -260,6 +281,7 @@ def try_all(tally):
     closed_pipe(tally, "ick-advice", [], b"DO X " * 20000)
     try_cut(tally)
     try_messages(tally)
+    try_pictures(tally)
     try_examples(tally)
     try_peer(tally)
     try_explained(tally)
