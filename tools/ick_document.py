@@ -10,33 +10,19 @@ import os
 import pathlib
 import re
 
+import ick_completion
+import ick_hover
 import ick_library
+import ick_mending
+import ick_pieces
 import ick_source
 import ick_tool
-from ick_faults import FAULTS
 
 ERROR, WARNING, INFORMATION = 1, 2, 3
 FUNCTION, QUICK_FIX = 12, "quickfix"
-MESSAGE = re.compile(rb"(?:ICL|E)(\d{3})I?")
+TOLD = re.compile(r"refused, (E\d{3}): |statement (\d+) is fault 000 when it is done")
+NUMBER = re.compile(r"[(.:,;]?\s*(\d{1,9})\s*\)?")
 LINE_END = re.compile(rb"\r\n|\n|\r")
-
-# what a statement does, and the faults that it can have
-KINDS = {
-    "CALCULATE": ("stores a value in a variable or an element, or gives an array its dimensions", (240, 241, 275, 533)),
-    "NEXT": ("goes to a label, and keeps the way back on the NEXT stack", (123,)),
-    "FORGET": ("drops entries of the NEXT stack", (241, 533)),
-    "RESUME": ("goes back by entries of the NEXT stack", (241, 533, 621, 632)),
-    "STASH": ("keeps values aside", ()),
-    "RETRIEVE": ("brings back values that a STASH kept", (436,)),
-    "IGNORE": ("lets variables keep their values, whatever is stored", ()),
-    "REMEMBER": ("lets variables change again", ()),
-    "ABSTAIN": ("keeps statements from being done", ()),
-    "REINSTATE": ("lets statements be done again", ()),
-    "GIVE-UP": ("ends the run", ()),
-    "WRITE-IN": ("reads a line of digit names, or for a whole tail bytes", (241, 275, 533, 562, 579)),
-    "READ-OUT": ("writes numerals, or for a whole tail bytes", (241,)),
-    "UNRECOGNISED": ("can't be read", (0,)),
-}
 
 
 def load_advice():
@@ -48,13 +34,6 @@ def load_advice():
 
 
 ADVICE = load_advice()
-
-
-def routines():
-    """What each routine of the library gives, by its label, from the table of the library's README."""
-    path = ick_library.path("README.md")
-    rows = re.findall(rb"^\| \((\d+)\) \| (.*?) \| (.*?) \|", ick_tool.content(path) if path else b"", re.MULTILINE)
-    return {int(label): (gives.decode(), stops.decode()) for label, gives, stops in rows}
 
 
 def encoded(text):
@@ -121,10 +100,26 @@ class Document(Text):
 
     def diagnostics(self):
         """The advice: each from its place to the end of its statement in this line."""
-        return [{"range": self.range(at, self.end_of(at)), "message": text, "source": "ick",
+        return [{"range": self.range(at, self.end_of(at)), "source": "ick",
                  "severity": ERROR if text.startswith("refused") else
-                 INFORMATION if text.startswith(("no GIVE UP", "the library has")) or "--widths" in text else WARNING}
+                 INFORMATION if text.startswith(("no GIVE UP", "the library has")) or "--widths" in text else WARNING,
+                 "message": text, **self.further(at, text)}
                 for at, text in ADVICE.look_over(self.program)]
+
+    def further(self, at, text):
+        """The number of the message that an advice is about. If a statement can't be read, also where reading stops, and
+        what could have stood there.
+        """
+        told = TOLD.match(text)
+        if not told or told[1]:
+            return {"code": told[1]} if told else {}
+        one = self.statements[int(told[2]) - 1]
+        stop = min(one.stop, one.end)
+        place = {"uri": self.uri, "range": self.range(stop, max(stop, min(one.end, self.line_end(stop))))}
+        where = "" if stop == at else f" at line {self.line(stop)}, column {stop - self.lines[self.line(stop) - 1] + 1}"
+        more = "" if one.expected in text else f"\nReading stops{where or ' here'}, where {one.expected} could stand"
+        return {"code": "E000", "message": text + more,
+                "relatedInformation": [{"location": place, "message": f"here could stand {one.expected}"}]}
 
     def end_of(self, at):
         line, index = self.line_end(at), bisect.bisect_right(self.statements, at, key=lambda one: one.start)
@@ -132,50 +127,43 @@ class Document(Text):
         return max(at, min(line, end) if at < end else line)
 
     def hover(self, at):
-        """What a message's number means, or what the statement is, its faults, and the routine that it calls."""
-        line = self.lines[self.place(at)["line"]]
-        for found in MESSAGE.finditer(self.source, line, self.line_end(line)):
-            if found.start() <= at <= found.end() and int(found[1]) in FAULTS:
-                return self.explained(int(found[1])), self.range(*found.span())
+        found = ick_hover.hover(self, at)
+        return found and (found[0], self.range(*found[1:]))
+
+    def completions(self, at):
+        return ick_completion.completions(self, at)
+
+    def line(self, at):
+        return bisect.bisect_right(self.lines, at)
+
+    def shown(self, one):
+        """The text of a statement in one line."""
+        return " ".join(self.source[one.start:one.end].decode("utf-8", "replace").split())[:60]
+
+    def named_at(self, at):
+        """The variable or the label, with its places, that stands at a place or ends there."""
         one = self.statement_at(at)
-        if one is None:
-            return None
-        does, faults = KINDS[one.kind]
-        text = [f"**Statement {one.number}**" + (f", label ({one.label})" if one.label is not None else "")
-                + f": `{one.kind}` {does}."]
-        if one.abstained:
-            text.append("It is abstained from, so it isn't done until a REINSTATE.")
-        if one.chance < 100:
-            text.append(f"Its chance is {one.chance}%: each time a run meets it, it asks for a choice."
-                        if one.chance else "Its chance is 0%, so it is never done.")
-        labels = [label for label, _ in one.labels]
-        text += [f"({label}): {' '.join(self.routine(label))}" for label in labels if label in self.routines()]
-        text += [self.explained(number) for number in faults if one.may_be_done() or one.kind == "UNRECOGNISED"]
-        return "\n\n".join(text), self.range(one.start, one.end)
-
-    @staticmethod
-    def routines():
-        if not hasattr(Document, "known"):
-            Document.known = routines()
-        return Document.known
-
-    def routine(self, label):
-        gives, stops = self.routines()[label]
-        return [gives + ".", *([f"It ends the program if the result is {stops}."] if stops else [])]
-
-    @staticmethod
-    def explained(number):
-        meant, _, _, todo = FAULTS[number]
-        return f"**E{number:03}**: {meant} {todo}"
+        found = [*ick_pieces.labels(self.source, one), *ick_pieces.names(self.source, one)] if one else []
+        return next((it for ends in (0, 1) for it in found if it.start <= at < it.end + ends), None)
 
     def label_at(self, at):
         """The label that stands at a place: as a statement's own, or in its body."""
-        one = self.statement_at(at)
-        if one is None:
-            return None
-        own = one.label is not None and at <= self.source.index(b")", one.start) + 1
-        return one.label if own else next((label for label, start in one.labels
-                                           if start - 1 <= at <= self.source.index(b")", start) + 1), None)
+        named = self.named_at(at)
+        return named.label if isinstance(named, ick_pieces.Label) else None
+
+    def names_of(self, name):
+        """Each place where a statement names a variable."""
+        return [it for one in self.statements if ick_pieces.names_it(self.source, one, name)
+                for it in ick_pieces.names(self.source, one) if it.name == name]
+
+    def labels_of(self, label):
+        """Each place where a statement names a label or has it."""
+        return [it for one in self.statements if one.label == label or one.labels
+                for it in ick_pieces.labels(self.source, one) if it.label == label]
+
+    def all_of(self, named):
+        """Each place of what stands at a place."""
+        return self.labels_of(named.label) if isinstance(named, ick_pieces.Label) else self.names_of(named.name)
 
     def definition(self, label):
         """Where a label is: in this program, or in the library."""
@@ -192,17 +180,46 @@ class Document(Text):
     def label_range(self, one):
         return self.range(one.start, self.source.index(b")", one.start) + 1)
 
-    def references(self, label, declared):
-        """Each place where a statement names a label, and the label itself."""
-        found = [{"uri": self.uri, "range": self.range(start, start + len(re.match(rb"\d+", self.source[start:])[0]))}
-                 for one in self.statements for value, start in one.labels if value == label]
-        one = self.program.labelled.get(label)
-        return found + ([{"uri": self.uri, "range": self.label_range(one)}] if one and declared else [])
+    def references(self, at, declared):
+        """Each place where a statement names the variable or the label at a place, and the label itself."""
+        named = self.named_at(at)
+        return [{"uri": self.uri, "range": self.range(it.start, it.end)} for it in (self.all_of(named) if named else ())
+                if declared or not getattr(it, "is_own", False)]
+
+    def renamable(self, at):
+        """The range of the variable or the label that a place has, and its name, or None."""
+        named = self.named_at(at)
+        if named is None or self.lacks(named):
+            return None
+        return {"range": self.range(named.start, named.end),
+                "placeholder": f"({named.label})" if isinstance(named, ick_pieces.Label) else named.name}
+
+    def lacks(self, named):
+        """Whether a label is named that no statement has: another name for it would name nothing either."""
+        return isinstance(named, ick_pieces.Label) and named.label not in self.program.labelled
+
+    def renamed(self, at, new):
+        """The edits that give the variable or the label at a place another number. Raises ValueError if it can't have it."""
+        named, number = self.named_at(at), NUMBER.fullmatch(new.strip())
+        if named is None:
+            raise ValueError("there is no variable and no label")
+        if self.lacks(named):
+            raise ValueError(f"no statement has the label ({named.label})")
+        is_label = isinstance(named, ick_pieces.Label)
+        mark = "(" if is_label else named.name[0]
+        if not number or new.strip()[0] not in mark + "0123456789" or not 1 <= int(number[1]) <= ick_source.GREATEST:
+            raise ValueError(f"{new} is no {'label' if is_label else 'variable'} as {f'({named.label})' if is_label else named.name}"
+                             f": numbers go from 1 to {ick_source.GREATEST}")
+        value = int(number[1])
+        old = named.label if is_label else int(named.name[1:])
+        if value != old and (self.labels_of(value) if is_label else self.names_of(f"{mark}{value}")):
+            raise ValueError(f"{f'({value})' if is_label else f'{mark}{value}'} is used already")
+        return {"changes": {self.uri: [{"range": self.range(*it.digits), "newText": str(value)} for it in self.all_of(named)]}}
 
     def symbols(self):
         """The statements that have a label."""
         return [{"name": f"({one.label})", "kind": FUNCTION, "range": self.range(one.start, one.end),
-                 "detail": " ".join(self.source[one.start:one.end].decode("utf-8", "replace").split())[:60],
+                 "detail": self.shown(one),
                  "selectionRange": self.label_range(one)} for one in self.statements if one.label is not None]
 
     def actions(self, start, end):
@@ -216,7 +233,23 @@ class Document(Text):
             text = f"Say PLEASE in {wanted} more" if wanted > 0 else f"Say PLEASE in {-wanted} fewer"
             many = self.action(f"{text} statement{'s' * (len(chosen) > 1)}", chosen)
             found.insert(0, {**many, "isPreferred": True})
-        return found + self.pasting()
+        return found + self.mending(start, end) + self.pasting()
+
+    def mending(self, start, end):
+        """The actions by which more of a statement at these places is read: a mesh, and the end of a group."""
+        found = []
+        for one in self.statements:
+            if one.start <= end and start <= one.end and not one.read() and not one.abstained and ick_source.has_identifier(one):
+                for title, lacking in (("Write the number with a mesh", ick_mending.mesh), ("Close the group", ick_mending.group_end)):
+                    edits = [{"range": self.range(at, at), "newText": mark.decode()}
+                             for at, mark in ick_mending.insertions(self.source, one, lacking)]
+                    found += [self.change(f"{title}: {', '.join(self.mended(edits))}", edits)] if edits else []
+        return found
+
+    def mended(self, edits):
+        """What the insertions are: a mesh with its number, or a mark."""
+        places = [self.offset(edit["range"]["start"]) for edit in edits]
+        return [edit["newText"] + re.match(rb"\d*", self.source[at:])[0].decode() for edit, at in zip(edits, places)]
 
     def pasting(self):
         """The action that pastes the library's routines, if the program calls any that aren't there."""

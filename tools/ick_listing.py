@@ -1,4 +1,4 @@
-"""The lines that `ick runs`, `ick list` and `ick-outcomes` print, and texts in quotes."""
+"""The lines that `ick runs`, `ick list`, `ick-outcomes` and `ick-stages` print, and texts in quotes."""
 import re
 
 PLAIN = rb"[ !#-\[\]-~]*"
@@ -8,7 +8,17 @@ FAULT = rb"E([0-9]{3})@([0-9]+)"
 WEIGHED = rb"(\*|[1-9][0-9]*) ([0-9]+(?:/[1-9][0-9]*|(?:\.[0-9]+)?(?:\.\.)?)) "
 RUN = re.compile(CHOICES + rb" (GIVE-UP|LIMIT|" + FAULT + rb") " + QUOTED)
 OUTCOME = re.compile(WEIGHED + CHOICES + rb" (GIVE-UP|LIMIT|NEVER|" + FAULT + rb") " + QUOTED)
-STATEMENT = re.compile(rb"([0-9]+) (\([0-9]+\)|-) (PLEASE|DO) (NOT|-) ([0-9]+) ([A-Z-]+) " + QUOTED)
+PARTS = rb"(\([0-9]+\)|-) (PLEASE|DO) (NOT|-) ([0-9]+) ([A-Z-]+) " + QUOTED
+STATEMENT = re.compile(rb"([0-9]+) " + PARTS)
+# The lines of ick-stages: a statement with its line and column, and its stages.
+PLACED = re.compile(rb"([0-9]+) ([0-9]+):([0-9]+) " + PARTS)
+STAGES = {name: re.compile(rb"  " + name.encode() + rb" " + fields) for name, fields in {
+    "tree": rb"([ -~]+)",
+    "operation": rb"([0-9]+) ([0-9]+) ([A-Z][A-Za-z]*)(?: ([ -~]+))?",
+    "rule": rb"([0-9]+) ([a-z0-9~+-]+)(?:: ([ -~]+?))?(?: -> ([ -~]+))?",
+    "dropped": rb"([0-9]+) ([ -~]+)",
+    "instruction": rb"([0-9]+)(?: by ([0-9]+(?: [0-9]+)*))?: ([ -~]+)",
+}.items()}
 TEXT = re.compile(QUOTED)
 ENDS = (b"DONE", b"MORE")
 NAMED = {b"n": b"\n", b"\\": b"\\", b'"': b'"'}

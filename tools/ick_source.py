@@ -9,6 +9,9 @@ import sys
 
 HEIGHT = 256
 GREATEST = 65535
+# What statements do with the variables that they name. A subscript is read, whatever its array is used for.
+READ, STORED, DIMENSIONED = "read", "stored", "given dimensions"
+USES = {"STASH": "stashed", "RETRIEVE": "retrieved", "IGNORE": "ignored", "REMEMBER": "remembered", "WRITE-IN": STORED}
 ANY = "a statement of this language"
 SPACES = b"\t\n\v\f\r "
 WHITE = re.compile(rb"[\t-\r ]*")
@@ -56,16 +59,16 @@ class Statement:
     """A statement. Its places are those of bytes in the text, from 0.
 
     number, label, polite, abstained, chance and kind are the fields of `ick list`. The text goes from start to end, and
-    the body begins at body. meshes, names and labels are pairs of a value and its place in a recognised body. For an
-    unrecognised body, stop is where reading stopped, and expected says what could have come there. If it is the end of
-    a group, opened is where the group opens.
+    the body begins at body. meshes, names and labels are pairs of a value and its place in a recognised body, and uses
+    says what it does with each of the names. For an unrecognised body, stop is where reading stopped, and expected says
+    what could have come there. If it is the end of a group, opened is where the group opens.
     """
 
     def __init__(self, number, start):
         self.number, self.start, self.end, self.body = number, start, start, start
         self.label, self.polite, self.abstained, self.chance = None, False, False, 100
         self.kind, self.stop, self.expected, self.opened = "UNRECOGNISED", None, None, None
-        self.meshes, self.names, self.labels = [], [], []
+        self.meshes, self.names, self.labels, self.uses = [], [], [], []
 
     def read(self):
         return self.kind != "UNRECOGNISED"
@@ -90,7 +93,7 @@ class Reader:
 
     def __init__(self, text):
         self.text = text
-        self.meshes, self.names, self.labels = [], [], []
+        self.meshes, self.names, self.labels, self.uses, self.use = [], [], [], [], READ
 
     def next(self, at):
         """The place of the next byte that isn't white, and this byte."""
@@ -121,6 +124,7 @@ class Reader:
             raise Unread(start, expected)
         at, number = self.number(start + 1)
         self.names.append((number, start))
+        self.uses.append(self.use)
         return at
 
     def label(self, at):
@@ -145,13 +149,16 @@ class Reader:
         at, mark = self.next(at)
         return at + 1 if mark and mark in b"&V?" else at
 
+    def binary(self, at):
+        return at + 1
+
     def expression(self, at, mark, depth):
         if depth > HEIGHT:
             raise Unread(at, f"an expression that is at most {HEIGHT} high")
         at, height = self.operand(at, mark, depth)
         after, operator = self.next(at)
         if operator and operator in b"~$":
-            at, right = self.expression(after + 1, mark, depth + 1)
+            at, right = self.expression(self.binary(after), mark, depth + 1)
             height = 1 + max(height, right)
         return at, height
 
@@ -165,6 +172,7 @@ class Reader:
         if first and first in b".:":
             at, number = self.number(self.unary(start + 1))
             self.names.append((number, start))
+            self.uses.append(READ)
             return at, 1
         if first == b"#":
             return self.mesh(start, True), 1
@@ -176,7 +184,9 @@ class Reader:
     def element(self, start, mark, depth):
         at = self.name(start, b",;", "an array")
         at = self.expect(at, b"SUB")
+        use, self.use = self.use, READ
         at, height = self.subscripts(at, mark, depth + 1)
+        self.use = use
         return at, height + 1
 
     def subscripts(self, at, mark, depth):
@@ -225,6 +235,7 @@ class Reader:
         return end
 
     def whole(self, at):
+        self.use = READ
         return self.measured(self.expression(at, b"", 1), at)
 
     def body(self, at):
@@ -242,8 +253,10 @@ class Reader:
 
     def calculation(self, start, first):
         after = self.number(start + 1)[0]
+        self.use = STORED
         if first in b".:" or self.word(after, b"SUB"):
             return self.whole(self.expect(self.target(start), b"<-"))
+        self.use = DIMENSIONED
         at = self.expect(self.name(start, b",;", "an array"), b"<-")
         at = self.whole(at)
         while self.word(at, b"BY"):
@@ -251,6 +264,7 @@ class Reader:
         return at
 
     def rest(self, at, kind):
+        self.use = USES.get(kind, READ)
         if kind in ("FORGET", "RESUME"):
             return self.whole(at)
         if kind in ("STASH", "RETRIEVE", "IGNORE", "REMEMBER"):
@@ -304,6 +318,7 @@ def finish(text, statement, after_head):
             raise Unread(end, "the end of the statement")
         statement.kind = kind
         statement.meshes, statement.names, statement.labels = reader.meshes, reader.names, reader.labels
+        statement.uses = reader.uses
     except Unread as stop:
         statement.stop, statement.expected, statement.opened = stop.at, stop.expected, stop.opened
         found = START.search(text, after_head)

@@ -18,6 +18,7 @@ PROGRAMS = {
     "ick": ("ICK", (), "check", b"0 STATEMENTS, 0 POLITE\n"),
     "ick-outcomes": ("ICK_OUTCOMES", ("outcomes",), "--total", b"1 OUTCOMES, 1 RUNS\n"),
     "ick-step": ("ICK_STEP", ("step",), "-b", b"0 1 past the last statement\n"),
+    "ick-stages": ("ICK_STAGES", ("stages",), "--tree", b"DONE\n"),
 }
 HERE = os.path.dirname(os.path.realpath(__file__))
 NAME = os.path.basename(sys.argv[0])

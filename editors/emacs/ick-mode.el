@@ -19,6 +19,10 @@
            "\\|REINSTATING\\|WRITING IN\\|READING OUT\\|NEXT\\|FORGET\\|RESUME\\|STASH\\|RETRIEVE\\|IGNORE\\|REMEMBER"
            "\\|ABSTAIN\\|FROM\\|REINSTATE\\|GIVE UP\\|WRITE IN\\|READ OUT\\|SUB\\|BY")))
 
+(defconst ick-mode--library
+  (ick-mode--pattern "BEFORE THE LIBRARY BEGINS\\|EXPECT NO ANSWER, FOR THE RESULT IS TOO LARGE")
+  "What the library's two statements say that can't be read on purpose.")
+
 (defun ick-mode--comment (limit)
   "Find a comment before LIMIT: NOT or N'T behind an identifier, up to the next start."
   (when (re-search-forward
@@ -38,12 +42,15 @@
                        (goto-char end)
                        (set-match-data (list label end)))))
           (setq end (match-beginning 0)))
+        ;; what lies behind LIMIT has its face already, and a match that has a face is passed over
+        (setq end (min end limit))
         (goto-char end)
         (set-match-data (list start end))
         t))))
 
 (defconst ick-mode-font-lock-keywords
   `((ick-mode--comment . font-lock-comment-face)
+    (,ick-mode--library . font-lock-doc-face)
     (,ick-mode--words . font-lock-builtin-face)
     (,ick-mode--identifier . font-lock-keyword-face)
     (,(ick-mode--pattern "% [0-9]+") . font-lock-preprocessor-face)
@@ -53,22 +60,48 @@
     ("[^\t-\r ]" . font-lock-warning-face))
   "What a program shows in which face. What nothing else takes can't be read.")
 
+;; A comment ends at the next identifier, or at the second one if the first one is in READOUT. So a change makes no other
+;; face in front of the second identifier before it, or behind the third one from the word that it is in.
+(defun ick-mode--around (start end)
+  "Return the places from which and up to which a text from START to END has to be shown again."
+  (let ((case-fold-search nil))
+    (save-excursion
+      (save-restriction
+        (widen)
+        (cons (progn (goto-char start)
+                     (re-search-backward ick-mode--identifier nil 'to-the-start 2)
+                     (while (and (looking-back "REA\\|U" (- (point) 3)) ; READOUT, GIVE UP
+                                 (re-search-backward ick-mode--identifier nil 'to-the-start)))
+                     (point))
+              (progn (goto-char end)
+                     (skip-chars-backward "A-Z" (- (point) 5)) ; PLEASE
+                     (re-search-forward ick-mode--identifier nil 'to-the-end 3)
+                     (skip-chars-forward "UT") ; READOUT
+                     (point)))))))
+
+(defun ick-mode--changed (start end _length)
+  "Return what has to be shown again after a change from START to END."
+  (ick-mode--around start end))
+
+(defvar font-lock-beg)
+(defvar font-lock-end)
+
 (defun ick-mode--extend ()
-  "Fontify whole programs, since a comment can begin anywhere before a place."
-  (defvar font-lock-beg)
-  (defvar font-lock-end)
-  (unless (and (= font-lock-beg (point-min)) (= font-lock-end (point-max)))
-    (setq font-lock-beg (point-min) font-lock-end (point-max))))
+  "Show whole statements at a time, since a comment can begin in an earlier line."
+  (let ((around (ick-mode--around font-lock-beg font-lock-end)))
+    (setq font-lock-beg (max (point-min) (car around))
+          font-lock-end (min (point-max) (cdr around)))))
 
 ;;;###autoload
 (define-derived-mode ick-mode prog-mode "INTERCAL"
   "Major mode for INTERCAL-72."
   (setq-local font-lock-defaults '(ick-mode-font-lock-keywords t nil)
-              font-lock-multiline t
+              font-lock-extend-after-change-region-function #'ick-mode--changed
+              ;; it is called once for each text, and no other function extends what it has found
+              font-lock-extend-region-functions '(ick-mode--extend)
               comment-start "DO NOTE "
               comment-start-skip "\\(?:DO\\|PLEASE\\)[\t-\r ]*N\\(?:OT\\|'T\\)E?[\t-\r ]*"
-              comment-end "")
-  (add-hook 'font-lock-extend-region-functions #'ick-mode--extend nil t))
+              comment-end ""))
 
 (defun ick-mode-p ()
   "Return whether the buffer has a file NAME.i with DO or PLEASE in its first lines."

@@ -15,18 +15,19 @@ sys.path.insert(0, TOOLS)
 
 
 class ToolTally(Tally):
-    """A tally of the tests of tools, with the programs `ick`, `ick-outcomes` and `ick-step`."""
+    """A tally of the tests of tools, with the programs `ick`, `ick-outcomes`, `ick-step` and `ick-stages`."""
 
     def __init__(self, program):
         super().__init__()
         self.program = os.path.realpath(program)
-        self.outcomes, self.step = (os.path.realpath(programs(None, crate)[0]) for crate in ("outcomes", "step"))
+        self.outcomes, self.step, self.stages = (os.path.realpath(programs(None, crate)[0])
+                                                 for crate in ("outcomes", "step", "stages"))
 
     def ick(self, *arguments, given=b""):
         return called([self.program, *arguments], given)
 
     def tool(self, name, *arguments, given=b"", path=None):
-        environment = dict(os.environ, ICK_OUTCOMES=self.outcomes, ICK_STEP=self.step,
+        environment = dict(os.environ, ICK_OUTCOMES=self.outcomes, ICK_STEP=self.step, ICK_STAGES=self.stages,
                            **({"PATH": path} if path is not None else {}))
         return called([sys.executable, "-W", "error", os.path.join(TOOLS, name), *arguments], given, environment)
 

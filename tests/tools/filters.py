@@ -29,14 +29,43 @@ OF_OUTCOMES = (
      "output": "", "base64": "", "numerals": []},
     {"listing": "DONE"},
 )
-WRONG = (b'1 1/0 0 GIVE-UP ""\n', b"HELLO\n", b'0 GIVE-UP ""x\n', b'2 GIVE-UP ""\n', b'0 GIVE-UP "\\q"\n', b'0 E1@1 ""\n')
+STAGES = (b'2 2:9 (7) DO - 100 CALCULATE "DO .1 <- .2"\n  tree .1 <- .2\n  operation 1 1 Load .2\n  operation 3 1 Mingle\n'
+          b"  rule 1 read-in-place -> .2, 16 bits\n  rule 3 no-check: Check :1 | t1 = Mingle :1 .2 -> t1, 32 bits, :1 $ .2\n"
+          b"  rule 7 select-from-the-right-operand+select-all -> .2, 16 bits\n  rule 1 statement-that-stays\n"
+          b"  rule 8 n~n: t1 = Ones .2 -> t1, 16 bits, .2 ~ .2\n  dropped 3 t1 = Ones .2\n"
+          b"  instruction 1 by 8 9: .1 = LookUp .2 [0>0 2>1]\n  instruction 2: Pass\nDONE\n")
+OF_STAGES = (
+    {"statement": 2, "line": 2, "column": 9, "label": 7, "polite": False, "abstained": False, "chance": 100,
+     "kind": "CALCULATE", "text": "DO .1 <- .2", "base64": "RE8gLjEgPC0gLjI="},
+    {"stage": "tree", "body": ".1 <- .2"},
+    {"stage": "operation", "number": 1, "depth": 1, "operation": "Load", "names": ".2"},
+    {"stage": "operation", "number": 3, "depth": 1, "operation": "Mingle", "names": None},
+    {"stage": "rule", "number": 1, "rules": ["read-in-place"], "instructions": [], "value": ".2, 16 bits"},
+    {"stage": "rule", "number": 3, "rules": ["no-check"], "instructions": ["Check :1", "t1 = Mingle :1 .2"],
+     "value": "t1, 32 bits, :1 $ .2"},
+    {"stage": "rule", "number": 7, "rules": ["select-from-the-right-operand", "select-all"], "instructions": [],
+     "value": ".2, 16 bits"},
+    {"stage": "rule", "number": 1, "rules": ["statement-that-stays"], "instructions": [], "value": None},
+    {"stage": "rule", "number": 8, "rules": ["n~n"], "instructions": ["t1 = Ones .2"], "value": "t1, 16 bits, .2 ~ .2"},
+    {"stage": "dropped", "number": 3, "instruction": "t1 = Ones .2"},
+    {"stage": "instruction", "number": 1, "by": [8, 9], "instruction": ".1 = LookUp .2 [0>0 2>1]"},
+    {"stage": "instruction", "number": 2, "by": [], "instruction": "Pass"},
+    {"listing": "DONE"},
+)
+WRONG = (b'1 1/0 0 GIVE-UP ""\n', b"HELLO\n", b'0 GIVE-UP ""x\n', b'2 GIVE-UP ""\n', b'0 GIVE-UP "\\q"\n', b'0 E1@1 ""\n',
+         b"  tree \n", b"  branch 1\n", b"  operation 1 Load\n", b"  rule 1 No\n", b"  instruction 1 by : Pass\n",
+         b"  tree \x80\n")
 NO_OBJECTS = (b"[]\n", b"{}\n", b"1\n", b"x\n", b'{"listing": "END"}\n', b'{"choices": "2", "end": "LIMIT", "base64": ""}\n',
-              b'{"choices": "0", "end": "LIMIT", "base64": "?"}\n', b"[" * 5000 + b"\n")
+              b'{"choices": "0", "end": "LIMIT", "base64": "?"}\n', b"[" * 5000 + b"\n", b'{"stage": "tree"}\n',
+              b'{"stage": "dropped", "number": "x", "instruction": "Pass"}\n',
+              b'{"stage": [], "number": 1, "instruction": "Pass"}\n',
+              b'{"stage": "tree", "body": "a\\nDONE"}\n', b'{"stage": "rule", "number": 1, "rules": 1}\n')
 
 
 def try_json(tally):
     sys.set_int_max_str_digits(0)
-    for name, lines, objects in (("runs", RUNS, OBJECTS), ("outcomes", OUTCOMES, OF_OUTCOMES)):
+    for name, lines, objects in (("runs", RUNS, OBJECTS), ("outcomes", OUTCOMES, OF_OUTCOMES),
+                                 ("stages", STAGES, OF_STAGES)):
         status, out, err = tally.tool("ick-json", "--numerals", given=lines)
         tally.equal(f"ick-json of {name}", (status, err, [json.loads(line) for line in out.splitlines()]),
                     (0, b"", list(objects)))
@@ -44,7 +73,8 @@ def try_json(tally):
     tally.equal("ick-json of a long weight", [json.loads(tally.tool("ick-json", given=long)[1].splitlines()[0])[name]
                                               for name in ("numerator", "decimal")], [1, 0])
     examples = [path for kind in ("runs", "list", "outcomes") for path in sorted(glob.glob(f"{TOP}/examples/*.{kind}"))]
-    listing = RUNS + OUTCOMES + b"".join(map(content, examples))
+    examples += sorted(glob.glob(f"{TOP}/tests/stages/*.stages"))
+    listing = RUNS + OUTCOMES + STAGES + b"".join(map(content, examples))
     status, out, err = tally.tool("ick-json", given=listing)
     bare = b"".join(json.dumps({key: value for key, value in json.loads(line).items() if key not in ("output", "text")})
                     .encode() + b"\n" for line in out.splitlines())
@@ -61,6 +91,9 @@ def try_json(tally):
         status, out, err = tally.tool("ick-json", *options, given=listing)
         tally.check(status == 1 and out.count(b"\n") == 3 and err.startswith(b"ick-json: the listing has no last line"),
                     f"ick-json {options} of a listing without its last line: {status} {err!r}")
+    for lines in (STAGES[:-5], STAGES.splitlines(True)[0]):
+        status, out, err = tally.tool("ick-json", given=lines)
+        tally.check(status == 1 and b"no last line" in err, f"ick-json of stages without a last line: {status} {err!r}")
 
 
 def try_say(tally):

@@ -68,3 +68,4 @@ def try_all(tally):
     try_program(tally, "ick", "ick", "ICK", tally.program)
     try_program(tally, "ick-outcomes", "outcomes", "ICK_OUTCOMES", tally.outcomes)
     try_program(tally, "ick-step", "step", "ICK_STEP", tally.step)
+    try_program(tally, "ick-stages", "stages", "ICK_STAGES", tally.stages)

@@ -87,10 +87,10 @@ def try_diagnostics(tally):
     for path in EXAMPLES:
         source = content(path)
         _, found = talk(tally, opened(source.decode("latin-1")))
-        told = [line.split(b": ", 1) for line in tally.tool("ick-advice", given=source)[1].splitlines()]
+        told = [line.split(b": ", 1) for line in tally.tool("ick-advice", "--brief", given=source)[1].splitlines()]
         wanted = [(int(place.split(b":")[1]) - 1, int(place.split(b":")[2]) - 1, text.decode()) for place, text in told]
         tally.equal(f"the advice on {path}", [(one["range"]["start"]["line"], one["range"]["start"]["character"],
-                                              one["message"]) for one in diagnostics(found)[0]], wanted)
+                                              one["message"].split("\n")[0]) for one in diagnostics(found)[0]], wanted)
 
 
 def try_answers(tally):
@@ -348,12 +348,13 @@ def bodies(drawn, count):
              "DO .1 <- #1\rPLEASE (1) NEXT", replaced((0, 1), (0, 4), "(1) DO X\n"),
              replaced((0, 0), (9, 0), "DO READOUT .1\n(2) DO (1) NEXT")]
     methods = ["initialize", "$/cancelRequest", "no/such", *(f"textDocument/{name}" for name in (
-        "didOpen", "didChange", "didClose", "hover", "definition", "references", "documentSymbol", "codeAction"))]
+        "didOpen", "didChange", "didClose", "hover", "definition", "references", "documentSymbol", "codeAction", "completion",
+        "prepareRename", "rename"))]
     for number in range(count):
         where = {"line": drawn.randrange(4), "character": drawn.randrange(20)}
         given = {"textDocument": {"uri": URI, "text": "DO (1) NEXT\n(1) DO READ OUT !1\nPLEASE GIVE UP"},
                  "position": where, "range": {"start": where, "end": where}, "context": {"includeDeclaration": True},
-                 "contentChanges": drawn.choices(words[-2:], k=2), "id": number - 1}
+                 "contentChanges": drawn.choices(words[-2:], k=2), "id": number - 1, "newName": drawn.choice(("3", ".4", "(5)"))}
         message = {"jsonrpc": "2.0", "id": number, "method": drawn.choice(methods), "params": given}
         if drawn.random() < 0.3 and "did" in message["method"]:
             del message["id"]

@@ -4,6 +4,7 @@ import os
 import pty
 import re
 import select
+import signal
 import struct
 import subprocess
 import sys
@@ -26,6 +27,7 @@ DO RETRIEVE .2
 PLEASE RESUME #1
 """
 LINES = b"DO .1 <- #1\nPLEASE FOO\n5 BAR\n  at 9 X\n"
+LOOP = b"DO .1 <- #1\n(1) DO FORGET #1\nPLEASE (1) NEXT\n"
 ASKS = b"DO %50 READ OUT #1\nPLEASE WRITE IN .1\nDO GIVE UP\n"
 REDRAW = "\f"
 CODES = re.compile(rb"\x1b(?:\[[0-9;?]*[A-Za-z]|[()][0-9A-Za-z]|.)|[\x0e\x0f]")
@@ -87,6 +89,59 @@ def try_keys(tally, rows, words, size):
     os.close(terminal)
 
 
+def start(tally, words, kind):
+    """Starts the tool on a terminal of a kind. Returns the tool and the terminal's other end."""
+    terminal, other = pty.openpty()
+    fcntl.ioctl(other, termios.TIOCSWINSZ, struct.pack("HHHH", 24, 80, 0, 0))
+    tool = subprocess.Popen([sys.executable, os.path.join(TOOLS, "ick-tui"), *words], stdin=other, stdout=other,
+                            stderr=subprocess.PIPE, env=dict(os.environ, TERM=kind, ICK_STEP=tally.step))
+    os.close(other)
+    return tool, terminal
+
+
+def end(tally, tool, terminal, name, wanted):
+    """Compares the status and what the tool says on its error stream."""
+    while select.select([terminal], [], [], 0.1)[0] or tool.poll() is None:
+        try:
+            os.read(terminal, 65536)
+        except OSError:  # the tool has closed its terminal
+            break
+    tally.equal(name, (tool.wait(SECONDS), tool.stderr.read()), wanted)
+    tool.stderr.close()
+    os.close(terminal)
+
+
+def try_long_run(tally, path):
+    """A key stops a long run, and the session goes on. TERM ends the tool, and the end of ick-step is told."""
+    tool, terminal = start(tally, ["--limit", "4000000000", path], "vt100")
+    os.write(terminal, b"r")
+    tally.check(seen(terminal, ["any key stops"]), "ick-tui: a long run doesn't show its steps")
+    os.write(terminal, b" " + REDRAW.encode())
+    tally.check(seen(terminal, ["steps: ", "s step"]), "ick-tui: a key doesn't stop a long run")
+    os.write(terminal, ("b" * 3 + REDRAW).encode())
+    tally.check(seen(terminal, ["steps: "]), "ick-tui: no step back after a run that was stopped")
+    tool.terminate()
+    end(tally, tool, terminal, "ick-tui after TERM", (143, b""))
+    tool, terminal = start(tally, [path], "vt100")
+    tally.check(seen(terminal, ["steps: 0"]), "ick-tui: no first screen")
+    with open(f"/proc/{tool.pid}/task/{tool.pid}/children", encoding="ascii") as children:
+        os.kill(int(children.read()), signal.SIGKILL)
+    os.write(terminal, b"s")
+    end(tally, tool, terminal, "ick-tui without its program", (4, b"ick-tui: ick-step: ended by the signal SIGKILL\n"))
+
+
+def try_colours(tally, path):
+    """A terminal with colours shows the next statement in one, and another terminal gets no code of a colour."""
+    for kind, has_colours in (("xterm-256color", True), ("vt100", False)):
+        tool, terminal = start(tally, [path], kind)
+        written = b""
+        while select.select([terminal], [], [], 1)[0]:
+            written += os.read(terminal, 65536)
+        tally.equal(f"colours on {kind}", bool(re.search(rb"\x1b\[[0-9;]*36m", written)), has_colours)
+        os.write(terminal, b"q")
+        end(tally, tool, terminal, f"ick-tui on {kind}", (0, b""))
+
+
 def try_all(tally):
     help_and_mistakes(tally, "ick-tui")
     double, asks, lines, entered = (os.path.join(tally.folder, name) for name in ("double.i", "asks.i", "lines.i", "input"))
@@ -96,6 +151,10 @@ def try_all(tally):
         try_keys(tally, FAULT, [double], size)
     try_keys(tally, CHOICES, ["--input", entered, asks], (12, 60))
     try_keys(tally, TEXT, [lines], (24, 80))
+    loop = os.path.join(tally.folder, "loop.i")
+    write(loop, LOOP)
+    try_long_run(tally, loop)
+    try_colours(tally, double)
     status, out, err = tally.tool("ick-tui", "--seed", "x", double)
     tally.check(status == 4 and not out and err.startswith(b"ick-tui: ick-step: "), f"ick-tui --seed x: {status} {err!r}")
     status, out, err = tally.tool("ick-tui", double)

@@ -3,7 +3,7 @@ import os
 import random
 import sys
 
-from common import EXAMPLES, LIBRARY, TOP, called, content
+from common import EXAMPLES, LIBRARY, TOOLS, TOP, called, content, write
 
 sys.path.insert(0, os.path.join(TOP, "tests", "fuzz"))
 import ick_source
@@ -42,7 +42,9 @@ def try_groups(tally, name, source, names):
         found = {place for place, one in enumerate(names) if one == group}
         tally.equal(f"{group} in {name}", sorted(found - ends), sorted(wanted - ends))
     wrong = sorted(place for place in recognised if names[place] == "ickUnread")
-    tally.check(not wrong, f"{name}: vim shows {[source[place:place + 20] for place in wrong[:3]]} as an error")
+    if name in LIBRARY:  # also what can't be read there on purpose
+        wrong = [place for place in range(len(source)) if names[place] == "ickUnread"]
+    tally.check(not wrong, f"{name}: {[source[place:place + 20] for place in wrong[:3]]} is shown as an error")
 
 
 def groups_of(paths):
@@ -50,6 +52,29 @@ def groups_of(paths):
     called(["vim", "-es", "-u", "NONE", "-N", "-S", f"{TOP}/tests/tools/groups.vim", *paths], b"",
            dict(os.environ, SYNTAX=f"{TOP}/editors/vim/syntax/ick.vim"))
     return [content(f"{path}.groups").decode().replace("\n", " . ").split() for path in paths]
+
+
+def try_middle(tally):
+    """Lines in the middle of a program are shown right without those far in front of them."""
+    path = f"{tally.folder}/middle.i"
+    write(path, b"DO READ OUT .1\nPLEASE NOTE: THIS IS A COMMENT\n    THAT GOES ON HERE\n    AND HERE\n" * 200 + b"DO GIVE UP\n")
+    called(["vim", "-es", "-u", "NONE", "-N", "-S", f"{TOP}/tests/tools/middle.vim", path], b"",
+           dict(os.environ, SYNTAX=f"{TOP}/editors/vim/syntax/ick.vim"))
+    tally.equal("vim's groups in the middle of a program", content(f"{path}.groups"), b"ickComment\n" * 2)
+
+
+def try_make(tally):
+    """:make has each line of ick-advice --brief, at its place."""
+    paths = [f"{tally.folder}/{name}" for name in ("a b.i", "sound.i", "unsound.i")]
+    for path, source in zip(paths, (b"DO .1 <- 5\n  DO .2 <- 6: 7\nPLEASE GIVE UP\n", b"DO GIVE UP\n",
+                                    b"PLEASE NOTE RANDOM\nDO (7) NEXT\nDO GIVE UP\n")):
+        write(path, source)
+    called(["vim", "-es", "-u", "NONE", "-N", "-S", f"{TOP}/tests/tools/make.vim", *paths], b"",
+           dict(os.environ, EDITORS=f"{TOP}/editors/vim", PATH=f"{TOOLS}:{os.environ['PATH']}"))
+    for path in paths:
+        told = [line.split(":", 3) for line in tally.tool("ick-advice", "--brief", path)[1].decode().splitlines()]
+        found = content(f"{path}.found").decode().splitlines() if os.path.exists(f"{path}.found") else ["none"]
+        tally.equal(f":make of {path}", found, ["\t".join([line, column, text.strip(), name]) for name, line, column, text in told])
 
 
 def try_all(tally):
@@ -61,3 +86,5 @@ def try_all(tally):
             file.write(source)
     for (name, source, _), names in zip(tried, groups_of([path for *_, path in tried])):
         try_groups(tally, name, source, names)
+    try_make(tally)
+    try_middle(tally)

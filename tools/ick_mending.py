@@ -1,0 +1,34 @@
+"""Insertions by which ick reads more of a statement that it can't read: a mesh in front of a number, the end of a group."""
+import ick_source
+
+MOST = 50  # insertions. Each of them cuts the statement anew
+
+
+def mesh(statement, text):
+    """The mark that a number lacks where reading stopped."""
+    return b"#" if text[statement.stop:statement.stop + 1].isdigit() else b""
+
+
+def group_end(statement, _):
+    """The mark that closes the group in which reading stopped."""
+    return statement.expected[0].encode() if statement.expected.endswith("to close the group") else b""
+
+
+def insertions(source, statement, lacking):
+    """The insertions, each a place and marks, after which reading comes further. `lacking` says what a statement lacks."""
+    text, found = source[statement.start:statement.end], []
+    for _ in range(MOST):
+        one = ick_source.cut(text)[0]
+        mark = b"" if one.read() else lacking(one, text)
+        if not mark:
+            break
+        further = text[:one.stop] + mark + text[one.stop:]
+        again = ick_source.cut(further)[0]
+        if not again.read() and again.stop < one.stop + len(mark):
+            break
+        place = statement.start + one.stop - sum(len(marks) for _, marks in found)
+        if found and found[-1][0] == place:
+            mark = found.pop()[1] + mark
+        found.append((place, mark))
+        text = further
+    return found
