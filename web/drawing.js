@@ -122,7 +122,8 @@ function columnsOf(parts) {
   });
 }
 
-const kindOf = (end) => (end === 'GIVE-UP' ? '' : end === 'LIMIT' ? ' limit' : ' fault');
+const KINDS_OF_ENDS = { 'GIVE-UP': '', LIMIT: ' limit', NEVER: ' limit' };
+const kindOf = (end) => KINDS_OF_ENDS[end] ?? ' fault';
 
 class Drawing {
   constructor(parts) {

@@ -1,17 +1,8 @@
 // The worker as the page sees it: one call at a time, which can be stopped.
 'use strict';
 
-// A module with a memory of 64-bit addresses, and nothing else.
-const MEMORY_64 = Uint8Array.of(0, 97, 115, 109, 1, 0, 0, 0, 5, 3, 1, 4, 0);
-
-// Tells whether this browser can run the page's module.
-function canRun() {
-  try {
-    return WebAssembly.validate(MEMORY_64);
-  } catch {
-    return false;
-  }
-}
+// Tells whether this browser runs WebAssembly: a phone in a lockdown doesn't.
+const canRun = () => typeof WebAssembly === 'object';
 
 class Engine {
   // The texts of the worker's script and of the module in base 64.

@@ -6,9 +6,12 @@ const bytesOf = (text) => new TextEncoder().encode(text);
 const argvOf = (words) => bytesOf(words.map((word) => `${word}\0`).join(''));
 
 const MOST = 1 << 22; // bytes of an answer that the page takes
+const MOST_OUTCOMES = (1 << 25) - 16; // bytes of outcomes that it takes: with its header, a block of heap.c
 const SHOWN = 200000; // characters of a text that it shows
 const DRAWN = 200; // parts of the tree that are drawn
+const NARROWEST = .7; // how far a tree is narrowed at most, so that it fits and can still be read
 const DEEPEST = 1e6; // choices of a run that are read
+const LATE = 150; // milliseconds after which a call shows how long it takes, and how often it does
 const PAUSE = 250; // milliseconds without a key, after which the program is looked over
 const LIMIT_OF_RUNS = '10000'; // the default of `ick runs`, which is another one than that of `ick run`
 const FIRST = 'quiet'; // the example that the page begins with
@@ -16,17 +19,19 @@ const FIELDS = ['source', 'input', 'choices', 'seed', 'limit', 'count'];
 const STORE = 'ick.form'; // where the tab keeps the form
 const PARTS = ['drawn', 'written', 'said', 'question', 'stepped', 'weighed', 'listed'];
 const ASKED = 2000; // runs in a listing whose tree says what asks
+const ADVISED = 200; // pieces of advice that are listed; the lines of all are marked
 const HEADLINES = {
   0: ['ok', 'Done'], 1: ['bad', 'The run ends by a fault'], 2: ['bad', 'The program is refused'],
   3: ['wait', 'The run reaches its limit'], 4: ['bad', 'Something ran out or failed'],
   64: ['bad', 'An option is wrong'],
 };
 const GAVE_UP = ['ok', 'The program gave up'];
-const BROWSERS = 'This page needs WebAssembly with 64-bit memory, which Chrome, Chromium and Edge have from version '
-  + '133 on, and Firefox from version 134 on.';
+const UNABLE = 'This page needs WebAssembly, which this browser lacks or has switched off.';
 
 const { examples, library, advice: tables, made } = JSON.parse($('content').textContent);
 const advice = new Advice(tables);
+const advising = [...document.querySelectorAll('[data-advises]')].map((it) => it.textContent);
+const adviser = new Adviser(advising, tables, advise);
 const editor = new Editor($('source'), $('numbers'), $('shown'));
 let engine = null; // null if this browser can't run the module
 let listing = null; // the runs that are shown, and what was asked for them
@@ -37,6 +42,7 @@ let filled = ''; // the form as it was last filled, as text: what differs was ty
 let kept = null; // the form that was typed before an example or a file took its place
 let failing = null; // the line of the last fault or refusal, and what is to be said of it
 let meeting = null; // the statement that a session meets next, and its line
+let advised = { source: '', found: [] }; // the source that was looked over last, and what was found in it
 
 /* The form */
 
@@ -52,7 +58,9 @@ function fill(fields) {
   for (const id of FIELDS) $(id).value = String(fields[id] ?? '');
   for (const box of boxes()) box.checked = Array.isArray(fields.library) && fields.library.includes(box.value);
   filled = JSON.stringify(form());
+  advised = { source: '', found: [] };
   changed();
+  mark();
 }
 
 // Fills the form, and keeps what was typed before.
@@ -61,6 +69,7 @@ function replace(fields) {
   fill(fields);
   clear();
   $('kept').hidden = kept === null;
+  $('shows').hidden = true;
 }
 
 function undo() {
@@ -88,7 +97,8 @@ function restore() {
     if (address !== location.href) return false;
     fill(fields);
     if (isTyped) filled = '';
-    $('example').value = example;
+    if (isTyped || !examples.some((it) => it.name === example)) $('example').value = example;
+    else choose($('example').value = example);
     return true;
   } catch {
     return false;
@@ -110,12 +120,27 @@ function changed() {
   }, PAUSE);
 }
 
-// Marks the lines of all advice, and of the last fault or refusal.
+// Has the program looked over, unless that is done. The worker answers by `advise`.
 function lookOver() {
   clearTimeout(looking);
-  const fields = form(), most = fields.source.split('\n').length, marks = new Map();
-  const isLookedOver = fields.source.trim() !== '' && fields.source.length <= COLOURED;
-  const found = (isLookedOver ? advice.of(sourceOf(fields)) : []).map(({ line, text }) =>
+  const fields = form(), isLookedOver = fields.source.trim() !== '' && fields.source.length <= COLOURED;
+  const source = isLookedOver ? sourceOf(fields) : '';
+  if (source === '') advised = { source, found: [] };
+  if (source !== advised.source) adviser.look(source);
+  mark();
+}
+
+// Takes what was found in a source, unless another one is in the form by now.
+function advise(source, found) {
+  if (source !== sourceOf(form())) return;
+  advised = { source, found };
+  mark();
+}
+
+// Marks the lines of all advice, of the last fault or refusal, and of the statement that is met next.
+function mark() {
+  const most = $('source').value.split('\n').length, marks = new Map();
+  const found = advised.found.map(({ line, text }) =>
     ({ line: Math.min(line, most), text, kind: text.startsWith('refused') ? 'bad' : 'wait' }));
   const all = failing ? [failing, ...found] : found;
   for (const { line, text, kind } of all) {
@@ -124,7 +149,8 @@ function lookOver() {
   }
   if (meeting) marks.set(meeting.line, { kind: 'here', text: `Statement ${meeting.number} is met next` });
   editor.mark(marks);
-  $('advice').replaceChildren(...all.map(adviceItem));
+  const left = all.length - ADVISED, rest = left > 0 ? [element('li', { textContent: `… and ${left} more` })] : [];
+  $('advice').replaceChildren(...all.slice(0, ADVISED).map(adviceItem), ...rest);
 }
 
 function adviceItem({ line, text, kind }) {
@@ -137,11 +163,10 @@ function adviceItem({ line, text, kind }) {
 }
 
 function goToLine(line) {
-  const lines = $('source').value.split('\n'), at = lines.slice(0, line - 1).join('\n').length + (line > 1 ? 1 : 0);
+  const { starts } = editor, { value } = $('source');
   $('source').focus();
-  $('source').setSelectionRange(at, at + lines[line - 1].length);
-  const height = $('source').scrollHeight / lines.length;
-  $('source').scrollTop = Math.max(0, (line - 3) * height);
+  $('source').setSelectionRange(starts[line - 1], line < starts.length ? starts[line] - 1 : value.length);
+  editor.reveal(line);
 }
 
 // Marks the line of the statement that a message names by the number behind it.
@@ -164,12 +189,21 @@ async function openFile(file) {
   $('example').value = '';
 }
 
-function save() {
-  const link = document.createElement('a');
-  link.href = URL.createObjectURL(new Blob([$('source').value], { type: 'text/plain' }));
-  link.download = `${$('example').value || 'program'}.i`;
-  link.click();
-  setTimeout(() => URL.revokeObjectURL(link.href), 1000);
+const nameOfProgram = () => $('example').value || 'program';
+
+// Returns the file of a part of the answer, of a kind that its button names.
+const FILES = {
+  'runs txt': () => textOfListing(),
+  'runs json': () => linesOfJson([...listing.runs.map(fieldsOf), { listing: listing.isWhole ? 'DONE' : 'MORE' }]),
+  'outcomes txt': () => weighed.text,
+  'outcomes json': () =>
+    linesOfJson([...weighed.lines.map(fieldsOfOutcome), ...(weighed.isWhole ? [{ listing: 'DONE' }] : [])]),
+  'tree svg': () => textOfDrawing($('tree').querySelector('svg')),
+};
+
+function saveAnswer({ dataset: { save: what } }) {
+  const [part, kind] = what.split(' ');
+  saveFile(`${nameOfProgram()}-${part}`, kind, FILES[what]());
 }
 
 // Returns the whole source: the program, and behind it the library's files, in place of routines that are there.
@@ -179,7 +213,15 @@ function sourceOf({ source: text, library: names }) {
   return source + (source.endsWith('\n') ? '' : '\n') + names.map((name) => library[name]).join('');
 }
 
-const choose = (name) => replace(examples.find((it) => it.name === name) ?? {});
+// Fills in an example, and says what it shows and which options it fills in: a phone doesn't show these beside it.
+function choose(name) {
+  const example = examples.find((it) => it.name === name) ?? {};
+  replace(example);
+  $('shows').hidden = !example.shows;
+  const labelOf = (id) => document.querySelector(`[for=${id}]`).textContent.toLowerCase();
+  const options = ['choices', 'seed', 'limit'].filter((id) => example[id]).map((id) => `${labelOf(id)} ${example[id]}`);
+  $('shows').textContent = `${example.shows}${options.length ? ` It fills in: ${options.join(', ')}.` : ''}`;
+}
 
 function makeForm() {
   for (const name of Object.keys(library)) {
@@ -251,31 +293,50 @@ function showListing(answer, request, output, errors, askers) {
   addRuns(tree, runs);
   listing = { request, runs: before.concat(runs), isWhole, tree };
   const found = listing.runs.length;
-  const outcomes = new Set(listing.runs.map(({ end, quoted }) => `${end} ${quoted}`)).size;
-  const headline = isWhole ? `${counted(found, 'run')}, and no other` : `The first ${counted(found, 'run')}`;
+  const ended = listing.runs.filter((run) => !isOpen(run)), open = found - ended.length;
+  const outcomes = new Set(ended.map(({ end, quoted }) => `${end} ${quoted}`)).size;
+  const all = isWhole ? `${counted(found, 'run')}, and no other` : `The first ${counted(found, 'run')}`;
   const cut = answer.written > MOST ? 'cut at 4 MiB, and “Further runs” goes on, ' : '';
   const more = `${cut}${counted(outcomes, 'outcome')}, status ${answer.status}, ${took(answer.milliseconds)}`;
-  say(answer.status === 0 ? ['ok', headline] : HEADLINES[answer.status], more);
-  const lines = listing.runs.map(({ line }) => `${line}\n`);
-  put('listed', 'listing', lines.join('') + (isWhole ? 'DONE\n' : 'MORE\n'));
+  if (answer.status !== 0) say(HEADLINES[answer.status], more);
+  else if (open === 0) say(['ok', all], more);
+  else say(['wait', `${counted(open, 'run')} reach${open === 1 ? 'es' : ''} the limit`], `${all}, ${more}`);
+  put('listed', 'listing', textOfListing());
   put('said', 'errors', errors);
   if (request.file === sourceOf(form())) markFailing(request.file, errors);
   $('more').hidden = isWhole || found === 0;
   drawTree();
 }
 
+const textOfListing = () =>
+  [...listing.runs.map(({ line }) => line), listing.isWhole ? 'DONE' : 'MORE'].map((line) => `${line}\n`).join('');
+
+// Says first what has no end. That is no outcome.
 function showOutcomes(answer, request, output, errors) {
-  const { outcomes, isWhole } = readOutcomes(output), shown = outcomes.slice(0, BARS);
-  weighed = request;
-  const headline = counted(outcomes.length, 'outcome') + (isWhole ? ', and no other' : ' and more');
-  const beyond = beyondLimit(outcomes);
-  const more = `${beyond && `${beyond} lies behind the limit, `}status ${answer.status}, ${took(answer.milliseconds)}`;
-  say(answer.status === 0 ? ['ok', headline] : HEADLINES[answer.status], more);
-  $('weighed').hidden = shown.length === 0;
-  $('bars').replaceChildren(...shown.map(outcomeItem));
-  $('further').textContent = shown.length < outcomes.length || !isWhole ? `The first ${counted(shown.length, 'outcome')}.` : '';
+  const { lines, open, outcomes, isWhole } = readOutcomes(output);
+  weighed = { request, lines, open, outcomes, isWhole, shown: BARS, text: output };
+  const more = `status ${answer.status}, ${took(answer.milliseconds)}`;
+  const all = counted(outcomes.length, 'outcome'), rest = isWhole ? ', and no other' : ' and more';
+  if (answer.status !== 0) say(HEADLINES[answer.status], more);
+  else if (open.length === 0) say(['ok', all + rest], more);
+  else say(['wait', openOf(open)], `${outcomes.length ? `${all} within it${rest}` : 'no outcome within it'}, ${more}`);
+  drawBars();
   put('said', 'errors', errors);
   if (request.file === sourceOf(form())) markFailing(request.file, errors);
+}
+
+// Draws the lines without an end, and then the outcomes: so many as are to be shown, in the order that is asked for.
+function drawBars() {
+  const { open, outcomes, shown, isWhole } = weighed;
+  const isByWeight = $('by-weight').getAttribute('aria-pressed') === 'true';
+  const greatest = outcomes.reduce((most, { share }) => Math.max(most, share), 0);
+  const first = sorted(outcomes, isByWeight).slice(0, shown);
+  $('weighed').hidden = open.length + outcomes.length === 0;
+  $('bars').replaceChildren(...[...open, ...first].map((line) => outcomeItem(line, greatest)));
+  const left = outcomes.length - first.length;
+  $('further').textContent = isWhole ? '' : 'The outcomes are cut at 32 MiB.';
+  $('more-bars').hidden = left === 0;
+  $('more-bars').textContent = `Further outcomes: ${left.toLocaleString('en')} more`;
 }
 
 // Shows where a session is after its last command, with what the command changed in the state.
@@ -288,21 +349,23 @@ function showSession(answer, request, errors) {
     return say(answer.status === 0 ? ['bad', 'The session printed more than 4 MiB'] : HEADLINES[answer.status], more);
   }
   const found = readSession(answer.output, before.printed);
-  const met = metIn(found.around), asks = asksBehind(found.answer, before.asks);
+  const end = /^ended: (.)/m.exec(found.state), around = end ? found.around.replace(/^>/m, ' ') : found.around;
+  const met = metIn(around), asks = asksBehind(found.answer, before.asks);
   session = { request, asks, state: found.state, printed: found.printed };
   const known = new Set(before.state.split('\n'));
   $('told').textContent = found.answer;
-  $('around').replaceChildren(...linesOfText(found.around, (line) => line.startsWith('>')));
+  $('around').replaceChildren(...linesOfText(around, (line) => line.startsWith('>')));
   $('state').replaceChildren(...linesOfText(found.state, (line) => before.state !== '' && !known.has(line)));
   $('stepped').hidden = false;
   put('written', 'output', found.output);
-  const isDecided = $('question').contains(document.activeElement) && !asks;
+  const focused = document.activeElement, isDecided = $('question').contains(focused) && !asks;
   $('question').hidden = !asks;
   $('back').hidden = true;
-  if (isDecided) $('stepped').querySelector('[data-step=step]').focus();
+  const next = asks ? $('question').querySelector('button') : $('stepped').querySelector('[data-step=step]');
+  if (isDecided || focused?.matches('[data-job=step]')) next.focus({ preventScroll: true });
   meeting = met && request.file === sourceOf(form()) ? met : null;
   lookOver();
-  const end = /^ended: (.)/m.exec(found.state);
+  if (meeting) editor.reveal(meeting.line);
   if (end) return say(end[1] === 'G' ? GAVE_UP : HEADLINES[1], more);
   return say(asks ? ['wait', 'The run asks for a choice'] : ['ok', `Statement ${met?.number} is met next`], more);
 }
@@ -316,9 +379,13 @@ function drawTree() {
   $('parts').textContent = `Ends: ${ends}. Equal parts of the tree are drawn once.`
     + (isCut ? ` A part with “…” says what lies behind it: the drawing has at most ${DRAWN} parts.` : '')
     + (isWhole ? '' : ' “…” alone is not listed yet.');
-  $('tree').replaceChildren(new Drawing(parts).svg());
+  const svg = new Drawing(parts).svg();
+  const [width, height] = ['width', 'height'].map((name) => Number(svg.getAttribute(name)));
+  $('tree').replaceChildren(svg);
+  $('tree').classList.toggle('narrowed', $('tree').clientWidth >= NARROWEST * width);
+  svg.style.maxWidth = `${width}px`;
   $('tree').querySelector('.leaf')?.setAttribute('tabindex', '0');
-  $('tree').scrollTo(0, parts.at(-1).y - $('tree').clientHeight / 2);
+  $('tree').scrollTo(0, parts.at(-1).y * svg.clientHeight / height - $('tree').clientHeight / 2);
 }
 
 // Shows the whole tree in its frame, or each part in its full size.
@@ -337,7 +404,7 @@ function reveal(element) {
 // Gives the focus to the answer's head if the button that had it is gone.
 function keepFocus() {
   const focused = document.activeElement;
-  if (focused === document.body || !focused.checkVisibility()) $('status').focus();
+  if (focused === document.body || focused.getClientRects().length === 0) $('status').focus();
 }
 
 function show(answer, request, askers) {
@@ -348,9 +415,10 @@ function show(answer, request, askers) {
   else if (request.job === 'outcomes') showOutcomes(answer, request, output, errors);
   else if (request.job === 'step') showSession(answer, request, errors);
   else showRun(answer, request, output, errors);
+  const isFirst = request.isFirst && request.job === 'runs' && request.from === undefined;
   if (isOfTree) $(output ? 'written' : 'said').scrollIntoView({ block: 'nearest' });
-  else if (request.from === undefined && !request.session) reveal($('status'));
-  keepFocus();
+  else if (request.from === undefined && !request.session && !isFirst) reveal($('status'));
+  if (!isFirst) keepFocus();
 }
 
 /* Jobs */
@@ -368,7 +436,8 @@ const isOfOutcomes = (job) => job === 'outcomes' || job === 'asked';
 // Makes the call of a job, with the bytes of a listing.
 function callFor(request, lines = new Uint8Array()) {
   return engine.call({
-    argv: argvOf(argumentsOf(request)), file: bytesOf(request.file), input: bytesOf(request.input), most: MOST,
+    argv: argvOf(argumentsOf(request)), file: bytesOf(request.file), input: bytesOf(request.input),
+    most: request.job === 'outcomes' ? MOST_OUTCOMES : MOST,
     listing: isOfOutcomes(request.job) ? lines : null,
     commands: request.job === 'step' ? bytesOf(linesOf(request.commands)) : null,
   });
@@ -394,14 +463,26 @@ function setBusy(busy) {
   $('stop').setAttribute('aria-disabled', !busy);
 }
 
+// Shows how long a call takes, while it does. A screen reader reads the headline once, and not the time.
+function showTime() {
+  const began = performance.now(), time = Object.assign(document.createElement('span'), { ariaHidden: true });
+  return setInterval(() => {
+    const seconds = (performance.now() - began) / 1000;
+    time.textContent = `${seconds < 10 ? seconds.toFixed(1) : Math.round(seconds)} s`;
+    if (time.isConnected) return;
+    say(['wait', 'Running …'], 'Stop or Escape ends it');
+    $('status').append(time);
+  }, LATE);
+}
+
 // Makes one call and shows its answer. A call that takes long says so.
 async function ask(request) {
   if (isBusy || engine === null) return;
   setBusy(true);
-  const late = setTimeout(() => say(['wait', 'Running …'], 'Stop or Escape ends it'), 150);
+  const clock = showTime();
   const answer = await callFor(request);
   const askers = await askersOf(answer, request);
-  clearTimeout(late);
+  clearInterval(clock);
   setBusy(false);
   if (answer?.failed) {
     clear();
@@ -411,8 +492,8 @@ async function ask(request) {
   }
 }
 
-function askForm(job) {
-  const fields = form();
+function askForm(job, how = {}) {
+  const fields = { ...form(), ...how };
   for (const name of ['choices', 'seed', 'limit', 'count']) fields[name] = fields[name].trim();
   return ask({ ...fields, job, file: sourceOf(fields), commands: [] });
 }
@@ -483,6 +564,27 @@ async function followLink() {
 
 /* Keys and clicks */
 
+const inSession = (line) => () => session && command(line);
+const answerBy = (choice) => () => !$('question').hidden && decide(choice);
+
+const keys = new Keys([
+  [['Ctrl Enter'], 'Run the program', () => askForm('run')],
+  [['F8'], 'Begin to step, or make a step', () => (session ? command('step') : askForm('step'))],
+  [['s'], 'Make a step', inSession('step')],
+  [['b', 'Shift F8'], 'Take a step back', inSession('back')],
+  [['n'], 'Make a step, and if it is a NEXT, all until it comes back', inSession('next')],
+  [['r', 'F9'], 'Run on until a choice, the end or the limit', inSession('run')],
+  [['0'], 'Answer a question: pass over the statement', answerBy('0')],
+  [['1'], 'Answer a question: do the statement', answerBy('1')],
+  [['Escape'], 'Stop what runs', stop],
+  [['?'], 'Show these keys', help],
+]);
+
+function help() {
+  $('keys-table').replaceChildren(...keys.table());
+  $('help').showModal();
+}
+
 // Moves the focus among the ends of the tree, of which one is in the tab order.
 function moveInTree(event) {
   const leaves = [...$('tree').querySelectorAll('.leaf')], at = leaves.indexOf(document.activeElement);
@@ -506,15 +608,17 @@ function listen() {
   };
   $('form').onkeydown = (event) => {
     const isShort = event.ctrlKey || event.metaKey;
-    if (event.key === 'Enter' && isShort) askForm('run');
-    if (event.key === 'z' && isShort && kept !== null && JSON.stringify(form()) === filled) {
-      event.preventDefault();
-      undo();
-    }
+    if (event.key !== 'z' || !isShort || kept === null || JSON.stringify(form()) !== filled) return;
+    event.preventDefault();
+    undo();
   };
   $('form').oninput = changed;
   document.onkeydown = (event) => {
-    if (event.key === 'Escape') stop();
+    if (!$('help').open) keys.press(event);
+  };
+  $('keys-button').onclick = help;
+  $('help').onclick = ({ target }) => {
+    if (target === $('help')) $('help').close();
   };
   for (const button of document.querySelectorAll('[type=button][data-job]')) {
     button.onclick = () => askForm(button.dataset.job);
@@ -528,12 +632,23 @@ function listen() {
   $('stop').onclick = stop;
   $('undo').onclick = undo;
   $('fit').onclick = fit;
+  $('by-weight').onclick = () => {
+    $('by-weight').setAttribute('aria-pressed', $('by-weight').getAttribute('aria-pressed') !== 'true');
+    drawBars();
+  };
+  $('more-bars').onclick = () => {
+    const { length } = $('bars').children;
+    weighed.shown += BARS;
+    drawBars();
+    $('bars').children[length]?.firstChild.focus();
+  };
   $('open').onclick = () => $('file').click();
   $('file').onchange = async () => {
     await openFile($('file').files[0]);
     $('file').value = '';
   };
-  $('save').onclick = save;
+  $('save').onclick = () => saveFile(nameOfProgram(), 'i', $('source').value);
+  for (const button of document.querySelectorAll('[data-save]')) button.onclick = () => saveAnswer(button);
   $('link').onclick = copyLink;
   $('example').onchange = () => choose($('example').value);
   $('tree').onkeydown = moveInTree;
@@ -543,7 +658,7 @@ function listen() {
   };
   $('bars').onclick = ({ target }) => {
     const outcome = target.closest('.outcome');
-    if (outcome) runAgain(outcome, weighed);
+    if (outcome) runAgain(outcome, weighed.request);
   };
   document.querySelector('.skip').onclick = (event) => {
     event.preventDefault();
@@ -556,17 +671,17 @@ async function begin() {
   makeForm();
   filled = JSON.stringify(form());
   listen();
-  $('made').textContent = made;
   if (canRun()) {
     engine = new Engine($('worker').textContent, $('module').textContent);
   } else {
     $('notice').hidden = false;
-    $('notice').textContent = BROWSERS;
+    $('notice').textContent = UNABLE;
   }
   setBusy(false);
-  if (restore() || await followLink()) return;
-  $('example').value = FIRST;
-  choose(FIRST);
+  if (!restore() && !await followLink()) choose($('example').value = FIRST);
+  // The page opens with the tree of its first example.
+  if ($('example').value === FIRST && JSON.stringify(form()) === filled) await askForm('runs', { isFirst: true });
+  $('made').textContent = made;
 }
 
 begin();

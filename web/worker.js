@@ -62,7 +62,7 @@ function serve(message) {
 // Tells what ran out, if that is why a call threw. The browser's own stack can be full, or that of the module, which
 // grows down to the address 0. A further access is out of bounds, and reaches no data.
 function shortageOf(error) {
-  if (/call stack|recursion|out of bounds/.test(error.message)) return OUT_OF_STACK;
+  if (/call stack|recursion|out of bounds/i.test(error.message)) return OUT_OF_STACK;
   return error instanceof RangeError ? OUT_OF_MEMORY : null;
 }
 

@@ -1,8 +1,11 @@
-"""Chromium and Firefox without a window, driven over their own protocols: pages, keys, scripts and pictures.
+"""Chromium, Firefox and WebKit, driven over their own protocols: pages, keys, scripts and pictures.
 
-Both classes have the same methods. Keys go through the browser, as those of a user do.
+All classes have the same methods. Keys go through the browser, as those of a user do. Chromium and Firefox have no
+window, and the window of WebKit is on a screen that nobody sees.
 """
 import base64
+import glob
+import http.client
 import json
 import os
 import shutil
@@ -19,13 +22,23 @@ class Failed(Exception):
     """A browser that doesn't answer, or a script that throws."""
 
 
-class Browser:
-    """What both have: a process, a folder for its profile, and an end."""
+def end(process):
+    """Ends a process that this script started."""
+    process.terminate()
+    try:
+        process.wait(10)
+    except subprocess.TimeoutExpired:
+        process.kill()
+        process.wait()
 
-    def __init__(self, *words, **how):
+
+class Browser:
+    """What all have: a process, a folder for its profile, and an end."""
+
+    def __init__(self, *words, surroundings=(), **how):
         self.folder = tempfile.mkdtemp(prefix="page-")
         words = [word.replace("FOLDER", self.folder) for word in words]
-        home = {**os.environ, "HOME": self.folder}
+        home = {**os.environ, "HOME": self.folder, **dict(surroundings)}
         self.process = subprocess.Popen(words, env=home, stdin=subprocess.DEVNULL, stdout=subprocess.DEVNULL,
                                         stderr=subprocess.DEVNULL, **how)
 
@@ -33,12 +46,7 @@ class Browser:
         return self
 
     def __exit__(self, *_):
-        self.process.terminate()
-        try:
-            self.process.wait(10)
-        except subprocess.TimeoutExpired:
-            self.process.kill()
-            self.process.wait()
+        end(self.process)
         shutil.rmtree(self.folder, ignore_errors=True)
 
     def press_all(self, *keys):
@@ -61,7 +69,8 @@ class Browser:
 class Chromium(Browser):
     """Chromium over its pipe for debugging: texts of JSON, each of which ends in a byte 0."""
 
-    KEYS = {"Tab": 9, "Enter": 13, "Escape": 27, " ": 32, "End": 35, "Home": 36, "ArrowUp": 38, "ArrowDown": 40}
+    KEYS = {"Tab": 9, "Enter": 13, "Escape": 27, " ": 32, "End": 35, "Home": 36, "ArrowUp": 38, "ArrowDown": 40,
+            "F8": 119, "F9": 120}
 
     def __init__(self):
         theirs, self.to = os.pipe()
@@ -126,11 +135,11 @@ class Chromium(Browser):
         """Runs a script before those of each page from now on."""
         self.call("Page.addScriptToEvaluateOnNewDocument", source=script)
 
-    def press(self, key, control=False):
+    def press(self, key, control=False, shift=False):
         code = self.KEYS.get(key) or ord(key.upper())
         text = {"Enter": "\r", " ": " "}.get(key, key if len(key) == 1 else "")
         named = {"key": key, "code": key if len(key) > 1 else "", "windowsVirtualKeyCode": code,
-                 "modifiers": 2 if control else 0}
+                 "modifiers": (2 if control else 0) + (8 if shift else 0)}
         self.call("Input.dispatchKeyEvent", type="keyDown", text="" if control and key != "Enter" else text, **named)
         self.call("Input.dispatchKeyEvent", type="keyUp", **named)
 
@@ -152,12 +161,30 @@ class Chromium(Browser):
             file.write(base64.b64decode(self.call("Page.captureScreenshot", format="png")["data"]))
 
 
-class Firefox(Browser):
-    """Firefox over Marionette: a socket with texts of JSON behind their lengths."""
+class ByActions(Browser):
+    """A browser whose keys are actions of WebDriver, which `actions` hands over."""
 
     KEYS = {"Tab": "\ue004", "Enter": "\ue007", "Escape": "\ue00c", "End": "\ue010", "Home": "\ue011",
-            "ArrowUp": "\ue013", "ArrowDown": "\ue015"}
-    CONTROL = "\ue009"
+            "ArrowUp": "\ue013", "ArrowDown": "\ue015", "F8": "\ue038", "F9": "\ue039"}
+    CONTROL, SHIFT = "\ue009", "\ue008"
+    # The script answers by the last of its arguments.
+    SCRIPT = "Promise.resolve({}).then(arguments[0], (error) => arguments[0](String(error)))"
+
+    def actions(self, *steps):
+        raise NotImplementedError
+
+    def press(self, key, control=False, shift=False):
+        values = [self.KEYS.get(key, key), *([self.CONTROL] if control else []), *([self.SHIFT] if shift else [])]
+        self.actions(*[{"type": "keyDown", "value": value} for value in reversed(values)],
+                     *[{"type": "keyUp", "value": value} for value in values])
+
+    def write(self, text):
+        self.actions(*[{"type": kind, "value": self.KEYS["Enter"] if letter == "\n" else letter}
+                       for letter in text for kind in ("keyDown", "keyUp")])
+
+
+class Firefox(ByActions):
+    """Firefox over Marionette: a socket with texts of JSON behind their lengths."""
 
     def __init__(self):
         super().__init__("firefox-esr", "--headless", "--marionette", "--remote-allow-system-access", "--no-remote",
@@ -213,22 +240,11 @@ class Firefox(Browser):
 
     def evaluate(self, expression):
         # The script runs beside the page: it sees the document, and none of the page's own names.
-        script = f"Promise.resolve({expression}).then(arguments[0], (error) => arguments[0](String(error)))"
+        script = self.SCRIPT.format(expression)
         return self.call("WebDriver:ExecuteAsyncScript", script=script, args=[], sandbox=None)["value"]
 
     def actions(self, *steps):
         self.call("WebDriver:PerformActions", actions=[{"type": "key", "id": "keys", "actions": list(steps)}])
-
-    def press(self, key, control=False):
-        value = self.KEYS.get(key, key)
-        steps = [{"type": "keyDown", "value": value}, {"type": "keyUp", "value": value}]
-        if control:
-            steps = [{"type": "keyDown", "value": self.CONTROL}, *steps, {"type": "keyUp", "value": self.CONTROL}]
-        self.actions(*steps)
-
-    def write(self, text):
-        self.actions(*[{"type": kind, "value": self.KEYS["Enter"] if letter == "\n" else letter}
-                       for letter in text for kind in ("keyDown", "keyUp")])
 
     def resize(self, width, height):
         self.call("WebDriver:SetWindowRect", width=width, height=height + 85)
@@ -242,3 +258,108 @@ class Firefox(Browser):
     def picture(self, path):
         with open(path, "wb") as file:
             file.write(base64.b64decode(self.call("WebDriver:TakeScreenshot", full=False)["value"]))
+
+
+class WebKit(ByActions):
+    """WebKit, the engine of Safari, over WebDriver: its window is on a screen that nobody sees."""
+
+    SCREEN = "2600x1700x24"
+    PHONE = 390, 844
+    # The bar above the page is wider than a phone's screen otherwise.
+    STYLE = "window * { font-size: 1px; min-width: 0; min-height: 0; padding: 0; margin: 0; border-width: 0; }\n"
+    BROWSERS = "/usr/lib/*/webkit2gtk-4.*/MiniBrowser"
+
+    def __init__(self, scheme="light"):
+        browser = sorted(glob.glob(self.BROWSERS))
+        if not browser:
+            raise Failed(f"there is no {self.BROWSERS}: Debian's package webkit2gtk-driver has it")
+        self.screen, display = self.new_screen()
+        with socket.create_server(("127.0.0.1", 0)) as free:
+            self.port = free.getsockname()[1]
+        super().__init__("WebKitWebDriver", f"--port={self.port}", surroundings={
+            "DISPLAY": display, "WEBKIT_DISABLE_COMPOSITING_MODE": "1",
+            "WEBKIT_DISABLE_SANDBOX_THIS_IS_DANGEROUS": "1", "GTK_THEME": f"Adwaita:{scheme}"})
+        os.makedirs(f"{self.folder}/.config/gtk-3.0")
+        with open(f"{self.folder}/.config/gtk-3.0/gtk.css", "w", encoding="ascii") as file:
+            file.write(self.STYLE)
+        self.session = ""
+        wanted = {"webkitgtk:browserOptions": {"binary": browser[-1], "args": ["--automation"]}}
+        try:
+            self.session = f"/session/{self.begin(wanted)['sessionId']}"
+            self.call("POST", "/timeouts", script=30_000, pageLoad=30_000)
+            self.resize(*self.PHONE)
+        except (Failed, OSError):
+            self.__exit__()
+            raise
+
+    def __exit__(self, *given):
+        try:
+            if self.session:
+                self.call("DELETE", "")
+        except (Failed, OSError):
+            pass
+        super().__exit__(*given)
+        end(self.screen)
+
+    def new_screen(self):
+        back, theirs = os.pipe()
+        screen = subprocess.Popen(["Xvfb", "-displayfd", str(theirs), "-screen", "0", self.SCREEN], pass_fds=(theirs,),
+                                  stdin=subprocess.DEVNULL, stdout=subprocess.DEVNULL, stderr=subprocess.DEVNULL)
+        os.close(theirs)
+        with os.fdopen(back) as number:
+            return screen, f":{number.readline().strip()}"
+
+    def begin(self, wanted):
+        """Asks for a session until the driver answers."""
+        last = time.monotonic() + SECONDS
+        while True:
+            try:
+                return self.call("POST", "/session", capabilities={"alwaysMatch": wanted})
+            except OSError as error:
+                if time.monotonic() > last:
+                    raise Failed("WebKitWebDriver doesn't answer") from error
+                time.sleep(0.1)
+
+    def call(self, method, path, seconds=HANGS, **given):
+        connection = http.client.HTTPConnection("127.0.0.1", self.port, timeout=seconds)
+        try:
+            body = json.dumps(given) if method == "POST" else None
+            connection.request(method, self.session + path, body, {"Content-Type": "application/json"})
+            answer = connection.getresponse()
+            value = json.loads(answer.read())["value"]
+        finally:
+            connection.close()
+        if answer.status != 200:
+            raise Failed(f"{path}: {value.get('error')}: {value.get('message')}")
+        return value
+
+    def open(self, address):
+        self.call("POST", "/url", url=address)
+
+    def evaluate(self, expression):
+        return self.call("POST", "/execute/async", script=self.SCRIPT.format(expression), args=[])
+
+    def actions(self, *steps):
+        self.call("POST", "/actions", actions=[{"type": "key", "id": "keys", "actions": list(steps)}])
+
+    def resize(self, width, height):
+        """Gives the page a size. A window has a frame, so its size is corrected by what the page has of it."""
+        self.call("POST", "/window/rect", width=width, height=height)
+        wide, high = self.evaluate("[innerWidth, innerHeight]")
+        self.call("POST", "/window/rect", width=2 * width - wide, height=2 * height - high)
+        self.wait(f"innerWidth === {width}")
+
+    def picture(self, path):
+        """Takes a picture. WebKit doesn't answer now and then if it has just drawn the page, and is asked again."""
+        for seconds in (10, 10, 10, HANGS):
+            time.sleep(0.5)
+            try:
+                taken = self.call("GET", "/screenshot", seconds)
+                break
+            except TimeoutError:
+                self.evaluate("scrollBy(0, 1)")
+                self.evaluate("scrollBy(0, -1)")
+        else:
+            raise Failed("WebKit takes no picture")
+        with open(path, "wb") as file:
+            file.write(base64.b64decode(taken))

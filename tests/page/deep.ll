@@ -1,5 +1,5 @@
 ; A library whose call ick_serve calls itself again and again: the page is built with it to see its stack run out. The
-; page hands over arguments, which WebAssembly drops. The other call isn't made.
+; page hands over arguments, which WebAssembly drops. The other calls aren't made.
 @deeper = global i64 1
 
 define i8 @ick_serve() {
@@ -18,5 +18,9 @@ end:
 }
 
 define i8 @ick_outcomes_serve() {
+  ret i8 0
+}
+
+define i8 @ick_step_serve() {
   ret i8 0
 }

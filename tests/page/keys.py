@@ -79,3 +79,40 @@ def by_keyboard(tally, page):
     browser.press("Escape")
     page.idle()
     tally.check(page.status().startswith("Stopped"), f"{name}: Escape doesn't stop a run")
+
+
+def all_keys(tally, page):
+    """Steps by the keys that `?` lists, from the editor and outside it. A letter in a field is text."""
+    browser, name = page.browser, type(page.browser).__name__
+
+    def press(key, said, **how):
+        browser.press(key, **how)
+        browser.wait(f"document.getElementById('status').textContent.startsWith({said!r})")
+        page.idle()
+
+    page.open()
+    tab_to(browser, "#source")
+    browser.press("s")
+    tally.check("s" in page.value("source") and page.text("told") is None, f"{name}: a letter in the editor is no text")
+    page.choose("quiet")
+    press("F8", "The run asks for a choice")
+    tally.equal(f"{name}: the focus after F8", browser.evaluate("document.activeElement.id"), "source")
+    tab_to(browser, "[data-job=run]")
+    press("1", "The run asks for a choice")
+    press("0", "Statement 3 is met next")
+    press("s", "Statement 4 is met next")
+    press("b", "Statement 3 is met next")
+    press("F8", "Statement 4 is met next")
+    press("F8", "Statement 3 is met next", shift=True)
+    press("r", "The program gave up")
+    tally.equal(f"{name}: the output of a session by keys", page.text("output"), "\nV\n\nI\n")
+    browser.press("?")
+    browser.wait("document.getElementById('help').open")
+    listed = page.text("keys-table")
+    tally.check("Shift + F8Take a step back" in listed, f"{name}: the keys {listed!r}")
+    browser.press("Escape")
+    browser.wait("!document.getElementById('help').open")
+    page.choose("hello")
+    tab_to(browser, "[data-job=step]")
+    press("Enter", "Statement 1 is met next")
+    tally.equal(f"{name}: the focus of a new session", browser.evaluate(FOCUSED.format("[data-step=step]")), True)

@@ -7,6 +7,7 @@ import re
 import subprocess
 import sys
 import tempfile
+import xml.etree.ElementTree
 
 from compared import TOP, example_words, read
 
@@ -62,6 +63,19 @@ class Page:
     def status(self):
         return self.text("status")
 
+    def texts(self, selector):
+        """Returns the texts of all elements that a selector names, with commas between."""
+        return self.browser.evaluate(f"[...document.querySelectorAll({selector!r})].map((it) => it.textContent).join()")
+
+    def inject(self, script):
+        """Runs a script as one of the page's own, and returns what it puts into `answer`, as JSON."""
+        text = f"(async () => {{ let answer; {script}\n document.body.dataset.answer = JSON.stringify(answer); }})()"
+        self.browser.evaluate("delete document.body.dataset.answer")
+        self.browser.evaluate("document.body.append(Object.assign(document.createElement('script'), "
+                              f"{{ textContent: {json.dumps(text)} }}))?.x")
+        self.browser.wait("document.body.dataset.answer !== undefined")
+        return json.loads(self.browser.evaluate("document.body.dataset.answer"))
+
 
 def shown_examples(tally, page):
     """Each example, as it is chosen: what it prints, and its listings."""
@@ -81,6 +95,62 @@ def shown_examples(tally, page):
             tally.equal(f"the message of {name}", page.text("errors"), read(f"{TOP}/examples/{name}.err").decode())
         tally.equal(f"what is pasted behind {name}",
                     page.browser.evaluate("document.querySelectorAll('#library :checked').length"), 0)
+
+
+def first_view(tally, page):
+    """The page opens with the tree of its first example. Each example has a sentence, which names what it fills in."""
+    tally.equal("the first example", page.value("example"), "quiet")
+    tally.check(page.status().startswith("4 runs, and no other"), f"the status {page.status()!r} of an opened page")
+    tally.equal("the tree of an opened page", page.browser.evaluate("document.querySelectorAll('.leaf').length"), 2)
+    place = page.browser.evaluate("[scrollY, document.activeElement.tagName].join()")
+    tally.equal("where an opened page stands", place, "0,BODY")
+    for name in page.browser.evaluate("[...document.querySelectorAll('#example option')].map((it) => it.value).join()"
+                                      ).split(",")[1:]:
+        page.choose(name)
+        options = [word[2:] for words in example_words(name).values() for word in words if word.startswith("--")]
+        said = page.text("shows") or ""
+        tally.check(re.match(r"[A-Z].*[.?]", said), f"the sentence {said!r} of {name}")
+        named = {"choices", "seed"} & set(options)
+        tally.equal(f"the values that {name} fills in", {it for it in named if f"{it} {page.value(it)}" in said}, named)
+    page.choose("")
+    tally.equal("the sentence of no example", page.text("shows"), None)
+
+
+# An output of zeros, whose numeral is a bar and nothing below it.
+ZEROS = "DO READ OUT #0\nDO %50 READ OUT #0\nPLEASE GIVE UP\n"
+OVER = """(() => {
+  const box = (it) => it.getBoundingClientRect();
+  return [...document.querySelectorAll('#bars .bar')].filter((bar) =>
+    box(bar).top <= box(bar.closest('.outcome').querySelector('.weight')).bottom).length;
+})()"""
+
+
+def narrow(tally, page):
+    """On a phone's screen the bar of a zero isn't drawn over the line above, and no number is broken."""
+    page.browser.resize(390, 844)
+    page.set(source=ZEROS, choices="", seed="", limit="")
+    page.job("outcomes")
+    tally.equal("zeros over the line above", page.browser.evaluate(OVER), 0)
+    numbers = "[...document.querySelectorAll('#bars :is(.weight, .many)')]"
+    most = page.browser.evaluate(f"Math.max(...{numbers}.map((it) => it.getClientRects().length))")
+    tally.equal("lines of a number", most, 1)
+    is_wider = page.browser.evaluate("document.documentElement.scrollWidth > innerWidth")
+    tally.check(not is_wider, "the page is wider than a phone")
+    page.browser.resize(1280, 900)
+
+
+def wide(tally, page):
+    """A wide screen is used, and the trees of doors.i and queens.i fit."""
+    fits = "(({ scrollWidth, clientWidth }) => scrollWidth <= clientWidth)(document.getElementById('tree'))"
+    for width, names in ((2560, ("doors", "queens")), (1280, ("doors",))):
+        page.browser.resize(width, 1400)
+        for name in names:
+            page.choose(name)
+            page.job("runs")
+            tally.check(page.browser.evaluate(fits), f"the tree of {name} doesn't fit into {width} pixels")
+        used = page.browser.evaluate("document.querySelector('main').getBoundingClientRect().width / innerWidth")
+        tally.check(used > .98, f"{used} of {width} pixels are used")
+    page.browser.resize(1280, 900)
 
 
 def question(tally, page):
@@ -111,6 +181,7 @@ def stopping(tally, page):
     page.set(source=ENDLESS, choices="", limit="4294967295")
     page.browser.evaluate("document.querySelector('[data-job=run]').click()")
     page.browser.wait("document.getElementById('status').textContent.startsWith('Running')")
+    page.browser.wait("/ends it0[.][5-9] s|ends it[1-9]/.test(document.getElementById('status').textContent)")
     page.browser.evaluate("document.querySelector('[data-job=runs]').click()")
     page.press("#stop")
     tally.check(page.status().startswith("Stopped"), "the run wasn't stopped")
@@ -162,15 +233,16 @@ def outcomes(tally, page):
     """Each outcome has a bar by its weight, and leads to its first run. A branch of the tree says what asks there."""
     page.choose("die")
     page.job("outcomes")
-    for said in ("7 outcomes, and no other", "6.25 % lies behind the limit"):
-        tally.check(said in page.status(), f"the status {page.status()!r} of outcomes")
+    tally.check(page.status().startswith("6.25 % lies behind the limit6 outcomes within it, and no other"),
+                f"the status {page.status()!r} of outcomes")
+    tally.equal("the headline in the colour of a limit", page.texts("#status .wait"), "6.25 % lies behind the limit")
     texts = "[...document.querySelectorAll('#bars .{}')].map((it) => it.textContent).join()"
     tally.equal("the weights of a die", page.browser.evaluate(texts.format("weight")), "6.25 %" + ",15.6 %" * 6)
     tally.equal("the ends of a die", page.browser.evaluate(texts.format("end")), "LIMIT" + ",GIVE-UP" * 6)
     tally.equal("the outputs of a die", page.browser.evaluate(texts.format("wrote")), ",I,II,III,IV,V,VI")
     tally.equal("the numbers of runs of a die", page.browser.evaluate(texts.format("many")), "8 runs" + ",3 runs" * 6)
     widths = page.browser.evaluate("[...document.querySelectorAll('#bars .fill')].map((it) => it.style.width).join()")
-    tally.equal("the bars of a die", widths, "6.25%" + ",15.625%" * 6)
+    tally.equal("the bars of a die", widths, ",".join(["100%"] * 6))
     page.press("#bars li:nth-child(3) button")
     tally.equal("the first run of an outcome", (page.value("choices"), page.text("output")), ("000010", "\nII\n"))
     bars = page.browser.evaluate("document.querySelectorAll('#bars li').length")
@@ -188,14 +260,109 @@ def outcomes(tally, page):
     page.choose("die")
     page.set(limit="")
     page.job("outcomes")
-    found = re.search(r"no other(.*) lies behind the limit", page.status())[1]
+    found = re.match(r"(.*) lies behind the limit", page.status())[1]
     tally.check(re.fullmatch(r"\d\.\de-\d{3} %", found), f"{found!r} lies behind 10,000 steps of a die")
     for weight, wanted in (("1", "100 %"), ("0.333333333333333..", "33.3 %"), ("0.000000152", "1.5e-5 %"),
-                           ("0.000001", "1.0e-4 %")):
+                           ("0.000001", "1.0e-4 %"), ("1/6", "16.7 %"), ("1/9999999", "1.0e-5 %")):
         tally.equal(f"{weight} in percent", page.browser.evaluate(f"percentOf('{weight}')"), wanted)
     page.set(source=REFUSED, limit="")
     page.job("outcomes")
     tally.check("is refused" in page.status() and page.text("weighed-name") is None, "a refusal has outcomes")
+
+
+def limits(tally, page):
+    """What lies behind a limit, or never ends, is no outcome, and is said first."""
+    for name in ("life", "primes"):
+        page.choose(name)
+        page.job("outcomes")
+        tally.check(page.status().startswith("100 % lies behind the limitno outcome within it"),
+                    f"the status {page.status()!r} of the outcomes of {name}")
+        page.job("runs")
+        tally.check(page.status().startswith("1 run reaches the limit1 run, and no other, 0 outcomes"),
+                    f"the status {page.status()!r} of the runs of {name}")
+        tally.equal(f"a headline of {name} in green", page.texts("#status .ok"), "")
+    page.choose("walk")
+    page.job("runs")
+    tally.check(re.match(r"\d+ runs reach the limit", page.status()), f"the status {page.status()!r} of walk")
+    page.choose("hello")
+    page.job("outcomes")
+    tally.equal("an outcome without a limit", page.texts("#status .ok"), "1 outcome, and no other")
+    lines = json.dumps('* 2/3 0 GIVE-UP ""\n* 1/3 1 NEVER ""\nDONE\n')
+    tally.equal("lines that never end", page.inject(f"""
+        const found = readOutcomes({lines}), item = outcomeItem(found.outcomes[0], 2 / 3);
+        answer = [openOf(found.open), found.outcomes.length, item.textContent, item.querySelector('.fill').style.width];
+    """), ["33.3 % never ends", 1, "2/3 = 66.7 %GIVE-UPinfinitely many runs", "100%"])
+
+
+# Two statements with unlike chances, and ten that each print another number.
+UNLIKE = "DO %90 READ OUT #1\nDO %30 READ OUT #2\nPLEASE GIVE UP\n"
+MANY = "".join(f"{'DO' if at % 4 else 'PLEASE'} %50 READ OUT #{at + 1}\n" for at in range(10)) + "DO GIVE UP\n"
+
+
+def bars(tally, page):
+    """The longest bar is the greatest weight. Outcomes are sorted by order or by weight, and all are reached."""
+    page.set(source=UNLIKE, choices="", seed="", limit="", input="")
+    page.job("outcomes")
+    tally.equal("weights in their order", page.texts("#bars .weight"), "7 %,3 %,63 %,27 %")
+    page.press("#by-weight")
+    tally.equal("weights by their size", page.texts("#bars .weight"), "63 %,27 %,7 %,3 %")
+    widths = page.browser.evaluate("[...document.querySelectorAll('#bars .fill')].map((it) => "
+                                   "Math.round(parseFloat(it.style.width))).join()")
+    tally.equal("bars by the greatest weight", widths, "100,43,11,5")
+    title = page.browser.evaluate("document.querySelector('#bars button').title")
+    tally.equal("the title of an outcome of one run", title, "Weight 0.63, 1 run. Runs 10 again")
+    page.press("#by-weight")
+    page.set(source=MANY)
+    page.job("outcomes")
+    for count, left in ((500, "524 more"), (1000, "24 more"), (1024, None)):
+        found = page.browser.evaluate("document.querySelectorAll('#bars li').length")
+        tally.equal("the outcomes that are shown", found, count)
+        said = page.text("more-bars")
+        tally.equal("the outcomes that are left", said and said.partition(": ")[2], left)
+        if left:
+            page.press("#more-bars")
+
+
+SAVED = """
+  globalThis.saved = new Promise((done) => {
+    HTMLAnchorElement.prototype.click = function () { blob.text().then((text) => done([this.download, text])); };
+  });
+  URL.createObjectURL = (made) => { globalThis.blob = made; return 'blob:x'; };
+  document.querySelector(BUTTON).click();
+  answer = await globalThis.saved;
+"""
+
+
+def saved(page, part):
+    """Returns the name and the text of the file that a button of a part saves."""
+    return page.inject(SAVED.replace("BUTTON", json.dumps(f"[data-save='{part}']")))
+
+
+def saving(tally, page):
+    """Listings and outcomes are saved as text and as ick-json has them, and a tree as a drawing of its own."""
+    page.choose("box")
+    for job, part, ending in (("runs", "runs", "runs"), ("outcomes", "outcomes", "outcomes")):
+        page.job(job)
+        name, text = saved(page, f"{part} txt")
+        wanted = read(f"{TOP}/examples/box.{ending}", None)
+        tally.equal(f"the name of saved {part}", name, f"box-{part}.txt")
+        if wanted is not None:
+            tally.equal(f"saved {part}", text, wanted.decode())
+        name, found = saved(page, f"{part} json")
+        told = subprocess.run([f"{TOP}/tools/ick-json"], input=text.encode(), capture_output=True, check=True).stdout
+        tally.equal(f"{part} as JSON", [json.loads(line) for line in found.splitlines()],
+                    [json.loads(line) for line in told.splitlines()])
+    page.set(source=COUNTED, choices="", seed="", limit="")
+    page.job("outcomes")
+    _, found = saved(page, "outcomes json")
+    tally.equal("a number of many digits", json.loads(found.splitlines()[1])["runs"], 2 ** 300 - 1)
+    page.choose("doors")
+    page.job("runs")
+    name, text = saved(page, "tree svg")
+    drawing = xml.etree.ElementTree.fromstring(text)
+    leaves = [it for it in drawing.iter() if "leaf" in it.get("class", "").split()]
+    tally.equal("a saved tree", (name, len(leaves)), ("doors-tree.svg", 6))
+    tally.check(".leaf" in text and "var(" not in text, "a saved tree without its style")
 
 
 def stepping(tally, page):
@@ -222,6 +389,16 @@ def stepping(tally, page):
     tally.equal("a session behind a run", (page.text("told"), page.value("choices")), (None, ""))
     page.press("[data-choice='0']")
     tally.equal("a choice of a run behind a session", page.value("choices"), "0")
+    page.set(source=MIDDLE, choices="")
+    page.job("step")
+    page.press("[data-choice='1']")
+    tally.equal("marks behind an end", (page.status()[:19], page.texts("#around mark"), page.texts("#numbers .here")),
+                ("The program gave up", "", ""))
+    page.set(source=FAR)
+    page.job("step")
+    page.press("[data-step=run]")
+    tally.equal("the line far below", page.texts("#numbers .here"), "81")
+    tally.equal("whether the line far below is seen", page.browser.evaluate(HERE_IS_SEEN), True)
     page.set(source="DO X", choices="")
     page.job("step")
     page.press("[data-step=step]")
@@ -231,6 +408,12 @@ def stepping(tally, page):
     tally.check("is refused" in page.status() and page.text("told") is None, "a refusal has a session")
 
 
+MIDDLE = "DO %50 GIVE UP\nDO READ OUT #1\nPLEASE GIVE UP\n"
+FAR = "DO .1 <- #1\nDO .1 <- #1\nDO .1 <- #1\nPLEASE .1 <- #1\n" * 20 + "DO %50 READ OUT .1\nDO GIVE UP\n"
+HERE_IS_SEEN = """(() => {
+  const [line, frame] = ['.here', '.editor'].map((it) => document.querySelector(it).getBoundingClientRect());
+  return line.top >= frame.top && line.bottom <= frame.bottom;
+})()"""
 STEPPED = "DO .1 <- #5\nDO %50 READ OUT .1\nDO WRITE IN .1\nPLEASE GIVE UP\n"
 ONE, TWO, THREE, FOUR = [f'{number} {number}:1 "{line}"' for number, line in enumerate(STEPPED.split("\n")[:-1], 1)]
 # A button, and what the page shows: the status, the next statement, what changed in the state, and the output.
@@ -368,10 +551,65 @@ def lines(tally, page):
     tally.check("Line 2 E000 at statement 2" in page.text("advice"), f"the list of advice {page.text('advice')!r}")
     page.set(source="DO READ OUT #1\nPLEASE\nREAD OUT #70000\nDO GIVE UP\n")
     page.job("check")
+    page.browser.wait("document.querySelectorAll('#numbers b').length === 2")
     tally.equal("the line of a refusal, and of its advice", marked(page), "2 bad,3 bad")
     page.choose("sort")
     page.job("run")
     tally.equal("marks in a program without a mistake", marked(page), "")
+    type_source(page, "DO SOMETHING ELSE\n" * 300)
+    page.browser.wait("document.querySelectorAll('#advice li').length > 1")
+    tally.equal("the pieces of advice that are listed", page.browser.evaluate(
+        "[document.querySelectorAll('#advice button').length, "
+        "document.querySelector('#advice li:last-child').textContent].join()"), "200,… and 102 more")
+
+
+LARGE = "".join(f"{'DO' if at % 4 else 'PLEASE'} .{at % 50 + 1} <- '.2$#{at}'~#21845\n" for at in range(5000))
+# How long the page takes for a key, in the best of some tries: the machine may do other things too. The browser lays
+# its own field out before that.
+KEYS = """
+  const field = document.getElementById('source');
+  answer = Infinity;
+  for (let key = 0; key < 80 && answer >= 16; key += 1) {
+    const place = editor.starts[2500] + 3 + key;
+    field.setRangeText('X', place, place, 'end');
+    field.scrollHeight;
+    const began = performance.now();
+    field.dispatchEvent(new Event('input', { bubbles: true }));
+    field.getBoundingClientRect();
+    answer = Math.min(answer, performance.now() - began);
+    await new Promise((done) => setTimeout(done, 20));
+  }
+"""
+# Random changes of a program, after each of which its groups are those of the program as a whole.
+CHANGED = """
+  const pieces = ['DO', 'PLEASE', 'NOT', "N'T", ' ', '\\n', '%50', '(12)', 'FROM', 'READ', 'OUT', 'WRIT', 'ING IN', 'D',
+    'O', 'REA', 'UT', 'P', 'LEASE', '.1', '#', '"', '5', 'READOUT', 'G', 'IVE UP', '(', ')'];
+  let seed = 1, text = START, wrong = '';
+  const drawnOf = (count) => { seed = (seed * 48271) % 2147483647; return seed % count; };
+  const stretches = new Stretches();
+  for (let change = 0; change < 200 && !wrong; change += 1) {
+    const place = drawnOf(text.length + 1), cut = drawnOf(3) ? 0 : drawnOf(12);
+    const added = Array.from({ length: drawnOf(4) }, () => pieces[drawnOf(pieces.length)]).join('');
+    text = text.slice(0, place) + added + text.slice(place + cut);
+    stretches.update(text);
+    if (JSON.stringify(stretches.found) !== JSON.stringify(groupsIn(text))) wrong = text;
+  }
+  answer = wrong;
+"""
+
+
+def typing(tally, page):
+    """A key takes less than 16 ms in 5,000 statements. The colours after changes are those of the whole."""
+    type_source(page, LARGE)
+    least = page.inject(KEYS)
+    tally.check(least < 16, f"a key takes {least:.1f} ms in 5,000 statements")
+    line = "document.getElementById('shown').textContent.includes('X')"
+    page.inject("editor.reveal(2501); answer = 0;")
+    page.browser.wait(line)
+    for name in ("quiet", "calculator", "comments"):
+        start = read(f"{TOP}/examples/{name}.i").decode()
+        wrong = page.inject(CHANGED.replace("START", json.dumps(start)))
+        tally.equal(f"a text from {name} whose colours are wrong", wrong, "")
 
 
 def same_advice(tally, page):
@@ -388,7 +626,7 @@ def same_advice(tally, page):
     for text in texts:
         found = page.browser.evaluate(f"advice.of({json.dumps(text)})"
                                       ".map(({ line, text }) => `${line}: ${text}\n`).join('')")
-        told = subprocess.run([f"{TOP}/tools/ick-advice"], input=text.encode(), capture_output=True, check=False).stdout
+        told = subprocess.run([f"{TOP}/tools/ick-advice", "--brief"], input=text.encode(), capture_output=True, check=False).stdout
         wanted = re.sub(r"^-:(\d+):\d+:", r"\1:", told.decode(), flags=re.MULTILINE)
         tally.equal(f"the advice on {text!r}", found, wanted)
 
@@ -530,10 +768,10 @@ def contrast(tally, page):
 
 
 def unable(tally, page):
-    """A browser without 64-bit memory is told which browsers have it."""
-    page.browser.before_page("WebAssembly.validate = () => false;")
+    """A browser without WebAssembly is told that the page needs it."""
+    page.browser.before_page("delete globalThis.WebAssembly;")
     page.open()
-    tally.check("Chrome" in page.text("notice") and "Firefox" in page.text("notice"), "the page doesn't name browsers")
+    tally.check("needs WebAssembly" in page.text("notice"), "the page doesn't say what it needs")
     page.job("run")
     tally.equal("an answer without a module", page.text("output"), None)
 
