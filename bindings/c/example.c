@@ -3,12 +3,14 @@
  *     example ARGUMENT..
  *
  * If the last argument names a file that can be read, it is the call's file. Standard input is read whole first. */
+#define _DEFAULT_SOURCE /* for MAP_ANONYMOUS and MAP_NORESERVE */
 #include "ick.h"
 
 #include <errno.h>
 #include <stdio.h>
 #include <stdlib.h>
 #include <string.h>
+#include <sys/mman.h>
 
 struct bytes {
     uint8_t *start;
@@ -52,6 +54,22 @@ static struct bytes content_of(FILE *stream) {
     return content;
 }
 
+/* Returns room for a text of at least so many bytes, and for any text if the system grants so many addresses: a page
+ * takes memory only when the call writes there. */
+static struct bytes room_for(size_t least) {
+    struct bytes room = {NULL, (size_t)1 << 40};
+    for (; room.length >= least && room.length >= 65536; room.length >>= 8) {
+        void *start = mmap(NULL, room.length, PROT_READ | PROT_WRITE, MAP_PRIVATE | MAP_ANONYMOUS | MAP_NORESERVE, -1, 0);
+        if (start != MAP_FAILED) {
+            room.start = start;
+            return room;
+        }
+    }
+    grow(&room, least);
+    room.length = least;
+    return room;
+}
+
 int main(int count, char **words) {
     FILE *stream = count > 1 ? fopen(words[count - 1], "rb") : NULL;
     if (stream == NULL && errno == ENOMEM)
@@ -59,19 +77,17 @@ int main(int count, char **words) {
     struct bytes arguments = arguments_of(count, words);
     struct bytes file = content_of(stream);
     struct bytes input = content_of(stdin);
-    struct bytes output = {NULL, 0}, errors = {NULL, 0};
-    struct ick_lengths lengths = {4096, 4096};
+    struct bytes output, errors;
+    struct ick_lengths lengths = {0, 0};
     uint8_t status;
 
-    /* A text that is longer than its room is asked for again. */
-    while (lengths.output > output.length || lengths.errors > errors.length) {
-        output.length = lengths.output > output.length ? lengths.output : output.length;
-        errors.length = lengths.errors > errors.length ? lengths.errors : errors.length;
-        grow(&output, output.length);
-        grow(&errors, errors.length);
+    /* The call is made again only if the system refused room for any text. */
+    do {
+        output = room_for(lengths.output);
+        errors = room_for(lengths.errors);
         status = ick_serve(arguments.start, arguments.length, file.start, file.length, input.start, input.length,
                            output.start, output.length, errors.start, errors.length, &lengths);
-    }
+    } while (lengths.output > output.length || lengths.errors > errors.length);
     fwrite(output.start, 1, lengths.output, stdout);
     fwrite(errors.start, 1, lengths.errors, stderr);
     return status;

@@ -4,7 +4,10 @@
  *
  * A call opens no file, and reads and writes no stream. It keeps nothing from one call to the next, so threads may
  * call at the same time. It takes memory by malloc, realloc and free, and gives all of it back. No call may be made
- * from a signal handler, or from the forked child of a process with threads. */
+ * from a signal handler, or from the forked child of a process with threads.
+ *
+ * A call ends by itself: --limit bounds the steps of each run, --count the runs of a listing, and --most the states of
+ * ick-outcomes. To end a call at any time, make it in a process of its own and kill that process, as ick.py does. */
 #ifndef ICK_H
 #define ICK_H
 
@@ -14,6 +17,14 @@
 #ifdef __cplusplus
 extern "C" {
 #endif
+
+/* The version of this header, and the same as a number: 1,000,000 times the first number, 1,000 times the second number,
+ * and the third number. */
+#define ICK_VERSION "0.1.0"
+#define ICK_VERSION_NUMBER 1000
+
+/* Returns the library's version as a number. Compare it with ICK_VERSION_NUMBER if the library is loaded at run time. */
+uint32_t ick_version(void);
 
 /* The lengths of the two texts that a call wrote, in bytes. */
 struct ick_lengths {
@@ -31,6 +42,7 @@ struct ick_lengths {
  * errors      Gets the front of what ick writes on standard error, up to errors_room bytes.
  * lengths     Gets the whole lengths of both texts, which may be greater than the rooms. The same call with more room
  *             gives the same texts. An error text can be as long as the source, since a fault can quote a statement.
+ *             A caller who reserves addresses for any text, as example.c does by mmap, makes each call once.
  *
  * What is behind a text in its room stays as it was. If memory runs out, the status is 4 and the output is the front of
  * the whole output. The error text is OUT OF MEMORY, or WRITE FAILED if the output could not grow. It may be missing,
@@ -58,7 +70,8 @@ uint8_t ick_outcomes_serve(const uint8_t *arguments, size_t arguments_length, co
  * commands    The bytes of standard input: the commands of the session, one a line.
  *
  * All else is as for ick_serve. To go on with a session, a call gives all its commands again and those that follow: the
- * output begins with the output before. Each call makes the steps of all its commands anew. */
+ * output begins with the output before. Each call makes the steps of all its commands anew. The program ick-step keeps
+ * its state: start it with a pipe for its commands and one for its answers, as ick.Session does in ick.py. */
 uint8_t ick_step_serve(const uint8_t *arguments, size_t arguments_length, const uint8_t *file, size_t file_length,
                        const uint8_t *input, size_t input_length, const uint8_t *commands, size_t commands_length,
                        uint8_t *output, size_t output_room, uint8_t *errors, size_t errors_room,

@@ -1,5 +1,5 @@
 #!/usr/bin/env python3
-"""Runs and explores INTERCAL-72 programs by the proved ick, in this process.
+"""Runs and explores INTERCAL-72 programs by the proved ick.
 
     import ick
     print(ick.run("DO READ OUT #1972 PLEASE GIVE UP").output.decode())
@@ -8,37 +8,53 @@
     for outcome in ick.outcomes("DO %30 READ OUT #5\\nPLEASE GIVE UP"):
         print(outcome.count, outcome.weight, outcome.output)
     print(ick.steps("DO .1 <- #5\\nPLEASE GIVE UP", ["step", "print .1"]).decode())
+    with ick.Session("DO .1 <- #5\\nPLEASE GIVE UP") as session:
+        print(session.do("step"), session.do("print .1"))
 
 A source and an input are bytes, or a text that is written in UTF-8. An option that isn't given is the program's own.
 Each call but `serve`, `serve_outcomes` and `serve_step` raises Refused if ick doesn't do what was asked: the source is
 refused (status 2), memory runs out (4), or an argument is wrong (64). A run that ends by a fault (1), or for want of
 steps or choices (3), is an answer.
 `from ick import *` leaves out `list`, because Python has a function of that name: call `ick.list`.
-Ctrl-C ends a call in the main thread by KeyboardInterrupt.
+The calls of the main thread are made in a process beside this one. An exception that comes before the answer, as the
+KeyboardInterrupt of Ctrl-C or one of a signal handler, ends the call with that process, and the next call starts another.
+The calls of other threads are made in this process, at the same time.
 
 As a program, `python3 ick.py ARGUMENT..` does what ick does. If its last argument names a file that can be read, that
 is the source.
 
 The module loads libick.so, which bindings/build makes: the one that the environment variable ICK_LIBRARY names, or
-that beside this file, or that in ../out, or else the system's.
+that beside this file, or that in ../out, or else the system's. A Session starts the program ick-step: the one that the
+environment variable ICK_STEP names, or that beside this file, of this repository or of this install, or on the PATH.
 """
+import atexit
+import contextlib
 import ctypes
 import fractions
 import functools
+import mmap
 import os
+import pickle
 import re
+import shutil
+import signal
+import subprocess
 import sys
 import threading
 from typing import NamedTuple
 
-__all__ = ["Answer", "Asker", "Outcome", "Refused", "Run", "Statement", "Summary", "asked", "check", "outcomes", "run",
-           "runs", "serve", "serve_outcomes", "serve_step", "steps", "trace"]
+__all__ = ["Answer", "Asker", "Outcome", "Refused", "Run", "Session", "Statement", "Summary", "asked", "check", "outcomes", "run",
+           "runs", "serve", "serve_outcomes", "serve_step", "steps", "trace", "version"]
 
-ROOM = 1 << 16
+# Sizes of the room for a text, the first of which the system grants is taken. No text is longer than the first size. A
+# room is only addresses: a page of it takes memory when a text is written there.
+ROOMS = (1 << 40, 1 << 32, 1 << 16)
+NO_RESERVE = getattr(mmap, "MAP_NORESERVE", 0x4000)  # Python before 3.11 doesn't name it
 RUN = re.compile(rb'(\S+) (\S+) "(.*)"')
 OUTCOME = re.compile(rb'(\d+) (\S+) (\S+) (\S+) "(.*)"')
 STATEMENT = re.compile(rb'(\d+) (\S+) (\S+) (\S+) (\d+) (\S+) "(.*)"')
 SUMMARY = re.compile(rb"(\d+) STATEMENTS, (\d+) POLITE\n")
+NO_COMMAND = b"unknown command; help lists all commands\n"
 CODE = re.compile(rb'\\(?:x(..)|(.))')
 
 
@@ -112,23 +128,30 @@ def library():
     here = os.path.dirname(os.path.realpath(__file__))
     places = [os.path.join(here, "libick.so"), os.path.join(here, "..", "out", "libick.so")]
     named = os.environ.get("ICK_LIBRARY") or next(filter(os.path.exists, places), "libick.so")
-    loaded = ctypes.CDLL(named)
+    loaded = ctypes.CDLL(os.path.abspath(named) if os.path.dirname(named) else named)
     text = [ctypes.c_char_p, ctypes.c_size_t]
     room = [ctypes.c_void_p, ctypes.c_size_t]
     for function, texts in ((loaded.ick_serve, 3), (loaded.ick_outcomes_serve, 4), (loaded.ick_step_serve, 4)):
         function.argtypes = text * texts + room * 2 + [ctypes.POINTER(Lengths)]
         function.restype = ctypes.c_uint8
+    loaded.ick_version.argtypes, loaded.ick_version.restype = [], ctypes.c_uint32
     return loaded
+
+
+def version():
+    """Returns the library's version, as `0.1.0`."""
+    number = library().ick_version()
+    return f"{number // 1000000}.{number // 1000 % 1000}.{number % 1000}"
 
 
 def serve(arguments, file=b"", input=b""):
     """Returns what `ick ARGUMENT..` leaves if each file has these bytes, and standard input has this input."""
-    return served(library().ick_serve, arguments, file, input)
+    return served("ick_serve", arguments, file, input)
 
 
 def serve_outcomes(arguments, file=b"", listing=b"", input=b""):
     """Returns what `ick-outcomes ARGUMENT..` leaves if each FILE and each LISTING has these bytes."""
-    return served(library().ick_outcomes_serve, arguments, file, listing, input)
+    return served("ick_outcomes_serve", arguments, file, listing, input)
 
 
 def serve_step(arguments, file=b"", input=b"", commands=b""):
@@ -136,34 +159,137 @@ def serve_step(arguments, file=b"", input=b"", commands=b""):
 
     The file of the name `input` has this input, and each other file has these bytes.
     """
-    return served(library().ick_step_serve, arguments, file, input, commands)
+    return served("ick_step_serve", arguments, file, input, commands)
 
 
-def served(function, arguments, *contents):
-    """Calls a function of the library with rooms that its texts fit in. Returns its status and its texts."""
-    words = [bytes_of(argument) for argument in arguments]
+def served(name, arguments, *contents):
+    """Has a function of the library called, in the process for the main thread's calls or in this one."""
+    given = [ended(map(bytes_of, arguments)), *map(bytes_of, contents)]
+    library()
+    if threading.current_thread() is threading.main_thread():
+        with contextlib.suppress(NoWorker):
+            return Worker.ready().answer(name, given)
+    return made(name, given)
+
+
+def ended(words):
+    """Returns arguments as the library takes them: a byte 0 follows each of them."""
+    words = [*words]
     if any(b"\0" in word for word in words):
         raise ValueError("an argument has a byte 0")
-    given = [b"".join(word + b"\0" for word in words), *map(bytes_of, contents)]
+    return b"".join(word + b"\0" for word in words)
+
+
+class NoWorker(Exception):
+    """No process could be started."""
+
+
+class Worker:
+    """A process that makes one call after the other. Ending it ends its call."""
+
+    last = None
+
+    def __init__(self):
+        words = [sys.executable, "-c", WORK, os.path.realpath(__file__)]
+        try:
+            self.process = subprocess.Popen(words, stdin=subprocess.PIPE, stdout=subprocess.PIPE, start_new_session=True,
+                                            env={**os.environ, "ICK_LIBRARY": library()._name})
+        except (OSError, TypeError) as error:  # there may be no path of Python
+            raise NoWorker from error
+        self.owner, self.calls = os.getpid(), False
+        atexit.register(self.end)
+
+    @classmethod
+    def ready(cls):
+        """Returns a worker of this process that makes no call. A signal's handler can come while one makes a call."""
+        found = cls.last
+        if found is None or found.owner != os.getpid() or found.calls or found.process.poll() is not None:
+            cls.last = cls()
+        return cls.last
+
+    def answer(self, name, given):
+        """Has a function of the library called. Ends the call if an exception comes before its answer.
+
+        Raises ChildProcessError if the process ends before, as it does if the system kills it for its memory.
+        """
+        try:
+            self.calls = True
+            pickle.dump((name, given), self.process.stdin)
+            self.process.stdin.flush()
+            answer = pickle.load(self.process.stdout)
+            self.calls = False
+        except BaseException as error:
+            self.end()
+            if isinstance(error, (BrokenPipeError, EOFError, pickle.UnpicklingError)):
+                raise ChildProcessError("the process of a call ended before its answer") from error
+            raise
+        if self is not Worker.last:
+            self.end()
+        if isinstance(answer, Exception):
+            raise answer
+        return Answer(*answer)
+
+    def end(self):
+        """Ends the process, unless it is that of the process that forked this one."""
+        atexit.unregister(self.end)
+        if self.owner == os.getpid():
+            self.process.kill()
+            self.process.wait()
+            for stream in (self.process.stdin, self.process.stdout):
+                with contextlib.suppress(OSError):
+                    stream.close()
+
+
+# The program of a worker, which loads this module from its file.
+WORK = """
+import importlib.util, sys
+spec = importlib.util.spec_from_file_location("ick", sys.argv[1])
+ick = importlib.util.module_from_spec(spec)
+spec.loader.exec_module(ick)
+ick.work()
+"""
+PR_SET_PDEATHSIG = 1
+
+
+def work():
+    """Makes the calls that standard input has. The process ends with the input, or when its caller's process ends."""
+    ctypes.CDLL(None).prctl(PR_SET_PDEATHSIG, signal.SIGKILL)
+    with contextlib.suppress(EOFError):
+        while True:
+            name, given = pickle.load(sys.stdin.buffer)
+            try:
+                answer = tuple(made(name, given))
+            except Exception as error:
+                answer = error
+            pickle.dump(answer, sys.stdout.buffer)
+            sys.stdout.buffer.flush()
+
+
+def made(name, given):
+    """Calls a function of the library with rooms that its texts fit in. Returns its status and its texts."""
+    function = getattr(library(), name)
     texts = [part for content in given for part in (content, len(content))]
-    lengths = Lengths(ROOM, ROOM)
-    sizes = (0, 0)
-    while lengths.output > sizes[0] or lengths.errors > sizes[1]:
-        sizes = max(lengths.output, sizes[0]), max(lengths.errors, sizes[1])
-        output, errors = map(ctypes.create_string_buffer, sizes)
-        status = called(function, *texts, output, sizes[0], errors, sizes[1], ctypes.byref(lengths))
-    return Answer(status, ctypes.string_at(output, lengths.output), ctypes.string_at(errors, lengths.errors))
+    lengths = Lengths()
+    rooms = [room_for(0), room_for(0)]
+    while True:
+        starts = [ctypes.byref(ctypes.c_char.from_buffer(room)) for room in rooms]
+        status = function(*texts, starts[0], len(rooms[0]), starts[1], len(rooms[1]), ctypes.byref(lengths))
+        sizes = lengths.output, lengths.errors
+        if all(size <= len(room) for size, room in zip(sizes, rooms)):
+            return Answer(status, *(room[:size] for size, room in zip(sizes, rooms)))
+        # the system refused rooms for any text
+        rooms = [room_for(size) for size in sizes]
 
 
-def called(function, *arguments):
-    """Returns what a function of the library returns. Only a wait in Python can be interrupted, so the main thread waits."""
-    if threading.current_thread() is not threading.main_thread():
-        return function(*arguments)
-    found = []
-    caller = threading.Thread(target=lambda: found.append(function(*arguments)), daemon=True)
-    caller.start()
-    caller.join()
-    return found[0]
+def room_for(least):
+    """Returns memory for a text of at least so many bytes."""
+    for size in (*(size for size in ROOMS if size >= least), max(least, 1)):
+        with contextlib.suppress(OSError):
+            room = mmap.mmap(-1, size, flags=mmap.MAP_PRIVATE | mmap.MAP_ANONYMOUS | NO_RESERVE)
+            with contextlib.suppress(OSError):
+                room.madvise(mmap.MADV_NOHUGEPAGE)  # a short text takes a page, and not two million bytes
+            return room
+    raise MemoryError
 
 
 def run(source, input=b"", choices=None, seed=None, limit=None):
@@ -209,13 +335,103 @@ def asked(source, listing, input=b"", limit=None):
 def steps(source, commands=(), input=b"", choices=None, seed=None, limit=None):
     """Returns what a session prints: first where the run begins, then the answer to each command.
 
-    Nothing is kept from one call to the next. To go on with a session, give all its commands again, and those that
-    follow: the text begins with the text before. Raises Refused if ick refuses the source, the choices or the input, or
-    if memory runs out.
+    Nothing is kept from one call to the next; a Session keeps its state. Raises Refused if ick refuses the source, the
+    choices or the input, or if memory runs out.
     """
     given = [*options(input="input", choices=choices, seed=seed, limit=limit), "program"]
     lines = b"".join(bytes_of(command) + b"\n" for command in commands)
     return answered(serve_step(given, source, input, lines)).output
+
+
+def step_program():
+    """Returns the path of the program ick-step."""
+    here = os.path.dirname(os.path.realpath(__file__))
+    places = [os.path.join(here, place) for place in ("ick-step", "../../bin/ick-step", "../../../bin/ick-step")]
+    for found in (os.environ.get("ICK_STEP"), *places, shutil.which("ick-step")):
+        if found and os.access(found, os.X_OK):
+            return found
+    raise FileNotFoundError("there is no program ick-step; the environment variable ICK_STEP can name it")
+
+
+def memory_file(content):
+    """Returns a descriptor of a file in memory, at its beginning."""
+    number = os.memfd_create("ick")
+    with open(number, "wb", closefd=False) as file:
+        file.write(content)
+    os.lseek(number, 0, os.SEEK_SET)
+    return number
+
+
+class Session:
+    """A session of ick-step, in a process of its own, which keeps its state from one command to the next.
+
+    `start` has what a session prints first: where the run begins. Raises Refused if ick refuses the source, the choices
+    or the input, or if memory runs out. An exception that comes before an answer ends the session.
+    """
+
+    def __init__(self, source, input=b"", choices=None, seed=None, limit=None):
+        files = [memory_file(bytes_of(content)) for content in (source, input)]
+        try:
+            names = [f"/proc/self/fd/{file}" for file in files]
+            words = [step_program(), *options(input=names[1], choices=choices, seed=seed, limit=limit), names[0]]
+            self.process = subprocess.Popen(words, stdin=subprocess.PIPE, stdout=subprocess.PIPE, stderr=subprocess.PIPE,
+                                            pass_fds=files, start_new_session=True)
+        finally:
+            for file in files:
+                os.close(file)
+        self.start = self.answer(b"")
+
+    def do(self, command):
+        """Returns the answer to a command. Raises ValueError if the command is no line, or if the session is over."""
+        line = bytes_of(command)
+        if b"\n" in line:
+            raise ValueError("a command is one line")
+        if self.process.returncode is not None:
+            raise ValueError("the session is over")
+        size = 0
+        if line.split()[:1] and b"output".startswith(line.split()[0]):
+            # what the run has printed may look like an answer
+            size = int(re.search(rb"^output: (\d+)", self.answer(b"state\n"), re.MULTILINE)[1])
+        return self.answer(line + b"\n", size)
+
+    def answer(self, line, size=0):
+        """Returns the answer to a line. The first bytes are taken as they are. Behind it come the answers to a line that
+        is no command and to a command, which no answer has one behind the other.
+        """
+        try:
+            with contextlib.suppress(BrokenPipeError):
+                self.process.stdin.write(line + b"?\nprint .65535\n")
+                self.process.stdin.flush()
+            found = [self.process.stdout.read(size)]
+            for line in self.process.stdout:
+                if line.startswith(b".65535 = ") and found[-1] == NO_COMMAND:
+                    return b"".join(found[:-1])
+                found.append(line)
+        except BaseException:
+            self.close()
+            raise
+        return self.last(b"".join(found))
+
+    def last(self, output):
+        """Returns the last answer of a session that has ended."""
+        errors = self.process.stderr.read()
+        status = self.process.wait()
+        self.close()
+        return answered(Answer(status, output, errors)).output
+
+    def close(self):
+        """Ends the session."""
+        self.process.kill()
+        self.process.wait()
+        for stream in (self.process.stdin, self.process.stdout, self.process.stderr):
+            with contextlib.suppress(OSError):
+                stream.close()
+
+    def __enter__(self):
+        return self
+
+    def __exit__(self, *_):
+        self.close()
 
 
 def trace(source, input=b"", choices=None, seed=None, limit=None):
@@ -280,7 +496,7 @@ def main():
     if words and os.path.isfile(words[-1]):
         with open(words[-1], "rb") as stream:
             file = stream.read()
-    answer = serve(words, file, sys.stdin.buffer.read())
+    answer = made("ick_serve", [ended(words), file, sys.stdin.buffer.read()])
     sys.stdout.buffer.write(answer.output)
     sys.stderr.buffer.write(answer.errors)
     sys.exit(answer.status)
