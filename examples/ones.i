@@ -1,0 +1,15 @@
+PLEASE NOTE: PRINTS 1, 3, 7 AND SO ON, UP TO 65535: IN EACH ROUND A 1 COMES IN FROM BELOW
+        DO .1 <- #1
+(10)    DO FORGET #1
+        PLEASE READ OUT .1
+
+DO NOTE: .2 IS THE HIGHEST BIT. IF IT IS 1, .5 IS 2, AND THE LOOP IS OVER
+        DO .2 <- .1~#32768
+        DO .1 <- '.1$#1'~'#32767$#1'
+        DO .5 <- '?.2$#1'~#3
+        PLEASE (11) NEXT
+        DO GIVE UP
+(11)    DO (12) NEXT
+        PLEASE FORGET #1
+        DO (10) NEXT
+(12)    DO RESUME .5

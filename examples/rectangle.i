@@ -1,0 +1,80 @@
+PLEASE NOTE: TAKES THE TWO SIDES OF A RECTANGLE, AND PRINTS HOW LONG ITS EDGE IS, AND ITS AREA
+        DO WRITE IN .1 + .2
+        DO (1000) NEXT
+        PLEASE .3 <- '.3$#0'~'#32767$#1'
+        DO READ OUT .3
+        DO (1030) NEXT
+        DO READ OUT .3
+        PLEASE GIVE UP
+
+DO NOTE: BELOW IS WHAT THIS PROGRAM CALLS OF THE LIBRARY
+
+DO NOTE: THE SUM OF 16 BITS. .1703 IS .1701 + .1702, AND .1704 HAS THE CARRY OUT OF EACH
+        PLACE
+(1700)  DO .1704 <- '&.1701$.1702'~'#0$#65535'
+        PLEASE .1705 <- '?.1701$.1702'~'#0$#65535'
+        DO .1703 <- .1705
+
+DO NOTE: PLACES THAT MAKE A CARRY ARE IN .1704, THOSE THAT PASS ONE ON IN .1705: OVER 1, 2,
+        4 AND 8 PLACES
+(1701)  DO .1704 <- 'V.1704$"'&.1705$"'.1704$#0'~'#32767$#1'"'~'#0$#65535'"'~'#0$#65535'
+        PLEASE .1705 <- '&.1705$"'.1705$#0'~'#32767$#1'"'~'#0$#65535'
+        DO .1704 <- 'V.1704$"'&.1705$"'"'.1704$#0'~'#32767$#1'"$#0'~'#32767$#1'"'~'#0$#65535'"'~'#0$
+           #65535'
+        DO .1705 <- '&.1705$"'"'.1705$#0'~'#32767$#1'"$#0'~'#32767$#1'"'~'#0$#65535'
+        DO .1704 <- 'V.1704$"'&.1705$"'"'"'.1704$#0'~'#32767$#1'"$#0'~'#32767$#1'"$#0'~'#16383$
+           #3'"'~'#0$#65535'"'~'#0$#65535'
+        PLEASE .1705 <- '&.1705$"'"'"'.1705$#0'~'#32767$#1'"$#0'~'#32767$#1'"$#0'~'#16383$#3'"'~'#0$
+           #65535'
+        DO .1704 <- 'V.1704$"'&.1705$"'"'"'"'.1704$#0'~'#32767$#1'"$#0'~'#32767$#1'"$#0'~'#16383$
+           #3'"$#0'~'#4095$#15'"'~'#0$#65535'"'~'#0$#65535'
+        DO .1703 <- '?.1703$"'.1704$#0'~'#32767$#1'"'~'#0$#65535'
+        DO RESUME #1
+
+PLEASE NOTE: THE PRODUCT OF 16 BITS. .1733 AND .1734 ARE THE UPPER AND LOWER HALF OF .1731
+        TIMES .1732
+(1730)  DO ,1730 <- #3
+        DO ,1730SUB#1 <- #0
+        DO ,1730SUB#3 <- .1731
+        PLEASE .1733 <- #0
+        DO (1731) NEXT
+
+DO NOTE: THE LOWER HALF CAME IN FROM THE RIGHT, SO IT IS TURNED ROUND
+        DO .1734 <- '.1734~#255'$'.1734~#65280'
+        PLEASE .1734 <- '.1734~#255'$'.1734~#65280'
+        DO .1734 <- '.1734~#255'$'.1734~#65280'
+        DO .1734 <- '.1734~#255'$'.1734~#65280'
+        DO RESUME #1
+(1731)  PLEASE (1732) NEXT
+(1732)  DO (1733) NEXT
+(1733)  DO (1734) NEXT
+(1734)  DO (1735) NEXT
+(1735)  PLEASE .1701 <- .1733
+        DO .1702 <- ,1730SUB'".1732~#1"$#1'
+        DO (1700) NEXT
+        DO .1734 <- '.1734$.1703'~'#32767$#1'
+        PLEASE .1733 <- '.1704$.1703'~'#32768$#65534'
+        DO .1732 <- .1732~#65534
+        DO RESUME #1
+
+PLEASE NOTE: THE WAY OUT OF ROUTINES THAT STOP. .1700 IS 2 IF ALL IS WELL
+(1998)  DO RESUME .1700
+(1999)  DO EXPECT NO ANSWER, FOR THE RESULT IS TOO LARGE
+
+DO NOTE: (1000)  .3 <- .1 PLUS .2, AND STOP IF THAT IS TOO LARGE
+(1000)  DO .1701 <- .1
+        DO .1702 <- .2
+        PLEASE (1700) NEXT
+        DO .3 <- .1703
+        DO .1700 <- '?".1704~#32768"$#2'~#3
+        DO (1998) NEXT
+        PLEASE (1999) NEXT
+
+DO NOTE: (1030)  .3 <- .1 TIMES .2, AND STOP IF THAT IS TOO LARGE
+(1030)  PLEASE .1731 <- .1
+        DO .1732 <- .2
+        DO (1730) NEXT
+        DO .3 <- .1734
+        PLEASE .1700 <- '?"'.1733~.1733'~#1"$#2'~#3
+        DO (1998) NEXT
+        DO (1999) NEXT

@@ -1,0 +1,6 @@
+PLEASE NOTE: ONE OF THREE. 33 OF 100 GET 3, AND HALF OF THE OTHERS 2. SO 1 AND 2 HAVE 0.335 EACH
+        DO .1 <- #1
+        DO %50 .1 <- #2
+        DO %33 .1 <- #3
+        PLEASE READ OUT .1
+        DO GIVE UP
