@@ -1,6 +1,7 @@
 """What the parts of the tests share: a tally with its one way to print a failure, the programs that are tried, and the
 commands that are called.
 """
+import importlib.util
 import os
 import shutil
 import subprocess
@@ -11,7 +12,7 @@ TOP = os.path.dirname(os.path.dirname(os.path.realpath(__file__)))
 SECONDS = 600
 SHOWN = 1000
 # The environment variable that names a crate's program.
-VARIABLES = {"ick": "ICK", "outcomes": "ICK_OUTCOMES", "step": "ICK_STEP"}
+VARIABLES = {"ick": "ICK", "outcomes": "ICK_OUTCOMES", "step": "ICK_STEP", "stages": "ICK_STAGES"}
 
 
 class Tally:
@@ -56,6 +57,13 @@ class Tally:
         self.untried.append(f"{what} ({command})")
         return True
 
+    def lacks_module(self, module, what):
+        """Whether a module of Python isn't there, so that something is not tried."""
+        if importlib.util.find_spec(module):
+            return False
+        self.untried.append(f"{what} (the module {module} of Python)")
+        return True
+
     def end(self):
         """Prints what was not tried and the result, and ends the part with its exit status."""
         for text in self.untried:
@@ -84,7 +92,7 @@ def programs(named, crate="ick"):
 def installed_programs(named):
     """Returns the first of the programs to try under each name by which it is installed."""
     return {"ick": programs(named)[0], "ick-outcomes": programs(None, "outcomes")[0],
-            "ick-step": programs(None, "step")[0]}
+            "ick-step": programs(None, "step")[0], "ick-stages": programs(None, "stages")[0]}
 
 
 def try_programs(part, named, crate="ick"):

@@ -1,5 +1,5 @@
 """Rows of ick-outcomes and ick-step over which every call of the system fails: words, what they are given, and what
-they leave. All answers are absolute: they come from chapters 16, 20 and 21 of docs/MANUAL.md, and from no run.
+they leave. All answers are absolute: they come from chapters 14, 10 and 11 of docs/MANUAL.md, and from no run.
 """
 from table import CHANCES, ECHOES, ENTERED, LISTED_RUNS, REFUSAL, REFUSED, SOURCE, TALKS, Answer, Given
 
