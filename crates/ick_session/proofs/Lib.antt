@@ -9,3 +9,4 @@ pub mod ChangeLaws
 pub mod TravelLaws
 pub mod PrintLaws
 pub mod RoomLaws
+pub mod MoveLaws

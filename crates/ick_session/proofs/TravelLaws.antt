@@ -1,8 +1,11 @@
 -- Steps that go on, one by one.
 use Rattle.std.proofs.Common.{◌≡◌, ℕ, zero, suc, ◌+◌, ◌-◌, ◌<◌, ◌≤◌, ◌⊎◌, inl, inr, Bool, true, false, List, [], ◌∷◌, ◌++◌}
-use Rattle.std.specs.Prelude.{codes}
+use Rattle.std.specs.Prelude.{Result, Ok, Err, IfErr, OnErr, min}
+use Rattle.ick_explorer.specs.declared.errors.RunsError.{RunsError}
+use Rattle.ick_explorer.specs.declared.errors.RunsError.TheVariants.{NoMemory, WorkFull}
 use Rattle.ick_inspect.specs.declared.positions.Position.{Position}
 use Rattle.ick_session.specs.Shown.{here_text}
+use Rattle.ick_session.specs.Stepper.{Settings}
 use Rattle.std.proofs.Common.{length, take, get_or, Option, Some, None, refl, ap, ap₂, sym, ◌∙◌, subst, arith}
 use borrow.Author.Count.{below_more}
 use Rattle.std.proofs.lemmas.List.{append-nil, get_or_append_left, length-append, take-append-le, take_all, take_more}
@@ -23,9 +26,9 @@ use Rattle.std.specs.Bool.{beq}
 use Rattle.ick_session.specs.Changes.{Had, alike, had_at}
 use Rattle.ick_session.specs.Held.{Keeps, had}
 use Rattle.ick_session.specs.declared.held.Held.{Held}
-use Rattle.ick_session.specs.Travel.{GoesOn, IsAt, IsLastChange, LastChange, Steps, last_statement}
+use Rattle.ick_session.specs.Travel.{CameSoFar, GoesOn, IsAt, IsBefore, IsLastChange, LastChange, Steps, comes, last_statement}
 use Rattle.ick_session.specs.Travel.{StopsFirst, answer_at, answer_to, differs, is_kept, next_answer, state_after}
-use Rattle.ick_session.specs.Travel.{steps_left, where_text}
+use Rattle.ick_session.specs.Travel.{breakpoint_text, is_at_breakpoint, limit_text, steps_left, where_text}
 
 -- one step, or none
 pub later_one : (s : Seen) (k : ℕ) → k ≤ 1 → 0 < k → later k s ≡ with_answer None s
@@ -279,20 +282,26 @@ pub last_some : (s : Seen) (name : Name) (n : ℕ) (last : Option ℕ) (at : ℕ
     IsLastChange s name n last → LastChange s name n at
 last_some s name n last at e h = subst (IsLastChange s name n) e h
 
-pub where_over : (limit : ℕ) (positions : List Position) (s : Seen) (p : Program) (n : ℕ) (t : State) (left : ℕ) →
-    p ≡ s.program → n ≡ length s.answers → t ≡ present s → left ≡ steps_left limit s → left ≡ 0 →
-    here_text p positions n t ++ codes "  limit reached\n" ≡ where_text limit positions s
-where_over limit positions s p n t left e f g h z =
-    let none : limit - length s.answers ≡ 0 = sym h ∙ z in
-    rw (e, f, g, none) refl
+pub where_is : (f : Settings) (positions : List Position) (s : Seen) (p : Program) (n : ℕ) (t : State) (there : Bool)
+    (left : ℕ) → p ≡ s.program → n ≡ length s.answers → t ≡ present s → there ≡ is_at_breakpoint f s →
+    left ≡ steps_left f.limit s →
+    here_text p positions n t ++ breakpoint_text there ++ limit_text left ≡ where_text f positions s
+where_is f positions s p n t there left e g h i j = rw (e, g, h, i, j) refl
 
 -- a kept name is that of the state that it was kept of
-pub stops_at : (chosen : Chosen) (held : Held) (name : Name) (most : ℕ) (s t : Seen) → Keeps held (present s) name →
-    StopsFirst chosen (λ v. differs (had held) held.name v) most s t →
-    StopsFirst chosen (differs (had_at (present s) name) name) most s t
-stops_at chosen held name most s t keeps h =
-    subst (λ v. StopsFirst chosen (differs (had_at (present s) name) v) most s t) keeps.name_is
-    (subst (λ v. StopsFirst chosen (differs v held.name) most s t) keeps.had_is h)
+pub stops_at : (f : Settings) (held : Held) (name : Name) (most : ℕ) (s t : Seen) → Keeps held (present s) name →
+    StopsFirst f.given (comes f (λ v. differs (had held) held.name v)) most s t →
+    StopsFirst f.given (comes f (differs (had_at (present s) name) name)) most s t
+stops_at f held name most s t keeps h =
+    subst (λ v. StopsFirst f.given (comes f (differs (had_at (present s) name) v)) most s t) keeps.name_is
+    (subst (λ v. StopsFirst f.given (comes f (differs v held.name)) most s t) keeps.had_is h)
+
+pub came_at : (f : Settings) (held : Held) (name : Name) (s t : Seen) → Keeps held (present s) name →
+    CameSoFar f (λ v. differs (had held) held.name v) s t →
+    CameSoFar f (differs (had_at (present s) name) name) s t
+came_at f held name s t keeps h =
+    subst (λ v. CameSoFar f (differs (had_at (present s) name) v) s t) keeps.name_is
+    (subst (λ v. CameSoFar f (differs v held.name) s t) keeps.had_is h)
 
 record AllTrue (a b c d e f : Bool) : Type 0 where
   pub first : a ≡ true
@@ -387,3 +396,136 @@ keeps_on held s t name r h e is = record {
   name_is = h.name_is;
   had_is = alike_same (had held) (had_at t held.name) (sym e ∙ is) ∙ ap (had_at t) h.name_is;
 }
+
+-- a command that memory has refused has come so far
+pub on_err : {A E X : Type 0} (r : Result A E) → X → OnErr r X
+on_err (Ok x) h = tt
+on_err (Err e) h = h
+
+pub err_has : {A E X : Type 0} (r : Result A E) (e : E) → r ≡ Err e → OnErr r X → X
+err_has {X = X} r e is h = subst (λ r. OnErr r X) is h
+
+asking_or : Option Asking → Asking
+asking_or None = plain
+asking_or (Some asking) = asking
+
+pub same_asking : (x y : Asking) → Some x ≡ Some y → x ≡ y
+unfolding asking_or
+same_asking x y e = ap asking_or e
+
+pub step_short : (chosen : Chosen) (s t : Seen) {A : Type 0} (r : Result A RunsError) →
+    IfErr r (λ e. (e ≡ NoMemory) ⊎ ((e ≡ WorkFull) × (t ≡ s))) →
+    (r ≡ Err NoMemory → (k : ℕ) × (k ≤ 1) × (t ≡ later k s)) → ask s.program (present s) ≡ plain →
+    OnErr r ((t ≡ s) ⊎ Steps chosen s t)
+step_short chosen s t (Ok x) errors h is = tt
+step_short chosen s t (Err e) (inr full) h is = inl full.1
+step_short chosen s t (Err e) (inl memory) h is =
+    let found = h (ap Err memory) in by_count found.0 found.1 found.2
+  where
+    by_count : (k : ℕ) → k ≤ 1 → t ≡ later k s → (t ≡ s) ⊎ Steps chosen s t
+    by_count zero low e = inl (e ∙ later_none s 0 refl)
+    by_count (suc k) low e = inr (
+      None,
+      sym (ap (answer_to chosen (length (choices_in s.answers))) is),
+      e ∙ later_one s (suc k) low (omega arith),
+    )
+
+pub came : (f : Settings) (here : State → Bool) (made : ℕ) (s t : Seen) → Made f.given (comes f here) made s t →
+    made ≤ steps_left f.limit s → CameSoFar f here s t
+came f here made s t h low =
+    let count = h.count in
+    record {
+      on = record { program = h.program; start = h.start; answers = h.answers; further = omega arith; within = omega arith };
+      given = record { each = λ k low high. h.each k high low };
+      before = record { before = λ k low high. h.before k (omega arith) low };
+    }
+
+came_further : (f : Settings) (here : State → Bool) (made : ℕ) (s t u : Seen) → Made f.given (comes f here) made s t →
+    made < steps_left f.limit s → Steps f.given t u → CameSoFar f here s u
+came_further f here made s t u h lt (a, given, e) =
+    let count = h.count in
+    let size = longer t a in
+    let on : CameSoFar f here s (with_answer a t) = record {
+      on = record {
+        program = h.program;
+        start = h.start;
+        answers = kept_answers s t a (omega arith) h.answers;
+        further = omega arith;
+        within = omega arith;
+      };
+      given = record {
+        each = λ k low high. each_more f.given (comes f here) made s t a h given k (subst (λ n. k < n) size high) low;
+      };
+      before = record { before = λ k low high. passed f.given (comes f here) made s t a h k (omega arith) low };
+    } in
+    subst (λ v. CameSoFar f here s v) (sym e) on
+
+pub came_short : (f : Settings) (here : State → Bool) (made : ℕ) (s t u : Seen) →
+    Made f.given (comes f here) made s t → made < steps_left f.limit s → (u ≡ t) ⊎ Steps f.given t u →
+    CameSoFar f here s u
+came_short f here made s t u h lt (inl e) =
+    subst (λ v. CameSoFar f here s v) (sym e) (came f here made s t h (omega arith))
+came_short f here made s t u h lt (inr steps) = came_further f here made s t u h lt steps
+
+pub came_nowhere : (f : Settings) (here : State → Bool) (s : Seen) → CameSoFar f here s s
+came_nowhere f here s = came f here 0 s s (none_made f.given (comes f here) s) (omega arith)
+
+pub came_whole : (f : Settings) (here : State → Bool) (most : ℕ) (s t : Seen) →
+    StopsFirst f.given (comes f here) (min most (steps_left f.limit s)) s t → CameSoFar f here s t
+came_whole f here most s t h = record {
+  on = record {
+    program = h.on.program;
+    start = h.on.start;
+    answers = h.on.answers;
+    further = h.on.further;
+    within = omega (arith, h.on.within);
+  };
+  given = h.given;
+  before = h.before;
+}
+
+-- a session that is as it was, or has gone back too far
+pub is_before_same : (s t : Seen) → t ≡ s → IsBefore s t
+is_before_same s t e = record {
+  steps = length s.answers;
+  within = omega arith;
+  at = record {
+    program = ap (λ v. v.program) e;
+    start = ap (λ v. v.start) e;
+    answers = ap (λ v. v.answers) e ∙ sym (take_all (length s.answers) s.answers (omega arith));
+  };
+}
+
+pub is_before_at : (s t : Seen) (n : ℕ) → n ≤ length s.answers → IsAt s t n → IsBefore s t
+is_before_at s t n low at = record { steps = n; within = low; at = at }
+
+pub back_short : {A : Type 0} (r : Result A RunsError) (s t : Seen) (most : ℕ) →
+    IfErr r (λ e. (e ≡ NoMemory) ⊎ ((e ≡ WorkFull) × (t ≡ s))) →
+    (r ≡ Err NoMemory → (n : ℕ) × (n < length s.answers - most) × (t.answers ≡ take n s.answers)) →
+    t.program ≡ s.program → t.start ≡ s.start → OnErr r (IsBefore s t)
+back_short (Ok x) s t most errors short p q = tt
+back_short (Err e) s t most (inr full) short p q = is_before_same s t full.1
+back_short (Err e) s t most (inl memory) short p q =
+    let found = short (ap Err memory) in
+    is_before_at s t found.0 (omega (arith, found.1)) (record { program = p; start = q; answers = found.2 })
+
+-- going back from a session's own steps
+pub before_before : (s t u : Seen) → IsAt s t (length s.answers) → IsBefore t u → IsBefore s u
+before_before s t u at h =
+    let all : t.answers ≡ s.answers = at.answers ∙ take_all (length s.answers) s.answers (omega arith) in
+    record {
+      steps = h.steps;
+      within = omega (arith, h.within, ap length all);
+      at = record {
+        program = h.at.program ∙ at.program;
+        start = h.at.start ∙ at.start;
+        answers = h.at.answers ∙ ap (take h.steps) all;
+      };
+    }
+
+pub repeat_short : (s t u : Seen) (n : ℕ) (xs : List (Option Bool)) (d : Option Bool) → IsAt s t n → s.answers ≡ xs →
+    n < length xs → (u ≡ t) ⊎ (u ≡ with_answer (get_or xs n d) t) → IsBefore s u
+repeat_short s t u n xs d h e lt (inl same) =
+    subst (λ v. IsBefore s v) (sym same) (is_before_at s t n (omega (arith, ap length e)) h)
+repeat_short s t u n xs d h e lt (inr more) =
+    is_before_at s u (n + 1) (omega (arith, ap length e)) (at_next s t u n xs d h e lt more)

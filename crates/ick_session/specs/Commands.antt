@@ -64,8 +64,9 @@ pub data Order : Type 0 where
   to_step : (steps : ℕ) → Order
   to_go_back : (steps : ℕ) → Order
   to_next : Order
+  to_go_out : Order
   to_run_until : (statement : ℕ) → Order
-  to_run : Order
+  to_run : (most : ℕ) → Order
   to_choose : (done : Bool) → Order
   to_print : (names : List Name) → Order
   to_show_stack : Order
@@ -73,6 +74,9 @@ pub data Order : Type 0 where
   to_list : Order
   to_watch : (name : Name) → Order
   to_explain : (name : Name) → Order
+  to_break : (statement : ℕ) → Order
+  to_delete : (statement : ℕ) → Order
+  to_delete_all : Order
   to_show_output : Order
   to_show_cursor : Order
   to_help : Order
@@ -85,8 +89,9 @@ abbrev pub order_of : Command → Order
 order_of (command.Step n) = to_step n
 order_of (command.Back n) = to_go_back n
 order_of command.Next = to_next
+order_of command.Out = to_go_out
 order_of (command.Until n) = to_run_until n
-order_of command.Run = to_run
+order_of (command.Run n) = to_run n
 order_of (command.Choose done) = to_choose done
 order_of (command.Print text) = to_print (names_of text.now)
 order_of command.Stack = to_show_stack
@@ -94,6 +99,9 @@ order_of command.State = to_show_state
 order_of command.List = to_list
 order_of (command.Watch name) = to_watch name
 order_of (command.Why name) = to_explain name
+order_of (command.Break n) = to_break n
+order_of (command.Delete n) = to_delete n
+order_of command.DeleteAll = to_delete_all
 order_of command.Output = to_show_output
 order_of command.Cursor = to_show_cursor
 order_of command.Help = to_help
@@ -101,16 +109,19 @@ order_of command.Quit = to_quit
 
 -- the verbs in their order, with their words
 abbrev pub verbs : List Verb
-verbs = verb.Step ∷ verb.Back ∷ verb.Next ∷ verb.Until ∷ verb.Run ∷ verb.Choose ∷ verb.Print ∷ verb.Stack
-    ∷ verb.State ∷ verb.List ∷ verb.Watch ∷ verb.Why ∷ verb.Output ∷ verb.Cursor ∷ verb.Help
-    ∷ verb.Quit ∷ []
+verbs = verb.Step ∷ verb.Back ∷ verb.Next ∷ verb.Out ∷ verb.Until ∷ verb.Run ∷ verb.Break ∷ verb.Delete
+    ∷ verb.Choose ∷ verb.Print ∷ verb.Stack ∷ verb.State ∷ verb.List ∷ verb.Watch ∷ verb.Why ∷ verb.Output
+    ∷ verb.Cursor ∷ verb.Help ∷ verb.Quit ∷ []
 
 abbrev pub verb_word : Verb → List ℕ
 verb_word verb.Step = codes "step"
 verb_word verb.Back = codes "back"
 verb_word verb.Next = codes "next"
+verb_word verb.Out = codes "out"
 verb_word verb.Until = codes "until"
 verb_word verb.Run = codes "run"
+verb_word verb.Break = codes "break"
+verb_word verb.Delete = codes "delete"
 verb_word verb.Choose = codes "choose"
 verb_word verb.Print = codes "print"
 verb_word verb.Stack = codes "stack"
@@ -141,6 +152,14 @@ name_alone text = option_and_then name_in (alone text)
 abbrev pub count_in : List ℕ → Option ℕ
 count_in text = if is_blank text then Some 1 else number_alone text
 
+-- as many steps as one command may make at most
+abbrev pub any_number : ℕ
+any_number = 4294967295
+
+-- a number, or any number if there is no word
+abbrev pub most_in : List ℕ → Option ℕ
+most_in text = if is_blank text then Some any_number else number_alone text
+
 abbrev pub choice_in : List ℕ → Option Bool
 choice_in text =
     option_and_then (λ n. if n == 0 then Some false else (if n == 1 then Some true else None)) (number_alone text)
@@ -157,8 +176,11 @@ abbrev pub order_by : Verb → List ℕ → Option Order
 order_by verb.Step rest = option_map to_step (count_in rest)
 order_by verb.Back rest = option_map to_go_back (count_in rest)
 order_by verb.Next rest = if is_blank rest then Some to_next else None
+order_by verb.Out rest = if is_blank rest then Some to_go_out else None
 order_by verb.Until rest = option_map to_run_until (number_alone rest)
-order_by verb.Run rest = if is_blank rest then Some to_run else None
+order_by verb.Run rest = option_map to_run (most_in rest)
+order_by verb.Break rest = option_map to_break (number_alone rest)
+order_by verb.Delete rest = if is_blank rest then Some to_delete_all else option_map to_delete (number_alone rest)
 order_by verb.Choose rest = option_map to_choose (choice_in rest)
 order_by verb.Print rest = if are_names rest then Some (to_print (names_of rest)) else None
 order_by verb.Stack rest = if is_blank rest then Some to_show_stack else None

@@ -12,3 +12,4 @@ pub mod Stepper
 pub mod Answers
 pub mod Lines
 pub mod Laws
+pub mod Breakpoints

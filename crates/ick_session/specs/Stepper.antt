@@ -1,11 +1,14 @@
 -- What contracts see of a session with its choices, and why a command is refused.
-use Rattle.std.specs.Prelude.{◌≡◌, ◌⊎◌, ◌+◌, ◌-◌, ℕ, length}
+use Rattle.std.specs.Prelude.{◌≡◌, ◌⊎◌, ◌+◌, ◌-◌, ℕ, Bool, false, length}
+use Rattle.std.specs.BTreeSet.{contains}
+use Rattle.std.specs.Ordering.{nat_cmp}
 use Rattle.ick_code.specs.meaning.State.{State}
 use Rattle.ick_backtrack.specs.Machine.{Program}
 use Rattle.ick_runs.specs.Chosen.{Chosen}
 use Rattle.ick_step.specs.Session.{Seen, IsFull}
 use Rattle.ick_step.specs.Sessions.{session}
 use Rattle.ick_session.specs.Given.{given_by}
+use Rattle.ick_session.specs.declared.breakpoints.Breakpoints.{Breakpoints}
 use Rattle.ick_session.specs.declared.stepper.Stepper.{Stepper}
 use Rattle.ick_explorer.specs.declared.errors.RunsError.{RunsError}
 use Rattle.ick_explorer.specs.declared.errors.RunsError.TheVariants.{NoMemory, WorkFull}
@@ -13,20 +16,28 @@ use Rattle.ick_explorer.specs.declared.errors.RunsError.TheVariants.{NoMemory, W
 abbrev pub seen : Stepper → Seen
 seen s = session s.session
 
--- what no command changes: the program and the first state of the run, the choices that it is given, and how many steps
--- it may make
-pub record Fixed : Type 0 where
+-- what no step changes: the program and the first state of the run, the choices that it is given, how many steps it may
+-- make, and which statements have a breakpoint
+pub record Settings : Type 0 where
   pub program : Program
   pub start : State
   pub given : Chosen
   pub limit : ℕ
+  pub breakpoints : ℕ → Bool
 
-abbrev pub fixed : Stepper → Fixed
-fixed s = record {
+abbrev pub has_breakpoint : Breakpoints → ℕ → Bool
+has_breakpoint b n = contains nat_cmp b.statements n
+
+abbrev pub no_breakpoint : ℕ → Bool
+no_breakpoint n = false
+
+abbrev pub settings : Stepper → Settings
+settings s = record {
   program = (seen s).program;
   start = (seen s).start;
   given = given_by s.given;
   limit = s.limit;
+  breakpoints = has_breakpoint s.breakpoints;
 }
 
 -- how many steps a command makes at most: further ones, or all again, and those behind a mark twice

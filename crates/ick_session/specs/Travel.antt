@@ -1,7 +1,7 @@
 -- Where steps stop that lead to a state of some kind, and which step last changed a name.
 use Rattle.std.specs.Prelude.{◌≡◌, ℕ, ◌+◌, ◌-◌, ◌==◌, ◌<◌, ◌≤◌, ◌⊎◌, Bool, true}
-use Rattle.std.specs.Prelude.{false, not, nat_lt, List, [], ◌++◌}
-use Rattle.std.specs.Prelude.{codes, get_or, length, option_map, take, if◌then◌else◌, Option, None, Some}
+use Rattle.std.specs.Prelude.{false, not, nat_lt, ◌&&◌, ◌||◌, List, [], ◌++◌}
+use Rattle.std.specs.Prelude.{codes, get_or, is_some, length, option_map, take, if◌then◌else◌, Option, None, Some}
 use Rattle.ick_syntax.specs.declared.tree.Name.{Name}
 use Rattle.ick_code.specs.meaning.Move.{Asking, plain, choice, ended, ask}
 use Rattle.ick_code.specs.meaning.State.{State}
@@ -12,6 +12,7 @@ use Rattle.ick_step.specs.Session.{Seen, present, with_answer}
 use Rattle.ick_session.specs.Changes.{Had, alike, had_at, printed_text}
 use Rattle.ick_session.specs.Held.{had}
 use Rattle.ick_session.specs.Shown.{here_text}
+use Rattle.ick_session.specs.Stepper.{Settings}
 use Rattle.ick_session.specs.declared.stepper.Target.{Target}
 use Rattle.ick_session.specs.declared.stepper.Target.TheVariants.{Nowhere, Statement, Depth, Change}
 
@@ -105,13 +106,56 @@ pub record IsAt (s t : Seen) (steps : ℕ) : Type 0 where
   pub start : t.start ≡ s.start
   pub answers : t.answers ≡ take steps s.answers
 
--- where a session is, and that it has come to its limit
-abbrev pub where_text : (limit : ℕ) → List Position → Seen → List ℕ
-where_text limit positions s =
-    here_text s.program positions (length s.answers) (present s)
-    ++ (if steps_left limit s == 0 then codes "  limit reached\n" else [])
+-- whether a run goes on, or asks for a choice
+abbrev pub is_going : Asking → Bool
+is_going plain = true
+is_going (choice chance) = true
+is_going (ended end) = false
+
+-- a state is of a kind, or it is in front of a statement with a breakpoint
+abbrev pub comes : Settings → (State → Bool) → State → Bool
+comes f here s = f.breakpoints s.place || here s
+
+abbrev pub is_at_breakpoint : Settings → Seen → Bool
+is_at_breakpoint f s = is_going (ask s.program (present s)) && f.breakpoints (present s).place
+
+abbrev pub breakpoint_text : Bool → List ℕ
+breakpoint_text there = if there then codes "  breakpoint\n" else []
+
+abbrev pub limit_text : (left : ℕ) → List ℕ
+limit_text left = if left == 0 then codes "  limit reached\n" else []
+
+-- where a session is, and that it has come to a breakpoint, or to its limit
+abbrev pub where_text : Settings → List Position → Seen → List ℕ
+where_text f positions s =
+    here_text s.program positions (length s.answers) (present s) ++ breakpoint_text (is_at_breakpoint f s)
+    ++ limit_text (steps_left f.limit s)
 
 -- what was printed on the way from one session's state to another's, and where that is
-abbrev pub way_text : (limit : ℕ) → List Position → (s t : Seen) → List ℕ
-way_text limit positions s t =
-    printed_text (length (present s).output) (present t) ++ where_text limit positions t
+abbrev pub way_text : Settings → List Position → (s t : Seen) → List ℕ
+way_text f positions s t =
+    printed_text (length (present s).output) (present t) ++ where_text f positions t
+
+-- so many steps were made, and a further one could be
+abbrev pub goes_on : Settings → (most : ℕ) → (s t : Seen) → Bool
+goes_on f most s t =
+    length t.answers == length s.answers + most && nat_lt 0 (steps_left f.limit t) && is_some (next_answer f.given t)
+    && not (is_at_breakpoint f t)
+
+abbrev pub going_text : Bool → List ℕ
+going_text goes = if goes then codes "  goes on\n" else []
+
+abbrev pub goes_on_text : Settings → (most : ℕ) → (s t : Seen) → List ℕ
+goes_on_text f most s t = going_text (goes_on f most s t)
+
+-- further steps were made as far as memory allowed; none of the states before the last one was of the kind
+pub record CameSoFar (f : Settings) (here : State → Bool) (s t : Seen) : Type 0 where
+  pub on : GoesOn (steps_left f.limit s) s t
+  pub given : AreGiven f.given s t
+  pub before : Passes (comes f here) s t
+
+-- a session has gone back, to some of its first steps
+pub record IsBefore (s t : Seen) : Type 0 where
+  pub steps : ℕ
+  pub within : steps ≤ length s.answers
+  pub at : IsAt s t steps

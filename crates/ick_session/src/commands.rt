@@ -1,13 +1,15 @@
 //! The commands of a session.
 
 ghost use Rattle.std.specs.Prelude.{◌≡◌, ◌≤◌, None, Some, if◌then◌else◌, length};
-ghost use Rattle.std.specs.Prelude.{option_map};
+ghost use Rattle.std.specs.Prelude.{find, option_map};
 ghost use Rattle.std.specs.List.{prefix_len};
 ghost use Rattle.ick_bits.specs.White.{is_white_byte};
 ghost use Rattle.ick_session.specs.Commands.{alone, are_names, behind_word, choice_in, count_in};
-ghost use Rattle.ick_session.specs.Commands.{first_word, is_blank, is_solid, kind_in, name_alone};
+ghost use Rattle.ick_session.specs.Commands.{first_word, is_blank, is_solid, kind_in, most_in};
+ghost use Rattle.ick_session.specs.Commands.{name_alone};
 ghost use Rattle.ick_session.specs.Commands.{name_in, number_alone, number_in, order_by, order_in};
-ghost use Rattle.ick_session.specs.Commands.{order_of, verb_in, verb_word};
+ghost use Rattle.ick_session.specs.Commands.{order_of, verb_in, verb_word, verbs};
+ghost use Rattle.ick_session.specs.Lines.{begins_with, words_text};
 
 use ick_bits::is_white;
 use ick_syntax::{Name, NameKind};
@@ -18,8 +20,12 @@ pub enum Command<'l> {
     Step(u32),
     Back(u32),
     Next,
+    Out,
     Until(u32),
-    Run,
+    Run(u32),
+    Break(u32),
+    Delete(u32),
+    DeleteAll,
     Choose(bool),
     Print(&'l [u8]),
     Stack,
@@ -39,8 +45,11 @@ pub enum Verb {
     Step,
     Back,
     Next,
+    Out,
     Until,
     Run,
+    Break,
+    Delete,
     Choose,
     Print,
     Stack,
@@ -55,12 +64,15 @@ pub enum Verb {
 }
 
 /// All verbs. If a word is the front of two verbs, it means the earlier one.
-static VERBS: [Verb; 16] = [
+static VERBS: [Verb; 19] = [
     Verb::Step,
     Verb::Back,
     Verb::Next,
+    Verb::Out,
     Verb::Until,
     Verb::Run,
+    Verb::Break,
+    Verb::Delete,
     Verb::Choose,
     Verb::Print,
     Verb::Stack,
@@ -75,6 +87,33 @@ static VERBS: [Verb; 16] = [
 ];
 
 impl Verb {
+    /// Returns the line that says what follows the word.
+    pub fn takes(self) -> &'static [u8]
+        ensures { result.now ≡ words_text self }
+    {
+        match self {
+            Verb::Step => b"step takes a number, or nothing\n",
+            Verb::Back => b"back takes a number, or nothing\n",
+            Verb::Next => b"next takes nothing\n",
+            Verb::Out => b"out takes nothing\n",
+            Verb::Until => b"until takes the number of a statement\n",
+            Verb::Run => b"run takes a number, or nothing\n",
+            Verb::Break => b"break takes the number of a statement\n",
+            Verb::Delete => b"delete takes the number of a statement, or nothing\n",
+            Verb::Choose => b"choose takes 0 or 1\n",
+            Verb::Print => b"print takes variables and arrays, such as .1 or ,2\n",
+            Verb::Stack => b"stack takes nothing\n",
+            Verb::State => b"state takes nothing\n",
+            Verb::List => b"list takes nothing\n",
+            Verb::Watch => b"watch takes one variable or array, such as .1 or ,2\n",
+            Verb::Why => b"why takes one variable or array, such as .1 or ,2\n",
+            Verb::Output => b"output takes nothing\n",
+            Verb::Cursor => b"cursor takes nothing\n",
+            Verb::Help => b"help takes nothing\n",
+            Verb::Quit => b"quit takes nothing\n",
+        }
+    }
+
     /// Returns the word.
     pub fn word(self) -> &'static [u8]
         ensures { result.now ≡ verb_word self }
@@ -83,8 +122,11 @@ impl Verb {
             Verb::Step => b"step",
             Verb::Back => b"back",
             Verb::Next => b"next",
+            Verb::Out => b"out",
             Verb::Until => b"until",
             Verb::Run => b"run",
+            Verb::Break => b"break",
+            Verb::Delete => b"delete",
             Verb::Choose => b"choose",
             Verb::Print => b"print",
             Verb::Stack => b"stack",
@@ -100,8 +142,15 @@ impl Verb {
     }
 }
 
+/// Returns the first verb whose first letter is this one.
+pub fn nearest_verb(letter: u8) -> Option<Verb>
+    ensures { result ≡ find (begins_with letter) verbs }
+{
+    VERBS.iter().copied().find(|verb| verb.word()[0] == letter)
+}
+
 /// Returns the first verb that begins with a word.
-fn verb_of(word: &[u8]) -> Option<Verb>
+pub fn verb_of(word: &[u8]) -> Option<Verb>
     ensures { result ≡ verb_in word.now }
 {
     VERBS
@@ -244,6 +293,16 @@ fn count_of(text: &[u8]) -> Option<u32>
     only_number(text)
 }
 
+/// Returns the number that is the only word of a text, or the greatest number if it has no word.
+fn most_of(text: &[u8]) -> Option<u32>
+    ensures { result ≡ most_in text.now }
+{
+    if has_no_word(text) {
+        return Some(u32::MAX);
+    }
+    only_number(text)
+}
+
 /// Returns the choice that is the only word of a text.
 fn choice_of(text: &[u8]) -> Option<bool>
     ensures { result ≡ choice_in text.now }
@@ -289,8 +348,11 @@ fn command_of(verb: Verb, rest: &[u8]) -> Option<Command<'_>>
         Verb::Watch => only_name(rest).map(|name| Command::Watch(name)),
         Verb::Why => only_name(rest).map(|name| Command::Why(name)),
         Verb::Print => names_command(rest),
+        Verb::Run => most_of(rest).map(|n| Command::Run(n)),
+        Verb::Break => only_number(rest).map(|n| Command::Break(n)),
+        Verb::Delete => delete_command(rest),
         Verb::Next => without_words(Command::Next, rest),
-        Verb::Run => without_words(Command::Run, rest),
+        Verb::Out => without_words(Command::Out, rest),
         Verb::Stack => without_words(Command::Stack, rest),
         Verb::State => without_words(Command::State, rest),
         Verb::List => without_words(Command::List, rest),
@@ -309,6 +371,16 @@ fn names_command(text: &[u8]) -> Option<Command<'_>>
         return Some(Command::Print(text));
     }
     None
+}
+
+/// Returns the command that deletes one breakpoint, or all.
+fn delete_command(text: &[u8]) -> Option<Command<'_>>
+    ensures { option_map order_of result ≡ order_by Verb.Delete text.now }
+{
+    if has_no_word(text) {
+        return Some(Command::DeleteAll);
+    }
+    only_number(text).map(|n| Command::Delete(n))
 }
 
 /// Returns a command that takes no words, unless there are words.

@@ -10,8 +10,11 @@ pub fn help() -> &'static [u8]
     b"step [N]      makes N steps, or 1
 back [N]      takes N steps back, or 1
 next          makes a step, and if it is a NEXT, all steps until it comes back
+out           makes steps until the newest return address was removed
 until N       makes steps until statement N is met next
-run           makes steps until a choice, the end or the limit
+run [N]       makes steps until a choice, the end or the limit, or N steps
+break N       stops each command that makes steps in front of statement N
+delete [N]    takes the breakpoint of statement N away, or all
 choose 0|1    passes over the statement that asks, or does it
 print NAME..  shows variables and arrays, such as .1 or ,2
 stack         shows the NEXT stack
@@ -23,7 +26,7 @@ output        shows what the run has printed
 cursor        shows the choices so far, as `ick run --choices` takes them
 help          shows this list
 quit          ends the session
-Each command may be cut short: s is step, b is back, sta is stack, stat is state, wh is why.
+Each command may be cut short: s is step, b is back, br is break, sta is stack, wh is why.
 A step prints STEPS STATEMENT LINE:COLUMN TEXT: the steps so far, and the statement met next.
 "
 }

@@ -1,13 +1,14 @@
 //! The last step of a session that changed a name.
 
-ghost use Rattle.std.specs.Prelude.{◌≡◌, ◌≤◌, ◌+◌, ℕ, Option, Some, None, IfErr, IfOk, OnOk, length};
+ghost use Rattle.std.specs.Prelude.{◌≡◌, ◌≤◌, ◌+◌, ℕ, Option, Some, None, IfErr, IfOk, OnErr, OnOk};
+ghost use Rattle.std.specs.Prelude.{◌⊎◌, length};
 ghost use Rattle.std.specs.Prelude.{true, false};
 ghost use Rattle.ick_code.specs.meaning.Move.{ask};
 ghost use Rattle.ick_step.specs.History.{Answers, IsHistory};
 ghost use Rattle.ick_step.specs.Session.{present, with_answer};
 ghost use Rattle.ick_step.specs.Sessions.{session};
 ghost use Rattle.ick_session.specs.Stepper.{IsStepError};
-ghost use Rattle.ick_session.specs.Travel.{IsAt, IsLastChange};
+ghost use Rattle.ick_session.specs.Travel.{IsAt, IsBefore, IsLastChange};
 
 use crate::held::Held;
 use ick_machine::Trailed;
@@ -27,6 +28,7 @@ pub fn go_before_change(
     ensures few { let s = session run.old in
         (session run.new).work ≤ s.work + (length s.answers + 2000) }
     ensures errors { IfErr result (IsStepError (session run.new)) }
+    ensures short { OnErr result (IsBefore (session run.old) (session run.new)) }
     ensures found { let s = session run.old in IfOk result (λ found. found ≡ true →
         (at : ℕ) × IsLastChange s name (length s.answers) (Some at)
         × IsAt s (session run.new) at) }
@@ -59,6 +61,7 @@ fn last_change(
     ensures few { let s = session run.old in
         (session run.new).work ≤ s.work + (length s.answers + 1000) }
     ensures errors { IfErr result (IsStepError (session run.new)) }
+    ensures short { OnErr result (IsBefore (session run.old) (session run.new)) }
     ensures same { let s = session run.old in
         OnOk result (IsAt s (session run.new) (length s.answers)) }
     ensures last { let s = session run.old in
@@ -84,6 +87,8 @@ fn repeat(run: &mut Session<Trailed<'_, '_>>, answer: Option<bool>) -> Result<()
     ensures start { (session run.new).start ≡ (session run.old).start }
     ensures few { (session run.new).work ≤ (session run.old).work + 1 }
     ensures errors { IfErr result (IsStepError (session run.new)) }
+    ensures short { OnErr result ((session run.new ≡ session run.old)
+        ⊎ (session run.new ≡ with_answer answer (session run.old))) }
     ensures made { OnOk result (session run.new ≡ with_answer answer (session run.old)) }
 {
     match answer {

@@ -3,6 +3,7 @@
 //!
 //! | Module | What it has |
 //! |---|---|
+//! | `breakpoints` | the statements at which steps stop |
 //! | `commands` | the commands, and the lines that write them |
 //! | `help` | the answer to the command `help` |
 //! | `given` | the choices that a run is given |
@@ -19,6 +20,7 @@
 //! | `lines` | the answer to a line |
 #![tactic(auto)]
 
+mod breakpoints;
 mod changes;
 mod commands;
 mod counted;

@@ -1,53 +1,101 @@
 //! The answer to a line.
 
-ghost use Rattle.std.specs.Prelude.{◌≡◌, ℕ, IfOk, List, length};
-ghost use Rattle.ick_session.specs.Lines.{AnswersLine, Says};
-ghost use Rattle.ick_session.specs.Stepper.{fixed, seen};
+ghost use Rattle.std.specs.Prelude.{◌≡◌, ◌<◌, ℕ, List, codes, find, length};
+ghost use Rattle.ick_inspect.specs.Text.{Adds};
+ghost use Rattle.ick_session.specs.Commands.{verb_in, verbs};
+ghost use Rattle.ick_session.specs.Lines.{AnswersLine, Says, begins_with, nearest_text};
+ghost use Rattle.ick_session.specs.Lines.{short_text, unread_text};
+ghost use Rattle.ick_session.specs.Stepper.{seen, settings};
 
-use crate::commands::{Command, next_word, read_command};
+use crate::commands::{Command, nearest_verb, next_word, read_command, verb_of};
 use crate::stepper::Stepper;
-use ick_bits::NoMemory;
 use ick_inspect::{Position, Text};
 use ick_step::RunsError;
 use std::alloc::Global;
 
 /// Answers a line, and puts the answer into `out` in place of what is there. Returns whether the
-/// session goes on, which it does unless the line is the command `quit`. A line that is no command
-/// changes nothing. If the count of work has no room for the steps that a command may make, the
-/// answer says so, and nothing else changes. There is a position for each statement.
+/// session goes on, which it does unless the line is the command `quit`. There is a position for
+/// each statement.
 ///
-/// `NoMemory` is the only refusal.
+/// A line that is no command changes nothing, and the answer says what the verb takes, or names the
+/// nearest command. If the count of work has no room for the steps that a command may make, the
+/// answer says so, and nothing else changes. If memory runs out, the session stands where the
+/// command has come to, and the answer says after how many steps.
 pub fn answer_line(
     alloc: Global,
     positions: &[Position],
     stepper: &mut Stepper<'_, '_>,
     line: &[u8],
     out: &mut Text,
-) -> Result<bool, NoMemory>
+) -> bool
     requires { length positions.now ≡ length (seen stepper.old).program }
-    ensures fixed { fixed stepper.new ≡ fixed stepper.old }
-    ensures answers { IfOk result (λ goes_on. (text : List ℕ)
-        × AnswersLine (fixed stepper.old) positions.now (seen stepper.old) line.now
-        (seen stepper.new) text goes_on
-        × Says out.new text) }
+    ensures fixed { settings stepper.new ≡ record (settings stepper.old) {
+      breakpoints = (settings stepper.new).breakpoints;
+    } }
+    ensures answers { (text : List ℕ)
+        × AnswersLine (settings stepper.old) positions.now (seen stepper.old) line.now
+        (settings stepper.new) (seen stepper.new) text result
+        × Says out.new text }
 {
     out.clear();
     let Some(command) = read_command(line) else {
-        if !next_word(line).0.is_empty() {
-            out.push(b"unknown command; help lists all commands\n");
+        let (word, _rest) = next_word(line);
+        if !word.is_empty() {
+            append_unread(word, out);
         }
-        return Ok(true);
+        return true;
     };
     match command {
-        Command::Quit => Ok(false),
+        Command::Quit => false,
         _ => match stepper.answer(alloc, positions, command, out) {
-            Ok(()) => Ok(true),
-            Err(RunsError::WorkFull) => {
+            Ok(()) => true,
+            Err(error) => {
                 out.clear();
-                out.push(b"too many steps were made\n");
-                Ok(true)
+                append_error(stepper, error, out);
+                true
             }
-            Err(_) => Err(NoMemory),
         },
+    }
+}
+
+/// Appends what the verb takes that a word means, or the nearest command.
+fn append_unread(word: &[u8], out: &mut Text)
+    requires { 0 < length word.now }
+    ensures { Adds out.old out.new (unread_text word.now (verb_in word.now)) }
+{
+    match verb_of(word) {
+        Some(verb) => out.push(verb.takes()),
+        None => append_nearest(word[0], out),
+    }
+}
+
+/// Appends that there is no such command, and names the first one with this first letter.
+fn append_nearest(letter: u8, out: &mut Text)
+    ensures { Adds out.old out.new (nearest_text (find (begins_with letter) verbs)) }
+{
+    match nearest_verb(letter) {
+        Some(verb) => {
+            out.push(b"unknown command; did you mean ");
+            out.push(verb.word());
+            out.push(b"? help lists all commands\n");
+        }
+        None => out.push(b"unknown command; help lists all commands\n"),
+    }
+}
+
+/// Appends why a command came to no answer: the count of work has no room, or memory ran out.
+fn append_error(stepper: &Stepper<'_, '_>, error: RunsError, out: &mut Text)
+    ensures full { error ≡ RunsError.WorkFull →
+        Adds out.old out.new (codes "too many steps were made\n") }
+    ensures short { error ≡ RunsError.NoMemory →
+        Adds out.old out.new (short_text (seen stepper.now)) }
+{
+    match error {
+        RunsError::WorkFull => out.push(b"too many steps were made\n"),
+        _ => {
+            out.push(b"stopped after ");
+            out.push_decimal(stepper.steps() as u64);
+            out.push(b" steps: out of memory\n");
+        }
     }
 }

@@ -1,12 +1,14 @@
 //! Where a run is, and how it has ended.
 
-ghost use Rattle.std.specs.Prelude.{◌≡◌, length};
+ghost use Rattle.std.specs.Prelude.{◌≡◌, length, true};
 ghost use Rattle.ick_backtrack.specs.Asked.{finish_of};
 ghost use Rattle.ick_inspect.specs.Text.{Adds};
 ghost use Rattle.ick_machine.specs.Present.{present_program, present_state};
 ghost use Rattle.ick_machine.specs.Seen.{trailed_machine};
+ghost use Rattle.ick_session.specs.Breakpoints.{has_statement, last_text, set_text};
 ghost use Rattle.ick_session.specs.Shown.{asked_text, here_text, met_text, over_text, past_text};
 ghost use Rattle.ick_session.specs.Shown.{place_text};
+ghost use Rattle.ick_session.specs.Travel.{breakpoint_text, going_text, limit_text};
 
 use ick_inspect::{Position, Present, Text, append_stack, append_statement, place};
 use ick_machine::{Ask, Asks, End, Trailed};
@@ -105,4 +107,61 @@ pub fn append_here(out: &mut Text, positions: &[Position], steps: usize, machine
             append_over(out, positions, end, &present);
         }
     }
+}
+
+/// Appends that a run has come to a breakpoint, if it has.
+pub fn append_breakpoint(there: bool, out: &mut Text)
+    ensures { Adds out.old out.new (breakpoint_text there) }
+{
+    if there {
+        out.push(b"  breakpoint\n");
+    }
+}
+
+/// Appends that a run has come to its limit, if no further step may be made.
+pub fn append_limit(left: u32, out: &mut Text)
+    ensures { Adds out.old out.new (limit_text left) }
+{
+    if left == 0 {
+        out.push(b"  limit reached\n");
+    }
+}
+
+/// Appends that a run goes on, if it does.
+pub fn append_going(goes: bool, out: &mut Text)
+    ensures { Adds out.old out.new (going_text goes) }
+{
+    if goes {
+        out.push(b"  goes on\n");
+    }
+}
+
+/// Returns whether the program has a statement of this number.
+#[tactic(auto, unfolding(ick_machine::specs::Present::present_program))]
+pub fn has_statement(present: &Present<'_, '_, '_>, n: u32) -> bool
+    ensures { result ≡ has_statement (present_program present.now) n }
+{
+    n > 0 && !(present.lowered.code.count() < n)
+}
+
+/// Appends that a statement has a breakpoint, with its position and its text.
+#[tactic(auto, unfolding(ick_machine::specs::Present::present_program))]
+pub fn append_set(out: &mut Text, positions: &[Position], present: &Present<'_, '_, '_>, n: u32)
+    requires there { has_statement (present_program present.now) n ≡ true }
+    requires positions { length positions.now ≡ length (present_program present.now) }
+    ensures { Adds out.old out.new (set_text (present_program present.now) positions.now n) }
+{
+    out.push(b"breakpoint at ");
+    append_statement(out, present.lowered.code, positions, n);
+    out.push(b"\n");
+}
+
+/// Appends the number of the last statement.
+#[tactic(auto, unfolding(ick_machine::specs::Present::present_program))]
+pub fn append_last(out: &mut Text, present: &Present<'_, '_, '_>)
+    ensures { Adds out.old out.new (last_text (present_program present.now)) }
+{
+    out.push(b"the last statement is ");
+    out.push_decimal(u64::from(present.lowered.code.count()));
+    out.push(b"\n");
 }

@@ -2,6 +2,7 @@
 
 ghost use Rattle.ick_session.specs.Counted.{Counts};
 
+use crate::breakpoints::Breakpoints;
 use crate::changes::{append_change, append_printed};
 use crate::commands::{Command, name_of, next_word};
 use crate::counted::count_choices;
@@ -9,7 +10,10 @@ use crate::given::Given;
 use crate::held::Held;
 use crate::help::help;
 use crate::last_change::go_before_change;
-use crate::shown::append_here;
+use crate::shown::{
+    append_breakpoint, append_going, append_here, append_last, append_limit, append_set,
+    has_statement,
+};
 use ick_bits::NoMemory;
 use ick_inspect::{
     Position, Text, append_list, append_stack, append_state, append_variable, place,
@@ -32,6 +36,8 @@ pub struct Stepper<'c, 'a> {
     chosen: usize,
     /// The greatest number of steps that the session may have made.
     limit: u32,
+    /// The statements at which steps stop.
+    breakpoints: Breakpoints,
     ghost kept: { ∥ Counts session chosen ∥₁ },
 }
 
@@ -51,7 +57,7 @@ pub enum Target<'h> {
 impl<'c, 'a> Stepper<'c, 'a> {
     ghost use Rattle.std.specs.Prelude.{◌≡◌, ◌⊎◌, ◌<◌, ◌≤◌, ◌+◌, ◌-◌, ◌^◌, ◌++◌, ℕ, Bool, true};
     ghost use Rattle.std.specs.Prelude.{false, nat_lt, Option};
-    ghost use Rattle.std.specs.Prelude.{Some, None, IfErr, IfOk, OnOk, [], codes, is_some};
+    ghost use Rattle.std.specs.Prelude.{Some, None, IfErr, IfOk, OnErr, OnOk, [], codes, is_some};
     ghost use Rattle.std.specs.Prelude.{length, min, List};
     ghost use Rattle.ick_code.specs.meaning.Move.{ask, choice};
     ghost use Rattle.ick_machine.specs.Seen.{trailed_machine};
@@ -61,19 +67,23 @@ impl<'c, 'a> Stepper<'c, 'a> {
     ghost use Rattle.ick_inspect.specs.Summary.{variables_text};
     ghost use Rattle.ick_inspect.specs.Text.{Adds};
     ghost use Rattle.ick_step.specs.History.{asks_choice, choices_in};
-    ghost use Rattle.ick_step.specs.Session.{present, with_answer};
+    ghost use Rattle.ick_step.specs.Session.{Seen, present, with_answer};
     ghost use Rattle.ick_step.specs.Sessions.{session};
-    ghost use Rattle.ick_session.specs.Answers.{AnswersCommand, Chooses, Explains, Goes};
-    ghost use Rattle.ick_session.specs.Answers.{any_number};
-    ghost use Rattle.ick_session.specs.Answers.{changed_text, shown, watched_text};
+    ghost use Rattle.ick_session.specs.Answers.{Answers, AnswersCommand, Chooses, Explains};
+    ghost use Rattle.ick_session.specs.Answers.{Goes, GoesOut, is_out};
+    ghost use Rattle.ick_session.specs.Answers.{StopsShort, changed_text, shown, watched_text};
+    ghost use Rattle.ick_session.specs.Breakpoints.{AnswersBreakpoint, is_breakpoint};
+    ghost use Rattle.ick_session.specs.Commands.{any_number, to_break, to_delete};
     ghost use Rattle.ick_session.specs.Held.{had};
     ghost use Rattle.ick_session.specs.Changes.{had_at, printed_text};
     ghost use Rattle.ick_session.specs.Commands.{names_of, order_of};
     ghost use Rattle.ick_session.specs.Given.{given_by};
-    ghost use Rattle.ick_session.specs.Stepper.{HasNoRoom, IsStepError, fixed, most_work, seen};
-    ghost use Rattle.ick_session.specs.Travel.{IsAt, IsLastChange, Steps, StopsFirst, differs};
-    ghost use Rattle.ick_session.specs.Travel.{has_come, last_statement, next_answer, steps_left};
-    ghost use Rattle.ick_session.specs.Travel.{way_text, where_text};
+    ghost use Rattle.ick_session.specs.Stepper.{HasNoRoom, IsStepError, most_work, no_breakpoint};
+    ghost use Rattle.ick_session.specs.Stepper.{seen, settings};
+    ghost use Rattle.ick_session.specs.Travel.{CameSoFar, IsAt, IsBefore, IsLastChange, Steps};
+    ghost use Rattle.ick_session.specs.Travel.{StopsFirst, comes, differs, goes_on, goes_on_text};
+    ghost use Rattle.ick_session.specs.Travel.{has_come, is_at_breakpoint, last_statement};
+    ghost use Rattle.ick_session.specs.Travel.{next_answer, steps_left, way_text, where_text};
 
     /// Returns a session that begins in the machine's state, which must have no marks. It may make
     /// as many steps as the limit.
@@ -85,11 +95,12 @@ impl<'c, 'a> Stepper<'c, 'a> {
           answers = [];
           work = m.work;
         } }
-        ensures fixed { let m = trailed_machine machine.entry in fixed result ≡ record {
+        ensures fixed { let m = trailed_machine machine.entry in settings result ≡ record {
           program = m.program;
           start = m.state;
           given = given_by given;
           limit = limit;
+          breakpoints = no_breakpoint;
         } }
     {
         Stepper {
@@ -97,6 +108,7 @@ impl<'c, 'a> Stepper<'c, 'a> {
             given,
             chosen: 0,
             limit,
+            breakpoints: Breakpoints::new(alloc),
         }
     }
 
@@ -106,7 +118,7 @@ impl<'c, 'a> Stepper<'c, 'a> {
     {}
 
     /// Returns how many steps were made.
-    fn steps(&self) -> usize
+    pub fn steps(&self) -> usize
         ensures { result ≡ length (seen self.now).answers }
     {
         self.session.answers().len()
@@ -123,9 +135,10 @@ impl<'c, 'a> Stepper<'c, 'a> {
 
     /// Takes steps back.
     fn back(&mut self, steps: usize) -> Result<(), RunsError>
-        ensures fixed { fixed self.new ≡ fixed self.old }
+        ensures fixed { settings self.new ≡ settings self.old }
         ensures few { (seen self.new).work ≤ (seen self.old).work + 1000 }
         ensures errors { IfErr result (IsStepError (seen self.new)) }
+        ensures short { OnErr result (IsBefore (seen self.old) (seen self.new)) }
         ensures back { let s = seen self.old in
             OnOk result (IsAt s (seen self.new) (length s.answers - steps)) }
     {
@@ -136,9 +149,10 @@ impl<'c, 'a> Stepper<'c, 'a> {
 
     /// Makes the step at which a choice is asked. Returns whether one is asked.
     fn choose(&mut self, done: bool) -> Result<bool, RunsError>
-        ensures fixed { fixed self.new ≡ fixed self.old }
+        ensures fixed { settings self.new ≡ settings self.old }
         ensures few { (seen self.new).work ≤ (seen self.old).work + 1 }
         ensures errors { IfErr result (IsStepError (seen self.new)) }
+        ensures refused { OnErr result (seen self.new ≡ seen self.old) }
         ensures asked { let s = seen self.old in
             IfOk result (λ chosen. chosen ≡ asks_choice (ask s.program (present s))) }
         ensures chosen { IfOk result (λ chosen. chosen ≡ true →
@@ -159,9 +173,10 @@ impl<'c, 'a> Stepper<'c, 'a> {
     /// Returns whether the run is given it.
     fn choose_given(&mut self, chance: u8) -> Result<bool, RunsError>
         requires { let s = seen self.old in ask s.program (present s) ≡ choice chance }
-        ensures fixed { fixed self.new ≡ fixed self.old }
+        ensures fixed { settings self.new ≡ settings self.old }
         ensures few { (seen self.new).work ≤ (seen self.old).work + 1 }
         ensures errors { IfErr result (IsStepError (seen self.new)) }
+        ensures refused { OnErr result (seen self.new ≡ seen self.old) }
         ensures made { IfOk result (λ made. made ≡ true →
             Steps (given_by self.old.given) (seen self.old) (seen self.new)) }
         ensures not_made { IfOk result (λ made. made ≡ false →
@@ -181,13 +196,15 @@ impl<'c, 'a> Stepper<'c, 'a> {
     /// run and at the limit on its steps. Returns the statement of the last step, or 0 if no step
     /// was made.
     fn travel(&mut self, target: &Target<'_>, most: u32) -> Result<u32, RunsError>
-        ensures fixed { fixed self.new ≡ fixed self.old }
+        ensures fixed { settings self.new ≡ settings self.old }
         ensures few { let s = seen self.old in
             (seen self.new).work ≤ s.work + steps_left self.old.limit s }
         ensures errors { IfErr result (IsStepError (seen self.new)) }
+        ensures short { OnErr result (CameSoFar (settings self.old) (has_come target.now)
+            (seen self.old) (seen self.new)) }
         ensures stops { let s = seen self.old in OnOk result (StopsFirst (given_by self.old.given)
-            (has_come target.now) (min most (steps_left self.old.limit s)) s
-            (seen self.new)) }
+            (comes (settings self.old) (has_come target.now))
+            (min most (steps_left self.old.limit s)) s (seen self.new)) }
         ensures last { let t = seen self.new in IfOk result (λ last.
             length (seen self.old).answers < length t.answers → last ≡ last_statement t) }
     {
@@ -209,9 +226,11 @@ impl<'c, 'a> Stepper<'c, 'a> {
     /// Makes a step, unless the run has ended or a choice is asked that isn't given. Returns
     /// whether a step was made.
     fn step(&mut self) -> Result<bool, RunsError>
-        ensures fixed { fixed self.new ≡ fixed self.old }
+        ensures fixed { settings self.new ≡ settings self.old }
         ensures few { (seen self.new).work ≤ (seen self.old).work + 1 }
         ensures errors { IfErr result (IsStepError (seen self.new)) }
+        ensures refused { OnErr result ((seen self.new ≡ seen self.old)
+            ⊎ Steps (given_by self.old.given) (seen self.old) (seen self.new)) }
         ensures made { IfOk result (λ made. made ≡ true →
             Steps (given_by self.old.given) (seen self.old) (seen self.new)) }
         ensures not_made { IfOk result (λ made. made ≡ false →
@@ -228,8 +247,26 @@ impl<'c, 'a> Stepper<'c, 'a> {
         }
     }
 
-    /// Returns whether the session has come to a target.
+    /// Returns whether a statement has a breakpoint.
+    fn has_breakpoint(&self, statement: u32) -> bool
+        ensures { result ≡ (settings self.now).breakpoints statement }
+    {
+        self.breakpoints.has(statement)
+    }
+
+    /// Returns whether the session has come to a target, or to a breakpoint.
     fn has_come(&self, target: &Target<'_>) -> bool
+        ensures { result
+            ≡ comes (settings self.now) (has_come target.now) (present (seen self.now)) }
+    {
+        if self.has_breakpoint(self.place()) {
+            return true;
+        }
+        self.is_at(target)
+    }
+
+    /// Returns whether the session has come to a target.
+    fn is_at(&self, target: &Target<'_>) -> bool
         ensures { result ≡ has_come target.now (present (seen self.now)) }
     {
         let present = self.session.machine().present();
@@ -274,12 +311,117 @@ impl<'c, 'a> Stepper<'c, 'a> {
     pub fn append_here(&self, positions: &[Position], out: &mut Text)
         requires { length positions.now ≡ length (seen self.now).program }
         ensures { Adds out.old out.new
-            (where_text (fixed self.now).limit positions.now (seen self.now)) }
+            (where_text (settings self.now) positions.now (seen self.now)) }
     {
         append_here(out, positions, self.steps(), self.session.machine());
-        if self.left() == 0 {
-            out.push(b"  limit reached\n");
+        append_breakpoint(self.is_at_breakpoint(), out);
+        append_limit(self.left(), out);
+    }
+
+    /// Returns whether the statement that is met next has a breakpoint. After the end none is met.
+    fn is_at_breakpoint(&self) -> bool
+        ensures { result ≡ is_at_breakpoint (settings self.now) (seen self.now) }
+    {
+        match self.session.machine().asks() {
+            Ask::Ended(_) => false,
+            _ => self.has_breakpoint(self.place()),
         }
+    }
+
+    /// Returns whether a further step can be made: the run hasn't ended, and no choice is asked
+    /// that isn't given.
+    fn can_step(&mut self) -> Result<bool, NoMemory>
+        ensures settings { settings self.new ≡ settings self.old }
+        ensures seen { seen self.new ≡ seen self.old }
+        ensures can { IfOk result (λ can.
+            can ≡ is_some (next_answer (settings self.old).given (seen self.old))) }
+    {
+        match self.session.machine().asks() {
+            Ask::Plain => Ok(true),
+            Ask::Choice(chance) => self.is_given(chance),
+            Ask::Ended(_) => Ok(false),
+        }
+    }
+
+    /// Returns whether the run is given the choice of this chance, which is asked.
+    fn is_given(&mut self, chance: u8) -> Result<bool, NoMemory>
+        requires { let s = seen self.old in ask s.program (present s) ≡ choice chance }
+        ensures settings { settings self.new ≡ settings self.old }
+        ensures seen { seen self.new ≡ seen self.old }
+        ensures given { IfOk result (λ given.
+            given ≡ is_some (next_answer (settings self.old).given (seen self.old))) }
+    {
+        // The number of the next choice is that of the choices so far.
+        self.law();
+        let choice = self.given.choice(self.chosen, chance)?;
+        Ok(choice.is_some())
+    }
+
+    /// Returns whether this number of steps was made, and a further one can be.
+    fn goes_on(&mut self, before: usize, most: u32) -> Result<bool, NoMemory>
+        requires { before ≤ length (seen self.old).answers }
+        ensures settings { settings self.new ≡ settings self.old }
+        ensures seen { seen self.new ≡ seen self.old }
+        ensures goes { IfOk result (λ goes. (s : Seen) → length s.answers ≡ before →
+            goes ≡ goes_on (settings self.old) most s (seen self.old)) }
+    {
+        if self.steps() - before != most as usize {
+            return Ok(false);
+        }
+        if self.left() == 0 {
+            return Ok(false);
+        }
+        if self.is_at_breakpoint() {
+            return Ok(false);
+        }
+        self.can_step()
+    }
+
+    /// Travels at most this number of steps, and says whether the run goes on.
+    fn answer_run(
+        &mut self,
+        positions: &[Position],
+        most: u32,
+        out: &mut Text,
+    ) -> Result<(), RunsError>
+        requires { length positions.now ≡ length (seen self.old).program }
+        ensures fixed { settings self.new ≡ settings self.old }
+        ensures few { let s = seen self.old in
+            (seen self.new).work ≤ s.work + steps_left self.old.limit s }
+        ensures errors { IfErr result (IsStepError (seen self.new)) }
+        ensures short { OnErr result (CameSoFar (settings self.old) (λ v. false) (seen self.old)
+            (seen self.new)) }
+        ensures answers { let s = seen self.old in OnOk result ((way : List ℕ)
+            × Goes (settings self.old) positions.now (λ v. false) most s (seen self.new) way
+            × Adds out.old out.new (way ++ goes_on_text (settings self.old) most s
+            (seen self.new))) }
+    {
+        let before = self.steps();
+        self.forward(positions, &Target::Nowhere, most, out)?;
+        let goes = self.goes_on(before, most)?;
+        append_going(goes, out);
+        Ok(())
+    }
+
+    /// Travels until the newest return address was removed, if there is one.
+    fn answer_out(&mut self, positions: &[Position], out: &mut Text) -> Result<(), RunsError>
+        requires { length positions.now ≡ length (seen self.old).program }
+        ensures fixed { settings self.new ≡ settings self.old }
+        ensures few { let s = seen self.old in
+            (seen self.new).work ≤ s.work + steps_left self.old.limit s }
+        ensures errors { IfErr result (IsStepError (seen self.new)) }
+        ensures short { let s = seen self.old in OnErr result (CameSoFar (settings self.old)
+            (is_out (present s)) s (seen self.new)) }
+        ensures answers { OnOk result ((text : List ℕ)
+            × GoesOut (settings self.old) positions.now (seen self.old) (seen self.new) text
+            × Adds out.old out.new text) }
+    {
+        let depth = self.depth();
+        if depth == 0 {
+            out.push(b"the NEXT stack is empty\n");
+            return Ok(());
+        }
+        self.forward(positions, &Target::Depth(depth - 1), u32::MAX, out)
     }
 
     /// Travels, and appends what the run has printed on the way, and where the run is then.
@@ -291,15 +433,17 @@ impl<'c, 'a> Stepper<'c, 'a> {
         out: &mut Text,
     ) -> Result<(), RunsError>
         requires { length positions.now ≡ length (seen self.old).program }
-        ensures fixed { fixed self.new ≡ fixed self.old }
+        ensures fixed { settings self.new ≡ settings self.old }
         ensures few { let s = seen self.old in
             (seen self.new).work ≤ s.work + steps_left self.old.limit s }
         ensures errors { IfErr result (IsStepError (seen self.new)) }
+        ensures short { OnErr result (CameSoFar (settings self.old) (has_come target.now)
+            (seen self.old) (seen self.new)) }
         ensures stops { let s = seen self.old in OnOk result (StopsFirst (given_by self.old.given)
-            (has_come target.now) (min most (steps_left self.old.limit s)) s
-            (seen self.new)) }
-        ensures text { OnOk result (Adds out.old out.new (way_text self.old.limit positions.now
-            (seen self.old) (seen self.new))) }
+            (comes (settings self.old) (has_come target.now))
+            (min most (steps_left self.old.limit s)) s (seen self.new)) }
+        ensures text { OnOk result (Adds out.old out.new (way_text (settings self.old)
+            positions.now (seen self.old) (seen self.new))) }
     {
         let printed = self.printed();
         let _last = self.travel(target, most)?;
@@ -317,11 +461,12 @@ impl<'c, 'a> Stepper<'c, 'a> {
         out: &mut Text,
     ) -> Result<(), RunsError>
         requires { length positions.now ≡ length (seen self.old).program }
-        ensures fixed { fixed self.new ≡ fixed self.old }
+        ensures fixed { settings self.new ≡ settings self.old }
         ensures few { (seen self.new).work ≤ (seen self.old).work + 1 }
         ensures errors { IfErr result (IsStepError (seen self.new)) }
+        ensures short { OnErr result (seen self.new ≡ seen self.old) }
         ensures answers { OnOk result ((text : List ℕ)
-            × Chooses (fixed self.old) positions.now done (seen self.old) (seen self.new) text
+            × Chooses (settings self.old) positions.now done (seen self.old) (seen self.new) text
             × Adds out.old out.new text) }
     {
         let printed = self.printed();
@@ -389,12 +534,14 @@ impl<'c, 'a> Stepper<'c, 'a> {
         out: &mut Text,
     ) -> Result<(), RunsError>
         requires { length positions.now ≡ length (seen self.old).program }
-        ensures fixed { fixed self.new ≡ fixed self.old }
+        ensures fixed { settings self.new ≡ settings self.old }
         ensures few { let s = seen self.old in
             (seen self.new).work ≤ s.work + steps_left self.old.limit s }
         ensures errors { IfErr result (IsStepError (seen self.new)) }
+        ensures short { let s = seen self.old in OnErr result (CameSoFar (settings self.old)
+            (differs (had_at (present s) name) name) s (seen self.new)) }
         ensures answers { let s = seen self.old in OnOk result ((way : List ℕ)
-            × Goes (fixed self.old) positions.now (differs (had_at (present s) name) name)
+            × Goes (settings self.old) positions.now (differs (had_at (present s) name) name)
             any_number s (seen self.new) way
             × Adds out.old out.new (way ++ watched_text name s (seen self.new))) }
     {
@@ -410,10 +557,11 @@ impl<'c, 'a> Stepper<'c, 'a> {
     /// Goes back to the state before the last step that changed what a name has. Returns whether
     /// there is such a step. If there is none, the state is as before.
     fn before_change(&mut self, alloc: Global, name: Name) -> Result<bool, RunsError>
-        ensures fixed { fixed self.new ≡ fixed self.old }
+        ensures fixed { settings self.new ≡ settings self.old }
         ensures few { let s = seen self.old in
             (seen self.new).work ≤ s.work + (length s.answers + 2000) }
         ensures errors { IfErr result (IsStepError (seen self.new)) }
+        ensures short { OnErr result (IsBefore (seen self.old) (seen self.new)) }
         ensures found { let s = seen self.old in IfOk result (λ found. found ≡ true →
             (at : ℕ) × IsLastChange s name (length s.answers) (Some at)
             × IsAt s (seen self.new) at) }
@@ -436,12 +584,13 @@ impl<'c, 'a> Stepper<'c, 'a> {
         out: &mut Text,
     ) -> Result<(), RunsError>
         requires { length positions.now ≡ length (seen self.old).program }
-        ensures fixed { fixed self.new ≡ fixed self.old }
+        ensures fixed { settings self.new ≡ settings self.old }
         ensures few { let s = seen self.old in
             (seen self.new).work ≤ s.work + (length s.answers + 2000) }
         ensures errors { IfErr result (IsStepError (seen self.new)) }
+        ensures short { OnErr result (IsBefore (seen self.old) (seen self.new)) }
         ensures answers { OnOk result ((text : List ℕ)
-            × Explains (fixed self.old) positions.now name (seen self.old) (seen self.new) text
+            × Explains (settings self.old) positions.now name (seen self.old) (seen self.new) text
             × Adds out.old out.new text) }
     {
         append_variable(out, &self.session.machine().present(), name);
@@ -479,12 +628,15 @@ impl<'c, 'a> Stepper<'c, 'a> {
         requires positions { length positions.now ≡ length (seen self.old).program }
         requires moves { is_some (shown positions.now (seen self.old) (order_of command))
             ≡ false }
-        ensures fixed { fixed self.new ≡ fixed self.old }
+        requires other { is_breakpoint (order_of command) ≡ false }
+        ensures fixed { settings self.new ≡ settings self.old }
         ensures few { let s = seen self.old in
             (seen self.new).work ≤ s.work + most_work self.old.limit s }
         ensures errors { IfErr result (IsStepError (seen self.new)) }
+        ensures short { OnErr result (StopsShort (settings self.old) (seen self.old)
+            (order_of command.entry) (seen self.new)) }
         ensures answers { OnOk result ((text : List ℕ)
-            × AnswersCommand (fixed self.old) positions.now (seen self.old)
+            × AnswersCommand (settings self.old) positions.now (seen self.old)
             (order_of command.entry) (seen self.new) text
             × Adds out.old out.new text) }
     {
@@ -498,7 +650,8 @@ impl<'c, 'a> Stepper<'c, 'a> {
                 let target = Target::Statement(statement);
                 self.forward(positions, &target, u32::MAX, out)
             }
-            Command::Run => self.forward(positions, &Target::Nowhere, u32::MAX, out),
+            Command::Run(most) => self.answer_run(positions, most, out),
+            Command::Out => self.answer_out(positions, out),
             Command::Choose(done) => self.answer_choose(positions, done, out),
             Command::Watch(name) => self.answer_watch(alloc, positions, name, out),
             Command::Why(name) => self.answer_why(alloc, positions, name, out),
@@ -515,13 +668,14 @@ impl<'c, 'a> Stepper<'c, 'a> {
         out: &mut Text,
     ) -> Result<(), RunsError>
         requires { length positions.now ≡ length (seen self.old).program }
-        ensures fixed { fixed self.new ≡ fixed self.old }
+        ensures fixed { settings self.new ≡ settings self.old }
         ensures few { (seen self.new).work ≤ (seen self.old).work + 1000 }
         ensures errors { IfErr result (IsStepError (seen self.new)) }
+        ensures short { OnErr result (IsBefore (seen self.old) (seen self.new)) }
         ensures back { let s = seen self.old in
             OnOk result (IsAt s (seen self.new) (length s.answers - steps)) }
         ensures text { OnOk result (Adds out.old out.new
-            (where_text self.old.limit positions.now (seen self.new))) }
+            (where_text (settings self.old) positions.now (seen self.new))) }
     {
         self.back(steps as usize)?;
         self.append_here(positions, out);
@@ -589,11 +743,88 @@ impl<'c, 'a> Stepper<'c, 'a> {
         u64::MAX - self.session.machine().work() < most
     }
 
+    /// Sets or deletes breakpoints, and appends the answer. Returns whether the command is one that
+    /// does. After a refusal of memory nothing has changed.
+    fn answer_breakpoint(
+        &mut self,
+        positions: &[Position],
+        command: Command<'_>,
+        out: &mut Text,
+    ) -> Result<bool, NoMemory>
+        requires { length positions.now ≡ length (seen self.old).program }
+        ensures seen { seen self.new ≡ seen self.old }
+        ensures other { IfOk result (λ is. is ≡ false → (settings self.new ≡ settings self.old)
+            × (out.new ≡ out.old) × (is_breakpoint (order_of command.entry) ≡ false)) }
+        ensures refused { OnErr result (settings self.new ≡ settings self.old) }
+        ensures answers { IfOk result (λ is. is ≡ true → (text : List ℕ)
+            × AnswersBreakpoint (settings self.old) positions.now (order_of command.entry)
+            (settings self.new) text
+            × Adds out.old out.new text) }
+    {
+        match command {
+            Command::Break(statement) => {
+                self.set_breakpoint(positions, statement, out)?;
+                Ok(true)
+            }
+            Command::Delete(statement) => {
+                self.delete_breakpoint(statement, out);
+                Ok(true)
+            }
+            Command::DeleteAll => {
+                self.breakpoints.clear();
+                out.push(b"no breakpoint is left\n");
+                Ok(true)
+            }
+            _ => Ok(false),
+        }
+    }
+
+    /// Sets a breakpoint, if there is a statement with this number.
+    fn set_breakpoint(
+        &mut self,
+        positions: &[Position],
+        statement: u32,
+        out: &mut Text,
+    ) -> Result<(), NoMemory>
+        requires { length positions.now ≡ length (seen self.old).program }
+        ensures seen { seen self.new ≡ seen self.old }
+        ensures refused { OnErr result (settings self.new ≡ settings self.old) }
+        ensures answers { OnOk result ((text : List ℕ)
+            × AnswersBreakpoint (settings self.old) positions.now (to_break statement)
+            (settings self.new) text
+            × Adds out.old out.new text) }
+    {
+        if !has_statement(&self.session.machine().present(), statement) {
+            append_last(out, &self.session.machine().present());
+            return Ok(());
+        }
+        self.breakpoints.set(statement)?;
+        append_set(out, positions, &self.session.machine().present(), statement);
+        Ok(())
+    }
+
+    /// Deletes the breakpoint of a statement, if there is one.
+    fn delete_breakpoint(&mut self, statement: u32, out: &mut Text)
+        ensures seen { seen self.new ≡ seen self.old }
+        ensures answers { (positions : List Position) → (text : List ℕ)
+            × AnswersBreakpoint (settings self.old) positions (to_delete statement)
+            (settings self.new) text
+            × Adds out.old out.new text }
+    {
+        if self.breakpoints.has(statement) {
+            self.breakpoints.delete(statement);
+            out.push(b"breakpoint deleted\n");
+        } else {
+            out.push(b"no breakpoint is there\n");
+        }
+    }
+
     /// Does a command, and appends the answer. `Quit` does nothing and has no answer.
     ///
     /// The refusals are `NoMemory`, and `WorkFull` if the count of work has no room for the steps
     /// that a command may make. After `WorkFull` nothing has changed. A command that shows a part of
-    /// the state is never refused by `WorkFull`.
+    /// the state, or sets or deletes breakpoints, is never refused by `WorkFull`. After `NoMemory` a
+    /// command has made its steps as far as memory allowed.
     pub fn answer(
         &mut self,
         alloc: Global,
@@ -602,19 +833,27 @@ impl<'c, 'a> Stepper<'c, 'a> {
         out: &mut Text,
     ) -> Result<(), RunsError>
         requires { length positions.now ≡ length (seen self.old).program }
-        ensures fixed { fixed self.new ≡ fixed self.old }
+        ensures fixed { settings self.new ≡ record (settings self.old) {
+          breakpoints = (settings self.new).breakpoints;
+        } }
         ensures few { let s = seen self.old in
             (seen self.new).work ≤ s.work + most_work self.old.limit s }
         ensures errors { IfErr result (λ e. (e ≡ RunsError.NoMemory) ⊎ ((e ≡ RunsError.WorkFull)
             × HasNoRoom self.old.limit (seen self.old) × (seen self.new ≡ seen self.old))) }
         ensures shows { is_some (shown positions.now (seen self.old) (order_of command.entry))
             ≡ true → (self.new ≡ self.old) × IfErr result (λ e. e ≡ RunsError.NoMemory) }
+        ensures short { IfErr result (λ e. (settings self.new ≡ settings self.old)
+            × (e ≡ RunsError.NoMemory → StopsShort (settings self.old) (seen self.old)
+            (order_of command.entry) (seen self.new))) }
         ensures answers { OnOk result ((text : List ℕ)
-            × AnswersCommand (fixed self.old) positions.now (seen self.old)
-            (order_of command.entry) (seen self.new) text
+            × Answers (settings self.old) positions.now (seen self.old)
+            (order_of command.entry) (settings self.new) (seen self.new) text
             × Adds out.old out.new text) }
     {
         if self.answer_shown(alloc, positions, command, out)? {
+            return Ok(());
+        }
+        if self.answer_breakpoint(positions, command, out)? {
             return Ok(());
         }
         if self.is_full() {

@@ -2,10 +2,13 @@
 use Rattle.std.proofs.Common.{◌≡◌, ℕ, ◌+◌, ◌-◌, ◌*◌, ◌<◌, ◌≤◌, ◌++◌, List, length, take, replicate, Bool, Option, None}
 use Rattle.std.proofs.Common.{ap, ap₂, ◌∙◌, arith}
 use Rattle.std.proofs.lemmas.List.{take_all}
-use Rattle.std.specs.Prelude.{Result, Ok, Err, IfOk, OnOk, OnErr}
+use Rattle.std.specs.Prelude.{◌⊎◌, Result, Ok, Err, IfErr, IfOk, OnOk, OnErr}
+use Rattle.std.proofs.Common.{inl, inr}
+use Rattle.ick_explorer.specs.declared.errors.RunsError.{RunsError}
+use Rattle.ick_explorer.specs.declared.errors.RunsError.TheVariants.{NoMemory, WorkFull}
 use Rattle.ick_backtrack.specs.Machine.{Machine}
 use Rattle.ick_backtrack.specs.Steps.{HasRun}
-use Rattle.ick_step.specs.Session.{IsKept, seen_at, later}
+use Rattle.ick_step.specs.Session.{IsKept, Seen, seen_at, later}
 use Rattle.ick_step.proofs.MarkLaws.{kept_cut}
 
 pub on_ok : {T E : Type 0} (r : Result T E) {P Q : Type 0} → OnOk r P → (P → Q) → OnOk r Q
@@ -64,3 +67,13 @@ noted_run (Err e) m m' xs ys zs steps size most before work h ran le stopped is_
     let r = cut_run m m' xs ys zs steps size most before work k h stopped.2 (omega (arith, lt)) is_steps is_size room
     some grown is_before is_work cut in
     record { kept = r.0; ok = tt; err = (k, omega (arith, lt), r.1) }
+
+-- going all steps back is refused no memory
+pub no_memory_left : {A : Type 0} (r : Result A RunsError) (s t : Seen) (steps : ℕ) →
+    IfErr r (λ e. (e ≡ NoMemory) ⊎ ((e ≡ WorkFull) × (t ≡ s))) →
+    (r ≡ Err NoMemory → (n : ℕ) × (n < length s.answers - steps) × (t.answers ≡ take n s.answers)) →
+    length s.answers ≤ steps → IfErr r (λ e. (e ≡ WorkFull) × (t ≡ s))
+no_memory_left (Ok x) s t steps errors left all = tt
+no_memory_left (Err e) s t steps (inr full) left all = full
+no_memory_left (Err e) s t steps (inl memory) left all =
+    let found = left (ap Err memory) in absurd (omega (arith, found.1, all))

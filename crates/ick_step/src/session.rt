@@ -158,12 +158,14 @@ impl<M: Backtrack> Session<M> {
         Ok(())
     }
 
-    /// Takes all steps back. The state is then the one that the session began in. The refusals are
-    /// those of `back`.
+    /// Takes all steps back. The state is then the one that the session began in.
+    ///
+    /// The only refusal is `WorkFull`, exactly if the count of work has less than 1,000 left. After
+    /// it nothing has changed.
     pub fn restart(&mut self) -> Result<(), RunsError>
         ensures work_full { result ≡ Err RunsError.WorkFull ↔ IsFull (session self.old) 1000 }
-        ensures errors { IfErr result (λ e. (e ≡ RunsError.NoMemory)
-            ⊎ ((e ≡ RunsError.WorkFull) × (session self.new ≡ session self.old))) }
+        ensures errors { IfErr result (λ e. (e ≡ RunsError.WorkFull)
+            × (session self.new ≡ session self.old)) }
         ensures ok { OnOk result ((session self.new).answers ≡ []) }
         ensures program { (session self.new).program ≡ (session self.old).program }
         ensures start { (session self.new).start ≡ (session self.old).start }

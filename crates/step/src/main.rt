@@ -14,6 +14,7 @@ use std::process::ExitCode;
 fn main(rt: HostRuntime) -> ExitCode {
     let arguments = arguments(&rt);
     let mut files = DiskFiles::new(&rt);
+    let mut inputs = DiskFiles::new(&rt);
     let mut reader = InStream::new(rt.stdin().lock());
     let mut writer = OutStream::new(rt.stdout());
     let mut errors = OutStream::new(rt.stderr());
@@ -21,6 +22,7 @@ fn main(rt: HostRuntime) -> ExitCode {
         rt.alloc(),
         arguments,
         &mut files,
+        &mut inputs,
         &mut reader,
         &mut writer,
         &mut errors,

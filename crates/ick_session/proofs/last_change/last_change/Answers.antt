@@ -1,10 +1,11 @@
-use Rattle.std.proofs.Common.{◌≡◌, ◌<◌, ◌∙◌, ap, arith, false, length, subst, sym, true, None}
+use Rattle.std.proofs.Common.{◌≡◌, ◌+◌, ◌<◌, ◌∙◌, ap, arith, false, length, subst, sym, true, None}
 use Rattle.ick_step.specs.Session.{present}
 use Rattle.ick_step.specs.Sessions.{session}
 use Rattle.ick_session.specs.Changes.{alike, had_at}
 use Rattle.ick_session.specs.Held.{had}
 use Rattle.ick_session.specs.Travel.{IsLastChange}
-use Rattle.ick_session.proofs.TravelLaws.{at_asks, at_next, keeps_in, keeps_on, kept_is, last_is, last_stays}
+use Rattle.ick_session.proofs.TravelLaws.{at_asks, at_next, is_before_at, is_before_same, keeps_in, keeps_on, kept_is}
+use Rattle.ick_session.proofs.TravelLaws.{last_is, last_stays, on_err, repeat_short}
 use Rattle.ick_session.proofs.last_change.last_change.Goals.{then-not-is_in+in_ok-held-2, else-not-is_in}
 use Rattle.ick_session.proofs.last_change.last_change.Goals as goal
 
@@ -86,3 +87,28 @@ returns-clause-few c =
       c.loop-at.auto.at-end,
       ap length c.requires.answers,
     )
+
+pub returns-in_err-restart-clause-short : goal.returns-in_err-restart-clause-short
+returns-in_err-restart-clause-short c = on_err _ (is_before_same _ _ c.in_err-restart.ensures.errors.1)
+
+pub returns-in_err-held-clause-short : goal.returns-in_err-held-clause-short
+returns-in_err-held-clause-short c =
+    on_err _ (is_before_at (session c.args.run.now) (session c.restart.new.self) 0 (omega arith) (record {
+      program = c.restart.ensures.program;
+      start = c.restart.ensures.start;
+      answers = c.in_ok-restart.ensures.ok;
+    }))
+
+pub returns-in_err-repeat-clause-short : goal.returns-in_err-repeat-clause-short
+returns-in_err-repeat-clause-short c =
+    let lt : c.loop-at.at < length c.args.answers.now = omega (arith, c.loop-at-test.true) in
+    on_err _ (repeat_short (session c.args.run.now) (session c.loop-at.run) (session c.repeat.new.run) c.loop-at.at
+    c.args.answers.now None c.loop-at.invariant.place c.requires.answers lt c.in_err-repeat.ensures.short)
+
+pub returns-in_err-held-2-clause-short : goal.returns-in_err-held-2-clause-short
+returns-in_err-held-2-clause-short c =
+    let s = session c.args.run.now in
+    let lt : c.loop-at.at < length c.args.answers.now = omega (arith, c.loop-at-test.true) in
+    on_err _ (is_before_at s (session c.repeat.new.run) (c.loop-at.at + 1) (omega (arith, lt, ap length c.requires.answers))
+    (at_next s (session c.loop-at.run) (session c.repeat.new.run) c.loop-at.at c.args.answers.now None
+    c.loop-at.invariant.place c.requires.answers lt c.in_ok-repeat.ensures.made))

@@ -1,22 +1,20 @@
-use Rattle.std.proofs.Common.{◌++◌, ◌∙◌, [], ap, codes, subst, sym, true, Some}
-use Rattle.ick_session.specs.Answers.{shown}
-use Rattle.ick_session.specs.Commands.{order_of}
-use Rattle.ick_session.specs.Lines.{AnswersLine, answered, full, no_command, quits, unknown_text}
-use Rattle.ick_session.specs.Stepper.{fixed, seen}
-use Rattle.ick_session.proofs.AnswerLaws.{blank_is, had_no_room, no_order, none_left, not_quit, not_shown}
-use Rattle.ick_session.proofs.AnswerLaws.{order_is, unknown_is}
+use Rattle.std.proofs.Common.{◌++◌, ◌∙◌, [], ap, Some}
+use Rattle.ick_session.specs.Commands.{order_of, verb_in}
+use Rattle.ick_session.specs.Lines.{answered, no_command, quits, unknown_text, unread_text}
+use Rattle.ick_session.specs.Stepper.{settings, seen}
+use Rattle.ick_session.proofs.AnswerLaws.{blank_is, line_refused, no_order, none_left, not_quit, order_is, unknown_is}
 use Rattle.ick_session.proofs.lines.answer_line.Goals as goal
 
 pub returns-then-not-is_empty-clause-answers : goal.returns-then-not-is_empty-clause-answers
 returns-then-not-is_empty-clause-answers c =
-    let line = c.args.line.now in (
+    let line = c.args.line.now in
+    let word = c.next_word.result.0.now in (
       unknown_text line,
       no_command (no_order line c.read_command.result c.read_command.ensures
           (none_left c.read_command.result c.in_default.not-Some)),
-      λ sound. c.push.ensures.bytes sound
-          ∙ (ap (λ l. l ++ codes "unknown command; help lists all commands\n") c.clear.ensures.empty
-          ∙ unknown_is line c.next_word.result.0.now c.is_empty.result c.next_word.ensures.word c.is_empty.ensures
-          c.if-not-is_empty.true),
+      λ sound. c.append_unread.ensures.bytes sound
+          ∙ (ap (λ l. l ++ unread_text word (verb_in word)) c.clear.ensures.empty
+          ∙ unknown_is line word c.is_empty.result c.next_word.ensures.word c.is_empty.ensures c.if-not-is_empty.true),
     )
 
 pub returns-else-not-is_empty-clause-answers : goal.returns-else-not-is_empty-clause-answers
@@ -42,27 +40,17 @@ returns-in-Ok-clause-answers c =
     let order = order_is line c.read_command.result c.in-Some.command c.read_command.ensures c.in-Some.is in
     let found = c.in-Ok.ensures.answers in (
       found.0,
-      answered (order_of c.in-Some.command) (seen c.answer.new.self) found.0 order
+      answered (order_of c.in-Some.command) (settings c.answer.new.self) (seen c.answer.new.self) found.0 order
           (not_quit c.in-Some.command c.in_default-command.not-Quit) c.answer.ensures.few found.1,
       λ sound. found.2.bytes sound ∙ ap (λ l. l ++ found.0) c.clear.ensures.empty,
     )
 
-pub returns-in-Err-WorkFull-clause-answers : goal.returns-in-Err-WorkFull-clause-answers
-returns-in-Err-WorkFull-clause-answers c =
+pub returns-in-Err-clause-answers : goal.returns-in-Err-clause-answers
+returns-in-Err-clause-answers c =
     let line = c.args.line.now in
-    let f = fixed c.args.stepper.now in
-    let positions = c.args.positions.now in
-    let s = seen c.args.stepper.now in
-    let text = codes "too many steps were made\n" in
-    let order = order_of c.in-Some.command in
     let is = order_is line c.read_command.result c.in-Some.command c.read_command.ensures c.in-Some.is in
-    let no_room = had_no_room f.limit s (seen c.answer.new.self) _ c.in-Err-WorkFull.field-0-is
-    c.in-Err-WorkFull.ensures.errors in
-    let none = not_shown (shown positions s order) _ c.in-Err-WorkFull.field-0-is
-    (λ some. (c.in-Err-WorkFull.ensures.shows some).1) in (
-      text,
-      subst (λ t. AnswersLine f positions s line t text true) (sym no_room.1)
-          (full order is (not_quit c.in-Some.command c.in_default-command.not-Quit) none no_room.0),
-      λ sound. c.push-in-Err-WorkFull.ensures.bytes sound
-          ∙ ap (λ l. l ++ text) c.clear-in-Err-WorkFull.ensures.empty,
-    )
+    line_refused (settings c.args.stepper.now) (settings c.answer.new.self) c.args.positions.now
+    (seen c.args.stepper.now) (seen c.answer.new.self) line (order_of c.in-Some.command) c.in-Err.error
+    c.clear-in-Err.new.self c.append_error.new.out is (not_quit c.in-Some.command c.in_default-command.not-Quit)
+    c.answer.ensures.few c.in-Err.ensures.errors (λ some. (c.in-Err.ensures.shows some).1) c.in-Err.ensures.short.0
+    c.in-Err.ensures.short.1 c.append_error.ensures.full c.append_error.ensures.short c.clear-in-Err.ensures.empty

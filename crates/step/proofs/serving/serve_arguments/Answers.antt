@@ -1,8 +1,9 @@
 use Rattle.std.proofs.Common.{refl}
-use Rattle.ick_job.specs.Program.{files_by, stream}
+use Rattle.ick_job.specs.Program.{both, files_by, stream}
 use Rattle.ick_job.specs.Serve.{memory_failed}
 use Rattle.ick_job.proofs.Programs.{RanOut, unserved}
 use Rattle.ick_step_cli.specs.Program.{step}
+use Rattle.ick_step_cli.proofs.Doing.{may_run_out}
 use Rattle.ick_system.specs.Arguments.{after_name}
 use Rattle.step.proofs.serving.serve_arguments.Goals as goal
 
@@ -12,14 +13,16 @@ returns-in-Ok g c = rw (c.as_slice.ensures.value, c.in-Ok.ensures) at c.serve_st
 -- memory ran out for the arguments
 pub returns-in-Err : goal.returns-in-Err
 returns-in-Err g c =
-    let files = files_by g.F.ByteSource.told g.F.ByteSource.failed g.F.Files.named c.args.files.now c.args.files.now in
+    let one = files_by g.F.ByteSource.told g.F.ByteSource.failed g.F.Files.named c.args.files.now c.args.files.now in
+    let other = files_by g.I.ByteSource.told g.I.ByteSource.failed g.I.Files.named c.args.inputs.now
+    c.args.inputs.now in
     let reader = stream g.R.ByteSource.told g.R.ByteSource.failed g.R.ByteSource.left c.args.reader.now
     c.args.reader.now in
     let writer = stream g.W.ByteSink.told g.W.ByteSink.failed g.W.ByteSink.written c.args.writer.now
     c.args.writer.now in
     let errors = stream g.E.ByteSink.told g.E.ByteSink.failed g.E.ByteSink.written c.args.errors.now
     c.refuse_words.new.errors in
-    let out : RanOut files reader writer errors c.refuse_words.result = record {
+    let out : RanOut (both one other) reader writer errors c.refuse_words.result = record {
       same_files = refl;
       same_reader = refl;
       same_writer = refl;
@@ -27,5 +30,5 @@ returns-in-Err g c =
       unwritten = refl;
       line = c.refuse_words.ensures;
     } in
-    unserved step (after_name c.args.arguments.now) files reader writer errors c.refuse_words.result out
-    (tt, tt) (memory_failed refl)
+    unserved step (after_name c.args.arguments.now) (both one other) reader writer errors c.refuse_words.result out
+    (may_run_out (after_name c.args.arguments.now) one other reader writer errors c.refuse_words.result out) (memory_failed refl)

@@ -4,7 +4,7 @@ use Rattle.ick_inspect.specs.Names.{variable_text}
 use Rattle.ick_step.specs.Session.{present}
 use Rattle.ick_session.specs.Answers.{changed, changed_text, name_text, not_changed}
 use Rattle.ick_session.specs.Changes.{change_text}
-use Rattle.ick_session.specs.Stepper.{fixed, seen}
+use Rattle.ick_session.specs.Stepper.{settings, seen}
 use Rattle.ick_session.specs.Travel.{where_text}
 use Rattle.ick_inspect.proofs.AddLaws.{same, then}
 use Rattle.ick_session.proofs.stepper.Stepper.answer_why.Goals as goal
@@ -13,16 +13,16 @@ pub returns-then-branch-clause-answers : goal.returns-then-branch-clause-answers
 returns-then-branch-clause-answers c =
     let s = seen c.args.self.now in
     let t = seen c.before_change.new.self in
-    let f = fixed c.args.self.now in
+    let f = settings c.args.self.now in
     let positions = c.args.positions.now in
     let found = c.in_ok-before_change.ensures.found c.if-branch.true in
     let state = c.present.ensures.state ∙ c.machine.ensures.state in
     let line = same (ap (λ (v : State). variable_text v c.args.name) state) c.append_variable.ensures in
     let by = same (ap (change_text true) c.place.ensures) c.append_change.ensures in (
-      changed_text c.args.name (present s) true (present t).place ++ where_text f.limit positions t,
+      changed_text c.args.name (present s) true (present t).place ++ where_text f positions t,
       changed found.0 found.1 found.2,
       then (then (then line by) c.push.ensures)
-          (same (ap (λ g. where_text g.limit positions t) c.before_change.ensures.fixed) c.append_here.ensures),
+          (same (ap (λ g. where_text g positions t) c.before_change.ensures.fixed) c.append_here.ensures),
     )
 
 pub returns-else-branch-clause-answers : goal.returns-else-branch-clause-answers

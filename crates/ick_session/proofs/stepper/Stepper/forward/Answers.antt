@@ -1,4 +1,4 @@
-use Rattle.std.proofs.Common.{◌++◌, ap, ap₂}
+use Rattle.std.proofs.Common.{◌++◌, ap₂}
 use Rattle.ick_step.specs.Session.{present}
 use Rattle.ick_step.specs.Sessions.{session}
 use Rattle.ick_session.specs.Changes.{printed_text}
@@ -9,5 +9,5 @@ use Rattle.ick_session.proofs.stepper.Stepper.forward.Goals as goal
 pub returns-clause-text : goal.returns-clause-text
 returns-clause-text c =
     let t = session c.travel.new.self.session in
-    same (ap₂ (λ n limit. printed_text n (present t) ++ where_text limit c.args.positions.now t)
-    c.printed-printed.ensures (ap (λ f. f.limit) c.travel.ensures.fixed)) (then c.append_printed.ensures c.append_here.ensures)
+    same (ap₂ (λ n f. printed_text n (present t) ++ where_text f c.args.positions.now t)
+    c.printed-printed.ensures c.travel.ensures.fixed) (then c.append_printed.ensures c.append_here.ensures)
