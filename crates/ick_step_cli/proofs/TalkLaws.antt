@@ -1,6 +1,6 @@
 -- Lines, one after another.
 use Rattle.std.proofs.Common.{◌≡◌, ◌<◌, ◌+◌, ◌==◌, ◌&&◌, ℕ, Bool, true, false, not, List, [], ◌∷◌, ◌++◌, length, take, get_or}
-use Rattle.std.proofs.Common.{refl, ap, ap₂, sym, ◌∙◌, arith, append_assoc, subst}
+use Rattle.std.proofs.Common.{refl, ap, ap₂, sym, ◌∙◌, ◌≤◌, ◌^◌, arith, append_assoc, length-append, subst}
 use Rattle.std.specs.List.{list_all}
 use Rattle.std.proofs.lemmas.List.{append-nil, take_all}
 use Rattle.std.proofs.Math.Seq.{take-append-add}
@@ -12,7 +12,7 @@ use Rattle.ick_inspect.specs.declared.positions.Position.{Position}
 use Rattle.ick_inspect.specs.declared.text.Text.{Text}
 use Rattle.ick_step.specs.Session.{Seen}
 use Rattle.ick_session.specs.Lines.{AnswersLine, Says, Talks, no_line, one_more}
-use Rattle.ick_session.specs.Stepper.{Fixed}
+use Rattle.ick_session.specs.Stepper.{Settings}
 use Rattle.ick_session.specs.Travel.{where_text}
 use Rattle.ick_step_cli.specs.Talk.{IsCut, IsFailure, IsOver, Writes, at_end, at_quit, lines_of, output_text}
 
@@ -79,103 +79,107 @@ line_at_break start line old new (b ∷ []) n d e h some one is f =
 line_at_break start line old new (b ∷ c ∷ xs) n d e h some one is f = absurd (omega arith)
 
 -- so many lines were answered, and all but the last answer was written
-pub record Talking (f : Fixed) (positions : List Position) (s t : Seen) (lines left : List (List ℕ))
-    (before now : List ℕ) (out : Text) : Type 0 where
+pub record Talking (f g : Settings) (positions : List Position) (s t : Seen) (lines left : List (List ℕ))
+    (before now : List ℕ) (out : Text) (made : ℕ) : Type 0 where
   pub done : List (List ℕ)
   pub text : List ℕ
   pub said : List ℕ
   pub pending : List ℕ
   pub lines_are : lines ≡ done ++ left
-  pub talks : Talks f positions s done t text
+  pub count : length done ≡ made
+  pub talks : Talks f positions s done g t text
   pub output : output_text f positions s text ≡ said ++ pending
   pub written : now ≡ before ++ said
   pub says : Says out pending
 
 -- and all answers were written
-pub record Said (f : Fixed) (positions : List Position) (s t : Seen) (lines left : List (List ℕ))
-    (before now : List ℕ) : Type 0 where
+pub record Said (f g : Settings) (positions : List Position) (s t : Seen) (lines left : List (List ℕ))
+    (before now : List ℕ) (made : ℕ) : Type 0 where
   pub done : List (List ℕ)
   pub text : List ℕ
   pub lines_are : lines ≡ done ++ left
-  pub talks : Talks f positions s done t text
+  pub count : length done ≡ made
+  pub talks : Talks f positions s done g t text
   pub written : now ≡ before ++ output_text f positions s text
 
-pub begins : (f : Fixed) (positions : List Position) (s : Seen) (lines : List (List ℕ)) (before : List ℕ)
-    (new out : Text) → new.bytes.items ≡ [] → Adds new out (where_text f.limit positions s) →
-    Talking f positions s s lines lines before before out
+pub begins : (f : Settings) (positions : List Position) (s : Seen) (lines : List (List ℕ)) (before : List ℕ)
+    (new out : Text) → new.bytes.items ≡ [] → Adds new out (where_text f positions s) →
+    Talking f f positions s s lines lines before before out 0
 begins f positions s lines before new out none adds = record {
   done = [];
   text = [];
   said = [];
-  pending = where_text f.limit positions s;
+  pending = where_text f positions s;
   lines_are = refl;
+  count = refl;
   talks = no_line s;
-  output = append-nil (where_text f.limit positions s);
+  output = append-nil (where_text f positions s);
   written = sym (append-nil before);
-  says = λ sound. adds.bytes sound ∙ ap (λ l. l ++ where_text f.limit positions s) none;
+  says = λ sound. adds.bytes sound ∙ ap (λ l. l ++ where_text f positions s) none;
 }
 
-pub all_said : (f : Fixed) (positions : List Position) (s t : Seen) (lines left : List (List ℕ))
-    (before now after : List ℕ) (out : Text) → Talking f positions s t lines left before now out →
-    out.refused ≡ false → after ≡ now ++ out.bytes.items → Said f positions s t lines left before after
-all_said f positions s t lines left before now after out h sound e = record {
+pub all_said : (f g : Settings) (positions : List Position) (s t : Seen) (lines left : List (List ℕ))
+    (before now after : List ℕ) (out : Text) (made : ℕ) → Talking f g positions s t lines left before now out made →
+    out.refused ≡ false → after ≡ now ++ out.bytes.items → Said f g positions s t lines left before after made
+all_said f g positions s t lines left before now after out made h sound e = record {
   done = h.done;
   text = h.text;
   lines_are = h.lines_are;
+  count = h.count;
   talks = h.talks;
   written = e ∙ (ap₂ (λ x y. x ++ y) h.written (h.says sound)
       ∙ (append_assoc before h.said h.pending ∙ ap (λ l. before ++ l) (sym h.output)));
 }
 
-pub answered_more : (f : Fixed) (positions : List Position) (s t u : Seen) (lines left rest : List (List ℕ))
-    (before now line more : List ℕ) (out : Text) → Said f positions s t lines left before now → left ≡ line ∷ rest →
-    AnswersLine f positions t line u more true → Says out more →
-    Talking f positions s u lines rest before now out
-answered_more f positions s t u lines left rest before now line more out h e answers says = record {
+pub answered_more : (f g k : Settings) (positions : List Position) (s t u : Seen) (lines left rest : List (List ℕ))
+    (before now line more : List ℕ) (out : Text) (made : ℕ) → Said f g positions s t lines left before now made →
+    left ≡ line ∷ rest → AnswersLine g positions t line k u more true → Says out more →
+    Talking f k positions s u lines rest before now out (made + 1)
+answered_more f g k positions s t u lines left rest before now line more out made h e answers says = record {
   done = h.done ++ line ∷ [];
   text = h.text ++ more;
   said = output_text f positions s h.text;
   pending = more;
   lines_are = h.lines_are ∙ (ap (λ l. h.done ++ l) e ∙ sym (append_assoc h.done (line ∷ []) rest));
-  talks = one_more s t u h.done line h.text more h.talks answers;
-  output = sym (append_assoc (where_text f.limit positions s) h.text more);
+  count = length-append h.done (line ∷ []) ∙ ap (λ n. n + 1) h.count;
+  talks = one_more g k s t u h.done line h.text more h.talks answers;
+  output = sym (append_assoc (where_text f positions s) h.text more);
   written = h.written;
   says = says;
 }
 
 -- the answer to a line, as the loop has it
-pub line_answered : (f g : Fixed) (positions : List Position) (s t : Seen) (line items text : List ℕ) (on is : Bool) →
-    g ≡ f → line ≡ items → on ≡ is → AnswersLine g positions s line t text on →
-    AnswersLine f positions s items t text is
-line_answered f g positions s t line items text on is e same test h =
-    subst (λ b. AnswersLine f positions s items t text b) test
-    (subst (λ l. AnswersLine f positions s l t text on) same
-    (subst (λ x. AnswersLine x positions s line t text on) e h))
+pub line_answered : (g k : Settings) (positions : List Position) (s t : Seen) (line items text : List ℕ) (on is : Bool) →
+    line ≡ items → on ≡ is → AnswersLine g positions s line k t text on → AnswersLine g positions s items k t text is
+line_answered g k positions s t line items text on is same test h =
+    subst (λ b. AnswersLine g positions s items k t text b) test
+    (subst (λ l. AnswersLine g positions s l k t text on) same h)
 
-pub ended : (f : Fixed) (positions : List Position) (s t : Seen) (lines left : List (List ℕ)) (before now : List ℕ) →
-    Said f positions s t lines left before now → left ≡ [] → IsOver f positions s lines before now
-ended f positions s t lines left before now h e =
+pub ended : (f g : Settings) (positions : List Position) (s t : Seen) (lines left : List (List ℕ)) (before now : List ℕ) (made : ℕ) →
+    Said f g positions s t lines left before now made → left ≡ [] → IsOver f positions s lines before now
+ended f g positions s t lines left before now made h e =
     let all : lines ≡ h.done = h.lines_are ∙ (ap (λ l. h.done ++ l) e ∙ append-nil h.done) in
-    at_end t h.text (subst (λ l. Talks f positions s l t h.text) (sym all) h.talks) h.written
+    at_end g t h.text (subst (λ l. Talks f positions s l g t h.text) (sym all) h.talks) h.written
 
-pub quit : (f : Fixed) (positions : List Position) (s t u : Seen) (lines left rest : List (List ℕ))
-    (before now line last : List ℕ) → Said f positions s t lines left before now → left ≡ line ∷ rest →
-    AnswersLine f positions t line u last false → IsOver f positions s lines before now
-quit f positions s t u lines left rest before now line last h e answers =
-    at_quit h.done rest line t u h.text last (h.lines_are ∙ ap (λ l. h.done ++ l) e) h.talks answers h.written
+pub quit : (f g k : Settings) (positions : List Position) (s t u : Seen) (lines left rest : List (List ℕ))
+    (before now line last : List ℕ) (made : ℕ) → Said f g positions s t lines left before now made → left ≡ line ∷ rest →
+    AnswersLine g positions t line k u last false → IsOver f positions s lines before now
+quit f g k positions s t u lines left rest before now line last made h e answers =
+    at_quit h.done rest line g k t u h.text last (h.lines_are ∙ ap (λ l. h.done ++ l) e) h.talks answers h.written
 
 taken : (n : ℕ) (text : List ℕ) (out : Text) (r : Bool) → out.refused ≡ r → Says out text →
     (out.refused ≡ true → n ≡ 0) → take n out.bytes.items ≡ take n text
 taken n text out true e says none = let z = none e in rw z refl
 taken n text out false e says none = ap (take n) (says e)
 
-pub cut_short : (f : Fixed) (positions : List Position) (s t : Seen) (lines left : List (List ℕ))
-    (before now after : List ℕ) (n : ℕ) (out : Text) → Talking f positions s t lines left before now out →
+pub cut_short : (f g : Settings) (positions : List Position) (s t : Seen) (lines left : List (List ℕ))
+    (before now after : List ℕ) (n : ℕ) (out : Text) (made : ℕ) → Talking f g positions s t lines left before now out made →
     after ≡ now ++ take n out.bytes.items → (out.refused ≡ true → n ≡ 0) → IsCut f positions s lines before after
-cut_short f positions s t lines left before now after n out h e none = record {
+cut_short f g positions s t lines left before now after n out made h e none = record {
   done = h.done;
   left = left;
   lines_are = h.lines_are;
+  set = g;
   last = t;
   text = h.text;
   talks = h.talks;
@@ -185,14 +189,16 @@ cut_short f positions s t lines left before now after n out h e none = record {
       ∙ ap (λ l. before ++ l) (sym (ap (take (length h.said + n)) h.output ∙ take-append-add h.said h.pending n))));
 }
 
-pub cut_after : (f : Fixed) (positions : List Position) (s t : Seen) (lines left : List (List ℕ))
-    (before now : List ℕ) → Said f positions s t lines left before now → IsCut f positions s lines before now
-cut_after f positions s t lines left before now h =
+pub cut_after : (f g : Settings) (positions : List Position) (s t : Seen) (lines left : List (List ℕ))
+    (before now : List ℕ) (made : ℕ) → Said f g positions s t lines left before now made →
+    IsCut f positions s lines before now
+cut_after f g positions s t lines left before now made h =
     let output = output_text f positions s h.text in
     record {
       done = h.done;
       left = left;
       lines_are = h.lines_are;
+      set = g;
       last = t;
       text = h.text;
       talks = h.talks;
@@ -200,12 +206,21 @@ cut_after f positions s t lines left before now h =
       written = h.written ∙ ap (λ l. before ++ l) (sym (take_all (length output) output (omega arith)));
     }
 
-pub failed : (f : Fixed) (positions : List Position) (s : Seen) (lines : List (List ℕ)) (job_end : JobEnd)
+pub failed : (f : Settings) (positions : List Position) (s : Seen) (lines : List (List ℕ)) (job_end : JobEnd)
     (before after : List ℕ) → IsFailure job_end → IsCut f positions s lines before after →
     Writes f positions s lines job_end before after
 failed f positions s lines (Answered status message) before after proper h = absurd proper
 failed f positions s lines NoMemory before after proper h = h
-failed f positions s lines InputTooLong before after proper h = h
-failed f positions s lines FileNotRead before after proper h = h
+failed f positions s lines InputTooLong before after proper h = absurd proper
+failed f positions s lines FileNotRead before after proper h = absurd proper
 failed f positions s lines ReadFailed before after proper h = h
 failed f positions s lines WriteFailed before after proper h = h
+
+-- so many lines are more than a session answers
+pub many_lines : (f g : Settings) (positions : List Position) (s t : Seen) (lines left : List (List ℕ)) (before now : List ℕ)
+    (out : Text) (made : ℕ) → Talking f g positions s t lines left before now out made → 18446744073709551615 ≤ made →
+    2 ^ 64 ≤ length lines + 1
+many_lines f g positions s t lines left before now out made h all =
+    let count = h.count in
+    let size = ap length h.lines_are ∙ length-append h.done left in
+    omega arith

@@ -1,5 +1,5 @@
 -- The job that arguments ask for, as clap parses them.
-use Rattle.std.specs.Prelude.{◌≡◌, ℕ, Bool, List, [], Option, codes, option_map}
+use Rattle.std.specs.Prelude.{◌≡◌, ℕ, Bool, List, [], Option, codes, is_some, option_map}
 use Rattle.clap.specs.Words.{Row, Text, fault_of, matches_of}
 use Rattle.ick_job.specs.Values.{flag_in, number_in, number_or, text_in}
 use Rattle.ick_step_cli.specs.Words.{step_app}
@@ -41,3 +41,7 @@ HasJob words = fault_of step_app words ≡ []
 
 abbrev pub job_of : List Text → Wanted
 job_of words = wanted_in (matches_of step_app words)
+
+-- it names a file
+abbrev pub has_file : Wanted → Bool
+has_file w = is_some w.file

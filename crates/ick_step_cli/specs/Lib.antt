@@ -1,5 +1,10 @@
 pub mod Words
 pub mod Job
-pub mod Program
+pub mod Plan
 pub mod Trace
 pub mod Talk
+pub mod Tool
+pub mod Traced
+pub mod Serve
+pub mod Laws
+pub mod Program

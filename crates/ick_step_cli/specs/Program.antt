@@ -1,22 +1,40 @@
 -- What `ick-step` owes to its arguments.
-use Rattle.std.specs.Prelude.{true, List, ℕ}
-use Rattle.ick_job.specs.Program.{Files, Job, Program}
+use Rattle.std.specs.Prelude.{◌≡◌, false, not, List, None, Option, ℕ}
+use Rattle.ick_job.specs.JobEnd.{source_of}
+use Rattle.ick_job.specs.Program.{Device, Files, Job, Program}
 use Rattle.ick_job.specs.Serve.{IsDue}
-use Rattle.ick_step_cli.specs.Job.{Wanted, job_of}
+use Rattle.ick_step_cli.specs.Job.{Wanted, has_file, job_of}
+use Rattle.ick_step_cli.specs.Plan.{AreRefused}
+use Rattle.ick_step_cli.specs.Serve.{IsStepServed}
+use Rattle.ick_step_cli.specs.Tool.{IsStepAnswer, IsStepBegun, input_of, lines_by}
 use Rattle.ick_step_cli.specs.Words.{step_app}
 
--- Nothing is said of a job beyond what is due over any devices.
-abbrev pub step_job : {F : Type 0} → Wanted → Files F → List ℕ → Job
+-- FILE and the input are opened by two devices
+abbrev pub TwoFiles : Type 0 → Type 0 → Type 0
+TwoFiles F I = Device (F × I) (Files F × Files I)
+
+abbrev pub source_in : {F I : Type 0} → Wanted → TwoFiles F I → List ℕ → Option (List ℕ)
+source_in w files left =
+    let one = files.bytes.0 in source_of w.file one.bytes one.failed_before one.failed_after left
+
+abbrev pub input_in : {F I : Type 0} → Wanted → TwoFiles F I → Option (List ℕ)
+input_in w files =
+    let other = files.bytes.1 in input_of w.input other.bytes other.failed_before other.failed_after
+
+-- The answer of a session or of a trace is served.
+abbrev pub step_job : {F I : Type 0} → Wanted → TwoFiles F I → List ℕ → Job
 step_job w files left = record {
-  has_file = true;
-  takes_input = true;
-  IsRefusedBy = λ line. ⊥;
-  IsDone = λ old new before after text status. Unit {0};
+  has_file = has_file w;
+  takes_input = not w.trace;
+  IsRefusedBy = AreRefused w.choices w.seed;
+  IsDone = IsStepServed (IsStepAnswer w (input_in w files) (lines_by w.file left) (source_in w files left))
+      (IsStepBegun w (input_in w files) (lines_by w.file left) (source_in w files left));
   IsLeft = λ rest. Unit {0};
-  KeepsFiles = Unit {0};
+  KeepsFiles = (has_file w ≡ false → files.bytes.0.new ≡ files.bytes.0.old)
+      × (w.input ≡ None → files.bytes.1.new ≡ files.bytes.1.old);
 }
 
-abbrev pub step : {F : Type 0} → Program F (List ℕ → List ℕ)
+abbrev pub step : {F I : Type 0} → Program (F × I) (Files F × Files I)
 step = record {
   app = step_app;
   job = λ arguments. step_job (job_of arguments);

@@ -2,17 +2,22 @@
 //! arguments ask for, over devices of the caller.
 //!
 //! - `words`: the options, and the job that arguments ask for
+//! - `plan`: the run that a job asks for
 //! - `trace`: the lines of all steps of a run
 //! - `session`: commands line by line, and their answers
 //! - `dispatch`: from a job to its answer, by its source and its input
+//! - `laws`: each run has one trace
 //! - `driver`: the whole, from the arguments to the status
 #![tactic(auto)]
 
 mod dispatch;
 mod driver;
+mod laws;
+mod plan;
 mod session;
 mod trace;
 mod words;
 
 pub use driver::serve_step;
+pub use laws::one_trace;
 pub use session::talk;

@@ -5,10 +5,9 @@ ghost use Rattle.std.specs.Prelude.{IfErr, IfOk, OnOk, [], length};
 ghost use Rattle.std.specs.Prelude.{true, false, take};
 ghost use Rattle.ick_explorer.specs.Whole.{read_failures};
 ghost use Rattle.ick_job.specs.JobEnd.{LeavesStreams, LeavesWriter};
-ghost use Rattle.ick_session.specs.Stepper.{fixed, seen};
+ghost use Rattle.ick_session.specs.Stepper.{settings, seen};
 ghost use Rattle.ick_step_cli.specs.Talk.{IsFailure, Writes, lines_of};
 
-use ick_bits::NoMemory;
 use ick_explorer::{ByteSink, ByteSource, ReadFault, write_whole};
 use ick_inspect::{Position, Text};
 use ick_job::{JobEnd, Message};
@@ -87,7 +86,7 @@ pub fn talk<R: ByteSource, W: ByteSink>(
     ensures leaves { LeavesStreams result (R.failed reader.old) (R.failed reader.new)
         (W.failed writer.old) (W.failed writer.new) }
     ensures writes { R.told ≡ true → W.told ≡ true →
-        Writes (fixed stepper.old) positions.now
+        Writes (settings stepper.old) positions.now
         (seen stepper.old) (lines_of (R.left reader.old)) result
         (W.written writer.old) (W.written writer.new) }
 {
@@ -104,10 +103,8 @@ pub fn talk<R: ByteSource, W: ByteSink>(
             Err(ReadFault::NoMemory) => return JobEnd::NoMemory,
             Err(ReadFault::Failed) => return JobEnd::ReadFailed,
         }
-        match answer_line(alloc, positions, stepper, &line, &mut out) {
-            Ok(true) => {}
-            Ok(false) => return over(),
-            Err(NoMemory) => return JobEnd::NoMemory,
+        if !answer_line(alloc, positions, stepper, &line, &mut out) {
+            return over();
         }
     }
     JobEnd::InputTooLong

@@ -1,35 +1,49 @@
 use Rattle.std.proofs.Common.{ap, refl}
 use Rattle.clap.specs.Walk.{texts}
-use Rattle.ick_job.specs.Program.{files_by, stream}
+use Rattle.ick_job.specs.Program.{both, files_by, stream}
 use Rattle.ick_job.specs.Serve.{counts}
 use Rattle.ick_job.proofs.Programs.{refused_words}
+use Rattle.ick_step_cli.specs.Job.{wanted}
 use Rattle.ick_step_cli.specs.Program.{step}
-use Rattle.ick_step_cli.proofs.Doing.{serves}
+use Rattle.ick_step_cli.proofs.Doing.{may_run_out, serves}
 use Rattle.ick_step_cli.proofs.driver.serve_step.Goals as goal
 
 -- arguments that ask for a job
 pub returns-in-Ok : goal.returns-in-Ok
 returns-in-Ok g c =
     let call = c.perform-job_end in
-    serves (texts c.args.words.now)
+    let work = call.ensures in
+    serves (texts c.args.words.now) (wanted c.in-Ok.job)
     (files_by g.F.ByteSource.told g.F.ByteSource.failed g.F.Files.named c.args.files.now call.new.files)
+    (files_by g.I.ByteSource.told g.I.ByteSource.failed g.I.Files.named c.args.inputs.now call.new.inputs)
     (stream g.R.ByteSource.told g.R.ByteSource.failed g.R.ByteSource.left c.args.reader.now call.new.reader)
     (stream g.W.ByteSink.told g.W.ByteSink.failed g.W.ByteSink.written c.args.writer.now call.new.writer)
     (stream g.E.ByteSink.told g.E.ByteSink.failed g.E.ByteSink.written c.args.errors.now c.report.new.errors)
-    c.report.result call.result c.in-Ok.ensures.law call.ensures c.report.ensures
+    c.report.result call.result c.in-Ok.ensures.job c.in-Ok.ensures.law
+    (record {
+      leaves = work.leaves;
+      gives = work.gives;
+      reader_kept = work.reader_kept;
+      files_kept = work.files_kept;
+      inputs_kept = work.inputs_kept;
+      source_first = work.source_first;
+      unplanned = work.unplanned;
+    }) c.report.ensures
 
 -- arguments whose parse failed
 pub returns-in-Err : goal.returns-in-Err
 returns-in-Err g c =
     let call = c.answer_words in
-    let files = files_by g.F.ByteSource.told g.F.ByteSource.failed g.F.Files.named c.args.files.now c.args.files.now in
+    let one = files_by g.F.ByteSource.told g.F.ByteSource.failed g.F.Files.named c.args.files.now c.args.files.now in
+    let other = files_by g.I.ByteSource.told g.I.ByteSource.failed g.I.Files.named c.args.inputs.now
+    c.args.inputs.now in
     let reader = stream g.R.ByteSource.told g.R.ByteSource.failed g.R.ByteSource.left c.args.reader.now
     c.args.reader.now in
     let writer = stream g.W.ByteSink.told g.W.ByteSink.failed g.W.ByteSink.written c.args.writer.now call.new.writer in
     let errors = stream g.E.ByteSink.told g.E.ByteSink.failed g.E.ByteSink.written c.args.errors.now
     call.new.errors in
-    refused_words step (texts c.args.words.now) c.in-Err.error files reader writer errors call.result c.in-Err.ensures.law refl refl
-    call.ensures.usage call.ensures.help call.ensures.either (call.ensures.said _ _)
+    refused_words step (texts c.args.words.now) c.in-Err.error (both one other) reader writer errors call.result
+    c.in-Err.ensures.law refl refl call.ensures.usage call.ensures.help call.ensures.either (call.ensures.said _ _)
     (λ e. let memory = call.ensures.memory e in record {
       same_files = refl;
       same_reader = refl;
@@ -38,4 +52,4 @@ returns-in-Err g c =
       unwritten = ap g.W.ByteSink.written memory.0;
       line = memory.1;
     })
-    (λ text code owed. owed) (λ out. (tt, tt))
+    (λ text code owed. owed) (may_run_out (texts c.args.words.now) one other reader writer errors call.result)

@@ -1,8 +1,9 @@
-use Rattle.std.proofs.Common.{◌≡◌, ◌∙◌, false, true, refl, rules, sym}
+use Rattle.std.proofs.Common.{◌≡◌, ◌∙◌, ap, arith, false, true, refl, rules, sym}
 use Rattle.std.proofs.lemmas.List.{append-nil}
-use Rattle.ick_session.specs.Stepper.{fixed, seen}
+use Rattle.ick_session.specs.Stepper.{Settings, settings, seen}
 use Rattle.ick_step_cli.specs.Talk.{lines_of}
 use Rattle.ick_step_cli.proofs.TalkLaws.{Said, all_said, answered_more, begins, cut_after, cut_short, ended, failed}
+use Rattle.ick_step_cli.proofs.TalkLaws.{many_lines}
 use Rattle.ick_step_cli.proofs.TalkLaws.{line_answered, quit}
 use Rattle.ick_step_cli.proofs.session.talk.Given.{Over}
 use Rattle.ick_step_cli.proofs.session.talk.Goals as goal
@@ -13,7 +14,7 @@ loop-at-init g c = record {
   same = refl;
   reads = refl;
   writes = refl;
-  talking = λ r w. begins (fixed c.args.stepper.now) c.args.positions.now (seen c.args.stepper.now)
+  talking = λ r w. begins (settings c.args.stepper.now) c.args.positions.now (seen c.args.stepper.now)
       (lines_of (g.R.ByteSource.left c.args.reader.now)) (g.W.ByteSink.written c.args.writer.now) c.new-out.result
       c.append_here.new.out c.new-out.ensures.empty c.append_here.ensures;
 }
@@ -23,59 +24,57 @@ returns-in-Err-clause-writes g c = λ r w.
     let told = c.in-Err.ensures.cut w in
     let after = g.W.ByteSink.written c.say.new.writer in
     failed _ _ _ _ c.in-Err.job_end _ _ told.0
-    (cut_short _ _ _ _ _ _ _ _ after told.1 _ (c.loop-at.invariant.talking r w) told.2 told.3)
+    (cut_short _ _ _ _ _ _ _ _ _ after told.1 _ _ (c.loop-at.invariant.talking r w) told.2 told.3)
 
 -- what was said before the line is read
 said : (g : Over) (c : In_default g) → g.R.ByteSource.told ≡ true → g.W.ByteSink.told ≡ true →
-    Said (fixed c.args.stepper.now) c.args.positions.now (seen c.args.stepper.now) (seen c.loop-at.stepper)
+    Said (settings c.args.stepper.now) (settings c.loop-at.stepper) c.args.positions.now (seen c.args.stepper.now)
+    (seen c.loop-at.stepper)
     (lines_of (g.R.ByteSource.left c.args.reader.now)) (lines_of (g.R.ByteSource.left c.loop-at.reader))
-    (g.W.ByteSink.written c.args.writer.now) (g.W.ByteSink.written c.say.new.writer)
+    (g.W.ByteSink.written c.args.writer.now) (g.W.ByteSink.written c.say.new.writer) c.loop-at._at
 said g c r w =
     let told = c.in_default.ensures.all w in
-    all_said _ _ _ _ _ _ _ _ (g.W.ByteSink.written c.say.new.writer) _ (c.loop-at.invariant.talking r w) told.0 told.1
+    all_said _ _ _ _ _ _ _ _ _ (g.W.ByteSink.written c.say.new.writer) _ _ (c.loop-at.invariant.talking r w) told.0 told.1
 
 pub returns-in-Ok-false-clause-writes : goal.returns-in-Ok-false-clause-writes
 returns-in-Ok-false-clause-writes g c = λ r w.
-    rw c.over.ensures (ended _ _ _ _ _ _ _ _ (said g (goal.at.returns-in-Ok-false-clause-writes g c).In_default r w)
-    (c.in-Ok-false.ensures.end r c.in-Ok-false.field-0-test))
+    let over = ended _ _ _ _ _ _ _ _ _ _ (said g (goal.at.returns-in-Ok-false-clause-writes g c).In_default r w)
+    (c.in-Ok-false.ensures.end r c.in-Ok-false.field-0-test) in
+    rw c.over.ensures (refl, refl, over)
 
 pub returns-in-Err-NoMemory-clause-writes : goal.returns-in-Err-NoMemory-clause-writes
 returns-in-Err-NoMemory-clause-writes g c = λ r w.
-    cut_after _ _ _ _ _ _ _ _ (said g (goal.at.returns-in-Err-NoMemory-clause-writes g c).In_default r w)
+    cut_after _ _ _ _ _ _ _ _ _ _ (said g (goal.at.returns-in-Err-NoMemory-clause-writes g c).In_default r w)
 
 pub returns-in-Err-Failed-clause-writes : goal.returns-in-Err-Failed-clause-writes
 returns-in-Err-Failed-clause-writes g c = λ r w.
-    cut_after _ _ _ _ _ _ _ _ (said g (goal.at.returns-in-Err-Failed-clause-writes g c).In_default r w)
+    cut_after _ _ _ _ _ _ _ _ _ _ (said g (goal.at.returns-in-Err-Failed-clause-writes g c).In_default r w)
 
-pub returns-in-Ok-false-answer_line-clause-writes : goal.returns-in-Ok-false-answer_line-clause-writes
-returns-in-Ok-false-answer_line-clause-writes g c = λ r w.
-    let found = c.in-Ok-false-answer_line.ensures.answers in
-    let answers = line_answered (fixed c.args.stepper.now) (fixed c.loop-at.stepper) c.args.positions.now
+pub returns-then-not-answer_line-clause-writes : goal.returns-then-not-answer_line-clause-writes
+returns-then-not-answer_line-clause-writes g c = λ r w.
+    let found = c.answer_line.ensures.answers in
+    let answers = line_answered (settings c.loop-at.stepper) (settings c.answer_line.new.stepper) c.args.positions.now
     (seen c.loop-at.stepper) (seen c.answer_line.new.stepper) c.deref.result.now c.read_line.new.line.items found.0
-    c.in-Ok-false-answer_line.field-0 false c.loop-at.invariant.same c.deref.ensures.value c.in-Ok-false-answer_line.field-0-test
-    found.1 in
-    rw c.over-in-Ok-false-answer_line.ensures (quit _ _ _ _ _ _ _ _ _ _ _ _
-    (said g (goal.at.returns-in-Ok-false-answer_line-clause-writes g c).In_default r w)
-    (c.in-Ok-true.ensures.line r c.in-Ok-true.field-0-test) answers)
-
-pub returns-in-Err-answer_line-clause-writes : goal.returns-in-Err-answer_line-clause-writes
-returns-in-Err-answer_line-clause-writes g c = λ r w.
-    cut_after _ _ _ _ _ _ _ _ (said g (goal.at.returns-in-Err-answer_line-clause-writes g c).In_default r w)
+    c.answer_line.result false c.deref.ensures.value c.if-not-answer_line.true found.1 in
+    let over = quit _ _ _ _ _ _ _ _ _ _ _ _ _ _ _
+    (said g (goal.at.returns-then-not-answer_line-clause-writes g c).In_default r w)
+    (c.in-Ok-true.ensures.line r c.in-Ok-true.field-0-test) answers in
+    rw c.over-then-not-answer_line.ensures (refl, refl, over)
 
 pub loop-at-preserved : goal.loop-at-preserved
 loop-at-preserved g c =
     let inv = c.loop-at.invariant in
+    let set = settings c.answer_line.new.stepper in
     record {
-      same = c.answer_line.ensures.fixed ∙ inv.same;
+      same = c.answer_line.ensures.fixed ∙ ap (λ (f : Settings). record f { breakpoints = set.breakpoints }) inv.same;
       reads = c.read_line.ensures.count ∙ search rules;
       writes = c.in_default.ensures.ok ∙ inv.writes;
       talking = λ r w.
-          let found = c.in-Ok-true-answer_line.ensures.answers in
-          let answers = line_answered (fixed c.args.stepper.now) (fixed c.loop-at.stepper) c.args.positions.now
-          (seen c.loop-at.stepper) (seen c.answer_line.new.stepper) c.deref.result.now c.read_line.new.line.items
-          found.0 c.in-Ok-true-answer_line.field-0 true inv.same c.deref.ensures.value
-          c.in-Ok-true-answer_line.field-0-test found.1 in
-          answered_more _ _ _ _ _ _ _ _ _ _ _ _ _ (said g (goal.at.loop-at-preserved g c).In_default r w)
+          let found = c.answer_line.ensures.answers in
+          let answers = line_answered (settings c.loop-at.stepper) set c.args.positions.now (seen c.loop-at.stepper)
+          (seen c.answer_line.new.stepper) c.deref.result.now c.read_line.new.line.items found.0
+          c.answer_line.result true c.deref.ensures.value c.if-not-answer_line.false found.1 in
+          answered_more _ _ _ _ _ _ _ _ _ _ _ _ _ _ _ _ (said g (goal.at.loop-at-preserved g c).In_default r w)
           (c.in-Ok-true.ensures.line r c.in-Ok-true.field-0-test) answers
           found.2;
     }
@@ -83,4 +82,7 @@ loop-at-preserved g c =
 pub returns-clause-writes : goal.returns-clause-writes
 returns-clause-writes g c = λ r w.
     let now = g.W.ByteSink.written c.loop-at.writer in
-    cut_short _ _ _ _ _ _ _ _ now 0 _ (c.loop-at.invariant.talking r w) (sym (append-nil now)) (λ _. refl)
+    let talking = c.loop-at.invariant.talking r w in (
+      many_lines _ _ _ _ _ _ _ _ _ _ _ talking (omega (arith, c.loop-at-test.false)),
+      cut_short _ _ _ _ _ _ _ _ _ now 0 _ _ talking (sym (append-nil now)) (λ _. refl),
+    )
