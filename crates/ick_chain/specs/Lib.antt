@@ -1,6 +1,8 @@
 pub mod Limits
 pub mod Chains
 pub mod Places
+pub mod Reached
+pub mod Found
 pub mod Marks
 pub mod Means
 pub mod Tallied
@@ -11,3 +13,6 @@ pub mod Shown
 pub mod Answers
 pub mod RowLimits
 pub mod Counts
+pub mod ExactTexts
+pub mod ExactListings
+pub mod Lines

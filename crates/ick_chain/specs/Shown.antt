@@ -16,10 +16,14 @@ pub record LeadTo (p : Program) (s : State) (c : List Bool) (t : State) : Type 0
   pub steps : ℕ
   pub leads : (l : ℕ) → steps ≤ l → Leads p s l c t steps
 
+-- these choices lead from a node of a chain to another
+abbrev pub LeadAlong : List Node → ℕ → List Bool → ℕ → Type 0
+LeadAlong nodes from c at =
+    (p : Program) (seen : ℕ → State) → IsChain p seen nodes → LeadTo p (seen from) c (seen at)
+
 -- these choices lead from the first node of a chain to another
 abbrev pub LeadToNode : List Node → List Bool → ℕ → Type 0
-LeadToNode nodes c at =
-    (p : Program) (seen : ℕ → State) → IsChain p seen nodes → LeadTo p (seen 0) c (seen at)
+LeadToNode nodes c at = LeadAlong nodes 0 c at
 
 -- c is whole, and its run writes and ends so, under each limit from some limit on
 pub record HasOutcome (p : Program) (s : State) (l : ℕ) (output end : List ℕ) (c : List Bool) : Type 0 where

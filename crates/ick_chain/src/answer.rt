@@ -1,10 +1,11 @@
 //! Weighs all runs of a program without a limit.
 
-ghost use Rattle.std.specs.Prelude.{◌≡◌, ◌<◌, slice_get, Some, IfOk};
+ghost use Rattle.std.specs.Prelude.{◌≡◌, ◌<◌, slice_get, Some, Err, IfOk};
 ghost use Rattle.ick_numbers.specs.Values.{natural, naturals};
 ghost use Rattle.ick_chain.specs.Chains.{IsExact, passing, never, all_steps};
 ghost use Rattle.ick_chain.specs.Answers.{IsAnswer};
 ghost use Rattle.ick_chain.specs.Places.{states_in, state_or, AllSuit, IsFull};
+ghost use Rattle.ick_chain.specs.Reached.{AreDifferent, HasMoreStates, TakesMore};
 
 use crate::errors::ChainError;
 use crate::search::{Chain, explore};
@@ -33,6 +34,7 @@ fn find_chain<'c, P: States<'c>>(
     state: P::State,
     stretch: u32,
     most: usize,
+    memory: u64,
 ) -> Result<Chain<P::State>, ChainError>
     requires tools { P.serves program.now tools.old }
     requires state { P.suits program.now state }
@@ -43,17 +45,27 @@ fn find_chain<'c, P: States<'c>>(
         (states_in (P.seen program.now) chain.states.items) 0
         ≡ Some (P.seen program.now state).state) }
     ensures states { IfOk result (λ chain. AllSuit (P.suits program.now) chain.states.items) }
+    ensures different { IfOk result (λ chain. AreDifferent
+        (states_in (P.seen program.now) chain.states.items)) }
+    ensures many { result ≡ Err ChainError.TooManyStates → HasMoreStates (P.text program.now)
+        (P.seen program.now state).state most }
+    ensures much { result ≡ Err ChainError.TooMuchKept → TakesMore (P.text program.now)
+        (P.seen program.now) (P.suits program.now) (P.size program.now)
+        (P.seen program.now state).state memory }
 {
-    let mut chain = explore(alloc, program, tools, state, stretch, most)?;
+    let mut chain = explore(alloc, program, tools, state, stretch, most, memory)?;
     mark_stuck(alloc, &mut chain.nodes)?;
     Ok(chain)
 }
 
 /// Weighs all runs of a program from a state, without a limit on steps. `list_outcomes` lists the
-/// outcomes of the answer. Plain steps are made at most `stretch` at a time, and at most `most`
-/// states are kept. The state must be of the program, and the tools must be for it.
+/// outcomes of the answer. Plain steps are made at most `stretch` at a time. At most `most` states
+/// are kept, and at most `memory` bytes for them, as `bytes_of` counts them. The state must be of
+/// the program, and the tools must be for it.
 ///
-/// The refusals are `NoMemory`, `TooManyStates` and `NotSolved`. No contract speaks of them.
+/// `TooManyStates` is returned only if more than `most` different states can be reached, and
+/// `TooMuchKept` only if different states that can be reached take more than `memory` bytes. The
+/// other refusals are `NoMemory` and `NotSolved`. No contract speaks of them.
 pub fn weigh<'c, P: States<'c>>(
     alloc: Global,
     program: &P,
@@ -61,6 +73,7 @@ pub fn weigh<'c, P: States<'c>>(
     state: P::State,
     stretch: u32,
     most: usize,
+    memory: u64,
 ) -> Result<Answer<P::State>, ChainError>
     requires tools { P.serves program.now tools.old }
     requires state { P.suits program.now state }
@@ -77,8 +90,15 @@ pub fn weigh<'c, P: States<'c>>(
     ensures first { IfOk result (λ a. slice_get
         (states_in (P.seen program.now) a.chain.states.items) 0
         ≡ Some (P.seen program.now state).state) }
+    ensures different { IfOk result (λ a. AreDifferent
+        (states_in (P.seen program.now) a.chain.states.items)) }
+    ensures many { result ≡ Err ChainError.TooManyStates → HasMoreStates (P.text program.now)
+        (P.seen program.now state).state most }
+    ensures much { result ≡ Err ChainError.TooMuchKept → TakesMore (P.text program.now)
+        (P.seen program.now) (P.suits program.now) (P.size program.now)
+        (P.seen program.now state).state memory }
 {
-    let chain = find_chain(alloc, program, tools, state, stretch, most)?;
+    let chain = find_chain(alloc, program, tools, state, stretch, most, memory)?;
     let solution = solve(alloc, &chain.nodes)?;
     Ok(Answer {
         chain,

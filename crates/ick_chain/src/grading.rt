@@ -17,7 +17,7 @@ pub(crate) struct Grading {
 }
 
 /// Returns the fork of a node that goes on and may end.
-fn fork_at(nodes: &[Node], at: usize) -> Option<Fork> {
+pub(crate) fn fork_at(nodes: &[Node], at: usize) -> Option<Fork> {
     if at >= nodes.len() {
         return None;
     }

@@ -1,26 +1,35 @@
 //! Finds all states of a program, and where they lead.
 
 ghost use Rattle.std.specs.Prelude.{◌≡◌, ◌+◌, ◌<◌, ◌≤◌, [], ◌∷◌, ◌++◌, length, Some, slice_get};
-ghost use Rattle.std.specs.Prelude.{IfOk, OnOk, IfSome, slice_index_or};
+ghost use Rattle.std.specs.Prelude.{IfOk, OnOk, IfSome, IfNone, Err, slice_index_or};
 ghost use Rattle.ick_code.specs.meaning.Move.{ask, advance, plain, choice};
 ghost use Rattle.ick_code.specs.meaning.State.{State as Meant};
 ghost use Rattle.ick_backtrack.specs.Asked.{IsGoing, asked_of};
 ghost use Rattle.ick_backtrack.specs.Steps.{IsPlain, RunsOn};
 ghost use Rattle.ick_chain.specs.Places.{Reaches, Tells, AllTell, Extends, IsFull, states_in};
 ghost use Rattle.ick_chain.specs.Places.{AllSuit, state_or};
+ghost use Rattle.ick_chain.specs.Found.{IsFound, IsNew, IsReachedIn};
+ghost use Rattle.ick_chain.specs.Reached.{AreDifferent, AreReached, HasMoreStates, TakesMore};
 
 use crate::chain::{Edge, Fork, Node};
 use crate::errors::ChainError;
+use crate::index::Index;
 use ick_backtrack::Ask;
 use ick_bits::NoMemory;
-use ick_outcomes::{Hints, States};
+use ick_outcomes::States;
 use std::alloc::Global;
 
-/// The states that were found.
+/// What is counted for each state besides the state: its node, and its places in a list and in an
+/// index.
+const NODE_BYTES: u64 = 96;
+
+/// The states that were found, each once, and an index that has the key of each of them.
 #[derive(Drop)]
 pub(crate) struct Found<S: Drop> {
     pub(crate) states: Vec<S>,
-    pub(crate) hints: Hints,
+    pub(crate) index: Index,
+    /// The bytes of the states, and of what is kept for them.
+    pub(crate) bytes: u64,
 }
 
 /// The states of a program, and a node for each.
@@ -30,47 +39,110 @@ pub struct Chain<S: Drop> {
     pub nodes: Vec<Node>,
 }
 
-/// Returns the number that was hinted at, if the state with it is equal.
-fn find_state<'c, P: States<'c>>(
+/// Returns the number of the state that is equal, by looking at each state.
+fn find_equal<'c, P: States<'c>>(
     program: &P,
     states: &[P::State],
-    hint: Option<usize>,
     state: &P::State,
 ) -> Option<usize>
-    ensures { IfSome result (λ i. slice_get (states_in (P.seen program.now) states.now) i
+    requires states { AllSuit (P.suits program.now) states.now }
+    requires state { P.suits program.now state.now }
+    ensures there { IfSome result (λ i. slice_get (states_in (P.seen program.now) states.now) i
         ≡ Some (P.seen program.now state.now).state) }
+    ensures none { IfNone result (IsNew (states_in (P.seen program.now) states.now)
+        (P.seen program.now state.now).state) }
 {
-    if let Some(at) = hint {
-        if at < states.len() && program.same(&states[at], state) {
+    'states: for at in 0..states.len() {
+        if program.same(&states[at], state) {
             return Some(at);
         }
     }
     None
 }
 
-/// Returns the number of a state, which is appended unless an equal one is found.
+/// Returns the number of the state that is equal, if there is one. `key` is that of the state. The
+/// last state that has this key is looked at first.
+fn find_state<'c, P: States<'c>>(
+    program: &P,
+    found: &Found<P::State>,
+    key: u64,
+    state: &P::State,
+) -> Option<usize>
+    requires found { IsFound (P.text program.now) (P.seen program.now) (P.suits program.now)
+        (P.key program.now) (P.size program.now) found.now }
+    requires state { P.suits program.now state.now }
+    requires key { key ≡ P.key program.now state.now }
+    ensures there { IfSome result (λ i. slice_get
+        (states_in (P.seen program.now) found.now.states.items) i
+        ≡ Some (P.seen program.now state.now).state) }
+    ensures none { IfNone result (IsNew (states_in (P.seen program.now) found.now.states.items)
+        (P.seen program.now state.now).state) }
+{
+    program.keys();
+    match found.index.find(key) {
+        Some(at) => {
+            if at < found.states.len() && program.same(&found.states[at], state) {
+                return Some(at);
+            }
+            find_equal(program, &found.states, state)
+        }
+        None => None,
+    }
+}
+
+/// Appends a state.
+fn add_state<'c, P: States<'c>>(
+    program: &P,
+    found: &mut Found<P::State>,
+    key: u64,
+    state: P::State,
+) -> Result<(), NoMemory>
+    requires state { P.suits program.now state }
+    requires key { key ≡ P.key program.now state }
+    requires found { IsFound (P.text program.now) (P.seen program.now) (P.suits program.now)
+        (P.key program.now) (P.size program.now) found.old }
+    requires new { IsNew (states_in (P.seen program.now) found.old.states.items)
+        (P.seen program.now state).state }
+    requires reached { IsReachedIn (P.text program.now)
+        (states_in (P.seen program.now) found.old.states.items) (P.seen program.now state).state }
+    ensures added { OnOk result (found.new.states.items ≡ found.old.states.items ++ state ∷ []) }
+    ensures found { OnOk result (IsFound (P.text program.now) (P.seen program.now)
+        (P.suits program.now) (P.key program.now) (P.size program.now) found.new) }
+{
+    let at = found.states.len();
+    let bytes = program.bytes(&state).saturating_add(NODE_BYTES);
+    found.index.note(key, at)?;
+    found.states.push(state)?;
+    found.bytes = found.bytes.saturating_add(bytes);
+    Ok(())
+}
+
+/// Returns the number of a state, which is appended unless an equal one was found before.
 fn place<'c, P: States<'c>>(
     program: &P,
     found: &mut Found<P::State>,
     state: P::State,
 ) -> Result<usize, NoMemory>
     requires state { P.suits program.now state }
-    requires found { AllSuit (P.suits program.now) found.old.states.items }
+    requires found { IsFound (P.text program.now) (P.seen program.now) (P.suits program.now)
+        (P.key program.now) (P.size program.now) found.old }
+    requires reached { IsReachedIn (P.text program.now)
+        (states_in (P.seen program.now) found.old.states.items) (P.seen program.now state).state }
     ensures there { IfOk result (λ i. slice_get
         (states_in (P.seen program.now) found.new.states.items) i
         ≡ Some (P.seen program.now state).state) }
     ensures kept { OnOk result (Extends (states_in (P.seen program.now) found.old.states.items)
         (states_in (P.seen program.now) found.new.states.items)) }
-    ensures found { OnOk result (AllSuit (P.suits program.now) found.new.states.items) }
+    ensures found { OnOk result (IsFound (P.text program.now) (P.seen program.now)
+        (P.suits program.now) (P.key program.now) (P.size program.now) found.new) }
     ensures more { OnOk result (length found.old.states.items ≤ length found.new.states.items) }
 {
-    let hash = program.hash(&state);
-    match find_state(program, &found.states, found.hints.find(hash), &state) {
+    let key = program.hash(&state);
+    match find_state(program, found, key, &state) {
         Some(at) => Ok(at),
         None => {
             let at = found.states.len();
-            found.states.push(state)?;
-            found.hints.note(hash, at)?;
+            add_state(program, found, key, state)?;
             Ok(at)
         }
     }
@@ -118,7 +190,8 @@ fn follow<'c, P: States<'c>>(
     stretch: u32,
 ) -> Result<Edge, NoMemory>
     requires tools { P.serves program.now tools.old }
-    requires found { AllSuit (P.suits program.now) found.old.states.items }
+    requires found { IsFound (P.text program.now) (P.seen program.now) (P.suits program.now)
+        (P.key program.now) (P.size program.now) found.old }
     requires at { at < length found.old.states.items }
     requires stretch { stretch < 4294967295 }
     requires going { (s : Meant) →
@@ -130,7 +203,8 @@ fn follow<'c, P: States<'c>>(
         done edge) }
     ensures kept { OnOk result (Extends (states_in (P.seen program.now) found.old.states.items)
         (states_in (P.seen program.now) found.new.states.items)) }
-    ensures found { OnOk result (AllSuit (P.suits program.now) found.new.states.items) }
+    ensures found { OnOk result (IsFound (P.text program.now) (P.seen program.now)
+        (P.suits program.now) (P.key program.now) (P.size program.now) found.new) }
     ensures more { OnOk result (length found.old.states.items ≤ length found.new.states.items) }
     ensures tools { P.serves program.now tools.new }
 {
@@ -161,7 +235,8 @@ fn pass<'c, P: States<'c>>(
     stretch: u32,
 ) -> Result<Node, NoMemory>
     requires tools { P.serves program.now tools.old }
-    requires found { AllSuit (P.suits program.now) found.old.states.items }
+    requires found { IsFound (P.text program.now) (P.seen program.now) (P.suits program.now)
+        (P.key program.now) (P.size program.now) found.old }
     requires at { at < length found.old.states.items }
     requires stretch { stretch < 4294967295 }
     requires asks { (s : Meant) →
@@ -173,7 +248,8 @@ fn pass<'c, P: States<'c>>(
         node) }
     ensures kept { OnOk result (Extends (states_in (P.seen program.now) found.old.states.items)
         (states_in (P.seen program.now) found.new.states.items)) }
-    ensures found { OnOk result (AllSuit (P.suits program.now) found.new.states.items) }
+    ensures found { OnOk result (IsFound (P.text program.now) (P.seen program.now)
+        (P.suits program.now) (P.key program.now) (P.size program.now) found.new) }
     ensures more { OnOk result (length found.old.states.items ≤ length found.new.states.items) }
     ensures tools { P.serves program.now tools.new }
 {
@@ -195,7 +271,8 @@ fn branch<'c, P: States<'c>>(
     stretch: u32,
 ) -> Result<Node, NoMemory>
     requires tools { P.serves program.now tools.old }
-    requires found { AllSuit (P.suits program.now) found.old.states.items }
+    requires found { IsFound (P.text program.now) (P.seen program.now) (P.suits program.now)
+        (P.key program.now) (P.size program.now) found.old }
     requires at { at < length found.old.states.items }
     requires stretch { stretch < 4294967295 }
     requires asks { (s : Meant) →
@@ -207,7 +284,8 @@ fn branch<'c, P: States<'c>>(
         node) }
     ensures kept { OnOk result (Extends (states_in (P.seen program.now) found.old.states.items)
         (states_in (P.seen program.now) found.new.states.items)) }
-    ensures found { OnOk result (AllSuit (P.suits program.now) found.new.states.items) }
+    ensures found { OnOk result (IsFound (P.text program.now) (P.seen program.now)
+        (P.suits program.now) (P.key program.now) (P.size program.now) found.new) }
     ensures more { OnOk result (length found.old.states.items ≤ length found.new.states.items) }
     ensures tools { P.serves program.now tools.new }
 {
@@ -225,7 +303,8 @@ fn expand<'c, P: States<'c>>(
     stretch: u32,
 ) -> Result<Node, NoMemory>
     requires tools { P.serves program.now tools.old }
-    requires found { AllSuit (P.suits program.now) found.old.states.items }
+    requires found { IsFound (P.text program.now) (P.seen program.now) (P.suits program.now)
+        (P.key program.now) (P.size program.now) found.old }
     requires at { at < length found.old.states.items }
     requires stretch { stretch < 4294967295 }
     ensures tells { IfOk result (λ node. (s : Meant) →
@@ -234,7 +313,8 @@ fn expand<'c, P: States<'c>>(
         node) }
     ensures kept { OnOk result (Extends (states_in (P.seen program.now) found.old.states.items)
         (states_in (P.seen program.now) found.new.states.items)) }
-    ensures found { OnOk result (AllSuit (P.suits program.now) found.new.states.items) }
+    ensures found { OnOk result (IsFound (P.text program.now) (P.seen program.now)
+        (P.suits program.now) (P.key program.now) (P.size program.now) found.new) }
     ensures more { OnOk result (length found.old.states.items ≤ length found.new.states.items) }
     ensures tools { P.serves program.now tools.new }
 {
@@ -255,11 +335,13 @@ fn begin<'c, P: States<'c>>(
     ensures first { IfOk result (λ found. slice_get
         (states_in (P.seen program.now) found.states.items) 0
         ≡ Some (P.seen program.now state).state) }
-    ensures found { IfOk result (λ found. AllSuit (P.suits program.now) found.states.items) }
+    ensures found { IfOk result (IsFound (P.text program.now) (P.seen program.now)
+        (P.suits program.now) (P.key program.now) (P.size program.now)) }
 {
     let mut found = Found {
         states: Vec::new(alloc),
-        hints: Hints::new(alloc, 1),
+        index: Index::new(alloc),
+        bytes: 0,
     };
     let at = place(program, &mut found, state)?;
     if at != 0 {
@@ -276,8 +358,29 @@ fn add_node(nodes: &mut Vec<Node>, node: Node) -> Result<(), NoMemory>
     Ok(())
 }
 
+/// Returns why a search must stop, if it must: `most` states or `memory` bytes are passed.
+fn refusal<S: Drop>(found: &Found<S>, most: usize, memory: u64) -> Option<ChainError>
+    ensures states { result ≡ Some ChainError.TooManyStates →
+        most < length found.now.states.items }
+    ensures bytes { result ≡ Some ChainError.TooMuchKept → memory < found.now.bytes }
+    ensures few { IfNone result (length found.now.states.items ≤ most) }
+{
+    if found.states.len() > most {
+        return Some(ChainError::TooManyStates);
+    }
+    if found.bytes > memory {
+        return Some(ChainError::TooMuchKept);
+    }
+    None
+}
+
 /// Finds the states of a program, and where they lead. Plain steps are made at most `stretch` at a
-/// time. At most `most` states are kept.
+/// time. At most `most` states are kept, and at most `memory` bytes for them, as `bytes_of` counts
+/// them.
+///
+/// `TooManyStates` is returned only if more than `most` different states can be reached, and
+/// `TooMuchKept` only if different states that can be reached take more than `memory` bytes.
+/// `NoMemory` is returned only if a growth was refused.
 pub fn explore<'c, P: States<'c>>(
     alloc: Global,
     program: &P,
@@ -285,6 +388,7 @@ pub fn explore<'c, P: States<'c>>(
     state: P::State,
     stretch: u32,
     most: usize,
+    memory: u64,
 ) -> Result<Chain<P::State>, ChainError>
     requires tools { P.serves program.now tools.old }
     requires state { P.suits program.now state }
@@ -295,21 +399,36 @@ pub fn explore<'c, P: States<'c>>(
         (states_in (P.seen program.now) chain.states.items) 0
         ≡ Some (P.seen program.now state).state) }
     ensures states { IfOk result (λ chain. AllSuit (P.suits program.now) chain.states.items) }
+    ensures different { IfOk result (λ chain. AreDifferent
+        (states_in (P.seen program.now) chain.states.items)) }
+    ensures reached { IfOk result (λ chain. AreReached (P.text program.now)
+        (P.seen program.now state).state (states_in (P.seen program.now) chain.states.items)) }
+    ensures many { result ≡ Err ChainError.TooManyStates → HasMoreStates (P.text program.now)
+        (P.seen program.now state).state most }
+    ensures much { result ≡ Err ChainError.TooMuchKept → TakesMore (P.text program.now)
+        (P.seen program.now) (P.suits program.now) (P.size program.now)
+        (P.seen program.now state).state memory }
 {
     let mut found = begin(alloc, program, state)?;
     let mut nodes = Vec::new(alloc);
-    'nodes: for at in 0..usize::MAX {
+    'nodes: for at in 0..most {
         if at >= found.states.len() {
             return Ok(Chain {
                 states: found.states,
                 nodes,
             });
         }
-        if found.states.len() > most {
-            return Err(ChainError::TooManyStates);
+        if let Some(refused) = refusal(&found, most, memory) {
+            return Err(refused);
         }
         let node = expand(program, tools, &mut found, at, stretch)?;
         add_node(&mut nodes, node)?;
     }
-    Err(ChainError::TooManyStates)
+    if let Some(refused) = refusal(&found, most, memory) {
+        return Err(refused);
+    }
+    Ok(Chain {
+        states: found.states,
+        nodes,
+    })
 }

@@ -28,7 +28,7 @@ use ick_outcomes::States;
 use std::alloc::Global;
 
 /// Returns true only if the output of a state and the text of an end are those of a row.
-fn is_outcome<'c, P: States<'c>>(
+pub(crate) fn is_outcome<'c, P: States<'c>>(
     alloc: Global,
     program: &P,
     state: &P::State,

@@ -4,7 +4,7 @@ ghost use Rattle.std.specs.Prelude.{◌≡◌, ℕ, true, if◌then◌else◌, t
 ghost use Rattle.ick_code.specs.meaning.State.{State as Meant};
 ghost use Rattle.ick_backtrack.specs.Machine.{Program};
 ghost use Rattle.ick_chain.specs.Chains.{IsFork, IsNode};
-ghost use Rattle.ick_chain.specs.Shown.{LeadToNode};
+ghost use Rattle.ick_chain.specs.Shown.{LeadAlong, LeadToNode};
 
 use crate::chain::{Edge, Fork, Node};
 
@@ -31,8 +31,8 @@ fn edge(fork: Fork, one: bool) -> Edge
 /// used then. `None` means that the way ends.
 #[tactic(auto, using(crate::proofs::Walks::lead_pass, crate::proofs::Walks::lead_on))]
 fn next(nodes: &[Node], choices: &[bool], at: usize, used: usize) -> Option<(usize, usize)>
-    ensures { IfSome result (λ p. LeadToNode nodes.now (take used choices.now) at →
-        LeadToNode nodes.now (take p.1 choices.now) p.0) }
+    ensures { IfSome result (λ p. (from : ℕ) → LeadAlong nodes.now from (take used choices.now) at →
+        LeadAlong nodes.now from (take p.1 choices.now) p.0) }
 {
     if at >= nodes.len() {
         return None;
@@ -52,13 +52,13 @@ fn next(nodes: &[Node], choices: &[bool], at: usize, used: usize) -> Option<(usi
     }
 }
 
-/// Returns true only if choices lead from the first node to another. At most as many nodes are
-/// passed as there are.
+/// Returns true only if choices lead from a node to another. At most as many nodes are passed as
+/// there are.
 #[tactic(auto, using(crate::proofs::Walks::lead_done, crate::proofs::Walks::lead_first))]
-pub(crate) fn leads(nodes: &[Node], choices: &[bool], to: usize) -> bool
-    ensures { result ≡ true → LeadToNode nodes.now choices.now to }
+pub(crate) fn leads_from(nodes: &[Node], from: usize, choices: &[bool], to: usize) -> bool
+    ensures { result ≡ true → LeadAlong nodes.now from choices.now to }
 {
-    let mut at = 0;
+    let mut at = from;
     let mut used = 0;
     'steps: for step in 0..nodes.len() {
         if at == to && used == choices.len() {
@@ -72,5 +72,12 @@ pub(crate) fn leads(nodes: &[Node], choices: &[bool], to: usize) -> bool
             }
         }
     }
-    false
+    at == to && used == choices.len()
+}
+
+/// Returns true only if choices lead from the first node to another.
+pub(crate) fn leads(nodes: &[Node], choices: &[bool], to: usize) -> bool
+    ensures { result ≡ true → LeadToNode nodes.now choices.now to }
+{
+    leads_from(nodes, 0, choices, to)
 }

@@ -1,6 +1,6 @@
 //! Programs whose states can be copied and compared.
 
-ghost use Rattle.std.specs.Prelude.{◌≡◌, ◌≤◌, true, Some, IfOk};
+ghost use Rattle.std.specs.Prelude.{◌≡◌, ◌≤◌, ℕ, true, Some, IfOk};
 ghost use Rattle.ick_code.specs.meaning.Move.{ask, advance};
 ghost use Rattle.ick_backtrack.specs.Asked.{asked_of, IsGoing};
 ghost use Rattle.ick_backtrack.specs.Machine.{Program};
@@ -15,8 +15,9 @@ use ick_bits::NoMemory;
 ///
 /// Contracts see a state as a program and a state of the meaning (`seen`). The program is the same
 /// for all states (`text`, `law`). Each call takes only states that are of this program (`suits`),
-/// and tools that are for it (`serves`). `'c` is the lifetime of the code: the message of a fault
-/// shows a text of it.
+/// and tools that are for it (`serves`). A state has a number by which it is looked up (`key`), and
+/// takes some bytes (`size`). `'c` is the lifetime of the code: the message of a fault shows a text
+/// of it.
 pub trait States<'c>: Drop {
     type State: Drop;
 
@@ -29,6 +30,10 @@ pub trait States<'c>: Drop {
     ghost suits: { Self → Self.State → Type 0 };
 
     ghost serves: { Self → Self.Tools → Type 0 };
+
+    ghost key: { Self → Self.State → ℕ };
+
+    ghost size: { Self → Self.State → ℕ };
 
     /// Returns what the run has written so far.
     fn output<'s>(&self, state: &'s Self::State) -> &'s [u8]
@@ -99,16 +104,28 @@ pub trait States<'c>: Drop {
         ensures seen { IfOk result (λ copy. seen self.now copy ≡ seen self.now state.now) }
         ensures state { IfOk result (λ copy. suits self.now copy) };
 
-    /// Returns whether two states are equal. The answer may be `false` although they are: then they
-    /// are not merged, and the summary is the same.
+    /// Returns whether two states are equal, also if their runs have ended.
     fn same(&self, one: &Self::State, other: &Self::State) -> bool
-        ensures { result ≡ true → seen self.now one.now ≡ seen self.now other.now };
+        ensures equal { result ≡ true → seen self.now one.now ≡ seen self.now other.now }
+        ensures found { suits self.now one.now → suits self.now other.now →
+            (seen self.now one.now).state ≡ (seen self.now other.now).state → result ≡ true };
 
-    /// Returns a number that should be equal if the states are. No contract rests on it: it tells
-    /// the search which states to compare.
-    fn hash(&self, state: &Self::State) -> u64;
+    /// Returns the number by which a state is looked up. Equal states have the same number
+    /// (`keys`).
+    fn hash(&self, state: &Self::State) -> u64
+        ensures { result ≡ key self.now state.now };
+
+    /// Returns how many bytes a state takes, or fewer if 64 bits can't hold the number.
+    fn bytes(&self, state: &Self::State) -> u64
+        ensures { result ≤ size self.now state.now };
 
     /// Says that the program of a state is that of all states. It does nothing.
     fn law(&self, state: &Self::State)
         ensures { (seen self.now state.now).program ≡ text self.now };
+
+    /// Says that equal states have the same number. It does nothing.
+    fn keys(&self)
+        ensures { (one other : Self.State) → suits self.now one → suits self.now other →
+            (seen self.now one).state ≡ (seen self.now other).state →
+            key self.now one ≡ key self.now other };
 }

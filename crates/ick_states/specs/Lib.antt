@@ -1,1 +1,4 @@
 pub mod Seen
+pub mod Alike
+pub mod Hashed
+pub mod Sizes

@@ -1,6 +1,6 @@
 -- Defines what contracts see of a kept state.
-use Rattle.std.specs.Prelude.{Option}
-use Rattle.ick_code.specs.meaning.State.{State}
+use Rattle.std.specs.Prelude.{ℕ, Option, is_some, length}
+use Rattle.ick_code.specs.meaning.State.{State, Ending}
 use Rattle.ick_instructions.specs.declared.lowered.Lowered.{Lowered}
 use Rattle.ick_engine.specs.declared.exit.RawEnd.{RawEnd}
 use Rattle.ick_runtime.specs.declared.memory.Memory.{Memory}
@@ -9,9 +9,10 @@ use Rattle.ick_runtime.specs.Memory.{view_in}
 use Rattle.ick_marks.specs.Saved.{IsKept, saved_view}
 use Rattle.ick_runtime.specs.Steady.{IsSteady}
 use Rattle.ick_runtime.specs.Inputs.{Input, input_of}
-use Rattle.ick_machine.specs.Run.{run_state}
+use Rattle.ick_machine.specs.Run.{ending_of, run_state}
 use Rattle.ick_machine.specs.RunIn.{program_of, state_in}
 use Rattle.ick_outcomes.specs.Accounts.{Configuration}
+use Rattle.ick_states.specs.Hashed.{mix_bit, mix_saved}
 use Rattle.ick_states.specs.declared.runs.KeptRun.{KeptRun}
 use Rattle.ick_states.specs.declared.runs.Runs.{Runs}
 
@@ -37,3 +38,11 @@ seen_of runs run = record {
   program = program_of runs.lowered;
   state = kept_state runs.lowered (input_of runs.input.now) run.saved run.end;
 }
+
+-- how a run ended, if it did
+abbrev pub ending_in : Runs → Option RawEnd → Option Ending
+ending_in runs end = ending_of runs.lowered.code.now (input_of runs.input.now) end
+
+-- the number by which a state is looked up
+abbrev pub key_of : Runs → KeptRun → ℕ
+key_of runs run = mix_bit (mix_saved (length runs.input.now) run.saved) (is_some run.end)

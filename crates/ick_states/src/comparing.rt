@@ -1,129 +1,112 @@
 //! Kept states that are compared.
 
-ghost use Rattle.std.specs.Prelude.{◌≡◌, true, map};
-ghost use Rattle.ick_marks.specs.Saved.{AreSame, saved_view};
-ghost use Rattle.ick_runtime.specs.{Inputs.Input, View.parts_of, View.state_of};
+ghost use Rattle.std.specs.Prelude.{◌≡◌, true, map, min};
+ghost use Rattle.ick_backtrack.specs.Asked.{finish_of};
+ghost use Rattle.ick_runtime.specs.{Status.is_abstained, View.is_hidden};
+ghost use Rattle.ick_states.specs.Alike.{AreAlike, AreAlikeRests};
 
-use ick_instructions::Lowered;
+use crate::parts::{abstains, are_same};
+use ick_backtrack::End;
 use ick_marks::Saved;
-use ick_runtime::{Array, Rest, Stash};
+use ick_runtime::{Array, Rest};
 
-/// A value that is compared, as far as a state has it.
-pub trait Part {
-    /// The type of what a state has of it.
-    ghost Value: { Type 0 };
-
-    /// What a state has of it.
-    ghost value: { Self → Self.Value };
-
-    /// Returns whether two values are the same.
-    fn is_same(&self, other: &Self) -> bool
-        ensures { result ≡ true → value self.now ≡ value other.now };
+/// Returns whether two states have the same bytes of input and output. The input has so many bytes.
+fn same_tape(one: &Rest, other: &Rest, long: usize) -> bool
+    ensures taken { result ≡ true → min one.now.taken long ≡ min other.now.taken long }
+    ensures output { result ≡ true → one.now.output.items ≡ other.now.output.items }
+    ensures last { result ≡ true → one.now.last ≡ other.now.last }
+    ensures lastin { result ≡ true → one.now.lastin ≡ other.now.lastin }
+    ensures found { min one.now.taken long ≡ min other.now.taken long →
+        one.now.output.items ≡ other.now.output.items → one.now.last ≡ other.now.last →
+        one.now.lastin ≡ other.now.lastin → result ≡ true }
+{
+    one.taken.min(long) == other.taken.min(long)
+        && one.output == other.output
+        && one.last == other.last
+        && one.lastin == other.lastin
 }
 
-impl Part for Array {
-    ghost use Rattle.std.specs.Prelude.{Bool};
-    ghost use Rattle.ick_code.specs.meaning.State.{Array as ArrayValue};
-    ghost use Rattle.ick_marks.specs.Saved.{flagged};
-
-    ghost Value = { ArrayValue × Bool };
-
-    ghost value = { flagged };
-
-    fn is_same(&self, other: &Array) -> bool {
-        self.dimensions == other.dimensions
-            && self.elements == other.elements
-            && self.hidden == other.hidden
-    }
-}
-
-impl Part for Stash<u32> {
-    ghost use Rattle.std.specs.Prelude.{ℕ, List};
-    ghost use Rattle.ick_marks.specs.Saved.{numbers_on};
-
-    ghost Value = { List ℕ };
-
-    ghost value = { numbers_on };
-
-    fn is_same(&self, other: &Stash<u32>) -> bool {
-        self.items[..self.depth] == other.items[..other.depth]
-    }
-}
-
-impl Part for Stash<Array> {
-    ghost use Rattle.std.specs.Prelude.{List};
-    ghost use Rattle.ick_code.specs.meaning.State.{Array as ArrayValue};
-    ghost use Rattle.ick_marks.specs.Saved.{arrays_on};
-
-    ghost Value = { List ArrayValue };
-
-    ghost value = { arrays_on };
-
-    #[tactic(auto, using(crate::proofs::SameLists::value_by_value))]
-    fn is_same(&self, other: &Stash<Array>) -> bool {
-        are_same(&self.items[..self.depth], &other.items[..other.depth])
-    }
-}
-
-/// Returns whether two lists have the same values.
+/// Returns whether two lists of arrays are ignored alike.
 #[tactic(auto, using(crate::proofs::SameLists::value_by_value))]
-fn are_same<T: Part>(one: &[T], other: &[T]) -> bool
-    ensures { result ≡ true → map T.value one.now ≡ map T.value other.now }
+fn same_hidden(one: &[Array], other: &[Array]) -> bool
+    ensures same { result ≡ true → map is_hidden one.now ≡ map is_hidden other.now }
+    ensures found { map is_hidden one.now ≡ map is_hidden other.now → result ≡ true }
 {
     if one.len() != other.len() {
         return false;
     }
     for at in 0..one.len() {
-        if !one[at].is_same(&other[at]) {
+        if one[at].hidden != other[at].hidden {
             return false;
         }
     }
     true
 }
 
-/// Returns whether two states have the same bytes of input and output.
-fn same_tape(one: &Rest, other: &Rest) -> bool
-    ensures taken { result ≡ true → one.now.taken ≡ other.now.taken }
-    ensures output { result ≡ true → one.now.output.items ≡ other.now.output.items }
-    ensures last { result ≡ true → one.now.last ≡ other.now.last }
-    ensures lastin { result ≡ true → one.now.lastin ≡ other.now.lastin }
+/// Returns whether two statuses say alike whether a statement is abstained from.
+fn abstain_alike(one: u8, other: u8) -> bool
+    ensures same { result ≡ true → is_abstained one ≡ is_abstained other }
+    ensures found { is_abstained one ≡ is_abstained other → result ≡ true }
 {
-    one.taken == other.taken
-        && one.output == other.output
-        && one.last == other.last
-        && one.lastin == other.lastin
+    abstains(one) == abstains(other)
 }
 
-/// Returns whether the parts that few instructions change are the same. Spare room of stashes
-/// doesn't matter.
-fn same_rest(one: &Rest, other: &Rest) -> bool
-    ensures { result ≡ true → AreSame (parts_of one.now) (parts_of other.now) }
+/// Returns whether the same statements are abstained from, by their statuses.
+#[tactic(auto, using(crate::proofs::SameLists::value_by_value))]
+fn same_abstained(one: &[u8], other: &[u8]) -> bool
+    ensures same { result ≡ true → map is_abstained one.now ≡ map is_abstained other.now }
+    ensures found { map is_abstained one.now ≡ map is_abstained other.now → result ≡ true }
 {
-    if !same_tape(one, other) {
+    if one.len() != other.len() {
         return false;
     }
-    if !are_same(&one.arrays, &other.arrays) {
-        return false;
+    for at in 0..one.len() {
+        if !abstain_alike(one[at], other[at]) {
+            return false;
+        }
     }
-    if !are_same(&one.scalar_stashes, &other.scalar_stashes) {
-        return false;
-    }
-    are_same(&one.array_stashes, &other.array_stashes)
+    true
 }
 
-/// Returns true only if both states are the same.
-pub fn same(one: &Saved, other: &Saved, program: &Lowered<'_, '_>) -> bool
-    ensures { result ≡ true → (input : Input) →
-        state_of program.now.code.now program.now.parts input (saved_view one.now)
-        ≡ state_of program.now.code.now program.now.parts input (saved_view other.now) }
+/// Returns whether the parts that few instructions change are the same. The input has so many
+/// bytes. Spare room of stashes doesn't matter.
+fn same_rest(one: &Rest, other: &Rest, long: usize) -> bool
+    ensures same { result ≡ true → AreAlikeRests long one.now other.now }
+    ensures found { AreAlikeRests long one.now other.now → result ≡ true }
 {
-    // The clause needs that the instructions are those of the code.
-    program.law();
-    program.code.law();
+    same_tape(one, other, long)
+        && are_same(&one.arrays, &other.arrays)
+        && same_hidden(&one.arrays, &other.arrays)
+        && are_same(&one.scalar_stashes, &other.scalar_stashes)
+        && are_same(&one.array_stashes, &other.array_stashes)
+}
+
+/// Returns whether two states of a program are the same. The input has so many bytes.
+pub fn same(one: &Saved, other: &Saved, long: usize) -> bool
+    ensures same { result ≡ true → AreAlike long one.now other.now }
+    ensures found { AreAlike long one.now other.now → result ≡ true }
+{
     one.place == other.place
         && one.numbers == other.numbers
         && one.home == other.home
-        && one.statuses == other.statuses
+        && (one.statuses == other.statuses || same_abstained(&one.statuses, &other.statuses))
         && one.returns == other.returns
-        && same_rest(&one.rest, &other.rest)
+        && same_rest(&one.rest, &other.rest, long)
+}
+
+/// Returns whether two runs ended alike.
+pub fn same_end(one: End<'_>, other: End<'_>) -> bool
+    ensures same { result ≡ true → finish_of one.entry ≡ finish_of other.entry }
+    ensures found { finish_of one.entry ≡ finish_of other.entry → result ≡ true }
+{
+    match (one, other) {
+        (End::GiveUp, End::GiveUp) => true,
+        (End::Limit, End::Limit) => true,
+        (End::Fault(one), End::Fault(other)) => {
+            one.kind == other.kind
+                && one.statement == other.statement
+                && one.subject == other.subject
+        }
+        _ => false,
+    }
 }

@@ -1,80 +1,89 @@
 //! Numbers by which kept states are looked up.
 
-ghost use Rattle.std.specs.Prelude.{◌+◌, ◌≤◌, length};
+ghost use Rattle.std.specs.Prelude.{◌≡◌, ◌<◌, ◌≤◌, ℕ, length, map, slice_index, if◌then◌else◌};
+ghost use Rattle.ick_runtime.specs.{Status.is_abstained, View.is_hidden};
+ghost use Rattle.ick_states.specs.Hashed.{mix_bits, mix_bytes as mixed_bytes};
+ghost use Rattle.ick_states.specs.Hashed.{mix_rest as mixed_rest};
+ghost use Rattle.ick_states.specs.Hashed.{mix, mix_places, mix_saved};
 
+use crate::parts::{abstains, mix_all, mix_numbers, mixed};
 use ick_marks::Saved;
 use ick_runtime::{Array, Rest};
 use std::hash::{FoldHasher, Hasher};
 
-/// Mixes two numbers into a hash.
-fn mixed(hash: u64, one: u64, other: u64) -> u64 {
-    let (low, high) = (hash ^ one).carrying_mul(other ^ 0x9E37_79B9_7F4A_7C15, 0);
-    low ^ high
-}
-
-/// Returns two numbers from an index on as one.
-fn pair_at(numbers: &[u32], at: usize) -> u64
-    requires { at + 2 ≤ length numbers.now }
-{
-    numbers[at] as u64 | (numbers[at + 1] as u64) << 32
-}
-
-/// Mixes numbers, and how many they are, into a hash, four at a time.
-fn mix_numbers(hash: u64, numbers: &[u32]) -> u64 {
-    let fours = numbers.len() / 4;
-    let mut hash = mixed(hash, numbers.len() as u64, 0);
-    for four in 0..fours {
-        hash = mixed(
-            hash,
-            pair_at(numbers, four * 4),
-            pair_at(numbers, four * 4 + 2),
-        );
-    }
-    for number in &numbers[fours * 4..] {
-        hash = mixed(hash, *number as u64, 0);
-    }
-    hash
-}
-
 /// Mixes bytes into a hash.
-fn mix_bytes(hash: u64, bytes: &[u8]) -> u64 {
+fn mix_bytes(hash: u64, bytes: &[u8]) -> u64
+    ensures { result ≡ mixed_bytes hash bytes.now }
+{
     let mut hasher = FoldHasher::default();
     hasher.write(bytes);
-    mixed(hash, hasher.finish(), 0)
+    mixed(hash, hasher.finish())
 }
 
-/// Mixes arrays, and how many they are, into a hash.
-fn mix_arrays(hash: u64, arrays: &[Array]) -> u64 {
-    let mut hash = mixed(hash, arrays.len() as u64, 0);
-    for array in arrays {
-        hash = mixed(hash, array.hidden as u64, 0);
-        hash = mix_numbers(hash, &array.dimensions);
-        hash = mix_numbers(hash, &array.elements);
+/// Mixes into a hash whether arrays are ignored.
+#[tactic(auto, using(crate::proofs::Mixing::value_by_value))]
+fn mix_hidden(hash: u64, arrays: &[Array]) -> u64
+    ensures { result ≡ mix_bits hash (map is_hidden arrays.now) }
+{
+    let mut hash = mixed(hash, arrays.len() as u64);
+    for at in 0..arrays.len() {
+        hash = mixed(hash, u64::from(arrays[at].hidden));
     }
     hash
 }
 
-/// Mixes the parts that few instructions change into a hash.
-fn mix_rest(hash: u64, rest: &Rest) -> u64 {
-    let mut hash = mix_arrays(hash, &rest.arrays);
-    for stash in &rest.scalar_stashes {
-        hash = mix_numbers(hash, &stash.items[..stash.depth]);
-    }
-    for stash in &rest.array_stashes {
-        hash = mix_arrays(hash, &stash.items[..stash.depth]);
-    }
-    let hash = mix_bytes(hash, &rest.output);
-    let hash = mixed(hash, rest.last as u64, rest.lastin as u64);
-    mixed(hash, rest.taken as u64, 0)
+/// Mixes a number into a hash, or leaves the hash as it is.
+fn mix_if(hash: u64, on: bool, number: u64) -> u64
+    ensures { result ≡ (if on then mix hash number else hash) }
+{
+    if on { mixed(hash, number) } else { hash }
 }
 
-/// Returns a number by which states can be looked up. States that are the same have the same
-/// number, which no contract says: callers compare states by `same`.
-pub fn hash(saved: &Saved) -> u64 {
-    let hash = mixed(0, saved.place as u64, 0);
-    let hash = mix_numbers(hash, &saved.numbers);
-    let hash = mix_numbers(hash, &saved.home);
-    let hash = mix_bytes(hash, &saved.statuses);
-    let hash = mix_numbers(hash, &saved.returns);
-    mix_rest(hash, &saved.rest)
+/// Returns the greatest status.
+fn greatest(statuses: &[u8]) -> u8
+    ensures { (k : ℕ) → k < length statuses.now → slice_index statuses.now k ≤ result }
+{
+    let mut greatest = 0;
+    for at in 0..statuses.len() {
+        greatest = greatest.max(statuses[at]);
+    }
+    greatest
+}
+
+/// Mixes the places of the statuses of statements that are abstained from into a hash.
+#[tactic(auto, using(crate::proofs::Mixing::place_by_place))]
+fn mix_abstained(hash: u64, statuses: &[u8]) -> u64
+    ensures { result ≡ mix_places hash 0 (map is_abstained statuses.now) }
+{
+    if greatest(statuses) < 128 {
+        return hash;
+    }
+    let mut hash = hash;
+    for at in 0..statuses.len() {
+        hash = mix_if(hash, abstains(statuses[at]), at as u64);
+    }
+    hash
+}
+
+/// Mixes the parts that few instructions change into a hash. The input has so many bytes.
+fn mix_rest(hash: u64, rest: &Rest, long: usize) -> u64
+    ensures { result ≡ mixed_rest long hash rest.now }
+{
+    let hash = mix_hidden(mix_all(hash, &rest.arrays), &rest.arrays);
+    let hash = mix_all(hash, &rest.scalar_stashes);
+    let hash = mix_all(hash, &rest.array_stashes);
+    let hash = mix_bytes(hash, &rest.output);
+    let hash = mixed(mixed(hash, u64::from(rest.last)), u64::from(rest.lastin));
+    mixed(hash, rest.taken.min(long) as u64)
+}
+
+/// Returns a number by which a state can be looked up. The input has so many bytes. Spare room, and
+/// what no state has of a status, don't matter.
+pub fn hash(saved: &Saved, long: usize) -> u64
+    ensures { result ≡ mix_saved long saved.now }
+{
+    let hash = mixed(0, u64::from(saved.place));
+    let hash = mix_numbers(mix_numbers(hash, &saved.numbers), &saved.home);
+    let hash = mix_numbers(mix_abstained(hash, &saved.statuses), &saved.returns);
+    mix_rest(hash, &saved.rest, long)
 }

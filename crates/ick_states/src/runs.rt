@@ -4,8 +4,10 @@ ghost use Rattle.std.specs.Prelude.{◌≡◌, IfOk};
 ghost use Rattle.ick_code.specs.meaning.Move.{first_state};
 ghost use Rattle.ick_code.specs.Compiled.{code_program};
 
-use crate::comparing::same;
+use crate::comparing::{same, same_end};
 use crate::hashing::hash;
+use crate::measuring::size;
+use crate::parts::mixed;
 use crate::renewing::renew;
 use ick_backtrack::Ask;
 use ick_bits::NoMemory;
@@ -36,14 +38,14 @@ pub struct Runs<'c, 'a> {
 }
 
 impl<'c, 'a> Runs<'c, 'a> {
-    ghost use Rattle.std.specs.Prelude.{◌≡◌, ◌≤◌, Bool, Some, None, IfOk, OnOk};
+    ghost use Rattle.std.specs.Prelude.{◌≡◌, ◌≤◌, Bool, true, Some, None, IfOk, OnOk};
     ghost use Rattle.ick_code.specs.meaning.Move.{ask, advance};
     ghost use Rattle.ick_backtrack.specs.Asked.{IsGoing};
     ghost use Rattle.ick_backtrack.specs.Steps.{IsPlain, RunsOn};
     ghost use Rattle.ick_runtime.specs.Inputs.{Input};
     ghost use Rattle.ick_machine.specs.RunIn.{CanGoOn, program_of, state_in};
     ghost use Rattle.ick_states.specs.Seen.{CanGoOnFrom, CanServe};
-    ghost use Rattle.ick_states.specs.Seen.{kept_state, present_state, seen_of};
+    ghost use Rattle.ick_states.specs.Seen.{ending_in, kept_state, present_state, seen_of};
 
     /// Returns a program over an input. `NoMemory` is the only refusal.
     pub fn new(alloc: Global, code: &'c Code<'a>, input: &'c [u8]) -> Result<Runs<'c, 'a>, NoMemory>
@@ -70,6 +72,36 @@ impl<'c, 'a> Runs<'c, 'a> {
         // `states` needs that the kept state is that of the memory.
         saved.law(&self.lowered);
         Ok(KeptRun { saved, end })
+    }
+
+    /// Returns whether two runs ended alike, or haven't ended.
+    fn same_ends(&self, one: Option<RawEnd>, other: Option<RawEnd>) -> bool
+        ensures same { result ≡ true → ending_in self.now one ≡ ending_in self.now other }
+        ensures found { ending_in self.now one ≡ ending_in self.now other → result ≡ true }
+    {
+        let code = self.lowered.code;
+        match (one, other) {
+            (None, None) => true,
+            (Some(one), Some(other)) => same_end(
+                end_of(code, self.input, one),
+                end_of(code, self.input, other),
+            ),
+            _ => false,
+        }
+    }
+
+    /// Returns whether two states of the program are equal.
+    fn same_runs(&self, one: &KeptRun, other: &KeptRun) -> bool
+        ensures equal { result ≡ true → seen_of self.now one.now ≡ seen_of self.now other.now }
+        ensures found { CanGoOnFrom self.now.lowered one.now.saved →
+            CanGoOnFrom self.now.lowered other.now.saved →
+            (seen_of self.now one.now).state ≡ (seen_of self.now other.now).state →
+            result ≡ true }
+    {
+        // `found` needs that the instructions are those of the code.
+        self.lowered.law();
+        self.lowered.code.law();
+        self.same_ends(one.end, other.end) && same(&one.saved, &other.saved, self.input.len())
     }
 
     /// Makes steps while nothing is asked and the run hasn't ended, at most as many as the limit.
@@ -155,7 +187,8 @@ impl<'c, 'a> Runs<'c, 'a> {
 
 impl<'c, 'a> States<'c> for Runs<'c, 'a> {
     ghost use Rattle.ick_machine.specs.RunIn.{program_of};
-    ghost use Rattle.ick_states.specs.Seen.{CanGoOnFrom, CanServe, seen_of};
+    ghost use Rattle.ick_states.specs.Seen.{CanGoOnFrom, CanServe, key_of, seen_of};
+    ghost use Rattle.ick_states.specs.Sizes.{saved_bytes};
 
     type State = Box<KeptRun>;
 
@@ -168,6 +201,10 @@ impl<'c, 'a> States<'c> for Runs<'c, 'a> {
     ghost suits = { λ runs state. CanGoOnFrom runs.lowered state.value.saved };
 
     ghost serves = { λ runs memory. CanServe runs.lowered memory };
+
+    ghost key = { λ runs state. key_of runs state.value };
+
+    ghost size = { λ _ state. saved_bytes state.value.saved };
 
     fn output<'s>(&self, state: &'s Box<KeptRun>) -> &'s [u8] {
         &state.saved.rest.output
@@ -226,17 +263,27 @@ impl<'c, 'a> States<'c> for Runs<'c, 'a> {
     }
 
     fn same(&self, one: &Box<KeptRun>, other: &Box<KeptRun>) -> bool {
-        match (one.end, other.end) {
-            (None, None) => same(&one.saved, &other.saved, &self.lowered),
-            _ => false,
-        }
+        self.same_runs(one, other)
     }
 
     fn hash(&self, state: &Box<KeptRun>) -> u64 {
-        hash(&state.saved)
+        mixed(
+            hash(&state.saved, self.input.len()),
+            u64::from(state.end.is_some()),
+        )
+    }
+
+    fn bytes(&self, state: &Box<KeptRun>) -> u64 {
+        size(&state.saved)
     }
 
     fn law(&self, _state: &Box<KeptRun>) {}
+
+    fn keys(&self) {
+        // The clause needs that the instructions are those of the code.
+        self.lowered.law();
+        self.lowered.code.law();
+    }
 }
 
 impl<'c, 'a> Runs<'c, 'a> {

@@ -6,8 +6,8 @@ use Rattle.ick_chain.proofs.Placing.{chain_of, first_is}
 use Rattle.ick_chain.proofs.Answers.{exact}
 use Rattle.ick_chain.proofs.answer.weigh.Goals as goal
 
-pub returns : goal.returns
-returns g c =
+pub returns-clause-exact : goal.returns-clause-exact
+returns-clause-exact g c =
     let p = g.P.States.text c.args.program.now in
     let seen = g.P.States.seen c.args.program.now in
     let s = (seen c.args.state).state in
@@ -17,17 +17,20 @@ returns g c =
     let visits = naturals c.in_ok-solution.solution.numbers.items in
     let parts = natural c.in_ok-solution.solution.parts in
     let h : IsSolution nodes parts visits =
-    subst (λ z. IsSolution z parts visits) c.deref.ensures.value c.in_ok-solution.ensures in
+    subst (λ z. IsSolution z parts visits) c.deref.ensures.value c.in_ok-solution.ensures.solved in
+    subst (λ z. IsExact p z parts (λ q. passing (λ i. q (state_or s ss i)) nodes visits) (never nodes visits)
+    (all_steps nodes visits))
+    (first_is ss s s c.in_ok-chain.ensures.first)
+    (exact p (state_or s ss) nodes (chain_of p ss nodes s c.in_ok-chain.ensures.full) h.closed 0 parts visits
+    h.some h.are_visits)
+
+pub returns-clause-answer : goal.returns-clause-answer
+returns-clause-answer g c =
+    let nodes = c.in_ok-chain.chain.nodes.items in
+    let visits = naturals c.in_ok-solution.solution.numbers.items in
+    let parts = natural c.in_ok-solution.solution.parts in
     record {
-      exact = subst (λ z. IsExact p z parts (λ q. passing (λ i. q (state_or s ss i)) nodes visits) (never nodes visits)
-          (all_steps nodes visits))
-          (first_is ss s s c.in_ok-chain.ensures.first)
-          (exact p (state_or s ss) nodes (chain_of p ss nodes s c.in_ok-chain.ensures.full) h.closed 0 parts visits
-          h.some h.are_visits);
-      answer = record {
-        states = c.in_ok-chain.ensures.states;
-        full = c.in_ok-chain.ensures.full;
-        solution = h;
-      };
-      first = c.in_ok-chain.ensures.first;
+      states = c.in_ok-chain.ensures.states;
+      full = c.in_ok-chain.ensures.full;
+      solution = subst (λ z. IsSolution z parts visits) c.deref.ensures.value c.in_ok-solution.ensures.solved;
     }

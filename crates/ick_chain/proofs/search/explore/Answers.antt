@@ -1,6 +1,8 @@
-use Rattle.std.proofs.Common.{◌≡◌, ◌<◌, Some, length, slice_get, sym, subst, arith}
+use Rattle.std.proofs.Common.{◌≡◌, ◌<◌, Some, length, slice_get, ap, sym, subst, arith}
 use Rattle.ick_chain.specs.Places.{AllTell, states_in}
 use Rattle.ick_chain.proofs.Placing.{tell_more, got_on, states_long, length_more}
+use Rattle.ick_chain.proofs.Reaching.{more_states}
+use Rattle.ick_chain.specs.declared.errors.ChainError.TheVariants.{TooManyStates}
 use Rattle.ick_chain.proofs.search.explore.Goals as goal
 
 pub nodes-preserved : goal.nodes-preserved
@@ -25,4 +27,43 @@ nodes-preserved g c =
       first = got_on old new 0 (seen c.args.state).state c.in_ok-node.ensures.kept c.nodes.invariant.first;
       found = c.in_ok-node.ensures.found;
       tools = c.in_ok-node.ensures.tools;
+    }
+
+pub returns-in-Some-clause-many : goal.returns-in-Some-clause-many
+returns-in-Some-clause-many g c = λ e.
+    let p = g.P.States.text c.args.program.now in
+    let seen = g.P.States.seen c.args.program.now in
+    let suits = g.P.States.suits c.args.program.now in
+    let key = g.P.States.key c.args.program.now in
+    let size = g.P.States.size c.args.program.now in
+    let is : c.in-Some.refused ≡ TooManyStates = cc in
+    more_states p seen suits key size c.nodes.found (seen c.args.state).state c.args.most c.nodes.invariant.found
+    c.nodes.invariant.first (c.in-Some.ensures.states (ap Some is))
+
+pub returns-in-Some-refusal-clause-many : goal.returns-in-Some-refusal-clause-many
+returns-in-Some-refusal-clause-many g c = λ e.
+    let p = g.P.States.text c.args.program.now in
+    let seen = g.P.States.seen c.args.program.now in
+    let suits = g.P.States.suits c.args.program.now in
+    let key = g.P.States.key c.args.program.now in
+    let size = g.P.States.size c.args.program.now in
+    let is : c.in-Some-refusal.refused ≡ TooManyStates = cc in
+    more_states p seen suits key size c.nodes.found (seen c.args.state).state c.args.most c.nodes.invariant.found
+    c.nodes.invariant.first (c.in-Some-refusal.ensures.states (ap Some is))
+
+pub returns-clause-full : goal.returns-clause-full
+returns-clause-full g c =
+    let seen = g.P.States.seen c.args.program.now in
+    let all = states_long seen c.nodes.found.states.items in
+    record {
+      long =
+          omega (
+            arith,
+            all,
+            c.nodes.invariant.long,
+            c.nodes.invariant.within,
+            c.nodes-test.false,
+            c.in_default-refusal.ensures.few,
+          );
+      each = c.nodes.invariant.each;
     }

@@ -1,5 +1,6 @@
 use Rattle.std.proofs.Common.{◌≡◌, ◌≤◌, Some, length, slice_get}
-use Rattle.ick_chain.specs.Places.{AllTell, AllSuit, states_in}
+use Rattle.ick_chain.specs.Found.{IsFound}
+use Rattle.ick_chain.specs.Places.{AllTell, states_in}
 use Rattle.ick_chain.proofs.search.explore.Given as goal
 
 abbrev pub invariant-nodes : goal.invariant-nodes
@@ -9,6 +10,7 @@ invariant-nodes g l = record {
   each : AllTell (g.P.States.text l.program) (states_in (g.P.States.seen l.program) l.found.states.items) l.nodes.items;
   first : slice_get (states_in (g.P.States.seen l.program) l.found.states.items) 0
       ≡ Some ((g.P.States.seen l.program l.fn.state).state);
-  found : AllSuit (g.P.States.suits l.program) l.found.states.items;
+  found : IsFound (g.P.States.text l.program) (g.P.States.seen l.program) (g.P.States.suits l.program)
+      (g.P.States.key l.program) (g.P.States.size l.program) l.found;
   tools : g.P.States.serves l.program l.tools;
 }
