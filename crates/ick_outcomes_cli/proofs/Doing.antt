@@ -6,15 +6,16 @@ use Rattle.ick_job.specs.Program.{DoesJob, Files, ServesArguments, Stream, both}
 use Rattle.ick_job.specs.Serve.{Failures, Finishes}
 use Rattle.ick_job.proofs.Programs.{MayRunOut, RanOut}
 use Rattle.ick_job.proofs.Served.{failed_due, four_by, was_answered}
-use Rattle.ick_outcomes_cli.specs.Job.{Wanted, has_file, job_of}
+use Rattle.ick_outcomes_cli.specs.Job.{Wanted, asks_both, has_file, job_of}
 use Rattle.ick_outcomes_cli.specs.Left.{IsLeft}
 use Rattle.ick_outcomes_cli.specs.OutcomesEnd.{Gives, LeavesAll, WhereGiven, outcomes_end_status, outcomes_end_text}
 use Rattle.ick_outcomes_cli.specs.Program.{listing_in, outcomes, outcomes_job, source_in}
-use Rattle.ick_outcomes_cli.specs.Serve.{IsOutcomesDue, as_ick, long_listing, many_states, without_memory}
+use Rattle.ick_outcomes_cli.specs.Serve.{IsOutcomesDue, as_ick, long_listing, many_states, unfinished}
+use Rattle.ick_outcomes_cli.specs.Serve.{without_memory}
 use Rattle.ick_outcomes_cli.specs.Tool.{IsOutcomesAnswer, MayStop}
 use Rattle.ick_outcomes_cli.specs.Words.{outcomes_app}
 use Rattle.ick_outcomes_cli.specs.declared.outcomes_end.OutcomesEnd.{OutcomesEnd}
-use Rattle.ick_outcomes_cli.specs.declared.outcomes_end.OutcomesEnd.TheVariants.{By, Refused}
+use Rattle.ick_outcomes_cli.specs.declared.outcomes_end.OutcomesEnd.TheVariants.{By, Refused, Unfinished}
 use Rattle.ick_outcomes_cli.proofs.Serving.{outcomes_due, outcomes_served, outcomes_status}
 
 -- what work leaves over devices
@@ -31,6 +32,7 @@ pub record Performed {F L R W : Type 0} (w : Wanted) (one : Files F) (other : Fi
       → WhereGiven outcomes_end (IsLeft w one.bytes reader.bytes.before reader.bytes.after)
   pub files_kept : has_file w ≡ false → one.new ≡ one.old
   pub listings_kept : w.listing ≡ None → other.new ≡ other.old
+  pub both_kept : asks_both w ≡ true → (one.new ≡ one.old) × (other.new ≡ other.old)
   pub source_first : has_file w ≡ false → reader.failed_before < reader.failed_after → writer.new ≡ writer.old
 
 both_told : (one other : Bool) → (one && other) ≡ true → (one ≡ true) × (other ≡ true)
@@ -45,6 +47,8 @@ was_given told (By job_end) e e' errs errs' code Fact done other h =
     was_answered told job_end e e' errs errs' code Fact done other h
 was_given told (Refused line) e e' errs errs' code Fact done other h =
     absurd (other (four_by told 4 _ e e' errs errs' code done refl))
+was_given told (Unfinished line) e e' errs errs' code Fact done other h =
+    absurd (other (four_by told 4 _ e e' errs errs' code done refl))
 
 -- if a device failed, or the error text wasn't written, the status is 4
 outcomes_failed : (old new : Failures) (told : Bool) (e e' : ℕ) (errs errs' : List ℕ) (code : ℕ) (text : List ℕ)
@@ -55,6 +59,8 @@ outcomes_failed old new told e e' errs errs' code text status (as_ick t s owed) 
 outcomes_failed old new told e e' errs errs' code text status (many_states same) done bad =
     four_by told 4 _ e e' errs errs' code done refl
 outcomes_failed old new told e e' errs errs' code text status (long_listing same) done bad =
+    four_by told 4 _ e e' errs errs' code done refl
+outcomes_failed old new told e e' errs errs' code text status (unfinished most line is same) done bad =
     four_by told 4 _ e e' errs errs' code done refl
 
 -- a job is done whose end was reported
@@ -76,7 +82,7 @@ does w one other reader writer errors status outcomes_end work said = record {
       was_given errors.told outcomes_end _ _ _ _ _ (IsLeft w one.bytes reader.bytes.before reader.bytes.after)
       said unlike (work.left (both_told one.told other.told told).0 reader_told);
   reader_kept = λ some none. absurd (cc);
-  files_kept = (work.files_kept, work.listings_kept);
+  files_kept = (work.files_kept, work.listings_kept, work.both_kept);
   source_first = work.source_first;
   unplanned = λ line h. absurd h;
 }
@@ -104,6 +110,10 @@ pub may_run_out : {F L R W E : Type 0} (arguments : List Text) (one : Files F) (
     (writer : Stream W) (errors : Stream E) (status : ℕ) → RanOut (both one other) reader writer errors status
     → MayRunOut (outcomes_job (job_of arguments) (both one other) reader.bytes.before) (both one other) reader writer
 may_run_out arguments one other reader writer errors status out = (
-  (λ none. ap (λ p. p.0) out.same_files, λ none. ap (λ p. p.1) out.same_files),
+  (
+    λ none. ap (λ p. p.0) out.same_files,
+    λ none. ap (λ p. p.1) out.same_files,
+    λ yes. (ap (λ p. p.0) out.same_files, ap (λ p. p.1) out.same_files),
+  ),
   without_memory out.calm out.unwritten,
 )

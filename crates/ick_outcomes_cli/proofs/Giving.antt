@@ -1,5 +1,5 @@
 -- What a job's end gives, and the counts that it leaves.
-use Rattle.std.proofs.Common.{◌≡◌, ◌∙◌, ◌+◌, ◌++◌, ◌<◌, ◌≤◌, ◌==◌, if◌then◌else◌, ℕ, Bool, true, false, List, []}
+use Rattle.std.proofs.Common.{◌≡◌, ◌∙◌, ◌+◌, ◌<◌, ◌≤◌, ◌==◌, if◌then◌else◌, ℕ, Bool, true, false, List, []}
 use Rattle.std.proofs.Common.{Option, Some, None, ap, arith, refl, subst, sym, inl, inr, length, take, ne_eqb, eq-eqb}
 use Rattle.std.proofs.lemmas.List.{append-nil, length-take, take_all}
 use Rattle.ick_bits.specs.Faults.{message_of}
@@ -23,29 +23,32 @@ use Rattle.ick_job.specs.declared.notice.Notice.TheVariants as notice
 use Rattle.ick_job.proofs.Ends.{leaves_as, leaves_by}
 use Rattle.ick_outcomes_cli.specs.Asked.{IsAskedBy, foreign_text}
 use Rattle.ick_outcomes_cli.specs.OutcomesEnd.{Gives, IsRefusal, LeavesAll, listing_of}
-use Rattle.ick_outcomes_cli.specs.Job.{Wanted}
-use Rattle.ick_outcomes_cli.specs.Tool.{HasMoreStates, HasTooMany, IsExplained, IsFound, IsOutcomesAnswer}
-use Rattle.ick_outcomes_cli.specs.Tool.{IsProgramAnswer, IsSourceAnswer, IsStopped, IsSummed, IsTextFound, IsToldOf}
-use Rattle.ick_outcomes_cli.specs.Tool.{MayStop, by_listing, by_outcomes, compiled, explained, foreign, listing_too_long}
+use Rattle.ick_outcomes_cli.specs.Job.{Wanted, limit_or_usual}
+use Rattle.ick_outcomes_cli.specs.Tool.{IsExplained, IsFound, IsReadAnswer, IsProgramAnswer, IsSourceAnswer}
+use Rattle.ick_outcomes_cli.specs.Tool.{IsStop, IsStopped, IsSummed, IsTextFound, IsToldOf, MayStop, Stops}
+use Rattle.ick_outcomes_cli.specs.Tool.{HasLine, goes_on, many_runs}
+use Rattle.ick_outcomes_cli.specs.Tool.{by_listing, by_outcomes, compiled, explained, foreign, listing_too_long}
 use Rattle.ick_outcomes_cli.specs.Tool.{longest_listing, may_stop, not_read, read, refused, summed, too_long}
 use Rattle.ick_outcomes_cli.specs.declared.asked.Asked.{Asked}
 use Rattle.ick_outcomes_cli.specs.declared.asked.Asked.TheVariants.{Foreign, Text as Told}
 use Rattle.ick_outcomes_cli.specs.declared.outcomes_end.OutcomesEnd.{OutcomesEnd}
-use Rattle.ick_outcomes_cli.specs.declared.outcomes_end.OutcomesEnd.TheVariants.{By, Refused}
+use Rattle.ick_outcomes_cli.specs.declared.outcomes_end.OutcomesEnd.TheVariants.{By, Refused, Unfinished}
 use Rattle.ick_outcomes_cli.specs.declared.found.Found.{Found}
-use Rattle.ick_outcomes_cli.specs.declared.found.Found.TheVariants.{Outcomes, TooManyStates}
+use Rattle.ick_outcomes_cli.specs.declared.found.Found.TheVariants.{Outcomes, TooManyStates, Unfinished as NotFound}
 use Rattle.ick_outcomes_cli.specs.declared.words.job.Question.{Question}
 
--- other answers, and other reasons to stop
-pub gives_so : {A B : Answer → Type 0} {M N : Type 0} (outcomes_end : OutcomesEnd) (before after : List ℕ)
-    → ((answer : Answer) → A answer → B answer) → (M → N) → Gives A M outcomes_end before after → Gives B N outcomes_end before after
+-- other answers, and other lines to stop with
+pub gives_so : {A B : Answer → Type 0} {M N : List ℕ → Type 0} (outcomes_end : OutcomesEnd) (before after : List ℕ)
+    → ((answer : Answer) → A answer → B answer) → ((line : List ℕ) → M line → N line)
+    → Gives A M outcomes_end before after → Gives B N outcomes_end before after
 gives_so (By (Answered status text)) before after so stops h = (h.0, so h.0 h.1, h.2)
 gives_so (By InputTooLong) before after so stops h = (h.0, so h.0 h.1, h.2)
 gives_so (By FileNotRead) before after so stops h = (h.0, so h.0 h.1, h.2)
 gives_so (By WriteFailed) before after so stops h = (h.0, so h.0 h.1, h.2)
 gives_so (By NoMemory) before after so stops h = h
 gives_so (By ReadFailed) before after so stops h = h
-gives_so (Refused notice.TooManyStates) before after so stops h = (stops h.0, h.1)
+gives_so (Refused notice.TooManyStates) before after so stops h = (stops _ h.0, h.1)
+gives_so (Unfinished line) before after so stops h = (stops line.items h.0, h.1)
 gives_so (Refused notice.ListingTooLong) before after so stops h = (h.0, so h.0 h.1, h.2)
 gives_so (Refused notice.ChoicesAndSeed) before after so stops h = absurd h
 gives_so (Refused notice.BadCursor) before after so stops h = absurd h
@@ -58,9 +61,13 @@ gives_so (Refused notice.WriteFailed) before after so stops h = absurd h
 gives_so (Refused notice.OutOfMemory) before after so stops h = absurd h
 gives_so (Refused notice.WordsNotRead) before after so stops h = absurd h
 
+-- work that stops with no line
+abbrev pub no_line : List ℕ → Type 0
+no_line line = ⊥
+
 -- an output that was sent
 pub gives_sent : (A : Answer → Type 0) (job_end : JobEnd) (before after : List ℕ) (answer : Answer)
-    → EndsSent job_end → A answer → Answers answer job_end before after → Gives A ⊥ (By job_end) before after
+    → EndsSent job_end → A answer → Answers answer job_end before after → Gives A no_line (By job_end) before after
 gives_sent A (Answered status text) before after answer sent is h = (answer, is, h)
 gives_sent A WriteFailed before after answer sent is h = (answer, is, h)
 gives_sent A InputTooLong before after answer sent is h = absurd sent
@@ -69,31 +76,31 @@ gives_sent A NoMemory before after answer sent is h = absurd sent
 gives_sent A ReadFailed before after answer sent is h = absurd sent
 
 -- an answer without output
-pub gives_refusal : (A : Answer → Type 0) (status : ℕ) (text : List ℕ) (job_end : JobEnd)
-    (before : List ℕ) → EndsBy status text job_end → A (refused_by status text) → Gives A ⊥ (By job_end) before before
-gives_refusal A status text (Answered given said) before h is = (refused_by status text, is, (h, sym (append-nil before)))
-gives_refusal A status text NoMemory before h is = refl
-gives_refusal A status text InputTooLong before h is = absurd h
-gives_refusal A status text FileNotRead before h is = absurd h
-gives_refusal A status text ReadFailed before h is = absurd h
-gives_refusal A status text WriteFailed before h is = absurd h
+pub gives_refusal : (M : List ℕ → Type 0) (A : Answer → Type 0) (status : ℕ) (text : List ℕ) (job_end : JobEnd)
+    (before : List ℕ) → EndsBy status text job_end → A (refused_by status text) → Gives A M (By job_end) before before
+gives_refusal M A status text (Answered given said) before h is = (refused_by status text, is, (h, sym (append-nil before)))
+gives_refusal M A status text NoMemory before h is = refl
+gives_refusal M A status text InputTooLong before h is = absurd h
+gives_refusal M A status text FileNotRead before h is = absurd h
+gives_refusal M A status text ReadFailed before h is = absurd h
+gives_refusal M A status text WriteFailed before h is = absurd h
 
 -- a source that is refused
 pub gives_refused : (w : Wanted) (source input : List ℕ) (listing : Option (List ℕ)) (why : Refusal)
     (job_end : JobEnd) (before : List ℕ) → Refuses source why → EndsRefused why job_end
-    → Gives (IsSourceAnswer w source input listing) ⊥ (By job_end) before before
+    → Gives (IsSourceAnswer w source input listing) no_line (By job_end) before before
 gives_refused w source input listing (refusal.Fault kind n) job_end before is ends =
-    gives_refusal (IsSourceAnswer w source input listing) 2 (message_of kind n []) job_end before ends (refused kind n is.refused)
+    gives_refusal no_line (IsSourceAnswer w source input listing) 2 (message_of kind n []) job_end before ends (refused kind n is.refused)
 gives_refused w source input listing refusal.TooLong job_end before long ends =
-    subst (λ (e : JobEnd). Gives (IsSourceAnswer w source input listing) ⊥ (By e) before before) (sym ends)
+    subst (λ (e : JobEnd). Gives (IsSourceAnswer w source input listing) no_line (By e) before before) (sym ends)
     (_, too_long long, ((refl, refl), sym (append-nil before)))
 gives_refused w source input listing refusal.NoMemory job_end before is ends =
-    subst (λ (e : JobEnd). Gives (IsSourceAnswer w source input listing) ⊥ (By e) before before) (sym ends) refl
+    subst (λ (e : JobEnd). Gives (IsSourceAnswer w source input listing) no_line (By e) before before) (sym ends) refl
 
 -- an input that was not read
 pub gives_unread : (A : Answer → Type 0) (input : List ℕ) (job_end : JobEnd) (before : List ℕ)
     → EndsUnread input job_end → (longest_input < length input → A (refused_by 4 (notice_text notice.InputTooLong)))
-    → Gives A ⊥ (By job_end) before before
+    → Gives A no_line (By job_end) before before
 gives_unread A input InputTooLong before h long = (_, long h, ((refl, refl), sym (append-nil before)))
 gives_unread A input ReadFailed before h long = refl
 gives_unread A input NoMemory before h long = refl
@@ -108,7 +115,7 @@ read_if failed failed' bytes = if failed == failed' then Some bytes else None
 pub gives_unopened : (A : Option (List ℕ) → Answer → Type 0) (bytes : List ℕ) (failed failed' : ℕ)
     (job_end : JobEnd) (before : List ℕ) → EndsUnopened job_end → failed' ≡ failed + failed_files job_end
     → A None (refused_by 4 (notice_text notice.FileNotRead))
-    → Gives (A (read_if failed failed' bytes)) ⊥ (By job_end) before before
+    → Gives (A (read_if failed failed' bytes)) no_line (By job_end) before before
 gives_unopened A bytes failed failed' FileNotRead before h count is =
     let other : (failed == failed') ≡ false = ne_eqb failed failed' (λ e. omega arith) in (
       _,
@@ -143,14 +150,14 @@ source_of_front w most source input listing long answer (refused kind n h) =
 source_of_front w most source input listing long answer (compiled trees given h is) =
     compiled trees answer (subst (λ (t : List ℕ). Compiles t trees) (whole_front most source long h.fits) h) is
 
-pub stop_of_front : (w : Wanted) (most : ℕ) (source input : List ℕ) → longest < most
-    → HasMoreStates w (take most source) input → HasMoreStates w source input
-stop_of_front w most source input long h = record {
+pub stop_of_front : (w : Wanted) (most : ℕ) (source input line : List ℕ) → longest < most
+    → Stops w (take most source) input line → Stops w source input line
+stop_of_front w most source input line long h = record {
   trees = h.trees;
   compiles = subst (λ (t : List ℕ). Compiles t h.trees)
       (whole_front most source long (let compiles = h.compiles in compiles.fits)) h.compiles;
   unlisted = h.unlisted;
-  more = h.more;
+  stop = h.stop;
 }
 
 -- counts of failures that rose as much have the same end
@@ -159,6 +166,9 @@ pub leaves_all_as : (outcomes_end : OutcomesEnd) (f f' r r' w w' g g' s s' x x' 
 leaves_all_as (By job_end) f f' r r' w w' g g' s s' x x' leaves files reads writes =
     leaves_as job_end f f' r r' w w' g g' s s' x x' leaves files reads writes
 leaves_all_as (Refused line) f f' r r' w w' g g' s s' x x' leaves files reads writes =
+    let none = leaves.1 in let unread = leaves.2 in let unwritten = leaves.3 in
+    (leaves.0, omega (arith, none), omega (arith, unread), omega (arith, unwritten))
+leaves_all_as (Unfinished line) f f' r r' w w' g g' s s' x x' leaves files reads writes =
     let none = leaves.1 in let unread = leaves.2 in let unwritten = leaves.3 in
     (leaves.0, omega (arith, none), omega (arith, unread), omega (arith, unwritten))
 
@@ -199,54 +209,54 @@ leaves_usage text WriteFailed f r w h = absurd h
 pub read_with_file : (w : Wanted) (file : Option (List ℕ)) (name : List ℕ) (named : List ℕ → List ℕ)
     (failed failed' : ℕ) (left front : List ℕ) (listing : Option (List ℕ)) (answer : Answer) → file ≡ Some name
     → failed' ≡ failed → front ≡ take (longest + 1) (named name) → IsSourceAnswer w front left listing answer
-    → IsOutcomesAnswer w (input_of file left) listing (source_of file named failed failed' left) answer
+    → IsReadAnswer w (input_of file left) listing (source_of file named failed failed' left) answer
 read_with_file w file name named failed failed' left front listing answer is same fronts h =
     subst (λ (f : Option (List ℕ)).
-    IsOutcomesAnswer w (input_of f left) listing (source_of f named failed failed' left) answer) (sym is)
-    (subst (λ (s : Option (List ℕ)). IsOutcomesAnswer w left listing s answer)
+    IsReadAnswer w (input_of f left) listing (source_of f named failed failed' left) answer) (sym is)
+    (subst (λ (s : Option (List ℕ)). IsReadAnswer w left listing s answer)
     (was_read failed failed' (named name) same)
     (read (named name) answer (source_of_front w (longest + 1) (named name) left listing (omega arith) answer
     (subst (λ (s : List ℕ). IsSourceAnswer w s left listing answer) fronts h))))
 
 pub stop_with_file : (w : Wanted) (file : Option (List ℕ)) (name : List ℕ) (named : List ℕ → List ℕ)
-    (failed failed' : ℕ) (left front : List ℕ) → file ≡ Some name → failed' ≡ failed
-    → front ≡ take (longest + 1) (named name) → HasMoreStates w front left
-    → MayStop w (input_of file left) (source_of file named failed failed' left)
-stop_with_file w file name named failed failed' left front is same fronts h =
-    subst (λ (f : Option (List ℕ)). MayStop w (input_of f left) (source_of f named failed failed' left)) (sym is)
-    (subst (λ (s : Option (List ℕ)). MayStop w left s) (was_read failed failed' (named name) same)
-    (may_stop (named name) (stop_of_front w (longest + 1) (named name) left (omega arith)
-    (subst (λ (s : List ℕ). HasMoreStates w s left) fronts h))))
+    (failed failed' : ℕ) (left front line : List ℕ) → file ≡ Some name → failed' ≡ failed
+    → front ≡ take (longest + 1) (named name) → Stops w front left line
+    → MayStop w (input_of file left) (source_of file named failed failed' left) line
+stop_with_file w file name named failed failed' left front line is same fronts h =
+    subst (λ (f : Option (List ℕ)). MayStop w (input_of f left) (source_of f named failed failed' left) line) (sym is)
+    (subst (λ (s : Option (List ℕ)). MayStop w left s line) (was_read failed failed' (named name) same)
+    (may_stop (named name) line (stop_of_front w (longest + 1) (named name) left line (omega arith)
+    (subst (λ (s : List ℕ). Stops w s left line) fronts h))))
 
 pub unread_with_file : (w : Wanted) (file : Option (List ℕ)) (name : List ℕ) (named : List ℕ → List ℕ)
     (failed failed' : ℕ) (left : List ℕ) (listing : Option (List ℕ)) (job_end : JobEnd) (before : List ℕ)
     → file ≡ Some name → EndsUnopened job_end → failed' ≡ failed + failed_files job_end
-    → Gives (IsOutcomesAnswer w (input_of file left) listing (source_of file named failed failed' left))
+    → Gives (IsReadAnswer w (input_of file left) listing (source_of file named failed failed' left))
     (MayStop w (input_of file left) (source_of file named failed failed' left)) (By job_end) before before
 unread_with_file w file name named failed failed' left listing job_end before is h count =
     subst (λ (f : Option (List ℕ)).
-    Gives (IsOutcomesAnswer w (input_of f left) listing (source_of f named failed failed' left))
+    Gives (IsReadAnswer w (input_of f left) listing (source_of f named failed failed' left))
     (MayStop w (input_of f left) (source_of f named failed failed' left)) (By job_end) before before) (sym is)
-    (gives_unopened (IsOutcomesAnswer w left listing) (named name) failed failed' job_end before h count not_read)
+    (gives_unopened (IsReadAnswer w left listing) (named name) failed failed' job_end before h count not_read)
 
 pub read_without_file : (w : Wanted) (file : Option (List ℕ)) (named : List ℕ → List ℕ) (failed failed' : ℕ)
     (left front input : List ℕ) (listing : Option (List ℕ)) (answer : Answer) → file ≡ None → input ≡ []
     → front ≡ take (longest + 1) left → IsSourceAnswer w front input listing answer
-    → IsOutcomesAnswer w (input_of file left) listing (source_of file named failed failed' left) answer
+    → IsReadAnswer w (input_of file left) listing (source_of file named failed failed' left) answer
 read_without_file w file named failed failed' left front input listing answer is none fronts h =
     subst (λ (f : Option (List ℕ)).
-    IsOutcomesAnswer w (input_of f left) listing (source_of f named failed failed' left) answer) (sym is)
+    IsReadAnswer w (input_of f left) listing (source_of f named failed failed' left) answer) (sym is)
     (read left answer (source_of_front w (longest + 1) left [] listing (omega arith) answer
     (subst (λ (s : List ℕ). IsSourceAnswer w s [] listing answer) fronts
     (subst (λ (i : List ℕ). IsSourceAnswer w front i listing answer) none h))))
 
 pub stop_without_file : (w : Wanted) (file : Option (List ℕ)) (named : List ℕ → List ℕ) (failed failed' : ℕ)
-    (left front input : List ℕ) → file ≡ None → input ≡ [] → front ≡ take (longest + 1) left
-    → HasMoreStates w front input → MayStop w (input_of file left) (source_of file named failed failed' left)
-stop_without_file w file named failed failed' left front input is none fronts h =
-    subst (λ (f : Option (List ℕ)). MayStop w (input_of f left) (source_of f named failed failed' left)) (sym is)
-    (may_stop left (stop_of_front w (longest + 1) left [] (omega arith)
-    (subst (λ (s : List ℕ). HasMoreStates w s []) fronts (subst (λ (i : List ℕ). HasMoreStates w front i) none h))))
+    (left front input line : List ℕ) → file ≡ None → input ≡ [] → front ≡ take (longest + 1) left
+    → Stops w front input line → MayStop w (input_of file left) (source_of file named failed failed' left) line
+stop_without_file w file named failed failed' left front input line is none fronts h =
+    subst (λ (f : Option (List ℕ)). MayStop w (input_of f left) (source_of f named failed failed' left) line) (sym is)
+    (may_stop left line (stop_of_front w (longest + 1) left [] line (omega arith)
+    (subst (λ (s : List ℕ). Stops w s [] line) fronts (subst (λ (i : List ℕ). Stops w front i line) none h))))
 
 -- the answer to a source that compiles
 pub source_compiled : (w : Wanted) (source input : List ℕ) (listing : Option (List ℕ))
@@ -257,44 +267,64 @@ source_compiled w source input listing trees program answer compiles is h =
     compiled trees answer compiles
     (subst (λ (p : List StatementTree). IsProgramAnswer p input w.limit w.question listing w.listing answer) is h)
 
-pub stop_compiled : (w : Wanted) (source input : List ℕ) (trees program : List StatementTree) → Compiles source trees
-    → program ≡ trees → (w.listing ≡ None) × HasTooMany program input w.limit w.question
-    → HasMoreStates w source input
-stop_compiled w source input trees program compiles is h = record {
+pub stop_compiled : (w : Wanted) (source input : List ℕ) (trees program : List StatementTree) (line : List ℕ)
+    → Compiles source trees → program ≡ trees
+    → (w.listing ≡ None) × IsStop program input w.question w.limit line → Stops w source input line
+stop_compiled w source input trees program line compiles is h = record {
   trees = trees;
   compiles = compiles;
   unlisted = h.0;
-  more = subst (λ (p : List StatementTree). HasTooMany p input w.limit w.question) is h.1;
+  stop = subst (λ (p : List StatementTree). IsStop p input w.question w.limit line) is h.1;
 }
 
+-- a job without a listing may stop with a line
+abbrev pub StopsUnlisted : Wanted → Program → List ℕ → List ℕ → Type 0
+StopsUnlisted w p input line = (w.listing ≡ None) × IsStop p input w.question w.limit line
+
+pub stop_read : (w : Wanted) (p : Program) (input given line : List ℕ) → w.listing ≡ None → given ≡ input
+    → IsStop p given w.question w.limit line → StopsUnlisted w p input line
+stop_read w p input given line none same h =
+    (none, subst (λ (i : List ℕ). IsStop p i w.question w.limit line) same h)
+
 -- the answer to a program over an input that was read
-pub program_outcomes : (p : Program) (input given : List ℕ) (limit : ℕ) (q : Question) (listing : Option (List ℕ))
+pub program_outcomes : (p : Program) (input given : List ℕ) (limit : Option ℕ) (q : Question) (listing : Option (List ℕ))
     (named : Option (List ℕ)) (answer : Answer) → named ≡ None → given ≡ input → length input ≤ longest_input
     → IsSummed p given limit q answer → IsProgramAnswer p input limit q listing named answer
 program_outcomes p input given limit q listing named answer none same fits h =
     subst (λ (n : Option (List ℕ)). IsProgramAnswer p input limit q listing n answer) (sym none)
     (by_outcomes answer fits (subst (λ (i : List ℕ). IsSummed p i limit q answer) same h))
 
-pub program_listing : (p : Program) (input given : List ℕ) (limit : ℕ) (q : Question) (name : List ℕ)
-    (names : List ℕ → List ℕ) (failed failed' : ℕ) (named : Option (List ℕ)) (answer : Answer) → named ≡ Some name
-    → given ≡ input → length input ≤ longest_input
-    → IsExplained p given limit (listing_of (Some name) names failed failed') answer
+pub program_listing : (p : Program) (input given : List ℕ) (limit : Option ℕ) (used : ℕ) (q : Question)
+    (name : List ℕ) (names : List ℕ → List ℕ) (failed failed' : ℕ) (named : Option (List ℕ)) (answer : Answer)
+    → used ≡ limit_or_usual limit → named ≡ Some name → given ≡ input → length input ≤ longest_input
+    → IsExplained p given used (listing_of (Some name) names failed failed') answer
     → IsProgramAnswer p input limit q (listing_of named names failed failed') named answer
-program_listing p input given limit q name names failed failed' named answer is same fits h =
+program_listing p input given limit used q name names failed failed' named answer usual is same fits h =
     subst (λ (n : Option (List ℕ)). IsProgramAnswer p input limit q (listing_of n names failed failed') n answer) (sym is)
     (by_listing name answer fits
-    (subst (λ (i : List ℕ). IsExplained p i limit (listing_of (Some name) names failed failed') answer) same h))
+    (subst (λ (l : ℕ). IsExplained p input l (listing_of (Some name) names failed failed') answer) usual
+    (subst (λ (i : List ℕ). IsExplained p i used (listing_of (Some name) names failed failed') answer) same h)))
 
 -- the answer by a text that was found, and by what was told of a listing
-pub text_found : (p : Program) (input : List ℕ) (limit : ℕ) (q : Question) (found : Found) (answer : Answer)
+pub text_found : (p : Program) (input : List ℕ) (limit : Option ℕ) (q : Question) (found : Found) (answer : Answer)
     → IsFound p input limit q found → IsTextFound found answer → IsSummed p input limit q answer
 text_found p input limit q (Outcomes text) answer is h = subst (IsSummed p input limit q) (sym h) (summed text.items is)
 text_found p input limit q TooManyStates answer is h = absurd h
+text_found p input limit q (NotFound line) answer is h = absurd h
 
-pub stopped_found : (p : Program) (input : List ℕ) (limit : ℕ) (q : Question) (found : Found)
-    → IsFound p input limit q found → IsStopped found → HasTooMany p input limit q
-stopped_found p input limit q (Outcomes text) is h = absurd h
-stopped_found p input limit q TooManyStates is h = is
+pub stopped_found : (p : Program) (input : List ℕ) (limit : Option ℕ) (q : Question) (found : Found) (line : List ℕ)
+    → IsFound p input limit q found → IsStopped found line → IsStop p input q limit line
+stopped_found p input limit q (Outcomes text) line is h = absurd h
+stopped_found p input limit q TooManyStates line is h = subst (IsStop p input q limit) (sym h) (many_runs limit is)
+stopped_found p input limit q (NotFound text) line is h =
+    subst (λ (l : Option ℕ). IsStop p input q l line) (sym is.0)
+    (subst (IsStop p input q None) (sym h) (goes_on text.items is.1 is.2))
+
+pub found_line : (p : Program) (input : List ℕ) (limit : Option ℕ) (q : Question) (found : Found)
+    → IsFound p input limit q found → HasLine found
+found_line p input limit q (Outcomes text) is = tt
+found_line p input limit q TooManyStates is = tt
+found_line p input limit q (NotFound text) is = (q.most, is.2)
 
 pub listing_told : (p : Program) (input : List ℕ) (limit : ℕ) (listing : List ℕ) (told : Asked) (answer : Answer)
     → length listing ≤ longest_listing → IsAskedBy p (first_state p input) limit listing told → IsToldOf told answer

@@ -1,5 +1,5 @@
 -- What work leaves in the reader.
-use Rattle.std.proofs.Common.{◌≡◌, ◌<◌, ◌+◌, ℕ, List, Option, Some, None, arith, drop, length, subst, sym, take}
+use Rattle.std.proofs.Common.{◌≡◌, ◌<◌, ◌+◌, ℕ, List, Option, Some, None, arith, drop, subst, sym, take}
 use Rattle.std.proofs.lemmas.List.{length-take, take_all}
 use Rattle.ick_source.specs.RefusalAnswers.{Refuses}
 use Rattle.ick_source.specs.Refusals.{Compiles, longest}
@@ -12,21 +12,23 @@ use Rattle.ick_job.specs.Refusing.{EndsRefused}
 use Rattle.ick_job.specs.declared.job_end.JobEnd.{JobEnd}
 use Rattle.ick_job.proofs.Ends.{where_answered, where_other}
 use Rattle.ick_outcomes_cli.specs.Job.{Wanted}
-use Rattle.ick_outcomes_cli.specs.Left.{IsLeft, IsLeftBySource, left_compiled, left_refused, left_with_file}
+use Rattle.ick_outcomes_cli.specs.Left.{IsLeftBySource, IsLeftRead, left_compiled, left_refused, left_with_file}
 use Rattle.ick_outcomes_cli.specs.Left.{left_without_file}
 use Rattle.ick_outcomes_cli.specs.OutcomesEnd.{WhereGiven}
 use Rattle.ick_outcomes_cli.specs.declared.outcomes_end.OutcomesEnd.{OutcomesEnd}
-use Rattle.ick_outcomes_cli.specs.declared.outcomes_end.OutcomesEnd.TheVariants.{By, Refused}
+use Rattle.ick_outcomes_cli.specs.declared.outcomes_end.OutcomesEnd.TheVariants.{By, Refused, Unfinished}
 
 -- a fact holds where work ended with an answer, if it holds anyway, or another does
 pub where_given : (outcomes_end : OutcomesEnd) (Fact : Type 0) → Fact → WhereGiven outcomes_end Fact
 where_given (By job_end) Fact h = where_answered job_end Fact h
 where_given (Refused line) Fact h = tt
+where_given (Unfinished line) Fact h = tt
 
 pub where_given_other : (outcomes_end : OutcomesEnd) (Fact Other : Type 0) → (Fact → Other)
     → WhereGiven outcomes_end Fact → WhereGiven outcomes_end Other
 where_given_other (By job_end) Fact Other so h = where_other job_end Fact Other so h
 where_given_other (Refused line) Fact Other so h = tt
+where_given_other (Unfinished line) Fact Other so h = tt
 
 -- a name that is given, and isn't
 pub not_both : {T : Type 0} (name : Option T) (t : T) → name ≡ Some t → name ≡ None → ⊥
@@ -59,12 +61,12 @@ left_of_front most source input left long (left_compiled trees h) = left_compile
 -- what a job leaves that names a file, and one that names none
 pub with_file : (w : Wanted) (name : List ℕ) (named : List ℕ → List ℕ) (front before left : List ℕ)
     → w.file ≡ Some name → front ≡ take (longest + 1) (named name) → IsLeftBySource front before left
-    → IsLeft w named before left
+    → IsLeftRead w named before left
 with_file w name named front before left is fronts h = left_with_file name left is
     (left_of_front (longest + 1) (named name) before left (omega arith)
     (subst (λ (s : List ℕ). IsLeftBySource s before left) fronts h))
 
 pub without_file : (w : Wanted) (named : List ℕ → List ℕ) (before left : List ℕ) → w.file ≡ None
-    → left ≡ drop (longest + 1) before → IsLeft w named before left
+    → left ≡ drop (longest + 1) before → IsLeftRead w named before left
 without_file w named before left none is =
-    subst (λ (l : List ℕ). IsLeft w named before l) (sym is) (left_without_file none)
+    subst (λ (l : List ℕ). IsLeftRead w named before l) (sym is) (left_without_file none)

@@ -3,3 +3,4 @@ pub mod Giving
 pub mod Leaving
 pub mod Explaining
 pub mod Serving
+pub mod Short

@@ -2,7 +2,7 @@
 use Rattle.std.specs.Prelude.{◌≡◌, true, false, List, Option, None, ℕ}
 use Rattle.ick_job.specs.JobEnd.{input_of, source_of}
 use Rattle.ick_job.specs.Program.{Device, Files, Job, Program}
-use Rattle.ick_outcomes_cli.specs.Job.{Wanted, has_file, job_of}
+use Rattle.ick_outcomes_cli.specs.Job.{Wanted, asks_both, has_file, job_of}
 use Rattle.ick_outcomes_cli.specs.Left.{IsLeft}
 use Rattle.ick_outcomes_cli.specs.OutcomesEnd.{listing_of}
 use Rattle.ick_outcomes_cli.specs.Serve.{IsOutcomesDue, IsOutcomesServed}
@@ -21,7 +21,7 @@ abbrev pub listing_in : {F L : Type 0} → Wanted → TwoFiles F L → Option (L
 listing_in w files =
     let other = files.bytes.1 in listing_of w.listing other.bytes other.failed_before other.failed_after
 
--- An answer of the job is served, or more states would be kept than may be.
+-- An answer of the job is served, or the job stops with a line that it may stop with.
 abbrev pub outcomes_job : {F L : Type 0} → Wanted → TwoFiles F L → List ℕ → Job
 outcomes_job w files left = record {
   has_file = has_file w;
@@ -32,7 +32,8 @@ outcomes_job w files left = record {
       (MayStop w (input_of w.file left) (source_in w files left));
   IsLeft = IsLeft w files.bytes.0.bytes left;
   KeepsFiles = (has_file w ≡ false → files.bytes.0.new ≡ files.bytes.0.old)
-      × (w.listing ≡ None → files.bytes.1.new ≡ files.bytes.1.old);
+      × (w.listing ≡ None → files.bytes.1.new ≡ files.bytes.1.old)
+      × (asks_both w ≡ true → (files.bytes.0.new ≡ files.bytes.0.old) × (files.bytes.1.new ≡ files.bytes.1.old));
 }
 
 abbrev pub outcomes : {F L : Type 0} → Program (F × L) (Files F × Files L)

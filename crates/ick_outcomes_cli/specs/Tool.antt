@@ -1,14 +1,18 @@
 -- What is answered to a job, by its source, its input and its listing.
-use Rattle.std.specs.Prelude.{◌≡◌, ◌<◌, ◌≤◌, ℕ, Bool, true, false, List, [], Option, Some, None, length}
+use Rattle.std.specs.Prelude.{◌≡◌, ◌<◌, ◌≤◌, ℕ, Bool, true, false, List, [], Option, Some, None, codes, length}
+use Rattle.std.specs.List.{Contains}
 use Rattle.ick_bits.specs.Faults.{message_of}
 use Rattle.ick_bits.specs.declared.faults.FaultKind.{FaultKind}
 use Rattle.ick_source.specs.Refusals.{Compiles, IsRefused, longest}
 use Rattle.ick_syntax.specs.StatementTree.{StatementTree}
 use Rattle.ick_code.specs.meaning.Move.{first_state}
+use Rattle.ick_backtrack.specs.Asked.{at_limit}
 use Rattle.ick_backtrack.specs.Machine.{Program}
+use Rattle.ick_chain.specs.ExactListings.{IsExactListing}
+use Rattle.ick_explorer.specs.Runs.{IsWhole, ends, run}
 use Rattle.ick_outcomes.specs.Lines.{IsSummaryText, IsTotal}
 use Rattle.ick_outcomes.specs.Seen.{rows_of}
-use Rattle.ick_outcomes.specs.Summaries.{HasMoreRuns, IsSummary}
+use Rattle.ick_outcomes.specs.Summaries.{HasMoreRuns, IsSummary, Row}
 use Rattle.ick_outcomes.specs.declared.outcome.Outcome.{Outcome}
 use Rattle.clap.specs.Words.{Text}
 use Rattle.ick_job.specs.Notice.{notice_text}
@@ -16,11 +20,12 @@ use Rattle.ick_job.specs.Answer.{Answer, refusal, shown}
 use Rattle.ick_job.specs.Input.{longest_input}
 use Rattle.ick_job.specs.declared.notice.Notice.TheVariants as notice
 use Rattle.ick_outcomes_cli.specs.Asked.{Explains, ForeignAt, foreign_text}
-use Rattle.ick_outcomes_cli.specs.Job.{Wanted}
+use Rattle.ick_outcomes_cli.specs.Job.{Wanted, asks_both, limit_or_usual, usual_limit}
+use Rattle.ick_outcomes_cli.specs.Unfinished.{IsUnfinishedText}
 use Rattle.ick_outcomes_cli.specs.declared.asked.Asked.{Asked}
 use Rattle.ick_outcomes_cli.specs.declared.asked.Asked.TheVariants.{Foreign, Text as Told}
 use Rattle.ick_outcomes_cli.specs.declared.found.Found.{Found}
-use Rattle.ick_outcomes_cli.specs.declared.found.Found.TheVariants.{Outcomes, TooManyStates}
+use Rattle.ick_outcomes_cli.specs.declared.found.Found.TheVariants.{Outcomes, TooManyStates, Unfinished}
 use Rattle.ick_outcomes_cli.specs.declared.words.job.Question.{Question}
 
 -- the text of outcomes, or only how many there are
@@ -39,17 +44,50 @@ pub record IsOutcomes (program : Program) (input : List ℕ) (limit : ℕ) (q : 
 abbrev pub HasTooMany : Program → List ℕ → ℕ → Question → Type 0
 HasTooMany program input limit q = HasMoreRuns program (first_state program input) limit q.most
 
-abbrev pub IsFound : Program → List ℕ → ℕ → Question → Found → Type 0
-IsFound program input limit q (Outcomes text) = IsOutcomes program input limit q text.items
-IsFound program input limit q TooManyStates = HasTooMany program input limit q
+-- a run of a program over an input is cut short by the limit
+pub record GoesOn (program : Program) (input : List ℕ) (limit : ℕ) : Type 0 where
+  pub choices : List Bool
+  pub whole : IsWhole program (first_state program input) limit choices
+  pub cut : (run program (first_state program input) limit choices).stop ≡ ends at_limit
+
+-- a row is that of runs at the limit
+abbrev pub HasLimit : List Row → Type 0
+HasLimit rows = (r : Row) × Contains rows r × (r.end ≡ codes "LIMIT")
+
+-- The text lists the outcomes of a program over an input without a limit. They are found by all states, or they are those
+-- under the usual limit, before which each run ends.
+pub data IsEveryOutcome (program : Program) (input : List ℕ) (q : Question) (text : List ℕ) : Type 0 where
+  by_states : IsExactListing program (first_state program input) q.exact q.total text
+      → IsEveryOutcome program input q text
+  by_runs : ¬ GoesOn program input usual_limit → IsOutcomes program input usual_limit q text
+      → IsEveryOutcome program input q text
+
+-- the text lists the outcomes, under a limit if one is given
+abbrev pub IsListed : Program → List ℕ → Option ℕ → Question → List ℕ → Type 0
+IsListed program input None q text = IsEveryOutcome program input q text
+IsListed program input (Some limit) q text = IsOutcomes program input limit q text
+
+-- The line may be the answer in place of outcomes: there are more runs than states may be kept, or no limit is given,
+-- and a run goes on beyond the usual limit.
+pub data IsStop (program : Program) (input : List ℕ) (q : Question) : Option ℕ → List ℕ → Type 0 where
+  many_runs : (limit : Option ℕ) → HasTooMany program input (limit_or_usual limit) q
+      → IsStop program input q limit (notice_text notice.TooManyStates)
+  goes_on : (line : List ℕ) → GoesOn program input usual_limit → IsUnfinishedText q.most line
+      → IsStop program input q None line
+
+abbrev pub IsFound : Program → List ℕ → Option ℕ → Question → Found → Type 0
+IsFound program input limit q (Outcomes text) = IsListed program input limit q text.items
+IsFound program input limit q TooManyStates = HasTooMany program input (limit_or_usual limit) q
+IsFound program input limit q (Unfinished line) =
+    (limit ≡ None) × GoesOn program input usual_limit × IsUnfinishedText q.most line.items
 
 -- the bytes of the longest listing
 unfoldable pub longest_listing : ℕ
 longest_listing = 1073741824
 
 -- the answer by a program's outcomes
-pub data IsSummed (program : Program) (input : List ℕ) (limit : ℕ) (q : Question) : Answer → Type 0 where
-  summed : (text : List ℕ) → IsOutcomes program input limit q text → IsSummed program input limit q (shown text)
+pub data IsSummed (program : Program) (input : List ℕ) (limit : Option ℕ) (q : Question) : Answer → Type 0 where
+  summed : (text : List ℕ) → IsListed program input limit q text → IsSummed program input limit q (shown text)
 
 -- the answer by the statements that asked for the choices of a listing; there is no listing if it was not read
 pub data IsExplained (program : Program) (input : List ℕ) (limit : ℕ) :
@@ -65,14 +103,14 @@ pub data IsExplained (program : Program) (input : List ℕ) (limit : ℕ) :
       → IsExplained program input limit (Some listing) (refusal 64 (foreign_text n))
 
 -- the answer to a program over an input, by whether a listing is named
-pub data IsProgramAnswer (program : Program) (input : List ℕ) (limit : ℕ) (q : Question)
+pub data IsProgramAnswer (program : Program) (input : List ℕ) (limit : Option ℕ) (q : Question)
     (listing : Option (List ℕ)) : Option Text → Answer → Type 0 where
   input_too_long : (named : Option Text) → longest_input < length input
       → IsProgramAnswer program input limit q listing named (refusal 4 (notice_text notice.InputTooLong))
   by_outcomes : (answer : Answer) → length input ≤ longest_input → IsSummed program input limit q answer
       → IsProgramAnswer program input limit q listing None answer
   by_listing : (name : Text) (answer : Answer) → length input ≤ longest_input
-      → IsExplained program input limit listing answer
+      → IsExplained program input (limit_or_usual limit) listing answer
       → IsProgramAnswer program input limit q listing (Some name) answer
 
 -- the answer to a source: it is too long, or it is refused, or it compiles to a program
@@ -85,32 +123,51 @@ pub data IsSourceAnswer (w : Wanted) (source input : List ℕ) (listing : Option
       → IsProgramAnswer trees input w.limit w.question listing w.listing answer
       → IsSourceAnswer w source input listing answer
 
--- the answer to a job, which has no source if the file did not open or a read of it failed
-pub data IsOutcomesAnswer (w : Wanted) (input : List ℕ) (listing : Option (List ℕ)) :
+-- the answer to a job that is done, which has no source if the file did not open or a read of it failed
+pub data IsReadAnswer (w : Wanted) (input : List ℕ) (listing : Option (List ℕ)) :
     Option (List ℕ) → Answer → Type 0 where
-  not_read : IsOutcomesAnswer w input listing None (refusal 4 (notice_text notice.FileNotRead))
+  not_read : IsReadAnswer w input listing None (refusal 4 (notice_text notice.FileNotRead))
   read : (source : List ℕ) (answer : Answer) → IsSourceAnswer w source input listing answer
-      → IsOutcomesAnswer w input listing (Some source) answer
+      → IsReadAnswer w input listing (Some source) answer
 
--- a source compiles to a program that has more runs than states may be kept
-pub record HasMoreStates (w : Wanted) (source input : List ℕ) : Type 0 where
+-- the line for a listing together with a form of outcomes
+abbrev pub both_text : List ℕ
+both_text = codes "ASKED WITH EXACT OR TOTAL\n"
+
+-- the answer to a job
+pub data IsOutcomesAnswer (w : Wanted) (input : List ℕ) (listing : Option (List ℕ)) (source : Option (List ℕ)) :
+    Answer → Type 0 where
+  both : asks_both w ≡ true → IsOutcomesAnswer w input listing source (refusal 64 both_text)
+  one : (answer : Answer) → asks_both w ≡ false → IsReadAnswer w input listing source answer
+      → IsOutcomesAnswer w input listing source answer
+
+-- a source compiles to a program that may stop with a line in place of outcomes
+pub record Stops (w : Wanted) (source input line : List ℕ) : Type 0 where
   pub trees : List StatementTree
   pub compiles : Compiles source trees
   pub unlisted : w.listing ≡ None
-  pub more : HasTooMany trees input w.limit w.question
+  pub stop : IsStop trees input w.question w.limit line
 
 -- the same of the source of a job
-pub data MayStop (w : Wanted) (input : List ℕ) : Option (List ℕ) → Type 0 where
-  may_stop : (source : List ℕ) → HasMoreStates w source input → MayStop w input (Some source)
+pub data MayStop (w : Wanted) (input : List ℕ) : Option (List ℕ) → List ℕ → Type 0 where
+  may_stop : (source line : List ℕ) → Stops w source input line → MayStop w input (Some source) line
+
+-- the line of an unfinished search is one
+abbrev pub HasLine : Found → Type 0
+HasLine (Outcomes text) = Unit {0}
+HasLine TooManyStates = Unit {0}
+HasLine (Unfinished line) = (most : ℕ) × IsUnfinishedText most line.items
 
 -- the answer by what was found out, and by what was told of a listing
 abbrev pub IsTextFound : Found → Answer → Type 0
 IsTextFound (Outcomes text) answer = answer ≡ shown text.items
 IsTextFound TooManyStates answer = ⊥
+IsTextFound (Unfinished line) answer = ⊥
 
-abbrev pub IsStopped : Found → Type 0
-IsStopped (Outcomes text) = ⊥
-IsStopped TooManyStates = Unit {0}
+abbrev pub IsStopped : Found → List ℕ → Type 0
+IsStopped (Outcomes text) line = ⊥
+IsStopped TooManyStates line = line ≡ notice_text notice.TooManyStates
+IsStopped (Unfinished text) line = line ≡ text.items
 
 abbrev pub IsToldOf : Asked → Answer → Type 0
 IsToldOf (Told text) answer = answer ≡ shown text.items

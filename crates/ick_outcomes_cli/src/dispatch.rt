@@ -1,7 +1,7 @@
 //! From a job to its answer: the source is read, then compiled, then the input is read, then the
 //! code answers.
 
-ghost use Rattle.std.specs.Prelude.{◌≡◌, ◌+◌, ◌<◌, ◌^◌, IfOk, None, Some};
+ghost use Rattle.std.specs.Prelude.{◌≡◌, ◌+◌, ◌<◌, ◌^◌, ℕ, IfOk, List, None, Some};
 ghost use Rattle.std.specs.Prelude.{drop, false, true};
 ghost use Rattle.ick_code.specs.Compiled.{code_program};
 ghost use Rattle.ick_job.specs.JobEnd.{EndsBy, input_of, source_of};
@@ -9,16 +9,17 @@ ghost use Rattle.ick_outcomes_cli.specs.Asked.{foreign_text};
 ghost use Rattle.ick_job.specs.Input.{longest_input};
 ghost use Rattle.ick_outcomes_cli.specs.OutcomesEnd.{Gives, LeavesAll, WhereGiven};
 ghost use Rattle.ick_outcomes_cli.specs.OutcomesEnd.{listing_of};
-ghost use Rattle.ick_outcomes_cli.specs.Job.{has_file, wanted};
-ghost use Rattle.ick_outcomes_cli.specs.Left.{IsLeft, IsLeftBySource};
-ghost use Rattle.ick_outcomes_cli.specs.Tool.{HasMoreStates, HasTooMany, IsExplained, IsStopped};
+ghost use Rattle.ick_outcomes_cli.specs.Job.{asks_both, has_file, wanted};
+ghost use Rattle.ick_outcomes_cli.specs.Left.{IsLeft, IsLeftBySource, IsLeftRead};
+ghost use Rattle.ick_outcomes_cli.specs.Tool.{HasLine, IsExplained, IsStop, IsStopped, Stops};
 ghost use Rattle.ick_outcomes_cli.specs.Tool.{IsOutcomesAnswer, IsProgramAnswer, IsSourceAnswer};
+ghost use Rattle.ick_outcomes_cli.specs.Tool.{IsReadAnswer, both_text};
 ghost use Rattle.ick_outcomes_cli.specs.Tool.{IsSummed, IsTextFound, IsToldOf, MayStop};
 
 use crate::asked::{Asked, asked_by};
 use crate::found::{Found, find};
 use crate::outcomes_end::OutcomesEnd;
-use crate::words::{Job, Question};
+use crate::words::{Job, Question, USUAL_LIMIT};
 use ick_bits::{NoMemory, append_decimal};
 use ick_code::{Code, compile};
 use ick_explorer::{ByteSink, ByteSource, SliceSource};
@@ -32,7 +33,8 @@ use std::alloc::Global;
 const LONGEST_LISTING: usize = 1_073_741_824;
 
 /// Does a job up to its error text. The source is in the file that the job names, and the reader
-/// has the input. If the job names no file, the reader has the source, and the input is empty.
+/// has the input. If the job names no file, the reader has the source, and the input is empty. A
+/// listing together with a form of outcomes is refused, and nothing is opened.
 pub fn perform<F: Files, L: Files, R: ByteSource, W: ByteSink>(
     alloc: Global,
     job: &Job<'_>,
@@ -57,6 +59,75 @@ pub fn perform<F: Files, L: Files, R: ByteSource, W: ByteSink>(
         (L.failed listings.old) (L.failed listings.new)) source) (MayStop job input source)
         result (W.written writer.old) (W.written writer.new) }
     ensures left { F.told ≡ true → R.told ≡ true → WhereGiven result (IsLeft (wanted job.now)
+        (F.named files.old) (R.left reader.old) (R.left reader.new)) }
+    ensures files_kept { has_file (wanted job.now) ≡ false → files.new ≡ files.old }
+    ensures listings_kept { (wanted job.now).listing ≡ None → listings.new ≡ listings.old }
+    ensures both_kept { asks_both (wanted job.now) ≡ true
+        → (files.new ≡ files.old) × (listings.new ≡ listings.old) }
+    ensures source_first { has_file (wanted job.now) ≡ false
+        → R.failed reader.old < R.failed reader.new → writer.new ≡ writer.old }
+{
+    if job.asks_both() {
+        return OutcomesEnd::By(refuse_both(alloc));
+    }
+    answer_job(alloc, job, files, listings, reader, writer)
+}
+
+/// Returns how work ends that asks for a listing together with a form of outcomes.
+fn refuse_both(alloc: Global) -> JobEnd
+    ensures { EndsBy 64 both_text result }
+{
+    usage_end(both_line(alloc))
+}
+
+/// Returns how work ends by a line with the status of usage.
+fn usage_end(line: Result<Vec<u8>, NoMemory>) -> JobEnd
+    ensures { (text : List ℕ) → IfOk line (λ l. l.items ≡ text) → EndsBy 64 text result }
+{
+    match line {
+        Ok(text) => JobEnd::Answered {
+            status: 64,
+            message: Message::Text(text),
+        },
+        Err(NoMemory) => JobEnd::NoMemory,
+    }
+}
+
+/// Returns the line for a listing together with a form of outcomes.
+fn both_line(alloc: Global) -> Result<Vec<u8>, NoMemory>
+    ensures { IfOk result (λ text. text.items ≡ both_text) }
+{
+    let mut text = Vec::new(alloc);
+    text.extend_from_slice(b"ASKED WITH EXACT OR TOTAL\n")?;
+    Ok(text)
+}
+
+/// Does a job that doesn't ask for both. The source is in the file that the job names, and the reader
+/// has the input. If the job names no file, the reader has the source, and the input is empty.
+fn answer_job<F: Files, L: Files, R: ByteSource, W: ByteSink>(
+    alloc: Global,
+    job: &Job<'_>,
+    files: &mut F,
+    listings: &mut L,
+    reader: &mut R,
+    writer: &mut W,
+) -> OutcomesEnd
+    requires files_sound { F.failed files.old + 1 < 2 ^ 64 }
+    requires listings_sound { L.failed listings.old + 1 < 2 ^ 64 }
+    requires reader_sound { R.failed reader.old + 1 < 2 ^ 64 }
+    requires writer_sound { W.failed writer.old + 1 < 2 ^ 64 }
+    ensures leaves { LeavesAll result (F.failed files.old + L.failed listings.old)
+        (F.failed files.new + L.failed listings.new) (R.failed reader.old) (R.failed reader.new)
+        (W.failed writer.old) (W.failed writer.new) }
+    ensures gives { F.told ≡ true → L.told ≡ true → R.told ≡ true → W.told ≡ true
+        → let job = wanted job.now in
+        let input = input_of job.file (R.left reader.old) in
+        let source = source_of job.file (F.named files.old) (F.failed files.old)
+        (F.failed files.new) (R.left reader.old) in
+        Gives (IsReadAnswer job input (listing_of job.listing (L.named listings.old)
+        (L.failed listings.old) (L.failed listings.new)) source) (MayStop job input source)
+        result (W.written writer.old) (W.written writer.new) }
+    ensures left { F.told ≡ true → R.told ≡ true → WhereGiven result (IsLeftRead (wanted job.now)
         (F.named files.old) (R.left reader.old) (R.left reader.new)) }
     ensures files_kept { has_file (wanted job.now) ≡ false → files.new ≡ files.old }
     ensures listings_kept { (wanted job.now).listing ≡ None → listings.new ≡ listings.old }
@@ -104,7 +175,7 @@ fn answer_source<L: Files, R: ByteSource, W: ByteSink>(
         Gives (IsSourceAnswer job source.now (R.left reader.old)
         (listing_of job.listing (L.named listings.old)
         (L.failed listings.old) (L.failed listings.new)))
-        (HasMoreStates job source.now (R.left reader.old))
+        (Stops job source.now (R.left reader.old))
         result (W.written writer.old) (W.written writer.new) }
     ensures left { R.told ≡ true → WhereGiven result (IsLeftBySource source.now
         (R.left reader.old) (R.left reader.new)) }
@@ -139,8 +210,8 @@ fn answer_code<L: Files, R: ByteSource, W: ByteSink>(
         Gives (IsProgramAnswer (code_program code.now) (R.left reader.old) job.limit job.question
         (listing_of job.listing (L.named listings.old)
         (L.failed listings.old) (L.failed listings.new)) job.listing)
-        ((job.listing ≡ None)
-        × HasTooMany (code_program code.now) (R.left reader.old) job.limit job.question)
+        (λ line. (job.listing ≡ None)
+        × IsStop (code_program code.now) (R.left reader.old) job.question job.limit line)
         result (W.written writer.old) (W.written writer.new) }
     ensures left { R.told ≡ true → WhereGiven result
         (R.left reader.new ≡ drop (longest_input + 1) (R.left reader.old)) }
@@ -160,7 +231,7 @@ fn answer_code<L: Files, R: ByteSource, W: ByteSink>(
                 alloc,
                 code,
                 input.as_slice(),
-                job.limit,
+                job.limit.unwrap_or(USUAL_LIMIT),
                 name,
                 listings,
                 writer,
@@ -175,7 +246,7 @@ fn answer_outcomes<W: ByteSink>(
     alloc: Global,
     code: &Code<'_>,
     input: &[u8],
-    limit: u32,
+    limit: Option<u32>,
     question: Question,
     writer: &mut W,
 ) -> OutcomesEnd
@@ -183,20 +254,21 @@ fn answer_outcomes<W: ByteSink>(
     ensures leaves { LeavesAll result 0 0 0 0 (W.failed writer.old) (W.failed writer.new) }
     ensures gives { W.told ≡ true → Gives
         (IsSummed (code_program code.now) input.now limit question)
-        (HasTooMany (code_program code.now) input.now limit question)
+        (IsStop (code_program code.now) input.now question limit)
         result (W.written writer.old) (W.written writer.new) }
 {
     match find(alloc, code, input, limit, question) {
-        Ok(found) => show(&found, writer),
+        Ok(found) => show(found, writer),
         Err(NoMemory) => OutcomesEnd::By(JobEnd::NoMemory),
     }
 }
 
 /// Writes what was found out.
-fn show<W: ByteSink>(found: &Found, writer: &mut W) -> OutcomesEnd
-    requires { W.failed writer.old + 1 < 2 ^ 64 }
+fn show<W: ByteSink>(found: Found, writer: &mut W) -> OutcomesEnd
+    requires writer { W.failed writer.old + 1 < 2 ^ 64 }
+    requires line { HasLine found }
     ensures leaves { LeavesAll result 0 0 0 0 (W.failed writer.old) (W.failed writer.new) }
-    ensures gives { W.told ≡ true → Gives (IsTextFound found.now) (IsStopped found.now)
+    ensures gives { W.told ≡ true → Gives (IsTextFound found) (IsStopped found)
         result (W.written writer.old) (W.written writer.new) }
 {
     match found {
@@ -204,6 +276,7 @@ fn show<W: ByteSink>(found: &Found, writer: &mut W) -> OutcomesEnd
             OutcomesEnd::By(send(text.as_slice(), 0, Message::Nothing, writer))
         }
         Found::TooManyStates => OutcomesEnd::Refused(Notice::TooManyStates),
+        Found::Unfinished(line) => OutcomesEnd::Unfinished(line),
     }
 }
 
@@ -223,7 +296,7 @@ fn answer_listing<L: Files, W: ByteSink>(
         (W.failed writer.old) (W.failed writer.new) }
     ensures gives { L.told ≡ true → W.told ≡ true → Gives
         (IsExplained (code_program code.now) input.now limit (listing_of (Some name.now)
-        (L.named listings.old) (L.failed listings.old) (L.failed listings.new))) ⊥
+        (L.named listings.old) (L.failed listings.old) (L.failed listings.new))) (λ line. ⊥)
         result (W.written writer.old) (W.written writer.new) }
 {
     match read_named(alloc, name, LONGEST_LISTING + 1, listings) {
@@ -245,7 +318,7 @@ fn answer_lines<W: ByteSink>(
     requires { W.failed writer.old + 1 < 2 ^ 64 }
     ensures leaves { LeavesAll result 0 0 0 0 (W.failed writer.old) (W.failed writer.new) }
     ensures gives { W.told ≡ true → Gives
-        (IsExplained (code_program code.now) input.now limit (Some listing.now)) ⊥
+        (IsExplained (code_program code.now) input.now limit (Some listing.now)) (λ line. ⊥)
         result (W.written writer.old) (W.written writer.new) }
 {
     if listing.len() > LONGEST_LISTING {
@@ -262,7 +335,7 @@ fn tell<W: ByteSink>(alloc: Global, asked: &Asked, writer: &mut W) -> JobEnd
     requires { W.failed writer.old + 1 < 2 ^ 64 }
     ensures leaves { LeavesAll (OutcomesEnd.By result) 0 0 0 0
         (W.failed writer.old) (W.failed writer.new) }
-    ensures gives { W.told ≡ true → Gives (IsToldOf asked.now) ⊥ (OutcomesEnd.By result)
+    ensures gives { W.told ≡ true → Gives (IsToldOf asked.now) (λ line. ⊥) (OutcomesEnd.By result)
         (W.written writer.old) (W.written writer.new) }
 {
     match asked {
@@ -275,13 +348,7 @@ fn tell<W: ByteSink>(alloc: Global, asked: &Asked, writer: &mut W) -> JobEnd
 fn foreign(alloc: Global, number: u64) -> JobEnd
     ensures { EndsBy 64 (foreign_text number) result }
 {
-    match foreign_line(alloc, number) {
-        Ok(text) => JobEnd::Answered {
-            status: 64,
-            message: Message::Text(text),
-        },
-        Err(NoMemory) => JobEnd::NoMemory,
-    }
+    usage_end(foreign_line(alloc, number))
 }
 
 /// Returns the error text that names a line which is not that of a run.

@@ -4,6 +4,7 @@
 //! - `words`: the options, and the job that arguments ask for
 //! - `outcomes_end`: how a job ends
 //! - `found`: the outcomes of code
+//! - `exact`: the outcomes of code without a limit
 //! - `lines`: the lines of a listing
 //! - `asked`: what the choices of a listing were asked by
 //! - `dispatch`: from a job to its answer, by its source, its input and its listing
@@ -13,6 +14,7 @@
 mod asked;
 mod dispatch;
 mod driver;
+mod exact;
 mod found;
 mod lines;
 mod outcomes_end;

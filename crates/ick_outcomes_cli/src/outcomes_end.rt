@@ -8,11 +8,12 @@ use ick_explorer::ByteSink;
 use ick_job::{JobEnd, Notice, Status, finish};
 
 /// How the work ends: by an end that `ick` has too, or by a refusal, which has a line and status 4
-/// although no device failed.
+/// although no device failed. The line of an unfinished search names the command to try.
 #[derive(Drop)]
 pub enum OutcomesEnd {
     By(JobEnd),
     Refused(Notice),
+    Unfinished(Vec<u8>),
 }
 
 impl OutcomesEnd {
@@ -22,7 +23,7 @@ impl OutcomesEnd {
     {
         match self {
             OutcomesEnd::By(job_end) => job_end.status(),
-            OutcomesEnd::Refused(_) => 4,
+            _ => 4,
         }
     }
 
@@ -33,6 +34,7 @@ impl OutcomesEnd {
         match self {
             OutcomesEnd::By(job_end) => job_end.text(),
             OutcomesEnd::Refused(line) => line.text(),
+            OutcomesEnd::Unfinished(line) => line.as_slice(),
         }
     }
 

@@ -4,4 +4,4 @@ mod command;
 mod help;
 mod job;
 
-pub use job::{Job, Question, read_job};
+pub use job::{Job, Question, USUAL_LIMIT, read_job};

@@ -5,13 +5,17 @@ pub const OUTCOMES: &str =
     "Prints a line for each outcome of the program: the number of its runs, their weight, the
 choices of the first of them, the end and the output. Then comes DONE. An outcome is an
 output together with an end. With FILE the input is standard input, and without it the
-input is empty. Each run is cut short after 10000 steps if no limit is given.
+input is empty.
+
+Without --limit all states are searched, so runs may have any length. Infinitely many runs
+are a *, and the line NEVER has the weight of the runs that never end.
 
 The weight of a run is its probability if each choice were drawn by itself with the
 chance of its statement. Nothing is claimed of the choices that a seed draws.
 
 With --asked a line for each run of LISTING says which statement asked for each choice,
-and its chance: STATEMENT:CHANCE STATEMENT:CHANCE .. for the first 10000 choices.
+and its chance: STATEMENT:CHANCE STATEMENT:CHANCE .. for the first 10000 choices. The runs
+are cut short after 10000 steps if no limit is given.
 
 Exit status:
   0   the outcomes were listed

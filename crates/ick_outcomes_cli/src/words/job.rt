@@ -5,13 +5,16 @@ ghost use Rattle.clap.specs.Kinds.{FailsBy};
 ghost use Rattle.clap.specs.Walk.{texts};
 ghost use Rattle.clap.specs.Words.{Row, fault_of};
 ghost use Rattle.ick_job.specs.Values.{AreValues};
-ghost use Rattle.ick_outcomes_cli.specs.Job.{job_of, wanted, wanted_in};
+ghost use Rattle.ick_outcomes_cli.specs.Job.{asks_both, job_of, wanted, wanted_in};
 ghost use Rattle.ick_outcomes_cli.specs.Words.{outcomes_app};
 
 use crate::words::command::OUTCOMES;
 use clap::Error;
 use ick_job::{Values, values_given};
 use std::alloc::Global;
+
+/// The limit on steps where one is needed and none is given.
+pub const USUAL_LIMIT: u32 = 10_000;
 
 /// What is to be found out of the outcomes of a program.
 #[derive(Clone, Copy)]
@@ -29,9 +32,19 @@ pub struct Question {
 #[derive(Clone, Copy)]
 pub struct Job<'a> {
     pub question: Question,
-    pub limit: u32,
+    /// The steps after which each run is cut short, if a number is given.
+    pub limit: Option<u32>,
     pub listing: Option<&'a str>,
     pub file: Option<&'a str>,
+}
+
+impl Job<'_> {
+    /// Returns whether the job names a listing and asks for a form of outcomes too.
+    pub fn asks_both(&self) -> bool
+        ensures { result ≡ asks_both (wanted self.now) }
+    {
+        self.listing.is_some() && (self.question.exact || self.question.total)
+    }
 }
 
 /// Reads the arguments. If they ask for a job, only running out of memory can refuse it.
@@ -55,7 +68,7 @@ fn job_by<'a>(values: &Values<'a>) -> Job<'a>
             exact: values.exact,
             total: values.total,
         },
-        limit: values.limit.unwrap_or(10_000),
+        limit: values.limit,
         listing: values.asked,
         file: values.file,
     }

@@ -3,9 +3,11 @@ use Rattle.ick_code.specs.Compiled.{code_program}
 use Rattle.ick_job.specs.Input.{longest_input}
 use Rattle.ick_job.proofs.Ends.{where_unread}
 use Rattle.ick_job.proofs.Texts.{given_none, given_some}
-use Rattle.ick_outcomes_cli.specs.Tool.{HasTooMany, IsProgramAnswer, input_too_long}
+use Rattle.ick_outcomes_cli.specs.Job.{wanted}
+use Rattle.ick_outcomes_cli.specs.Tool.{IsProgramAnswer, input_too_long}
 use Rattle.ick_outcomes_cli.specs.declared.outcomes_end.OutcomesEnd.TheVariants.{By}
-use Rattle.ick_outcomes_cli.proofs.Giving.{gives_so, gives_unread, leaves_all_as, program_listing, program_outcomes}
+use Rattle.ick_outcomes_cli.proofs.Giving.{StopsUnlisted, gives_so, gives_unread, leaves_all_as, no_line}
+use Rattle.ick_outcomes_cli.proofs.Giving.{program_listing, program_outcomes, stop_read}
 use Rattle.ick_outcomes_cli.proofs.Leaving.{not_both, where_given}
 use Rattle.ick_outcomes_cli.proofs.dispatch.answer_code.Goals as goal
 
@@ -23,7 +25,7 @@ returns-in-None-clause-gives g c = λ listings_told reader_told writer_told.
     let none = given_none _ _ c.in-None.is in
     gives_so c.answer_outcomes.result _ _
     (λ answer h. program_outcomes program _ _ _ _ _ _ answer none whole fits h)
-    (λ h. (none, subst (λ (i : List ℕ). HasTooMany program i c.args.job.now.limit c.args.job.now.question) whole h))
+    (λ line h. stop_read (wanted c.args.job.now) program _ _ line none whole h)
     (c.answer_outcomes.ensures.gives writer_told)
 
 pub returns-in-Ok-clause-leaves : goal.returns-in-Ok-clause-leaves
@@ -37,10 +39,11 @@ returns-in-Ok-clause-gives g c = λ listings_told reader_told writer_told.
     let read = c.in-Ok.ensures.whole reader_told in
     let whole = c.as_slice-in-Some.ensures.value ∙ read in
     let fits = subst (λ (l : List ℕ). length l ≤ longest_input) read c.in-Ok.ensures.fits in
-    gives_so c.answer_listing.result _ _
-    (λ answer h. program_listing program _ _ _ c.args.job.now.question _ _ _ _ _ answer
-    (given_some _ _ _ c.in-Some.is) whole fits h)
-    (λ h. absurd h) (c.answer_listing.ensures.gives listings_told writer_told)
+    gives_so {M = no_line} {N = StopsUnlisted (wanted c.args.job.now) program (g.R.ByteSource.left c.args.reader.now)}
+    c.answer_listing.result _ _
+    (λ answer h. program_listing program _ _ c.args.job.now.limit _ c.args.job.now.question _ _ _ _ _ answer
+    c.unwrap_or.ensures (given_some _ _ _ c.in-Some.is) whole fits h)
+    (λ line h. absurd h) (c.answer_listing.ensures.gives listings_told writer_told)
 
 pub returns-clause-leaves : goal.returns-clause-leaves
 returns-clause-leaves g c =

@@ -6,4 +6,5 @@ pub returns-in-Ok-clause-gives : goal.returns-in-Ok-clause-gives
 returns-in-Ok-clause-gives g c = λ told.
     gives_so c.show.result _ _
     (λ answer h. text_found (code_program c.args.code.now) _ _ _ c.in-Ok.found answer c.in-Ok.ensures h)
-    (λ h. stopped_found (code_program c.args.code.now) _ _ _ c.in-Ok.found c.in-Ok.ensures h) (c.show.ensures.gives told)
+    (λ line h. stopped_found (code_program c.args.code.now) _ _ _ c.in-Ok.found line c.in-Ok.ensures h)
+    (c.show.ensures.gives told)

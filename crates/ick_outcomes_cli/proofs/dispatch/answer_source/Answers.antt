@@ -1,8 +1,9 @@
 use Rattle.ick_syntax.specs.Programs.{trees_of}
 use Rattle.ick_code.specs.Compiled.{code_program}
 use Rattle.ick_outcomes_cli.specs.Job.{wanted}
+use Rattle.ick_outcomes_cli.specs.Tool.{Stops}
 use Rattle.ick_outcomes_cli.proofs.Giving.{gives_refused, gives_so, leaves_nothing, leaves_refused, source_compiled}
-use Rattle.ick_outcomes_cli.proofs.Giving.{stop_compiled}
+use Rattle.ick_outcomes_cli.proofs.Giving.{StopsUnlisted, stop_compiled}
 use Rattle.ick_outcomes_cli.proofs.Leaving.{compiled_left, refused_left, where_given_other}
 use Rattle.ick_outcomes_cli.proofs.dispatch.answer_source.Goals as goal
 
@@ -19,10 +20,12 @@ returns-in-Ok-compile-clause-gives g c = λ listings_told reader_told writer_tol
     let job = wanted c.args.job.now in
     let trees = trees_of c.in-Ok.program in
     let program = code_program c.in-Ok-compile.code in
-    gives_so c.answer_code.result _ _
-    (λ answer h. source_compiled job _ _ _ trees program answer c.in-Ok.ensures.compiles
+    let source = c.args.source.now in
+    let input = g.R.ByteSource.left c.args.reader.now in
+    gives_so {M = StopsUnlisted job program input} {N = Stops job source input} c.answer_code.result _ _
+    (λ answer h. source_compiled job source input _ trees program answer c.in-Ok.ensures.compiles
     c.in-Ok-compile.ensures.program_is h)
-    (λ h. stop_compiled job _ _ trees program c.in-Ok.ensures.compiles c.in-Ok-compile.ensures.program_is h)
+    (λ line h. stop_compiled job source input trees program line c.in-Ok.ensures.compiles c.in-Ok-compile.ensures.program_is h)
     (c.answer_code.ensures.gives listings_told reader_told writer_told)
 
 pub returns-clause-leaves : goal.returns-clause-leaves

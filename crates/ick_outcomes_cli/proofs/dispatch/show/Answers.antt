@@ -7,7 +7,7 @@ use Rattle.ick_outcomes_cli.proofs.dispatch.show.Goals as goal
 
 pub returns-in-Outcomes-clause-gives : goal.returns-in-Outcomes-clause-gives
 returns-in-Outcomes-clause-gives g c = λ told.
-    gives_sent (IsTextFound c.args.found.now) c.send.result _ _ (shown c.in-Outcomes.text.items) c.send.ensures.sent
+    gives_sent (IsTextFound c.args.found) c.send.result _ _ (shown c.in-Outcomes.text.items) c.send.ensures.sent
     (subst (λ f. IsTextFound f (shown c.in-Outcomes.text.items)) (sym c.in-Outcomes.is) refl)
     (subst (λ l. Answers (shown l) c.send.result (g.W.ByteSink.written c.args.writer.now)
     (g.W.ByteSink.written c.send.new.writer)) c.as_slice.ensures.value (c.send.ensures.answer told))

@@ -27,6 +27,7 @@ returns-in-Ok g c =
       left = work.left;
       files_kept = work.files_kept;
       listings_kept = work.listings_kept;
+      both_kept = work.both_kept;
       source_first = work.source_first;
     }) c.report.ensures
 
