@@ -1,4 +1,4 @@
-/* ick, the proved INTERCAL-72 compiler and explorer, as three calls over memory.
+/* ick, the proved INTERCAL-72 compiler and explorer, as four calls over memory.
  *
  *     cc program.c libick.a        bindings/build makes libick.a, and libick.so
  *
@@ -66,7 +66,7 @@ uint8_t ick_outcomes_serve(const uint8_t *arguments, size_t arguments_length, co
 
 /* Does what the program ick-step does with these arguments, and returns the exit status: 0 to 4, or 64.
  *
- * input       The bytes of the file of the name input: --input input opens it. Each other name opens the call's file.
+ * input       The bytes of the file that --input opens, whatever its name.
  * commands    The bytes of standard input: the commands of the session, one a line.
  *
  * All else is as for ick_serve. To go on with a session, a call gives all its commands again and those that follow: the
@@ -76,6 +76,12 @@ uint8_t ick_step_serve(const uint8_t *arguments, size_t arguments_length, const 
                        const uint8_t *input, size_t input_length, const uint8_t *commands, size_t commands_length,
                        uint8_t *output, size_t output_room, uint8_t *errors, size_t errors_room,
                        struct ick_lengths *lengths);
+
+/* Does what the program ick-stages does with these arguments, and returns the exit status: 0, 2, 4 or 64. All else is as
+ * for ick_serve. */
+uint8_t ick_stages_serve(const uint8_t *arguments, size_t arguments_length, const uint8_t *file, size_t file_length,
+                         const uint8_t *input, size_t input_length, uint8_t *output, size_t output_room,
+                         uint8_t *errors, size_t errors_room, struct ick_lengths *lengths);
 
 #ifdef __cplusplus
 }

@@ -8,11 +8,12 @@
     for outcome in ick.outcomes("DO %30 READ OUT #5\\nPLEASE GIVE UP"):
         print(outcome.count, outcome.weight, outcome.output)
     print(ick.steps("DO .1 <- #5\\nPLEASE GIVE UP", ["step", "print .1"]).decode())
+    print(ick.stages("DO .1 <- #5\\nPLEASE GIVE UP", statement=1).decode())
     with ick.Session("DO .1 <- #5\\nPLEASE GIVE UP") as session:
         print(session.do("step"), session.do("print .1"))
 
 A source and an input are bytes, or a text that is written in UTF-8. An option that isn't given is the program's own.
-Each call but `serve`, `serve_outcomes` and `serve_step` raises Refused if ick doesn't do what was asked: the source is
+Each call but `serve` and those that begin with `serve_` raises Refused if ick doesn't do what was asked: the source is
 refused (status 2), memory runs out (4), or an argument is wrong (64). A run that ends by a fault (1), or for want of
 steps or choices (3), is an answer.
 `from ick import *` leaves out `list`, because Python has a function of that name: call `ick.list`.
@@ -41,17 +42,17 @@ import signal
 import subprocess
 import sys
 import threading
-from typing import NamedTuple
+from typing import NamedTuple, Optional
 
 __all__ = ["Answer", "Asker", "Outcome", "Refused", "Run", "Session", "Statement", "Summary", "asked", "check", "outcomes", "run",
-           "runs", "serve", "serve_outcomes", "serve_step", "steps", "trace", "version"]
+           "runs", "serve", "serve_outcomes", "serve_stages", "serve_step", "stages", "steps", "trace", "version"]
 
 # Sizes of the room for a text, the first of which the system grants is taken. No text is longer than the first size. A
 # room is only addresses: a page of it takes memory when a text is written there.
 ROOMS = (1 << 40, 1 << 32, 1 << 16)
 NO_RESERVE = getattr(mmap, "MAP_NORESERVE", 0x4000)  # Python before 3.11 doesn't name it
 RUN = re.compile(rb'(\S+) (\S+) "(.*)"')
-OUTCOME = re.compile(rb'(\d+) (\S+) (\S+) (\S+) "(.*)"')
+OUTCOME = re.compile(rb'(\d+|\*) (\S+) (\S+) (\S+) "(.*)"')
 STATEMENT = re.compile(rb'(\d+) (\S+) (\S+) (\S+) (\d+) (\S+) "(.*)"')
 SUMMARY = re.compile(rb"(\d+) STATEMENTS, (\d+) POLITE\n")
 NO_COMMAND = b"unknown command; help lists all commands\n"
@@ -75,9 +76,12 @@ class Run(NamedTuple):
 
 
 class Outcome(NamedTuple):
-    """An outcome: the number of its runs, their weight, the choices of the first of them, their end and their output."""
+    """An outcome: the number of its runs, their weight, the choices of the first of them, their end and their output.
 
-    count: int
+    The count is None if the runs are infinitely many. The end NEVER is that of the runs that never end.
+    """
+
+    count: Optional[int]
     weight: fractions.Fraction
     first: str
     end: str
@@ -131,7 +135,8 @@ def library():
     loaded = ctypes.CDLL(os.path.abspath(named) if os.path.dirname(named) else named)
     text = [ctypes.c_char_p, ctypes.c_size_t]
     room = [ctypes.c_void_p, ctypes.c_size_t]
-    for function, texts in ((loaded.ick_serve, 3), (loaded.ick_outcomes_serve, 4), (loaded.ick_step_serve, 4)):
+    for function, texts in ((loaded.ick_serve, 3), (loaded.ick_outcomes_serve, 4), (loaded.ick_step_serve, 4),
+                            (loaded.ick_stages_serve, 3)):
         function.argtypes = text * texts + room * 2 + [ctypes.POINTER(Lengths)]
         function.restype = ctypes.c_uint8
     loaded.ick_version.argtypes, loaded.ick_version.restype = [], ctypes.c_uint32
@@ -157,9 +162,14 @@ def serve_outcomes(arguments, file=b"", listing=b"", input=b""):
 def serve_step(arguments, file=b"", input=b"", commands=b""):
     """Returns what `ick-step ARGUMENT..` leaves if standard input has these commands.
 
-    The file of the name `input` has this input, and each other file has these bytes.
+    The file that `--input` names has this input, and FILE has these bytes.
     """
     return served("ick_step_serve", arguments, file, input, commands)
+
+
+def serve_stages(arguments, file=b"", input=b""):
+    """Returns what `ick-stages ARGUMENT..` leaves if each FILE has these bytes, and standard input has this input."""
+    return served("ick_stages_serve", arguments, file, input)
 
 
 def served(name, arguments, *contents):
@@ -317,7 +327,7 @@ def runs(source, input=b"", after=None, limit=None, count=1000):
 def outcomes(source, input=b"", limit=None, most=None):
     """Returns every outcome of a program once, in the order of their first runs, with exact weights.
 
-    Raises Refused if ick refuses the source or the input, if more states would be kept than `most`, or if memory runs
+    Without a limit runs may have any length. Raises Refused if ick refuses the source or the input, if more states would be kept than `most`, or if memory runs
     out.
     """
     given = ["--exact", *options(limit=limit, most=most), "program"]
@@ -341,6 +351,15 @@ def steps(source, commands=(), input=b"", choices=None, seed=None, limit=None):
     given = [*options(input="input", choices=choices, seed=seed, limit=limit), "program"]
     lines = b"".join(bytes_of(command) + b"\n" for command in commands)
     return answered(serve_step(given, source, input, lines)).output
+
+
+def stages(source, statement=None):
+    """Returns what ick-stages prints: for each statement, or for the one of a number, its line, its tree, its operations,
+    its rules, its instructions and the trace that begins with it.
+
+    Raises Refused if ick refuses the source, if there is no such statement, or if memory runs out.
+    """
+    return answered(serve_stages([*options(statement=statement), "program"], source)).output
 
 
 def step_program():
@@ -469,7 +488,7 @@ def options(**given):
 
 def outcome_of(line):
     count, weight, first, end, output = OUTCOME.fullmatch(line).groups()
-    return Outcome(int(count), fractions.Fraction(weight.decode()), first.decode(), end.decode(), unquoted(output))
+    return Outcome(None if count == b"*" else int(count), fractions.Fraction(weight.decode()), first.decode(), end.decode(), unquoted(output))
 
 
 def statement_of(line):

@@ -3,3 +3,4 @@ pub mod Call
 pub mod OutcomesCall
 pub mod Room
 pub mod StepCall
+pub mod StagesCall

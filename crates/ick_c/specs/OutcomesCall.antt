@@ -17,7 +17,7 @@ source_in job file input = if has_file job then file else input
 abbrev pub listing_in : Wanted → List ℕ → Option (List ℕ)
 listing_in job listing = option_map (λ name. listing) job.listing
 
--- a job is served: one of its answers is, or more states would be kept than it allows
+-- a job is served: one of its answers is, or it stops with a line that it may stop with
 abbrev pub JobServed : Wanted → Option (List ℕ) → Option (List ℕ) → List ℕ
     → (writer writer' errors errors' : Written) → ℕ → Type 0
 JobServed job source listing input writer writer' errors errors' status =

@@ -1,11 +1,13 @@
-//! The command lines of `ick`, `ick-outcomes` and `ick-step` for programs in C. One call takes
-//! arguments, files and an input in memory, and gives output, error text and exit status.
+//! The command lines of `ick`, `ick-outcomes`, `ick-step` and `ick-stages` for programs in C. One
+//! call takes arguments, files and an input in memory, and gives output, error text and exit
+//! status.
 //!
 //! - `arguments`: the arguments that bytes hold
-//! - `one_file`, `two_files`: files in memory
+//! - `one_file`: a file in memory
 //! - `call`: the answer of `ick` to arguments
 //! - `outcomes_call`: the answer of `ick-outcomes`
 //! - `step_call`: the answer of `ick-step`
+//! - `stages_call`: the answer of `ick-stages`
 //! - `room`: the front of a text, in a caller's memory
 //! - `laws`: bytes hold at most one list of arguments
 #![tactic(auto)]
@@ -16,6 +18,7 @@ ghost use Rattle.ick_job.specs.Serve.{IsStatus};
 ghost use Rattle.ick_c.specs.Call.{ServesBytes, nothing};
 ghost use Rattle.ick_c.specs.OutcomesCall.{OutcomesOfBytes};
 ghost use Rattle.ick_c.specs.Room.{filled};
+ghost use Rattle.ick_c.specs.StagesCall.{StagesOfBytes};
 ghost use Rattle.ick_c.specs.StepCall.{StepOfBytes};
 
 mod arguments;
@@ -24,14 +27,15 @@ mod laws;
 mod one_file;
 mod outcomes_call;
 mod room;
+mod stages_call;
 mod step_call;
-mod two_files;
 
 use call::answer;
 use ick_explorer::VecSink;
 pub use laws::one_list;
 use outcomes_call::answer_outcomes;
 use room::fill;
+use stages_call::answer_stages;
 use std::alloc::Global;
 use step_call::answer_step;
 
@@ -136,9 +140,37 @@ pub extern "C" fn ick_outcomes_serve(
     status.code()
 }
 
-/// Does what the program `ick-step` does with these arguments, and returns the exit status. A file
-/// named `input` has the bytes `input`, each other file has the bytes `file`, and standard input
-/// has the bytes `commands`. The rest is as for `ick_serve`.
+/// Does what the program `ick-stages` does with these arguments, and returns the exit status. Each
+/// file has the bytes `file`, and standard input has the bytes `input`. The rest is as for
+/// `ick_serve`.
+#[unsafe(no_mangle)]
+pub extern "C" fn ick_stages_serve(
+    alloc: Global,
+    arguments: &[u8],
+    file: &[u8],
+    input: &[u8],
+    output: &mut [u8],
+    errors: &mut [u8],
+    lengths: &mut Lengths,
+) -> u8
+    ensures served { (writer : Written) × (said : Written)
+        × (output.new ≡ filled writer.bytes output.old)
+        × (lengths.new.output ≡ length writer.bytes)
+        × (errors.new ≡ filled said.bytes errors.old)
+        × (lengths.new.errors ≡ length said.bytes)
+        × StagesOfBytes arguments.now file.now input.now nothing writer nothing said result }
+    ensures status { IsStatus result }
+{
+    let mut writer = VecSink::new(alloc);
+    let mut said = VecSink::new(alloc);
+    let status = answer_stages(alloc, arguments, file, input, &mut writer, &mut said);
+    hand_over(&writer, &said, output, errors, lengths);
+    status.code()
+}
+
+/// Does what the program `ick-step` does with these arguments, and returns the exit status. Each
+/// FILE has the bytes `file`, each INPUT has the bytes `input`, and standard input has the bytes
+/// `commands`. The rest is as for `ick_serve`.
 ///
 /// Nothing is kept from one call to the next. To go on with a session, the caller gives all its
 /// commands again, and those that follow: the front of the output is the output before.
@@ -158,7 +190,8 @@ pub extern "C" fn ick_step_serve(
         × (lengths.new.output ≡ length writer.bytes)
         × (errors.new ≡ filled said.bytes errors.old)
         × (lengths.new.errors ≡ length said.bytes)
-        × StepOfBytes arguments.now nothing writer nothing said result }
+        × StepOfBytes arguments.now file.now input.now commands.now nothing writer nothing said
+        result }
     ensures status { IsStatus result }
 {
     let mut writer = VecSink::new(alloc);

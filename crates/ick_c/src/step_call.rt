@@ -5,7 +5,7 @@ ghost use Rattle.ick_job.specs.Serve.{IsStatus};
 ghost use Rattle.ick_c.specs.StepCall.{ServesStep, StepOfBytes};
 
 use crate::arguments::arguments_in;
-use crate::two_files::TwoFiles;
+use crate::one_file::OneFile;
 use ick_explorer::{SliceSource, VecSink};
 use ick_job::{Status, refuse_words};
 use ick_step_cli::serve_step;
@@ -23,7 +23,8 @@ pub fn answer_step(
 ) -> Status
     requires writer_sound { writer.old.failures + 1 < 2 ^ 64 }
     requires errors_sound { errors.old.failures + 1 < 2 ^ 64 }
-    ensures served { StepOfBytes bytes.now writer.old writer.new errors.old errors.new result }
+    ensures served { StepOfBytes bytes.now file.now input.now commands.now
+        writer.old writer.new errors.old errors.new result }
     ensures status { IsStatus result }
 {
     match arguments_in(alloc, bytes) {
@@ -40,8 +41,8 @@ pub fn answer_step(
     }
 }
 
-/// Serves arguments. A file named `input` has the bytes `input`, each other file has the bytes
-/// `file`, and the reader has `commands`.
+/// Serves arguments. Each FILE has the bytes `file`, each INPUT has the bytes `input`, and the
+/// reader has `commands`.
 fn step_over_memory(
     alloc: Global,
     arguments: &[&str],
@@ -53,14 +54,15 @@ fn step_over_memory(
 ) -> Status
     requires writer_sound { writer.old.failures + 1 < 2 ^ 64 }
     requires errors_sound { errors.old.failures + 1 < 2 ^ 64 }
-    ensures served { ServesStep (texts arguments.entry.now)
-        writer.old writer.new errors.old errors.new result }
+    ensures served { ServesStep (texts arguments.entry.now) file.entry.now input.entry.now
+        commands.entry.now writer.old writer.new errors.old errors.new result }
     ensures status { IsStatus result }
 {
     serve_step(
         alloc,
         arguments,
-        &mut TwoFiles::new(file, input),
+        &mut OneFile::new(file),
+        &mut OneFile::new(input),
         &mut SliceSource::new(commands),
         writer,
         errors,

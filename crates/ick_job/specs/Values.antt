@@ -46,6 +46,7 @@ pub record AreValues (rows : List Row) (v : Values) : Type 0 where
   pub operations : v.operations ≡ flag_in (codes "operations") rows
   pub rules : v.rules ≡ flag_in (codes "rules") rows
   pub instructions : v.instructions ≡ flag_in (codes "instructions") rows
+  pub traces : v.traces ≡ flag_in (codes "traces") rows
   pub statement : v.statement ≡ number_in 32 (codes "statement") rows
 
 -- the values that parsed arguments give: those of the command that is named, or else of the program

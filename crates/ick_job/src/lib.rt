@@ -43,7 +43,7 @@ pub use stopped::{Stop, stopped_run};
 pub use usage::answer_words;
 pub use words::{
     ASKED, Argument, BUG, CHOICES, COUNT, Description, EXACT, FILE, FROM, Form, INPUT,
-    INSTRUCTIONS, LIMIT, MOST, OPERATIONS, RULES, SEED, STATEMENT, TOTAL, TRACE, TREE, Values,
-    values_given,
+    INSTRUCTIONS, LIMIT, MOST, OPERATIONS, RULES, SEED, STATEMENT, TOTAL, TRACE, TRACES, TREE,
+    Values, values_given,
 };
 pub use words_fault::{WordsFault, refuse_words};

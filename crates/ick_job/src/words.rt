@@ -9,7 +9,7 @@ mod values;
 pub use argument::{Argument, Form};
 pub use arguments::{
     ASKED, BUG, CHOICES, COUNT, EXACT, FILE, FROM, INPUT, INSTRUCTIONS, LIMIT, MOST, OPERATIONS,
-    RULES, SEED, STATEMENT, TOTAL, TRACE, TREE,
+    RULES, SEED, STATEMENT, TOTAL, TRACE, TRACES, TREE,
 };
 pub use description::Description;
 pub use given::{Values, values_given};

@@ -1,5 +1,5 @@
 -- Instructions that are left, one more at a time.
-use Rattle.std.proofs.Common.{◌≡◌, ◌∙◌, ℕ, ◌+◌, ◌<◌, List, Option, Some, None, length, get_or, ap, sym, refl, add-one, suc}
+use Rattle.std.proofs.Common.{◌≡◌, ◌∙◌, ℕ, ◌+◌, ◌<◌, List, Option, Some, length, get_or, ap, sym, add-one}
 use Rattle.std.specs.Prelude.{slice_get}
 use Rattle.ick_instructions.specs.declared.instruction.Instruction.{Instruction}
 use Rattle.std.proofs.lemmas.Option.{slice_get-get_or}

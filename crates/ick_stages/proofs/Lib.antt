@@ -5,3 +5,5 @@ mod StepLaws
 mod LeftLaws
 mod StageLaws
 mod StagesLaws
+mod TraceLaws
+mod TreeLaws

@@ -1,14 +1,14 @@
 -- Texts of lists, piece by piece.
 use Rattle.std.proofs.Common.{◌≡◌, ◌<◌, ◌+◌, ◌-◌, Bool, true, false, List, ℕ, zero, suc, ◌++◌, length, ap, refl, ◌∙◌, arith}
-use Rattle.std.proofs.Common.{append_assoc, subst, [], ◌∷◌, sym, add-one, get_or, take}
-use Rattle.std.specs.Prelude.{codes, if◌then◌else◌, map}
+use Rattle.std.proofs.Common.{append_assoc, [], ◌∷◌, sym, add-one, get_or, take}
+use Rattle.std.specs.Prelude.{if◌then◌else◌, map}
 use Rattle.std.specs.List.{filter, flat_map, range_with_len}
 use Rattle.std.proofs.lemmas.List.{append-nil, take_more}
 use Rattle.std.proofs.lemmas.List.Elements.{filter-append}
 use Rattle.ick_code.specs.Counts.{count_after, popped_by, pushed_by}
 use Rattle.ick_code.specs.Effects.{Slots}
 use Rattle.ick_code.specs.declared.op.Op.{Op}
-use Rattle.ick_inspect.proofs.AddLaws.{pieces_more, pieces_taken, range_more}
+use Rattle.ick_inspect.proofs.AddLaws.{pieces_more, range_more}
 use Rattle.ick_stages.specs.Bodies.{joined_text}
 use Rattle.ick_stages.specs.Operations.{operation_line, operations_from}
 

@@ -1,7 +1,7 @@
 -- The instructions that are left of a statement, the operations that they come of, and the instructions that are
 -- dropped.
 use Rattle.std.specs.Prelude.{ℕ, zero, suc, ◌+◌, ◌-◌, ◌==◌, ◌&&◌, ◌||◌, Bool, true, false, List, [], ◌∷◌, ◌++◌, codes}
-use Rattle.std.specs.Prelude.{decimal, length, max, min, take, drop, if◌then◌else◌, Option, Some, None, slice_get}
+use Rattle.std.specs.Prelude.{decimal, length, min, take, drop, if◌then◌else◌, Option, Some, None, slice_get}
 use Rattle.std.specs.List.{flat_map, range_with_len}
 use Rattle.std.specs.Str.{bytes_eq}
 use Rattle.ick_instructions.specs.declared.instruction.{Instruction.Instruction, Operation.Operation}

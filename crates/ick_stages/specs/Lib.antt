@@ -11,3 +11,5 @@ pub mod Steps
 pub mod Left
 pub mod Statements
 pub mod Stages
+pub mod Traces
+pub mod Writing

@@ -1,7 +1,7 @@
 -- The names of the rules of lowering, by what is seen of a step.
 use Rattle.std.specs.Prelude.{ℕ, ◌-◌, ◌==◌, ◌&&◌, Bool, true, false, List, [], ◌∷◌, ◌++◌, codes, length, bit_and}
 use Rattle.std.specs.Prelude.{nat_le}
-use Rattle.std.specs.Prelude.{nat_lt, if◌then◌else◌, Option, Some, None, slice_get, option_map, is_some}
+use Rattle.std.specs.Prelude.{nat_lt, if◌then◌else◌, Option, Some, None, slice_get}
 use Rattle.ick_code.specs.declared.op.Op.{Op}
 use Rattle.ick_code.specs.declared.op.Op.TheVariants as of
 use Rattle.ick_instructions.specs.declared.instruction.{Instruction.Instruction, Operation.Operation}

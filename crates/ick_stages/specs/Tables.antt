@@ -3,7 +3,7 @@
 use Rattle.std.specs.Prelude.{ℕ, ◌+◌, ◌-◌, ◌*◌, ◌/◌, ◌%◌, ◌^◌, ◌==◌, ◌&&◌, Bool, false, not, List, [], ◌∷◌, ◌++◌, codes}
 use Rattle.std.specs.Prelude.{decimal, length, take, drop, bit_and, nat_le, if◌then◌else◌, Option, Some, None}
 use Rattle.std.specs.Prelude.{slice_get}
-use Rattle.std.specs.List.{filter, flat_map, range_with_len}
+use Rattle.std.specs.List.{filter, range_with_len}
 use Rattle.std.specs.Str.{bytes_eq}
 use Rattle.ick_inspect.specs.Text.{numbers_text}
 use Rattle.ick_stages.specs.Bodies.{joined_text}

@@ -1,5 +1,5 @@
 -- Expressions with all their groups in parentheses: `(?(.1 $ .2) ~ (#0 $ #65535))`, `(,1 SUB .1 #2)`.
-use Rattle.std.specs.Prelude.{ℕ, List, [], ◌++◌, codes, decimal}
+use Rattle.std.specs.Prelude.{ℕ, ◌≡◌, ◌<◌, ◌^◌, List, [], ◌++◌, codes, decimal}
 use Rattle.ick_syntax.specs.declared.tree.Name.{Name}
 use Rattle.ick_syntax.specs.declared.tree.UnaryOp.{UnaryOp}
 use Rattle.ick_syntax.specs.declared.tree.UnaryOp.TheVariants.{And, Or, Xor}
@@ -31,3 +31,20 @@ abbrev mutual
 
 abbrev pub element_text : Name → Trees → List ℕ
 element_text array subs = codes "(" ++ name_text array ++ codes " SUB" ++ subs_text subs ++ codes ")"
+
+-- numbers of at most 64 bits, which all trees of programs have
+abbrev mutual
+  pub HasWords : Tree → Type 0
+  HasWords (mesh n) = n < 2 ^ 64
+  HasWords (scalar name) = name.number < 2 ^ 64
+  HasWords (element array subs) = (array.number < 2 ^ 64) × HaveWords subs
+  HasWords (unary op t) = HasWords t
+  HasWords (binary op a b) = HasWords a × HasWords b
+
+  pub HaveWords : Trees → Type 0
+  HaveWords none = Unit {0}
+  HaveWords (more t ts) = HasWords t × HaveWords ts
+
+-- different trees have different texts
+abbrev pub OneTree : Type 0
+OneTree = (s t : Tree) → HasWords s → HasWords t → tree_text s ≡ tree_text t → s ≡ t

@@ -1,5 +1,5 @@
 -- What is known of the value of an operand: `t1, 16 bits, ones 0000000f, .1 rotated by 3 & 0000000f`.
-use Rattle.std.specs.Prelude.{ℕ, ◌+◌, ◌%◌, ◌==◌, Bool, List, [], ◌++◌, codes, decimal, bit_and, nat_lt, if◌then◌else◌}
+use Rattle.std.specs.Prelude.{ℕ, ◌%◌, ◌==◌, Bool, List, [], ◌++◌, codes, decimal, bit_and, nat_lt, if◌then◌else◌}
 use Rattle.std.specs.Prelude.{Option, Some, None, slice_get}
 use Rattle.std.specs.List.{flat_map, range_with_len}
 use Rattle.ick_lowering.specs.declared.value.{Facts.Facts, Field.Field, Operand.Operand, OperandWidth.OperandWidth}

@@ -11,11 +11,15 @@
 //! | `steps` | the steps by which a statement is lowered |
 //! | `left` | the instructions that are left of a statement, and those that are dropped |
 //! | `statement` | statements as `ick list` shows them, with their lines and columns |
-//! | `stages` | the stages of a whole program |
+//! | `trace` | the traces that begin with a statement |
+//! | `stages` | the stages of a statement |
+//! | `writing` | the stages of a whole program, written statement by statement |
+//! | `laws` | different trees have different texts |
 #![tactic(auto)]
 
 mod body;
 mod instruction;
+mod laws;
 mod left;
 mod names;
 mod operation;
@@ -25,15 +29,20 @@ mod stages;
 mod statement;
 mod steps;
 mod table;
+mod trace;
 mod tree;
 mod value;
+mod writing;
 
 pub use body::append_body;
 pub use instruction::append_instruction;
+pub use laws::one_tree;
 pub use operation::{append_operation, append_operations};
 pub use registers::{Registers, append_register};
 pub use rule::{Step, append_rules};
-pub use stages::{Asked, append_stages};
+pub use stages::Asked;
 pub use steps::{Makers, append_steps};
+pub use trace::{Place, append_traces, traces_of};
 pub use tree::append_tree;
 pub use value::append_value;
+pub use writing::write_stages;

@@ -1,17 +1,17 @@
-//! The stages of a whole program.
+//! The stages of a statement.
 
-ghost use Rattle.std.specs.Prelude.{◌≡◌, ◌<◌, ◌≤◌, ◌&&◌, Some, length, slice_get, OnOk};
+ghost use Rattle.std.specs.Prelude.{◌≡◌, ◌<◌, ◌≤◌, ◌&&◌, [], length, OnOk};
 ghost use Rattle.ick_code.specs.Compiled.{code_ops, code_program, code_slots};
 ghost use Rattle.ick_inspect.specs.Text.{Adds};
 ghost use Rattle.ick_lowering.specs.Programs.{CanLower, LowersTo};
 ghost use Rattle.ick_stages.specs.Left.{dropped_text, instructions_text, kept_of, sorts_of};
 ghost use Rattle.ick_stages.specs.Operations.{operations_text};
 ghost use Rattle.ick_stages.specs.Registers.{drafted, lowered_names};
-ghost use Rattle.ick_stages.specs.Stages.{AddsStage, AddsStages, bottom_text, is_shown as shows};
+ghost use Rattle.ick_stages.specs.Stages.{AddsStage, bottom_text, is_shown as shows};
 ghost use Rattle.ick_stages.specs.Stages.{top_text, tree_line};
 ghost use Rattle.ick_stages.specs.Steps.{asked_text, made_of};
+ghost use Rattle.ick_stages.specs.Traces.{traces_text};
 ghost use Rattle.ick_syntax.specs.BodyTree.{body_tree_of};
-ghost use Rattle.ick_syntax.specs.Programs.{trees_of};
 ghost use Rattle.ick_syntax.specs.StatementTree.{statement_tree_of};
 
 use crate::body::append_body;
@@ -20,14 +20,14 @@ use crate::operation::append_operations;
 use crate::registers::Registers;
 use crate::statement::append_line;
 use crate::steps::{Makers, append_steps};
+use crate::trace::{Place, append_traces};
 use ick_bits::NoMemory;
 use ick_code::Code;
-use ick_inspect::{Position, Text, positions_of};
+use ick_inspect::{Position, Text};
 use ick_instructions::{Layout, Lowered};
 use ick_lowering::draft::Draft;
-use ick_lowering::lower;
-use ick_lowering::lowering::layout_of;
-use ick_syntax::{Body, Program, Statement};
+use ick_syntax::{Body, Statement};
+use ick_traces::Candidate;
 use std::alloc::Global;
 
 /// Which lines of statements are asked for. The line of a statement always is.
@@ -37,17 +37,37 @@ pub struct Asked {
     pub operations: bool,
     pub rules: bool,
     pub instructions: bool,
+    pub traces: bool,
     /// The number of the only statement that is shown.
     pub only: Option<u32>,
 }
 
 /// A statement that is lowered again: its draft, the operations that made the instructions, and
-/// what becomes of these.
+/// what becomes of these. The place is where a run is along a trace.
 #[derive(Drop)]
-struct Work {
-    draft: Draft,
+pub struct Work {
+    pub draft: Draft,
     makers: Makers,
     sorted: Sorted,
+    place: Place,
+}
+
+impl Work {
+    /// Returns a draft of nothing.
+    pub fn new(alloc: Global) -> Work
+        ensures subscripts { result.draft.subscripts.items ≡ [] }
+        ensures constants { result.draft.constants.list.items ≡ [] }
+    {
+        Work {
+            draft: Draft::new(alloc),
+            makers: Makers {
+                first: Vec::new(alloc),
+                store: 0,
+            },
+            sorted: Sorted::new(alloc),
+            place: Place::new(alloc, 0),
+        }
+    }
 }
 
 /// Returns whether a statement is shown.
@@ -211,11 +231,30 @@ fn append_bottom_if(
     }
 }
 
+/// Appends the lines of the trace that begins with a statement, if they are asked for.
+fn append_traces_if(
+    text: &mut Text,
+    place: &mut Place,
+    lowered: &Lowered<'_, '_>,
+    traces: &Option<Candidate>,
+    n: u32,
+    asked: bool,
+) -> Result<(), NoMemory>
+    ensures { OnOk result (Adds text.old text.new
+        (asked_text asked (traces_text lowered.now traces.now n))) }
+{
+    if !asked {
+        return Ok(());
+    }
+    append_traces(text, place, lowered, traces, n)
+}
+
 /// Lowers statement `n` again, and appends the lines of its stages that are asked for.
-fn append_stage(
+pub fn append_stage(
     text: &mut Text,
     work: &mut Work,
     lowered: &Lowered<'_, '_>,
+    traces: &Option<Candidate>,
     layout: Layout,
     statement: &Statement<'_>,
     position: Position,
@@ -229,7 +268,7 @@ fn append_stage(
         work.old.draft }
     ensures lowers { OnOk result (LowersTo lowered.now.code.now layout
         (code_ops lowered.now.code.now n) work.old.draft work.new.draft) }
-    ensures stage { OnOk result (AddsStage lowered.now layout asked.now n
+    ensures stage { OnOk result (AddsStage lowered.now traces.now layout asked.now n
         (statement_tree_of statement.now) position work.old.draft work.new.draft
         text.old text.new) }
 {
@@ -248,59 +287,7 @@ fn append_stage(
     let kept = instructions_of(&*lowered, n);
     work.sorted.sort_all(&work.draft, &work.makers, kept)?;
     append_bottom_if(text, &*work, lowered, layout, n, asked, shown);
-    Ok(())
-}
-
-/// Returns the position of the statement at an index.
-fn position_at(positions: &Vec<Position>, at: usize) -> Position
-    requires { at < length positions.now.items }
-    ensures { slice_get positions.now.items at ≡ Some result }
-{
-    positions[at]
-}
-
-/// Appends the lines of the stages of a program that are asked for, statement by statement, and
-/// `DONE`. The code is that of the program, which was read from the source. `NoMemory` is the only
-/// refusal.
-pub fn append_stages(
-    alloc: Global,
-    text: &mut Text,
-    source: &[u8],
-    program: &Program<'_>,
-    code: &Code<'_>,
-    asked: &Asked,
-) -> Result<(), NoMemory>
-    requires { trees_of program.now ≡ code_program code.now }
-    ensures { OnOk result (AddsStages code.now source.now asked.now text.old text.new) }
-{
-    // What is lowered again needs that the operations are those of the program.
-    code.law();
-    let lowered = lower(alloc, code)?;
-    let layout = layout_of(code)?;
-    let positions = positions_of(alloc, source, code)?;
-    let statements = program.statements();
-    let mut work = Work {
-        draft: Draft::new(alloc),
-        makers: Makers {
-            first: Vec::new(alloc),
-            store: 0,
-        },
-        sorted: Sorted::new(alloc),
-    };
-    for at in 0..code.count() {
-        let position = position_at(&positions, at as usize);
-        let statement = &statements[at as usize];
-        append_stage(
-            text,
-            &mut work,
-            &lowered,
-            layout,
-            statement,
-            position,
-            at + 1,
-            asked,
-        )?;
-    }
-    text.push(b"DONE\n");
+    let traced = are_both(shown, asked.traces);
+    append_traces_if(text, &mut work.place, lowered, traces, n, traced)?;
     Ok(())
 }

@@ -1,15 +1,15 @@
 -- What a job's end gives, and the counts that it leaves.
-use Rattle.std.proofs.Common.{◌≡◌, ◌∙◌, ◌+◌, ◌++◌, ◌<◌, ◌≤◌, ◌==◌, if◌then◌else◌, ℕ, Bool, true, false, List, []}
-use Rattle.std.proofs.Common.{Option, Some, None, ap, arith, refl, subst, sym, inl, inr, length, take, ne_eqb, eq-eqb}
+use Rattle.std.proofs.Common.{◌≡◌, ◌∙◌, ◌+◌, ◌<◌, ◌≤◌, ◌==◌, if◌then◌else◌, ℕ, Bool, true, false, List, []}
+use Rattle.std.proofs.Common.{Option, Some, None, ap, arith, refl, subst, sym, inl, inr, length, drop, take, ne_eqb, eq-eqb}
+use Rattle.std.specs.Prelude.{Result, Ok, Err}
 use Rattle.std.proofs.lemmas.List.{append-nil, length-take, take_all}
 use Rattle.ick_bits.specs.Faults.{message_of}
 use Rattle.ick_source.specs.RefusalAnswers.{Refuses}
-use Rattle.ick_source.specs.Refusals.{Compiles, IsRefused, longest}
+use Rattle.ick_source.specs.Refusals.{longest}
 use Rattle.ick_source.specs.declared.refusals.Refusal.{Refusal}
 use Rattle.ick_source.specs.declared.refusals.Refusal.TheVariants as refusal
-use Rattle.ick_inspect.specs.declared.text.Text.{Text}
-use Rattle.ick_job.specs.JobEnd.{Answers, EndsBy, EndsSent, Leaves, failed_files, source_of}
-use Rattle.ick_job.specs.Input.{EndsUnopened}
+use Rattle.ick_job.specs.JobEnd.{EndsBy, Leaves, LeavesWriter, failed_files, source_of}
+use Rattle.ick_job.specs.Input.{EndsCut, EndsUnopened}
 use Rattle.ick_job.specs.Notice.{notice_text}
 use Rattle.ick_job.specs.Refusing.{EndsRefused}
 use Rattle.ick_job.specs.Answer.{Answer, shown, refusal as refused_by}
@@ -18,72 +18,113 @@ use Rattle.ick_job.specs.declared.job_end.JobEnd.TheVariants.{Answered, NoMemory
 use Rattle.ick_job.specs.declared.job_end.JobEnd.TheVariants.{WriteFailed}
 use Rattle.ick_job.specs.declared.notice.Notice.TheVariants as notice
 use Rattle.ick_job.proofs.Ends.{leaves_as, leaves_by}
+use Rattle.ick_code.specs.Compiled.{code_program}
+use Rattle.ick_code.specs.declared.code.Code.{Code}
+use Rattle.ick_explorer.specs.Writes.{write_failures}
+use Rattle.ick_explorer.specs.declared.errors.RunsError.{RunsError}
+use Rattle.ick_explorer.specs.declared.errors.RunsError.TheVariants as error
+use Rattle.ick_stages.specs.Stages.{AreWhole, Writes}
 use Rattle.ick_stages.specs.declared.stages.Asked.{Asked}
-use Rattle.ick_stages_cli.specs.Gives.{Gives}
+use Rattle.ick_stages_cli.specs.Gives.{Gives, end_by}
 use Rattle.ick_stages_cli.specs.Job.{Wanted}
-use Rattle.ick_stages_cli.specs.Tool.{IsSourceAnswer, IsStagesAnswer, compiled, not_read, read, refused, too_long}
+use Rattle.ick_stages_cli.specs.Program.{left_by}
+use Rattle.ick_stages_cli.specs.Tool.{AreShown, IsCodeAnswer, IsSourceAnswer, IsStagesAnswer, MayShow, compiled, of_source}
+use Rattle.ick_stages_cli.specs.Tool.{is_there, lines_of, no_line, not_read, nothing, read, refused, stages, too_long}
 
--- other answers
-pub gives_so : {A B : Answer → Type 0} (job_end : JobEnd) (before after : List ℕ)
-    → ((answer : Answer) → A answer → B answer) → Gives A job_end before after → Gives B job_end before after
-gives_so (Answered status text) before after so h = (h.0, so h.0 h.1, h.2)
-gives_so InputTooLong before after so h = absurd h
-gives_so FileNotRead before after so h = (h.0, so h.0 h.1, h.2)
-gives_so WriteFailed before after so h = (h.0, so h.0 h.1, h.2)
-gives_so NoMemory before after so h = h
-gives_so ReadFailed before after so h = h
-
--- an output that was sent
-pub gives_sent : (A : Answer → Type 0) (job_end : JobEnd) (before after : List ℕ) (answer : Answer)
-    → EndsSent job_end → A answer → Answers answer job_end before after → Gives A job_end before after
-gives_sent A (Answered status text) before after answer sent is h = (answer, is, h)
-gives_sent A WriteFailed before after answer sent is h = (answer, is, h)
-gives_sent A InputTooLong before after answer sent is h = absurd sent
-gives_sent A FileNotRead before after answer sent is h = absurd sent
-gives_sent A NoMemory before after answer sent is h = absurd sent
-gives_sent A ReadFailed before after answer sent is h = absurd sent
+-- other answers, and other lines
+pub gives_so : {A B : Answer → Type 0} {L M : List ℕ → Type 0} (job_end : JobEnd) (before after : List ℕ)
+    → ((answer : Answer) → A answer → B answer) → ((lines : List ℕ) → L lines → M lines)
+    → Gives A L job_end before after → Gives B M job_end before after
+gives_so (Answered status text) before after so lines h = (h.0, so h.0 h.1, h.2)
+gives_so InputTooLong before after so lines h = absurd h
+gives_so FileNotRead before after so lines h = (h.0, so h.0 h.1, h.2)
+gives_so WriteFailed before after so lines h = (h.0, lines h.0 h.1, h.2, h.3)
+gives_so NoMemory before after so lines h = (h.0, lines h.0 h.1, h.2)
+gives_so ReadFailed before after so lines h = h
 
 -- an answer without output
-pub gives_refusal : (A : Answer → Type 0) (status : ℕ) (text : List ℕ) (job_end : JobEnd)
-    (before : List ℕ) → EndsBy status text job_end → A (refused_by status text) → Gives A job_end before before
-gives_refusal A status text (Answered given said) before h is = (refused_by status text, is, (h, sym (append-nil before)))
-gives_refusal A status text NoMemory before h is = refl
-gives_refusal A status text InputTooLong before h is = absurd h
-gives_refusal A status text FileNotRead before h is = absurd h
-gives_refusal A status text ReadFailed before h is = absurd h
-gives_refusal A status text WriteFailed before h is = absurd h
+pub gives_refusal : (A : Answer → Type 0) (L : List ℕ → Type 0) (status : ℕ) (text : List ℕ) (job_end : JobEnd)
+    (before : List ℕ) → EndsBy status text job_end → A (refused_by status text) → L [] → Gives A L job_end before before
+gives_refusal A L status text (Answered given said) before h is none =
+    (refused_by status text, is, (h, sym (append-nil before)))
+gives_refusal A L status text NoMemory before h is none = ([], none, sym (append-nil before))
+gives_refusal A L status text InputTooLong before h is none = absurd h
+gives_refusal A L status text FileNotRead before h is none = absurd h
+gives_refusal A L status text ReadFailed before h is none = absurd h
+gives_refusal A L status text WriteFailed before h is none = absurd h
+
+-- the answer of a code whose lines are written
+pub gives_written : {T : Type 0} (asked : Asked) (source : List ℕ) (code : Code) (before after : List ℕ)
+    (result : Result T RunsError) (job_end : JobEnd) → job_end ≡ end_by result
+    → is_there asked.only (length (code_program code)) ≡ true → Writes code source asked before after result
+    → Gives (IsCodeAnswer asked source code) (AreWhole code source asked) job_end before after
+gives_written {T} asked source code before after result job_end is there written =
+    subst (λ (e : JobEnd). Gives (IsCodeAnswer asked source code) (AreWhole code source asked) e before after) (sym is)
+    (by_result result written)
+  where
+    by_result : (r : Result T RunsError) → Writes code source asked before after r
+        → Gives (IsCodeAnswer asked source code) (AreWhole code source asked) (end_by r) before after
+    by_result (Ok _) h = (shown h.0, stages h.0 there h.1, ((refl, refl), h.2))
+    by_result (Err error.NoMemory) h = h
+    by_result (Err error.Write) h = h
+    by_result (Err error.NoSuchRun) h = absurd h
+    by_result (Err error.WorkFull) h = absurd h
+    by_result (Err error.Failed) h = absurd h
+    by_result (Err error.BadCursor) h = absurd h
+    by_result (Err error.Read) h = absurd h
+
+pub leaves_written : {T : Type 0} (result : Result T RunsError) (job_end : JobEnd) (w w' : ℕ) → job_end ≡ end_by result
+    → w' ≡ w + write_failures result → LeavesWriter job_end w w'
+leaves_written {T} result job_end w w' is count =
+    subst (λ (e : JobEnd). LeavesWriter e w w') (sym is) (by_result result count)
+  where
+    nothing_left : w' ≡ w + 0 → LeavesWriter NoMemory w w'
+    nothing_left same = record { proper = tt; opened = refl; read = refl; wrote = same }
+
+    by_result : (r : Result T RunsError) → w' ≡ w + write_failures r → LeavesWriter (end_by r) w w'
+    by_result (Ok _) same = record { proper = inl (omega arith); opened = refl; read = refl; wrote = same }
+    by_result (Err error.Write) same = record { proper = tt; opened = refl; read = refl; wrote = same }
+    by_result (Err error.NoMemory) same = nothing_left same
+    by_result (Err error.NoSuchRun) same = nothing_left same
+    by_result (Err error.WorkFull) same = nothing_left same
+    by_result (Err error.Failed) same = nothing_left same
+    by_result (Err error.BadCursor) same = nothing_left same
+    by_result (Err error.Read) same = nothing_left same
 
 -- a source that is refused
 pub gives_refused : (asked : Asked) (source : List ℕ) (why : Refusal) (job_end : JobEnd) (before : List ℕ) →
-    Refuses source why → EndsRefused why job_end → Gives (IsSourceAnswer asked source) job_end before before
+    Refuses source why → EndsRefused why job_end
+    → Gives (IsSourceAnswer asked source) (AreShown asked source) job_end before before
 gives_refused asked source (refusal.Fault kind n) job_end before is ends =
-    gives_refusal (IsSourceAnswer asked source) 2 (message_of kind n []) job_end before ends (refused kind n is.refused)
+    gives_refusal (IsSourceAnswer asked source) (AreShown asked source) 2 (message_of kind n []) job_end before ends
+    (refused kind n is.refused) no_line
 gives_refused asked source refusal.TooLong job_end before long ends =
-    subst (λ (e : JobEnd). Gives (IsSourceAnswer asked source) e before before) (sym ends)
+    subst (λ (e : JobEnd). Gives (IsSourceAnswer asked source) (AreShown asked source) e before before) (sym ends)
     (_, too_long long, ((refl, refl), sym (append-nil before)))
 gives_refused asked source refusal.NoMemory job_end before is ends =
-    subst (λ (e : JobEnd). Gives (IsSourceAnswer asked source) e before before) (sym ends) refl
+    subst (λ (e : JobEnd). Gives (IsSourceAnswer asked source) (AreShown asked source) e before before) (sym ends)
+    ([], no_line, sym (append-nil before))
 
 -- a file that was not read
 abbrev pub read_if : ℕ → ℕ → List ℕ → Option (List ℕ)
 read_if failed failed' bytes = if failed == failed' then Some bytes else None
 
-pub gives_unopened : (A : Option (List ℕ) → Answer → Type 0) (bytes : List ℕ) (failed failed' : ℕ)
+pub gives_unopened : (A : Option (List ℕ) → Answer → Type 0) (L : List ℕ → Type 0) (bytes : List ℕ) (failed failed' : ℕ)
     (job_end : JobEnd) (before : List ℕ) → EndsUnopened job_end → failed' ≡ failed + failed_files job_end
-    → A None (refused_by 4 (notice_text notice.FileNotRead))
-    → Gives (A (read_if failed failed' bytes)) job_end before before
-gives_unopened A bytes failed failed' FileNotRead before h count is =
+    → A None (refused_by 4 (notice_text notice.FileNotRead)) → L []
+    → Gives (A (read_if failed failed' bytes)) L job_end before before
+gives_unopened A L bytes failed failed' FileNotRead before h count is none =
     let other : (failed == failed') ≡ false = ne_eqb failed failed' (λ e. omega arith) in (
       _,
       subst (λ (b : Bool). A (if b then Some bytes else None) (refused_by 4 (notice_text notice.FileNotRead)))
           (sym other) is,
       ((refl, refl), sym (append-nil before)),
     )
-gives_unopened A bytes failed failed' NoMemory before h count is = refl
-gives_unopened A bytes failed failed' InputTooLong before h count is = absurd h
-gives_unopened A bytes failed failed' (Answered status text) before h count is = absurd h
-gives_unopened A bytes failed failed' ReadFailed before h count is = absurd h
-gives_unopened A bytes failed failed' WriteFailed before h count is = absurd h
+gives_unopened A L bytes failed failed' NoMemory before h count is none = ([], none, sym (append-nil before))
+gives_unopened A L bytes failed failed' InputTooLong before h count is none = absurd h
+gives_unopened A L bytes failed failed' (Answered status text) before h count is none = absurd h
+gives_unopened A L bytes failed failed' ReadFailed before h count is none = absurd h
+gives_unopened A L bytes failed failed' WriteFailed before h count is none = absurd h
 
 -- .. and one that was read
 was_read : (failed failed' : ℕ) (bytes : List ℕ) → failed' ≡ failed → Some bytes ≡ read_if failed failed' bytes
@@ -105,6 +146,12 @@ source_of_front asked most source long answer (refused kind n h) =
 source_of_front asked most source long answer (compiled code given h law is) =
     subst (λ (t : List ℕ). IsSourceAnswer asked t answer) (whole_front most source long h.fits)
     (compiled code answer h law is)
+
+pub shown_of_front : (asked : Asked) (most : ℕ) (source : List ℕ) → longest < most
+    → (lines : List ℕ) → AreShown asked (take most source) lines → AreShown asked source lines
+shown_of_front asked most source long lines no_line = no_line
+shown_of_front asked most source long lines (lines_of code given h law are) =
+    subst (λ (t : List ℕ). AreShown asked t lines) (whole_front most source long h.fits) (lines_of code lines h law are)
 
 -- a job's end that leaves everything as it was
 pub leaves_nothing : (f r w : ℕ) → Leaves NoMemory f f r r w w
@@ -151,11 +198,13 @@ read_with_file w asked file name named failed failed' left front answer own is s
 pub unread_with_file : (w : Wanted) (file : Option (List ℕ)) (name : List ℕ) (named : List ℕ → List ℕ)
     (failed failed' : ℕ) (left : List ℕ) (job_end : JobEnd) (before : List ℕ)
     → file ≡ Some name → EndsUnopened job_end → failed' ≡ failed + failed_files job_end
-    → Gives (IsStagesAnswer w (source_of file named failed failed' left)) job_end before before
+    → Gives (IsStagesAnswer w (source_of file named failed failed' left)) (MayShow w (source_of file named failed failed' left))
+    job_end before before
 unread_with_file w file name named failed failed' left job_end before is h count =
-    subst (λ (f : Option (List ℕ)). Gives (IsStagesAnswer w (source_of f named failed failed' left)) job_end before before)
-    (sym is)
-    (gives_unopened (IsStagesAnswer w) (named name) failed failed' job_end before h count not_read)
+    subst (λ (f : Option (List ℕ)). Gives (IsStagesAnswer w (source_of f named failed failed' left))
+    (MayShow w (source_of f named failed failed' left)) job_end before before) (sym is)
+    (gives_unopened (IsStagesAnswer w) (MayShow w (read_if failed failed' (named name))) (named name) failed failed' job_end
+    before h count not_read (nothing (read_if failed failed' (named name))))
 
 pub read_without_file : (w : Wanted) (asked : Asked) (file : Option (List ℕ)) (named : List ℕ → List ℕ)
     (failed failed' : ℕ) (left front : List ℕ) (answer : Answer) → w.asked ≡ asked → file ≡ None
@@ -166,3 +215,43 @@ read_without_file w asked file named failed failed' left front answer own is fro
     (read left answer (subst (λ (a : Asked). IsSourceAnswer a left answer) (sym own)
     (source_of_front asked (longest + 1) left (omega arith) answer
     (subst (λ (s : List ℕ). IsSourceAnswer asked s answer) fronts h))))
+
+-- a reader that was not read
+pub gives_unread : (A : Answer → Type 0) (L : List ℕ → Type 0) (job_end : JobEnd) (before : List ℕ) → EndsCut job_end
+    → L [] → Gives A L job_end before before
+gives_unread A L NoMemory before h none = ([], none, sym (append-nil before))
+gives_unread A L ReadFailed before h none = refl
+gives_unread A L (Answered status text) before h none = absurd h
+gives_unread A L InputTooLong before h none = absurd h
+gives_unread A L FileNotRead before h none = absurd h
+gives_unread A L WriteFailed before h none = absurd h
+
+-- the lines of a job's source
+pub shown_with_file : (w : Wanted) (asked : Asked) (file : Option (List ℕ)) (name : List ℕ) (named : List ℕ → List ℕ)
+    (failed failed' : ℕ) (left source lines : List ℕ) → w.asked ≡ asked → file ≡ Some name
+    → failed' ≡ failed → source ≡ take (longest + 1) (named name) → AreShown asked source lines
+    → MayShow w (source_of file named failed failed' left) lines
+shown_with_file w asked file name named failed failed' left source lines own is same fronts h =
+    subst (λ (f : Option (List ℕ)). MayShow w (source_of f named failed failed' left) lines) (sym is)
+    (subst (λ (s : Option (List ℕ)). MayShow w s lines) (was_read failed failed' (named name) same)
+    (of_source (named name) lines (subst (λ (a : Asked). AreShown a (named name) lines) (sym own)
+    (shown_of_front asked (longest + 1) (named name) (omega arith) lines
+    (subst (λ (s : List ℕ). AreShown asked s lines) fronts h)))))
+
+pub shown_without_file : (w : Wanted) (asked : Asked) (file : Option (List ℕ)) (named : List ℕ → List ℕ)
+    (failed failed' : ℕ) (left source lines : List ℕ) → w.asked ≡ asked → file ≡ None
+    → source ≡ take (longest + 1) left → AreShown asked source lines
+    → MayShow w (source_of file named failed failed' left) lines
+shown_without_file w asked file named failed failed' left source lines own is fronts h =
+    subst (λ (f : Option (List ℕ)). MayShow w (source_of f named failed failed' left) lines) (sym is)
+    (of_source left lines (subst (λ (a : Asked). AreShown a left lines) (sym own)
+    (shown_of_front asked (longest + 1) left (omega arith) lines
+    (subst (λ (s : List ℕ). AreShown asked s lines) fronts h))))
+
+-- what is left in the reader
+pub left_with_file : (file : Option (List ℕ)) (name before : List ℕ) → file ≡ Some name → before ≡ left_by file before
+left_with_file file name before is = ap (λ (f : Option (List ℕ)). left_by f before) (sym is)
+
+pub left_without_file : (file : Option (List ℕ)) (before after : List ℕ) → file ≡ None
+    → after ≡ drop (longest + 1) before → after ≡ left_by file before
+left_without_file file before after is rest = rest ∙ ap (λ (f : Option (List ℕ)). left_by f before) (sym is)

@@ -1,2 +1,3 @@
 mod Giving
-pub mod Serving
+mod Serving
+pub mod Doing

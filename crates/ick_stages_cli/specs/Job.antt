@@ -1,5 +1,5 @@
 -- The job that arguments ask for, as clap parses them.
-use Rattle.std.specs.Prelude.{◌≡◌, ◌||◌, Bool, List, [], Option, codes, not, option_map}
+use Rattle.std.specs.Prelude.{◌≡◌, ◌||◌, Bool, List, [], Option, codes, is_some, not, option_map}
 use Rattle.clap.specs.Words.{Row, Text, fault_of, matches_of}
 use Rattle.ick_job.specs.Values.{flag_in, number_in, text_in}
 use Rattle.ick_stages.specs.declared.stages.Asked.{Asked}
@@ -18,7 +18,7 @@ wanted j = record { asked = j.asked; file = option_map (λ s. s.now) j.file }
 abbrev pub names_some : List Row → Bool
 names_some rows =
     flag_in (codes "tree") rows || flag_in (codes "operations") rows || flag_in (codes "rules") rows
-    || flag_in (codes "instructions") rows
+    || flag_in (codes "instructions") rows || flag_in (codes "traces") rows
 
 -- the lines of a stage are asked for: they are named, or none are
 abbrev pub asked_in : Text → List Row → Bool
@@ -31,6 +31,7 @@ wanted_in rows = record {
     operations = asked_in (codes "operations") rows;
     rules = asked_in (codes "rules") rows;
     instructions = asked_in (codes "instructions") rows;
+    traces = asked_in (codes "traces") rows;
     only = number_in 32 (codes "statement") rows;
   };
   file = text_in (codes "file") rows;
@@ -42,3 +43,7 @@ HasJob words = fault_of stages_app words ≡ []
 
 abbrev pub job_of : List Text → Wanted
 job_of words = wanted_in (matches_of stages_app words)
+
+-- it names a file
+abbrev pub has_file : Wanted → Bool
+has_file w = is_some w.file

@@ -3,14 +3,12 @@ use Rattle.std.specs.Prelude.{ℕ, ◌≡◌, ◌<◌, Bool, true, false, List, 
 use Rattle.ick_bits.specs.Faults.{message_of}
 use Rattle.ick_bits.specs.declared.faults.FaultKind.{FaultKind}
 use Rattle.ick_source.specs.Refusals.{Compiles, IsRefused, longest}
-use Rattle.ick_syntax.specs.StatementTree.{StatementTree}
 use Rattle.ick_code.specs.Compiled.{IsCompiled, code_program}
 use Rattle.ick_code.specs.declared.code.Code.{Code}
-use Rattle.ick_inspect.specs.declared.text.Text.{Text}
 use Rattle.ick_job.specs.Answer.{Answer, refusal, shown}
 use Rattle.ick_job.specs.Notice.{notice_text}
 use Rattle.ick_job.specs.declared.notice.Notice.TheVariants as notice
-use Rattle.ick_stages.specs.Stages.{HasStages}
+use Rattle.ick_stages.specs.Stages.{AreWhole, HasStages}
 use Rattle.ick_stages.specs.declared.stages.Asked.{Asked}
 use Rattle.ick_stages_cli.specs.Job.{Wanted}
 
@@ -45,6 +43,13 @@ pub data IsStagesAnswer (w : Wanted) : Option (List ℕ) → Answer → Type 0 w
   read : (source : List ℕ) (answer : Answer) → IsSourceAnswer w.asked source answer
       → IsStagesAnswer w (Some source) answer
 
--- the answer that shows a text for which memory was not refused
-abbrev pub IsShown : Text → Answer → Type 0
-IsShown text answer = (text.refused ≡ false) × (answer ≡ shown text.bytes.items)
+-- whole statements of the lines of a source, from the first one on
+pub data AreShown (asked : Asked) (source : List ℕ) : List ℕ → Type 0 where
+  no_line : AreShown asked source []
+  lines_of : (code : Code) (lines : List ℕ) → Compiles source (code_program code)
+      → IsCompiled (code_program code) code → AreWhole code source asked lines → AreShown asked source lines
+
+-- the same of a job
+pub data MayShow (w : Wanted) : Option (List ℕ) → List ℕ → Type 0 where
+  nothing : (source : Option (List ℕ)) → MayShow w source []
+  of_source : (source lines : List ℕ) → AreShown w.asked source lines → MayShow w (Some source) lines

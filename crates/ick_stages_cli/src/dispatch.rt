@@ -1,23 +1,23 @@
 //! From a job to its answer: the source is read, then compiled, then its stages are shown.
 
-ghost use Rattle.std.specs.Prelude.{◌≡◌, ◌+◌, ◌<◌, ◌^◌, IfOk, false, true};
+ghost use Rattle.std.specs.Prelude.{◌≡◌, ◌+◌, ◌<◌, ◌^◌, false, true};
 ghost use Rattle.ick_code.specs.Compiled.{code_program};
-ghost use Rattle.ick_job.specs.JobEnd.{EndsBy, Leaves, LeavesWriter, source_of};
-ghost use Rattle.ick_stages.specs.Stages.{HasStages};
-ghost use Rattle.ick_stages_cli.specs.Gives.{Gives};
-ghost use Rattle.ick_stages_cli.specs.Job.{wanted};
-ghost use Rattle.ick_stages_cli.specs.Tool.{IsCodeAnswer, IsShown, IsSourceAnswer};
-ghost use Rattle.ick_stages_cli.specs.Tool.{IsStagesAnswer, is_there, no_statement};
+ghost use Rattle.ick_job.specs.JobEnd.{EndsBy, Leaves, LeavesWriter, WhereAnswered, source_of};
+ghost use Rattle.ick_stages.specs.Stages.{AreWhole};
+ghost use Rattle.ick_stages_cli.specs.Gives.{Gives, end_by};
+ghost use Rattle.ick_stages_cli.specs.Job.{has_file, wanted};
+ghost use Rattle.ick_stages_cli.specs.Program.{left_by};
+ghost use Rattle.ick_stages_cli.specs.Tool.{AreShown, IsCodeAnswer, IsSourceAnswer};
+ghost use Rattle.ick_stages_cli.specs.Tool.{IsStagesAnswer, MayShow, is_there, no_statement};
 ghost use Rattle.ick_syntax.specs.Programs.{trees_of};
 
 use crate::words::Job;
 use ick_bits::NoMemory;
 use ick_code::{Code, compile};
-use ick_explorer::{ByteSink, ByteSource};
-use ick_inspect::Text;
-use ick_job::{Files, JobEnd, Message, read_file, read_front, refused, send};
+use ick_explorer::{ByteSink, ByteSource, RunsError};
+use ick_job::{Files, JobEnd, Message, read_file, read_front, refused};
 use ick_source::read_source;
-use ick_stages::{Asked, append_stages};
+use ick_stages::{Asked, write_stages};
 use ick_syntax::Program;
 use std::alloc::Global;
 
@@ -36,9 +36,16 @@ pub fn perform<F: Files, R: ByteSource, W: ByteSink>(
     ensures leaves { Leaves result (F.failed files.old) (F.failed files.new)
         (R.failed reader.old) (R.failed reader.new) (W.failed writer.old) (W.failed writer.new) }
     ensures gives { F.told ≡ true → R.told ≡ true → W.told ≡ true → let job = wanted job.now in
-        Gives (IsStagesAnswer job (source_of job.file (F.named files.old) (F.failed files.old)
-        (F.failed files.new) (R.left reader.old)))
+        let source = source_of job.file (F.named files.old) (F.failed files.old)
+        (F.failed files.new) (R.left reader.old) in
+        Gives (IsStagesAnswer job source) (MayShow job source)
         result (W.written writer.old) (W.written writer.new) }
+    ensures left { F.told ≡ true → R.told ≡ true → WhereAnswered result
+        (R.left reader.new ≡ left_by (wanted job.now).file (R.left reader.old)) }
+    ensures reader_kept { has_file (wanted job.now) ≡ true → reader.new ≡ reader.old }
+    ensures files_kept { has_file (wanted job.now) ≡ false → files.new ≡ files.old }
+    ensures source_first { has_file (wanted job.now) ≡ false
+        → R.failed reader.old < R.failed reader.new → writer.new ≡ writer.old }
 {
     match job.file {
         Some(name) => match read_file(alloc, name, files) {
@@ -57,7 +64,8 @@ fn answer_source<W: ByteSink>(alloc: Global, asked: &Asked, source: &[u8], write
     requires { W.failed writer.old + 1 < 2 ^ 64 }
     ensures leaves { LeavesWriter result (W.failed writer.old) (W.failed writer.new) }
     ensures gives { W.told ≡ true → Gives (IsSourceAnswer asked.now source.now)
-        result (W.written writer.old) (W.written writer.new) }
+        (AreShown asked.now source.now) result
+        (W.written writer.old) (W.written writer.new) }
 {
     let program = match read_source(alloc, source) {
         Ok(program) => program,
@@ -73,7 +81,8 @@ fn answer_source<W: ByteSink>(alloc: Global, asked: &Asked, source: &[u8], write
     }
 }
 
-/// Answers code, if it has the statement that is asked for.
+/// Answers code, if it has the statement that is asked for. The lines of each statement are written
+/// as soon as they are made.
 fn answer_code<W: ByteSink>(
     alloc: Global,
     asked: &Asked,
@@ -86,14 +95,27 @@ fn answer_code<W: ByteSink>(
     requires sound { W.failed writer.old + 1 < 2 ^ 64 }
     ensures leaves { LeavesWriter result (W.failed writer.old) (W.failed writer.new) }
     ensures gives { W.told ≡ true → Gives (IsCodeAnswer asked.now source.now code.now)
+        (AreWhole code.now source.now asked.now)
         result (W.written writer.old) (W.written writer.new) }
 {
     if !has_statement(asked.only, code.count()) {
         return none(alloc);
     }
-    match stages_text(alloc, asked, source, program, code) {
-        Ok(text) => show(&text, writer),
-        Err(NoMemory) => JobEnd::NoMemory,
+    let written = write_stages(alloc, writer, source, program, code, asked);
+    end_of(written)
+}
+
+/// Returns how work ends by the answer of writing the stages.
+fn end_of(written: Result<(), RunsError>) -> JobEnd
+    ensures { result ≡ end_by written }
+{
+    match written {
+        Ok(()) => JobEnd::Answered {
+            status: 0,
+            message: Message::Nothing,
+        },
+        Err(RunsError::Write) => JobEnd::WriteFailed,
+        Err(_) => JobEnd::NoMemory,
     }
 }
 
@@ -118,35 +140,5 @@ fn none(alloc: Global) -> JobEnd
             message: Message::Text(text),
         },
         Err(_) => JobEnd::NoMemory,
-    }
-}
-
-/// Returns the lines of the stages of code.
-fn stages_text(
-    alloc: Global,
-    asked: &Asked,
-    source: &[u8],
-    program: &Program<'_>,
-    code: &Code<'_>,
-) -> Result<Text, NoMemory>
-    requires { trees_of program.now ≡ code_program code.now }
-    ensures { IfOk result (λ text. (text.refused ≡ false)
-        → HasStages code.now source.now asked.now text.bytes.items) }
-{
-    let mut text = Text::new(alloc);
-    append_stages(alloc, &mut text, source, program, code, asked)?;
-    Ok(text)
-}
-
-/// Writes a text, unless memory was refused for it.
-fn show<W: ByteSink>(text: &Text, writer: &mut W) -> JobEnd
-    requires { W.failed writer.old + 1 < 2 ^ 64 }
-    ensures leaves { LeavesWriter result (W.failed writer.old) (W.failed writer.new) }
-    ensures gives { W.told ≡ true → Gives (IsShown text.now)
-        result (W.written writer.old) (W.written writer.new) }
-{
-    match text.bytes() {
-        Ok(bytes) => send(bytes, 0, Message::Nothing, writer),
-        Err(NoMemory) => JobEnd::NoMemory,
     }
 }

@@ -1,15 +1,9 @@
 //! The whole of the program over its devices.
 
-ghost use Rattle.std.specs.Prelude.{◌≡◌, ◌≢◌, ◌+◌, ◌<◌, ◌^◌, [], true};
+ghost use Rattle.std.specs.Prelude.{◌+◌, ◌<◌, ◌^◌};
 ghost use Rattle.clap.specs.Walk.{texts};
-ghost use Rattle.clap.specs.Words.{fault_of};
-ghost use Rattle.ick_job.specs.JobEnd.{source_of};
-ghost use Rattle.ick_job.specs.Serve.{FinishesDue, IsDue, IsStatus, counts};
-ghost use Rattle.ick_job.specs.Usage.{AreMistakes, AreRequests, IsHelped, IsRefused};
-ghost use Rattle.ick_stages_cli.specs.Job.{HasJob, job_of};
-ghost use Rattle.ick_stages_cli.specs.Gives.{IsStagesServed};
-ghost use Rattle.ick_stages_cli.specs.Tool.{IsStagesAnswer};
-ghost use Rattle.ick_stages_cli.specs.Words.{stages_app};
+ghost use Rattle.ick_job.specs.Program.{ServesArguments, files_by, stream};
+ghost use Rattle.ick_stages_cli.specs.Program.{stages};
 
 use crate::dispatch::perform;
 use crate::words::read_job;
@@ -21,8 +15,8 @@ use std::alloc::Global;
 ///
 /// The arguments are without the program's own name. If they name a file, `files` opens it, and its
 /// bytes are the source. Without a file the source comes from `reader`. The output goes to
-/// `writer`, and nothing is written before all of it is found. The text of a refusal or a failure
-/// goes to `errors`, after the output. The arguments, the statuses and the texts are this
+/// `writer`, the lines of each statement as soon as they are made. The text of a refusal or a
+/// failure goes to `errors`, after the output. The arguments, the statuses and the texts are this
 /// profile's.
 ///
 /// The counts of failures of all devices must be below their greatest values.
@@ -38,38 +32,11 @@ pub fn serve_stages<F: Files, R: ByteSource, W: ByteSink, E: ByteSink>(
     requires reader_sound { R.failed reader.old + 1 < 2 ^ 64 }
     requires writer_sound { W.failed writer.old + 1 < 2 ^ 64 }
     requires errors_sound { E.failed errors.old + 1 < 2 ^ 64 }
-
-    // Arguments that ask for a job, over devices that do what they say.
-    ensures job { HasJob (texts words.entry.now) → F.told ≡ true → R.told ≡ true
-        → W.told ≡ true → let job = job_of (texts words.entry.now) in
-        FinishesDue (IsStagesServed (IsStagesAnswer job (source_of job.file (F.named files.old)
-        (F.failed files.old) (F.failed files.new) (R.left reader.old)))
-        (counts (F.failed files.old) (R.failed reader.old) (W.failed writer.old))
-        (counts (F.failed files.new) (R.failed reader.new) (W.failed writer.new))
-        (W.written writer.old) (W.written writer.new))
-        E.told (E.failed errors.old) (E.failed errors.new)
-        (E.written errors.old) (E.written errors.new) result }
-
-    // Other arguments: a mistake in them, or a request for help.
-    ensures usage { AreMistakes (fault_of stages_app (texts words.entry.now))
-        → (writer.new ≡ writer.old) × FinishesDue IsRefused
-        E.told (E.failed errors.old) (E.failed errors.new)
-        (E.written errors.old) (E.written errors.new) result }
-    ensures help { AreRequests (fault_of stages_app (texts words.entry.now)) → FinishesDue
-        (IsHelped W.told (W.failed writer.old) (W.failed writer.new)
-        (W.written writer.old) (W.written writer.new))
-        E.told (E.failed errors.old) (E.failed errors.new)
-        (E.written errors.old) (E.written errors.new) result }
-    ensures untouched { (fault_of stages_app (texts words.entry.now) ≢ [])
-        → (files.new ≡ files.old) × (reader.new ≡ reader.old) }
-
-    // Any arguments, over any devices.
-    ensures said { FinishesDue (IsDue
-        (counts (F.failed files.old) (R.failed reader.old) (W.failed writer.old))
-        (counts (F.failed files.new) (R.failed reader.new) (W.failed writer.new)))
-        E.told (E.failed errors.old) (E.failed errors.new)
-        (E.written errors.old) (E.written errors.new) result }
-    ensures status { IsStatus result }
+    ensures { ServesArguments stages (texts words.entry.now)
+        (files_by F.told F.failed F.named files.old files.new)
+        (stream R.told R.failed R.left reader.old reader.new)
+        (stream W.told W.failed W.written writer.old writer.new)
+        (stream E.told E.failed E.written errors.old errors.new) result }
 {
     match read_job(alloc, words) {
         Ok(job) => {

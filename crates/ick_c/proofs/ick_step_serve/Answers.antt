@@ -13,6 +13,7 @@ returns-clause-served c =
       cc,
       cc,
       cc,
-      from_nothing (λ old old' code. StepOfBytes c.args.arguments.now old writer old' said code) _ _ _ _
+      from_nothing (λ old old' code. StepOfBytes c.args.arguments.now c.args.file.now c.args.input.now
+          c.args.commands.now old writer old' said code) _ _ _ _
           c.new-writer.ensures c.new-said.ensures c.code.ensures c.answer_step-status.ensures.served,
     )

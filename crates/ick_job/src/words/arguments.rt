@@ -123,6 +123,13 @@ pub const INSTRUCTIONS: Argument<'static> = Argument {
     help: "Prints the instructions of each statement, and the operations that they come of",
 };
 
+/// The option by which the traces that begin with each statement are printed.
+pub const TRACES: Argument<'static> = Argument {
+    name: "traces",
+    form: Form::Flag,
+    help: "Prints the trace that begins with each statement",
+};
+
 /// The option for the only statement that is shown.
 pub const STATEMENT: Argument<'static> = Argument {
     name: "statement",

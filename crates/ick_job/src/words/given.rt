@@ -32,6 +32,7 @@ pub struct Values<'a> {
     pub operations: bool,
     pub rules: bool,
     pub instructions: bool,
+    pub traces: bool,
     pub statement: Option<u32>,
 }
 
@@ -90,6 +91,7 @@ fn values_of<'a>(command: Option<&'a str>, matches: &ArgMatches<'a>) -> Values<'
         operations: flag_value(matches, "operations"),
         rules: flag_value(matches, "rules"),
         instructions: flag_value(matches, "instructions"),
+        traces: flag_value(matches, "traces"),
         statement: number_value(matches, "statement"),
     }
 }

@@ -4,7 +4,7 @@
 pub const STAGES: &str =
     "Prints for each statement its line as in `ick list`, with its line and column behind its
 number, then the lines of its stages, and last DONE. Without one of --tree, --operations,
---rules and --instructions the lines of all stages are printed.
+--rules, --instructions and --traces the lines of all stages are printed.
 
 Exit status:
   0   the stages were shown

@@ -37,13 +37,18 @@ pub fn read_job<'a>(alloc: Global, words: &'a [&'a str]) -> Result<Job<'a>, Erro
 fn job_by<'a>(values: &Values<'a>) -> Job<'a>
     ensures { (rows : List Row) → AreValues rows values.now → wanted result ≡ wanted_in rows }
 {
-    let some = values.tree || values.operations || values.rules || values.instructions;
+    let some = values.tree
+        || values.operations
+        || values.rules
+        || values.instructions
+        || values.traces;
     Job {
         asked: Asked {
             tree: values.tree || !some,
             operations: values.operations || !some,
             rules: values.rules || !some,
             instructions: values.instructions || !some,
+            traces: values.traces || !some,
             only: values.statement,
         },
         file: values.file,

@@ -1,8 +1,15 @@
-use Rattle.std.proofs.Common.{inl, inr}
+use Rattle.std.proofs.Common.{inl, inr, refl, rules}
+use Rattle.clap.specs.Walk.{texts}
+use Rattle.ick_step_cli.specs.Job.{job_of}
+use Rattle.ick_c.proofs.StepLemmas.{step_from}
 use Rattle.ick_c.proofs.step_call.step_over_memory.Goals as goal
 
 pub returns-clause-served : goal.returns-clause-served
 returns-clause-served c = let call = c.serve_step.ensures in record {
+  job = λ has_job.
+      step_from (job_of (texts c.args.arguments.now)) c.args.file.now _ c.args.input.now _ c.args.commands.now _
+      c.args.writer.now c.serve_step.new.writer c.args.errors.now c.serve_step.new.errors
+      c.serve_step.result ((call.job has_job).done refl refl refl) (search rules) (search rules) (search rules);
   no_job = λ faults. (call.no_job faults).either;
   usage = λ mistakes. (call.no_job mistakes.0).usage mistakes;
   help = λ requests. (call.no_job requests.0).help requests;

@@ -3,9 +3,7 @@ use Rattle.std.specs.Prelude.{codes}
 use Rattle.ick_inspect.proofs.AddLaws.{same}
 use Rattle.ick_stages.proofs.TextLaws.{joined_mapped}
 use Rattle.ick_stages.specs.Bodies.{item_text}
-use Rattle.ick_stages.specs.Trees.{tree_text}
-use Rattle.ick_syntax.specs.BodyTree.{item_tree, place_tree}
-use Rattle.ick_syntax.specs.Tree.{tree_of}
+use Rattle.ick_syntax.specs.BodyTree.{item_tree}
 use Rattle.ick_stages.proofs.body.append_items.Goals as goal
 
 pub returns : goal.returns

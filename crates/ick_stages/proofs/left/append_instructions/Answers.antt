@@ -1,7 +1,6 @@
-use Rattle.std.proofs.Common.{◌≡◌, ◌∙◌, Some, ap, arith, length, sym}
+use Rattle.std.proofs.Common.{◌≡◌, ◌∙◌, ap, arith, length, sym}
 use Rattle.std.specs.List.{flat_map, range_with_len}
-use Rattle.std.specs.Prelude.{slice_get}
-use Rattle.ick_inspect.proofs.AddLaws.{nothing, pieces_more, same, then}
+use Rattle.ick_inspect.proofs.AddLaws.{pieces_more, same, then}
 use Rattle.ick_stages.specs.Left.{instructions_text, line_at}
 use Rattle.ick_stages.specs.Registers.{names_of}
 use Rattle.ick_stages.specs.Steps.{made_of}

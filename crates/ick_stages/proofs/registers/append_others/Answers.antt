@@ -1,4 +1,4 @@
-use Rattle.std.proofs.Common.{sym, ◌++◌, take}
+use Rattle.std.proofs.Common.{sym, ◌++◌}
 use Rattle.std.specs.Prelude.{codes}
 use Rattle.ick_inspect.proofs.AddLaws.{nothing, pieces_taken, same, then}
 use Rattle.ick_stages.specs.Registers.{names_of, register_text, registers_text}

@@ -1,7 +1,7 @@
-use Rattle.std.proofs.Common.{◌∙◌, ap, length, subst, sym}
-use Rattle.ick_code.specs.Compiled.{code_program}
-use Rattle.ick_stages_cli.specs.Tool.{IsCodeAnswer, is_there, no_statement, no_such, stages}
-use Rattle.ick_stages_cli.proofs.Giving.{gives_refusal, gives_so, leaves_nothing, leaves_usage}
+use Rattle.std.proofs.Common.{◌∙◌, ap, sym}
+use Rattle.ick_stages.specs.Stages.{AreWhole, no_line}
+use Rattle.ick_stages_cli.specs.Tool.{IsCodeAnswer, is_there, no_statement, no_such}
+use Rattle.ick_stages_cli.proofs.Giving.{gives_refusal, gives_written, leaves_usage, leaves_written}
 use Rattle.ick_stages_cli.proofs.dispatch.answer_code.Goals as goal
 
 pub returns-then-not-has_statement-clause-leaves : goal.returns-then-not-has_statement-clause-leaves
@@ -9,20 +9,21 @@ returns-then-not-has_statement-clause-leaves g c = leaves_usage no_statement c.n
 
 pub returns-then-not-has_statement-clause-gives : goal.returns-then-not-has_statement-clause-gives
 returns-then-not-has_statement-clause-gives g c = λ told.
-    gives_refusal (IsCodeAnswer c.args.asked.now c.args.source.now c.args.code.now) 64 no_statement c.none.result _
+    gives_refusal (IsCodeAnswer c.args.asked.now c.args.source.now c.args.code.now)
+    (AreWhole c.args.code.now c.args.source.now c.args.asked.now) 64 no_statement c.none.result _
     c.none.ensures
     (no_such (ap (is_there c.args.asked.now.only) (sym c.count.ensures)
     ∙ (sym c.has_statement.ensures ∙ c.if-not-has_statement.true)))
+    no_line
 
-pub returns-in-Ok-clause-gives : goal.returns-in-Ok-clause-gives
-returns-in-Ok-clause-gives g c = λ told.
-    gives_so c.show.result _ _
-    (λ answer h. subst (IsCodeAnswer c.args.asked.now c.args.source.now c.args.code.now) (sym h.1)
-    (stages c.in-Ok.text.bytes.items
+pub returns-clause-leaves : goal.returns-clause-leaves
+returns-clause-leaves g c =
+    leaves_written c.write_stages-written.result c.end_of.result _ _ c.end_of.ensures c.write_stages-written.ensures.count
+
+pub returns-clause-gives : goal.returns-clause-gives
+returns-clause-gives g c = λ told.
+    gives_written c.args.asked.now c.args.source.now c.args.code.now _ _ c.write_stages-written.result c.end_of.result
+    c.end_of.ensures
     (ap (is_there c.args.asked.now.only) (sym c.count.ensures)
     ∙ (sym c.has_statement.ensures ∙ c.if-not-has_statement.false))
-    (c.in-Ok.ensures h.0)))
-    (c.show.ensures.gives told)
-
-pub returns-in-Err-clause-leaves : goal.returns-in-Err-clause-leaves
-returns-in-Err-clause-leaves g c = leaves_nothing _ _ _
+    (c.write_stages-written.ensures.written told)

@@ -1,7 +1,7 @@
-use Rattle.std.proofs.Common.{subst, sym}
-use Rattle.ick_code.specs.Compiled.{code_program}
+use Rattle.std.proofs.Common.{[], subst, sym}
+use Rattle.std.proofs.lemmas.List.{append-nil}
 use Rattle.ick_source.specs.Refusals.{Compiles}
-use Rattle.ick_stages_cli.specs.Tool.{compiled}
+use Rattle.ick_stages_cli.specs.Tool.{compiled, lines_of, no_line}
 use Rattle.ick_stages_cli.proofs.Giving.{gives_refused, gives_so, leaves_nothing, leaves_refused}
 use Rattle.ick_stages_cli.proofs.dispatch.answer_source.Goals as goal
 
@@ -18,7 +18,13 @@ returns-in-Ok-compile-clause-gives g c = λ writer_told.
     (λ answer h. compiled c.in-Ok-compile.code answer
     (subst (λ p. Compiles c.args.source.now p) (sym c.in-Ok-compile.ensures.program_is) c.in-Ok.ensures.compiles)
     c.law.ensures h)
+    (λ lines h. lines_of c.in-Ok-compile.code lines
+    (subst (λ p. Compiles c.args.source.now p) (sym c.in-Ok-compile.ensures.program_is) c.in-Ok.ensures.compiles)
+    c.law.ensures h)
     (c.answer_code.ensures.gives writer_told)
 
 pub returns-clause-leaves : goal.returns-clause-leaves
 returns-clause-leaves g c = leaves_nothing _ _ _
+
+pub returns-clause-gives : goal.returns-clause-gives
+returns-clause-gives g c = λ told. ([], no_line, sym (append-nil _))

@@ -1,54 +1,52 @@
-use Rattle.std.proofs.Common.{ap, subst}
-use Rattle.ick_job.specs.JobEnd.{source_of}
+use Rattle.std.proofs.Common.{ap, refl}
+use Rattle.clap.specs.Walk.{texts}
+use Rattle.ick_job.specs.Program.{files_by, stream}
 use Rattle.ick_job.specs.Serve.{counts}
-use Rattle.ick_job.specs.Usage.{help_without_memory}
-use Rattle.ick_job.proofs.ErrorKinds.{memory_ran_out, mistaken, requested}
-use Rattle.ick_job.proofs.Served.{due, finished_status}
-use Rattle.ick_stages_cli.specs.Gives.{Gives, without_memory}
-use Rattle.ick_stages_cli.specs.Job.{Wanted}
-use Rattle.ick_stages_cli.specs.Tool.{IsStagesAnswer}
-use Rattle.ick_stages_cli.proofs.Serving.{stages_served}
+use Rattle.ick_job.proofs.Programs.{refused_words}
+use Rattle.ick_stages_cli.specs.Job.{wanted}
+use Rattle.ick_stages_cli.specs.Program.{stages}
+use Rattle.ick_stages_cli.proofs.Doing.{may_run_out, serves}
 use Rattle.ick_stages_cli.proofs.driver.serve_stages.Goals as goal
 
-pub returns-in-Ok-clause-job : goal.returns-in-Ok-clause-job
-returns-in-Ok-clause-job g c = λ has_job files_told reader_told writer_told.
-    let left = g.R.ByteSource.left c.args.reader.now in
-    let source = λ (job : Wanted). source_of job.file (g.F.Files.named c.args.files.now)
-    (g.F.ByteSource.failed c.args.files.now) (g.F.ByteSource.failed c.perform-job_end.new.files) left in
-    let work = c.perform-job_end.ensures in (
-      _,
-      _,
-      stages_served c.perform-job_end.result _ _ _ _ _ _ _ _ work.leaves
-          (subst (λ (job : Wanted). Gives (IsStagesAnswer job (source job)) c.perform-job_end.result
-          (g.W.ByteSink.written c.args.writer.now) (g.W.ByteSink.written c.perform-job_end.new.writer))
-          c.in-Ok.ensures.job (work.gives files_told reader_told writer_told)),
-      c.report.ensures,
-    )
+-- arguments that ask for a job
+pub returns-in-Ok : goal.returns-in-Ok
+returns-in-Ok g c =
+    let call = c.perform-job_end in
+    let work = call.ensures in
+    serves (texts c.args.words.now) (wanted c.in-Ok.job)
+    (files_by g.F.ByteSource.told g.F.ByteSource.failed g.F.Files.named c.args.files.now call.new.files)
+    (stream g.R.ByteSource.told g.R.ByteSource.failed g.R.ByteSource.left c.args.reader.now call.new.reader)
+    (stream g.W.ByteSink.told g.W.ByteSink.failed g.W.ByteSink.written c.args.writer.now call.new.writer)
+    (stream g.E.ByteSink.told g.E.ByteSink.failed g.E.ByteSink.written c.args.errors.now c.report.new.errors)
+    c.report.result call.result c.in-Ok.ensures.job c.in-Ok.ensures.law
+    (record {
+      leaves = work.leaves;
+      gives = work.gives;
+      left = work.left;
+      reader_kept = work.reader_kept;
+      files_kept = work.files_kept;
+      source_first = work.source_first;
+    }) c.report.ensures
 
-pub returns-in-Ok-clause-said : goal.returns-in-Ok-clause-said
-returns-in-Ok-clause-said g c =
-    (_, _, due c.perform-job_end.result _ _ _ _ _ _ c.perform-job_end.ensures.leaves, c.report.ensures)
-
-pub returns-in-Ok-clause-status : goal.returns-in-Ok-clause-status
-returns-in-Ok-clause-status g c = finished_status _ _ _ _ _ _ _ _ (returns-in-Ok-clause-said g c)
-
-pub returns-in-Err-clause-job : goal.returns-in-Err-clause-job
-returns-in-Err-clause-job g c = λ has_job files_told reader_told writer_told.
-    let memory = c.answer_words.ensures.memory (memory_ran_out c.in-Err.error _ has_job c.in-Err.ensures.law) in
-    (_, _, without_memory (ap (counts _ _) (ap g.W.ByteSink.failed memory.0)) (ap g.W.ByteSink.written memory.0), memory.1)
-
-pub returns-in-Err-clause-said : goal.returns-in-Err-clause-said
-returns-in-Err-clause-said g c = c.answer_words.ensures.said _ _
-
-pub returns-in-Err-clause-status : goal.returns-in-Err-clause-status
-returns-in-Err-clause-status g c = finished_status _ _ _ _ _ _ _ _ (returns-in-Err-clause-said g c)
-
-pub returns-in-Err-clause-usage : goal.returns-in-Err-clause-usage
-returns-in-Err-clause-usage g c = λ mistakes.
-    c.answer_words.ensures.usage (mistaken c.in-Err.error _ mistakes c.in-Err.ensures.law)
-
-pub returns-in-Err-clause-help : goal.returns-in-Err-clause-help
-returns-in-Err-clause-help g c = λ requests.
-    requested _ c.in-Err.error _ requests c.in-Err.ensures.law c.answer_words.ensures.help (λ e.
-    let memory = c.answer_words.ensures.memory e in
-    (_, _, help_without_memory (ap g.W.ByteSink.failed memory.0) (ap g.W.ByteSink.written memory.0), memory.1))
+-- arguments whose parse failed
+pub returns-in-Err : goal.returns-in-Err
+returns-in-Err g c =
+    let call = c.answer_words in
+    let files = files_by g.F.ByteSource.told g.F.ByteSource.failed g.F.Files.named c.args.files.now c.args.files.now in
+    let reader = stream g.R.ByteSource.told g.R.ByteSource.failed g.R.ByteSource.left c.args.reader.now
+    c.args.reader.now in
+    let writer = stream g.W.ByteSink.told g.W.ByteSink.failed g.W.ByteSink.written c.args.writer.now call.new.writer in
+    let errors = stream g.E.ByteSink.told g.E.ByteSink.failed g.E.ByteSink.written c.args.errors.now
+    call.new.errors in
+    refused_words stages (texts c.args.words.now) c.in-Err.error files reader writer errors call.result
+    c.in-Err.ensures.law refl refl
+    call.ensures.usage call.ensures.help call.ensures.either (call.ensures.said _ _)
+    (λ e. let memory = call.ensures.memory e in record {
+      same_files = refl;
+      same_reader = refl;
+      same_writer = memory.0;
+      calm = ap (counts _ _) (ap g.W.ByteSink.failed memory.0);
+      unwritten = ap g.W.ByteSink.written memory.0;
+      line = memory.1;
+    })
+    (λ text code owed. owed) (may_run_out (texts c.args.words.now) files reader writer errors call.result)

@@ -1,31 +1,32 @@
 use Rattle.std.proofs.Common.{refl}
+use Rattle.ick_job.specs.Program.{files_by, stream}
 use Rattle.ick_job.specs.Serve.{memory_failed}
-use Rattle.ick_job.specs.Usage.{help_without_memory, refused_without_memory}
-use Rattle.ick_job.proofs.Served.{finished_status}
-use Rattle.ick_stages_cli.specs.Gives.{without_memory}
+use Rattle.ick_job.proofs.Programs.{RanOut, unserved}
+use Rattle.ick_stages_cli.specs.Program.{stages}
+use Rattle.ick_stages_cli.proofs.Doing.{may_run_out}
+use Rattle.ick_system.specs.Arguments.{after_name}
 use Rattle.stages.proofs.serving.serve_arguments.Goals as goal
 
-pub returns-in-Err-clause-job : goal.returns-in-Err-clause-job
-returns-in-Err-clause-job g c = λ has_job files_told reader_told writer_told.
-    (_, _, without_memory refl refl, c.refuse_words.ensures)
+pub returns-in-Ok : goal.returns-in-Ok
+returns-in-Ok g c = rw (c.as_slice.ensures.value, c.in-Ok.ensures) at c.serve_stages.ensures
 
-pub returns-in-Err-clause-usage : goal.returns-in-Err-clause-usage
-returns-in-Err-clause-usage g c = λ mistakes. (refl, (_, _, refused_without_memory, c.refuse_words.ensures))
-
-pub returns-in-Err-clause-help : goal.returns-in-Err-clause-help
-returns-in-Err-clause-help g c = λ requests. (_, _, help_without_memory refl refl, c.refuse_words.ensures)
-
-pub returns-in-Err-clause-said : goal.returns-in-Err-clause-said
-returns-in-Err-clause-said g c = (_, _, memory_failed refl, c.refuse_words.ensures)
-
-pub returns-in-Err-clause-status : goal.returns-in-Err-clause-status
-returns-in-Err-clause-status g c = finished_status _ _ _ _ _ _ _ _ (returns-in-Err-clause-said g c)
-
-pub returns-in-Ok-clause-job : goal.returns-in-Ok-clause-job
-returns-in-Ok-clause-job g c = rw (c.as_slice.ensures.value, c.in-Ok.ensures) at c.serve_stages.ensures.job
-
-pub returns-in-Ok-clause-usage : goal.returns-in-Ok-clause-usage
-returns-in-Ok-clause-usage g c = rw (c.as_slice.ensures.value, c.in-Ok.ensures) at c.serve_stages.ensures.usage
-
-pub returns-in-Ok-clause-help : goal.returns-in-Ok-clause-help
-returns-in-Ok-clause-help g c = rw (c.as_slice.ensures.value, c.in-Ok.ensures) at c.serve_stages.ensures.help
+-- memory ran out for the arguments
+pub returns-in-Err : goal.returns-in-Err
+returns-in-Err g c =
+    let files = files_by g.F.ByteSource.told g.F.ByteSource.failed g.F.Files.named c.args.files.now c.args.files.now in
+    let reader = stream g.R.ByteSource.told g.R.ByteSource.failed g.R.ByteSource.left c.args.reader.now
+    c.args.reader.now in
+    let writer = stream g.W.ByteSink.told g.W.ByteSink.failed g.W.ByteSink.written c.args.writer.now
+    c.args.writer.now in
+    let errors = stream g.E.ByteSink.told g.E.ByteSink.failed g.E.ByteSink.written c.args.errors.now
+    c.refuse_words.new.errors in
+    let out : RanOut files reader writer errors c.refuse_words.result = record {
+      same_files = refl;
+      same_reader = refl;
+      same_writer = refl;
+      calm = refl;
+      unwritten = refl;
+      line = c.refuse_words.ensures;
+    } in
+    unserved stages (after_name c.args.arguments.now) files reader writer errors c.refuse_words.result out
+    (may_run_out (after_name c.args.arguments.now) files reader writer errors c.refuse_words.result out) (memory_failed refl)
