@@ -1,5 +1,6 @@
-"""Rows of ick-outcomes and ick-step over which every call of the system fails: words, what they are given, and what
-they leave. All answers are absolute: they come from chapters 14, 10 and 11 of docs/MANUAL.md, and from no run.
+"""Rows of ick-outcomes, ick-step and ick-stages over which every call of the system fails: words, what they are given,
+and what they leave. All answers are absolute: they come from chapters 14, 10, 11 and 12 of docs/MANUAL.md, and from no
+run.
 """
 from table import CHANCES, ECHOES, ENTERED, LISTED_RUNS, REFUSAL, REFUSED, SOURCE, TALKS, Answer, Given
 
@@ -16,6 +17,12 @@ TOSSED = b"""1 0.25 00 GIVE-UP "_\\n\\n"
 1 0.25 11 GIVE-UP "\\nIII\\n"
 DONE
 """
+# A coin that is thrown until it shows a 0.
+THROWN = b"(1) DO FORGET #1\nPLEASE %50 (1) NEXT\nDO READ OUT #1\nDO GIVE UP\n"
+ENDLESS = b'* 1 0 GIVE-UP "\\nI\\n"\nDONE\n'
+# A coin before a loop without an end.
+CAUGHT = b"DO %50 GIVE UP\n(1) DO FORGET #1\nPLEASE (1) NEXT\n"
+UNFINISHED = b"TOO MANY STATES: 2; TRY --limit 10000\n"
 # Without its first WRITE IN the program takes two bytes of SIX, and its second number is the rest of this line.
 TALKED_OF = b"""1 0.5 0 E579@5 "\\nI\\n_\\n\\n"
 1 0.5 1 GIVE-UP "\\nI\\n\\nVI\\n\\nLXV\\n\\nI\\n\\nIX\\n"
@@ -26,6 +33,9 @@ OUTCOMES = [
     (Given("outcomes of standard input", ["--total"], COINS, SOURCE), Answer(0, b"3 OUTCOMES, 4 RUNS\n", b"")),
     (Given("outcomes with input", ["FILE"], TALKS, ENTERED), Answer(0, TALKED_OF, b"")),
     (Given("choices that were asked", ["--asked", "listing", "FILE"], CHANCES, b""), Answer(0, b"2:50\n2:50\n", b"")),
+    (Given("infinitely many runs", ["FILE"], THROWN, b""), Answer(0, ENDLESS, b"")),
+    (Given("outcomes under a limit", ["--limit", "10", "FILE"], COINS, b""), Answer(0, TOSSED, b"")),
+    (Given("too few states", ["--most", "2", "FILE"], CAUGHT, b""), Answer(4, b"", UNFINISHED)),
     (Given("too many states", ["--most", "1", "FILE"], COINS, b""), Answer(4, b"", b"TOO MANY STATES\n")),
     (Given("outcomes of a refused source", ["FILE"], REFUSED, b""), REFUSAL),
     (Given("outcomes of no file", ["no-such-file"], b"", b""), Answer(4, b"", b"FILE NOT READ\n")),
@@ -54,7 +64,7 @@ ANSWERS = b"""0 1 1:1 "DO READ OUT #1"
 1 2 2:1 "DO %50 WRITE IN .1"
   asks %50
 -
-unknown command; help lists all commands
+unknown command; did you mean next? help lists all commands
 """
 TRACE = b"""0 1 1:1 "DO READ OUT #1"
   prints "\\nI\\n"
@@ -88,4 +98,56 @@ STEP = [
     (Given("a session of a refused source", ["FILE"], REFUSED, b""), REFUSAL),
     (Given("a session of no input", ["--input", "no-such-file", "FILE"], ECHOES, b""),
      Answer(4, b"", b"FILE NOT READ\n")),
+]
+
+# A statement that is half of another value, and one that a trace comes to by a NEXT and a FORGET.
+SHOWN = b"""DO .1 <- .1~#3
+DO (1) NEXT
+(1) PLEASE FORGET #1
+DO GIVE UP
+"""
+STAGES_SHOWN = b"""1 1:1 - DO - 100 CALCULATE "DO .1 <- .1~#3"
+  tree .1 <- (.1 ~ #3)
+  operation 1 1 Load .1
+  operation 2 2 Constant 3
+  operation 3 1 Select
+  operation 4 0 Store .1
+  rule 1 read-in-place -> .1, 16 bits
+  rule 3 select-a-field: t1 = Field .1 0 00000003 -> t1, 16 bits, ones 00000003, .1 & 00000003
+  rule 4 calculate-into-the-scalar: .1 = Field .1 0 00000003
+  instruction 1 by 3 4: .1 = Field .1 0 00000003
+  trace 0 1: .1 = Field .1 0 00000003
+  trace 1 2: -
+  trace 2 3 pending 3: -
+  trace 3 4: Stop
+2 2:1 - DO - 100 NEXT "DO (1) NEXT"
+  tree (1) NEXT
+  operation 1 0 Call 3
+  rule 1 as-it-is: Call 3
+  instruction 1 by 1: Call 3
+3 3:1 (1) PLEASE - 100 FORGET "(1) PLEASE FORGET #1"
+  tree FORGET #1
+  operation 1 1 Constant 1
+  operation 2 0 Forget
+  rule 2 as-it-is: Forget #1
+  instruction 1 by 2: Forget #1
+4 4:1 - DO - 100 GIVE-UP "DO GIVE UP"
+  tree GIVE UP
+  operation 1 0 Stop
+  rule 1 as-it-is: Stop
+  instruction 1 by 1: Stop
+DONE
+"""
+INSTRUCTIONS = b"""3 3:1 (1) PLEASE - 100 FORGET "(1) PLEASE FORGET #1"
+  instruction 1 by 2: Forget #1
+DONE
+"""
+STAGES = [
+    (Given("stages", ["FILE"], SHOWN, b""), Answer(0, STAGES_SHOWN, b"")),
+    (Given("stages of standard input", ["--instructions", "--statement", "3"], SHOWN, SOURCE),
+     Answer(0, INSTRUCTIONS, b"")),
+    (Given("stages of no statement", ["--statement", "5", "FILE"], SHOWN, b""),
+     Answer(64, b"", b"NO SUCH STATEMENT\n")),
+    (Given("stages of a refused source", ["FILE"], REFUSED, b""), REFUSAL),
+    (Given("stages of no file", ["no-such-file"], b"", b""), Answer(4, b"", b"FILE NOT READ\n")),
 ]
