@@ -86,12 +86,16 @@ MESSAGES = {
                    "Write the digits 0 and 1, as 0110, or groups, as 0*70,1*2. Write --from=- for the run without choices."),
     "NO SUCH RUN": (64, "no run has the choices after --from, or they are more than the limit has steps.",
                     "Take the first word of a listed line, and list with the same program, input and --limit."),
-    "TOO MANY STATES": (4, "`ick-outcomes` would have to keep more states at a time than --most allows, 1,000,000 if it isn't "
-                           "given.",
-                        "Print at the end, and not at each choice: what was printed belongs to the state. Or give a smaller "
-                        "--limit, or a larger --most."),
+    "TOO MANY STATES": (4, "`ick-outcomes` would have to keep more states than --most allows, 1,000,000 if it isn't given.",
+                        "Print at the end, and not at each choice: what was printed belongs to the state. Or give a --limit, "
+                        "a smaller one, or a larger --most."),
+    "TOO MUCH MEMORY": (4, "`ick-outcomes` would have to keep states of more than 2,000,000,000 bytes.",
+                        "Give a --limit, as the line says. Or print at the end: what was printed belongs to the state."),
+    "NOT SOLVED": (4, "`ick-outcomes` found all states of the program, but not how likely each outcome is.",
+                   "Give a --limit, as the line says: then the runs are weighed that end within it."),
     "LISTING TOO LONG": (4, "a listing for `ick-outcomes --asked` has at most 1,073,741,824 bytes.",
                          "Give it a part of the listing. Each line is explained by itself."),
+    "ASKED WITH EXACT OR TOTAL": (64, "`ick-outcomes --asked` prints no outcomes.", "Leave out --asked, or --exact and --total."),
     "LINE N IS NOT OF THIS PROGRAM": (64, "a line of the listing for `ick-outcomes --asked` is no run of this program with "
                                           "this input and this limit.",
                                       "Give the program, the input and the --limit with which the listing was made."),

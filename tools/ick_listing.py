@@ -18,6 +18,7 @@ STAGES = {name: re.compile(rb"  " + name.encode() + rb" " + fields) for name, fi
     "rule": rb"([0-9]+) ([a-z0-9~+-]+)(?:: ([ -~]+?))?(?: -> ([ -~]+))?",
     "dropped": rb"([0-9]+) ([ -~]+)",
     "instruction": rb"([0-9]+)(?: by ([0-9]+(?: [0-9]+)*))?: ([ -~]+)",
+    "trace": rb"([0-9]+) ([0-9]+)(?: pending ([0-9]+(?: [0-9]+)*))?: ([ -~]+)",
 }.items()}
 TEXT = re.compile(QUOTED)
 ENDS = (b"DONE", b"MORE")

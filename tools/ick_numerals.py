@@ -76,6 +76,16 @@ def common_pieces(first, second):
     return cut
 
 
+def start_of_context(outputs):
+    """Where a line begins, so that what is before it is equal in all outputs, and that `common_pieces` of two of them
+    depends only on what is behind it: on the line in which they differ, and the two before it.
+    """
+    place = common(min(outputs), max(outputs))
+    for _ in range(3):
+        place = outputs[0].rfind(b"\n", 0, max(place - 1, 0)) + 1
+    return place
+
+
 def common(first, second):
     """How many bytes both begin with."""
     size = min(len(first), len(second))

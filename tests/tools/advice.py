@@ -251,7 +251,7 @@ def try_explained(tally):
     manual, told = content(f"{TOP}/docs/MANUAL.md").decode(), {"SOURCE TOO LONG"}
     for title in ("Exit statuses", "Outcomes"):
         text = re.split(rf"\n## \d+ {title}\n", manual)[1].split("\n## ")[0]
-        found = re.findall(r"^\| \d+ \| `([A-Zn ]+?)(?: AFTER n STEPS)?` \|", text, re.MULTILINE)
+        found = re.findall(r"^\| \d+ \| `([A-Zn ]+?)(?: AFTER n STEPS|(?:: n)?; TRY --limit 10000)?` \|", text, re.MULTILINE)
         told |= {name.replace("n", "N") for name in found}
     tally.equal("the messages of the manual", told, set(ick_faults.MESSAGES))
     tally.equal("a line by its number", *(tally.tool("ick-advice", "--explain", *f"LINE {number} IS NOT OF THIS PROGRAM".split())

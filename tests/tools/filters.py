@@ -33,7 +33,8 @@ STAGES = (b'2 2:9 (7) DO - 100 CALCULATE "DO .1 <- .2"\n  tree .1 <- .2\n  opera
           b"  rule 1 read-in-place -> .2, 16 bits\n  rule 3 no-check: Check :1 | t1 = Mingle :1 .2 -> t1, 32 bits, :1 $ .2\n"
           b"  rule 7 select-from-the-right-operand+select-all -> .2, 16 bits\n  rule 1 statement-that-stays\n"
           b"  rule 8 n~n: t1 = Ones .2 -> t1, 16 bits, .2 ~ .2\n  dropped 3 t1 = Ones .2\n"
-          b"  instruction 1 by 8 9: .1 = LookUp .2 [0>0 2>1]\n  instruction 2: Pass\nDONE\n")
+          b"  instruction 1 by 8 9: .1 = LookUp .2 [0>0 2>1]\n  instruction 2: Pass\n"
+          b"  trace 0 2: .1 = LookUp .2 [0>0 2>1]\n  trace 1 3: -\n  trace 3 12 pending 10 8: Resume t4\nDONE\n")
 OF_STAGES = (
     {"statement": 2, "line": 2, "column": 9, "label": 7, "polite": False, "abstained": False, "chance": 100,
      "kind": "CALCULATE", "text": "DO .1 <- .2", "base64": "RE8gLjEgPC0gLjI="},
@@ -50,6 +51,9 @@ OF_STAGES = (
     {"stage": "dropped", "number": 3, "instruction": "t1 = Ones .2"},
     {"stage": "instruction", "number": 1, "by": [8, 9], "instruction": ".1 = LookUp .2 [0>0 2>1]"},
     {"stage": "instruction", "number": 2, "by": [], "instruction": "Pass"},
+    {"stage": "trace", "number": 0, "statement": 2, "pending": [], "instruction": ".1 = LookUp .2 [0>0 2>1]"},
+    {"stage": "trace", "number": 1, "statement": 3, "pending": [], "instruction": "-"},
+    {"stage": "trace", "number": 3, "statement": 12, "pending": [10, 8], "instruction": "Resume t4"},
     {"listing": "DONE"},
 )
 WRONG = (b'1 1/0 0 GIVE-UP ""\n', b"HELLO\n", b'0 GIVE-UP ""x\n', b'2 GIVE-UP ""\n', b'0 GIVE-UP "\\q"\n', b'0 E1@1 ""\n',

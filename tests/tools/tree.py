@@ -1,7 +1,9 @@
 """Tries ick-tree: the parts and edges that it draws in dot's language, and Graphviz's pictures of them."""
+import itertools
 import re
 import resource
 
+import ick_numerals
 from common import TOP, closed_pipe, content, full_disk, help_and_mistakes, write
 
 # a listing, options, the labels of the parts that are drawn, and the edges as pairs of a choice and a label
@@ -159,6 +161,33 @@ def try_large(tally):
     tally.check(used <= max(before, 200_000), f"ick-tree takes {used} KB for 65,536 unequal runs")
 
 
+def try_bunches(tally):
+    """Runs that are joined many at once have the tree that their branches have."""
+    names = ["I", "II", "III", "IV", "V", "VI"]
+    given = listing(6, lambda run: b'GIVE-UP "%s"' % b"".join(
+        b"\\n%s\\n" % name.encode() for place, name in enumerate(names) if run >> 5 - place & 1))
+    levels = [["64 runs"]] + [["32 runs", f"{name} 32 runs"] for name in names[:-1]]
+    levels.append(["GIVE-UP 32 runs", f"{names[-1]} GIVE-UP 32 runs"])
+    edges = [pair for upper, lower in zip(levels, levels[1:]) for _ in upper for pair in zip("01", lower)]
+    status, out, err = tally.tool("ick-tree", "--format", "dot", given=given)
+    tally.equal("the tree of 6 printed coins", (status, err, *drawn(out.decode())),
+                (0, b"", sorted(sum(levels, [])), sorted(edges)))
+    # a part that isn't listed whole is equal to none: behind each first choice one run is lacking, and one goes on
+    given = re.sub(rb"(.)0101 .*\n(.)0110( .*\n)", rb"\g<1>01100\3\g<1>01101\3", listing(5, lambda run: b'GIVE-UP ""'))
+    status, out, err = tally.tool("ick-tree", "--format", "dot", given=given)
+    labels, edges = drawn(out.decode())
+    tally.equal("the tree of 2 times 16 of 17 runs", (status, err, labels.count(".."), edges.count(("1", ".."))),
+                (0, b"", 2, 2))
+    # the place from which bunches are compared changes no result
+    wrong = []
+    for lines in itertools.product((b"", b"_", b"I", b" _"), repeat=6):
+        outputs = [b"\n".join(lines) + end for end in (b"", b"I\n", b"V\nX\n", b"\n\n")]
+        start = ick_numerals.start_of_context(outputs)
+        wrong += [pair for pair in itertools.combinations(outputs, 2) if ick_numerals.common_pieces(*pair)
+                  != start + ick_numerals.common_pieces(*[output[start:] for output in pair])]
+    tally.check(not wrong, f"what two outputs have in common depends on what is far before: {wrong[:3]}")
+
+
 def try_pictures(tally):
     _, listing, _ = tally.ick("runs", f"{TOP}/examples/quiet.i")
     if tally.lacks("dot", "the pictures of ick-tree"):
@@ -179,4 +208,5 @@ def try_all(tally):
     try_programs(tally)
     try_refusals(tally)
     try_large(tally)
+    try_bunches(tally)
     try_pictures(tally)

@@ -3,6 +3,7 @@ import fcntl
 import os
 import pty
 import re
+import resource
 import select
 import signal
 import struct
@@ -28,8 +29,10 @@ PLEASE RESUME #1
 """
 LINES = b"DO .1 <- #1\nPLEASE FOO\n5 BAR\n  at 9 X\n"
 LOOP = b"DO .1 <- #1\n(1) DO FORGET #1\nPLEASE (1) NEXT\n"
+CONTROL = b"DO .1 <- #1\nPLEASE FOO\x07BAR\n"
 ASKS = b"DO %50 READ OUT #1\nPLEASE WRITE IN .1\nDO GIVE UP\n"
 REDRAW = "\f"
+MEMORY = 100_000_000
 CODES = re.compile(rb"\x1b(?:\[[0-9;?]*[A-Za-z]|[()][0-9A-Za-z]|.)|[\x0e\x0f]")
 
 # keys, and what the screen then has
@@ -48,25 +51,39 @@ FAULT = (
     ("bbbbbbb\033OB\033OB\033OB\033OAu", ["steps: 2", "> 3 DO .1 <- #2"]),
 )
 TEXT = (("r", ["steps: 2", "! 2 PLEASE FOO 5 BAR at 9 X", "ended: ICL000I"]), ("b", ["steps: 1", "> 2 PLEASE FOO"]))
+DOWN = "\033OB"
+BREAKS = (
+    (DOWN * 8 + "t", ["steps: 0", "> 1 DO ,1 <- #3", " *9 DO .1 <-", "breakpoint at 9 9:1"]),
+    ("r", ["steps: 5", ">*9 DO .1 <-"]),
+    ("o", ["steps: 9", "> 5 PLEASE READ OUT .3", " *9 DO .1 <-"]),
+    ("o", ["steps: 9", "the NEXT stack is empty"]),
+    ("bbbbbbbbbn", ["steps: 1", "> 2 DO ,1SUB#2"]),
+    ("n", ["steps: 2"]),
+    ("w.3\n", ["steps: 5", ">*9 DO .1 <-"]),
+    ("t", ["steps: 5", "> 9 DO .1 <-", "breakpoint deleted"]),
+    ("bbbbbr", ["steps: 11", "! 6 DO READ OUT ,1SUB.1"]),
+)
+ESCAPED = ((DOWN + "t", [" *2 PLEASE FOO\\x07BAR", 'breakpoint at 2 2:1 "PLEASE FOO\\x07BAR"']), ("r", [">*2 PLEASE FOO\\x07BAR"]))
 CHOICES = (
-    ("", ["steps: 0", "asks %50"]),
+    ("", ["steps: 0", "asks %50 (keys 0, 1)"]),
     ("1", ["steps: 1", "> 2 PLEASE WRITE IN .1", "input left: 4"]),
     ("b0s", ["steps: 2", ".1 = 6", "input left: 0"]),
 )
 
 
 def seen(terminal, wanted):
-    """Reads what is written until all wanted texts are there. Returns whether they came."""
+    """Reads what is written until all wanted texts are there. Returns what came, or nothing if they didn't."""
     written, end = b"", time.monotonic() + SECONDS / 10
     while time.monotonic() < end:
-        if all(text in CODES.sub(b"", written).decode() for text in wanted):
-            return True
+        shown = CODES.sub(b"", written).decode()
+        if all(text in shown for text in wanted):
+            return shown
         if select.select([terminal], [], [], 1)[0]:
             try:
                 written += os.read(terminal, 65536)
             except OSError:  # the tool has ended
-                return False
-    return False
+                return ""
+    return ""
 
 
 def try_keys(tally, rows, words, size):
@@ -117,17 +134,36 @@ def try_long_run(tally, path):
     os.write(terminal, b"r")
     tally.check(seen(terminal, ["any key stops"]), "ick-tui: a long run doesn't show its steps")
     os.write(terminal, b" " + REDRAW.encode())
-    tally.check(seen(terminal, ["steps: ", "s step"]), "ick-tui: a key doesn't stop a long run")
+    tally.check(seen(terminal, ["steps: ", "s step", "goes on"]), "ick-tui: a key doesn't stop a long run")
     os.write(terminal, ("b" * 3 + REDRAW).encode())
     tally.check(seen(terminal, ["steps: "]), "ick-tui: no step back after a run that was stopped")
     tool.terminate()
     end(tally, tool, terminal, "ick-tui after TERM", (143, b""))
     tool, terminal = start(tally, [path], "vt100")
     tally.check(seen(terminal, ["steps: 0"]), "ick-tui: no first screen")
-    with open(f"/proc/{tool.pid}/task/{tool.pid}/children", encoding="ascii") as children:
-        os.kill(int(children.read()), signal.SIGKILL)
+    os.kill(program_of(tool), signal.SIGKILL)
     os.write(terminal, b"s")
     end(tally, tool, terminal, "ick-tui without its program", (4, b"ick-tui: ick-step: ended by the signal SIGKILL\n"))
+
+
+def program_of(tool):
+    """The process of ick-step that the tool has started."""
+    with open(f"/proc/{tool.pid}/task/{tool.pid}/children", encoding="ascii") as children:
+        return int(children.read())
+
+
+def try_without_memory(tally, path):
+    """A run whose memory ends says so, and a step goes back from there."""
+    tool, terminal = start(tally, ["--limit", "4000000000", path], "vt100")
+    tally.check(seen(terminal, ["steps: 0"]), "ick-tui: no first screen")
+    resource.prlimit(program_of(tool), resource.RLIMIT_AS, (MEMORY, MEMORY))
+    os.write(terminal, b"r")
+    stopped = re.search("stopped after ([0-9]+) steps: out of memory", seen(terminal, ["out of memory"]))
+    if tally.check(stopped, "ick-tui doesn't say that memory ended"):
+        os.write(terminal, ("b" + REDRAW).encode())
+        tally.check(seen(terminal, [f"steps: {int(stopped[1]) - 1}"]), "ick-tui: no step back after memory ended")
+    os.write(terminal, b"q")
+    end(tally, tool, terminal, "ick-tui whose memory ended", (0, b""))
 
 
 def try_colours(tally, path):
@@ -144,16 +180,19 @@ def try_colours(tally, path):
 
 def try_all(tally):
     help_and_mistakes(tally, "ick-tui")
-    double, asks, lines, entered = (os.path.join(tally.folder, name) for name in ("double.i", "asks.i", "lines.i", "input"))
-    for path, text in ((double, DOUBLE), (asks, ASKS), (lines, LINES), (entered, b"SIX\n")):
+    paths = double, asks, lines, control, entered = [os.path.join(tally.folder, f"{number}.i") for number in range(5)]
+    for path, text in zip(paths, (DOUBLE, ASKS, LINES, CONTROL, b"SIX\n")):
         write(path, text)
     for size in ((24, 80), (40, 200)):
         try_keys(tally, FAULT, [double], size)
+        try_keys(tally, BREAKS, [double], size)
     try_keys(tally, CHOICES, ["--input", entered, asks], (12, 60))
     try_keys(tally, TEXT, [lines], (24, 80))
+    try_keys(tally, ESCAPED, [control], (24, 80))
     loop = os.path.join(tally.folder, "loop.i")
     write(loop, LOOP)
     try_long_run(tally, loop)
+    try_without_memory(tally, loop)
     try_colours(tally, double)
     status, out, err = tally.tool("ick-tui", "--seed", "x", double)
     tally.check(status == 4 and not out and err.startswith(b"ick-tui: ick-step: "), f"ick-tui --seed x: {status} {err!r}")
