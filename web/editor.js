@@ -121,7 +121,7 @@ class Editor {
     new ResizeObserver(() => this.show()).observe(field);
   }
 
-  // Marks lines: each line's kind, `bad`, `wait` or `here`, and what is to be said of it.
+  // Marks lines: each line's kinds, such as `bad`, `wait`, `here` or `stop`, and what is to be said of it.
   mark(marks) {
     this.marks = marks;
     if (this.field.value === this.source) this.show();
@@ -169,6 +169,11 @@ class Editor {
       at = to;
     }
     return [...nodes, `${source.slice(at, end)}\n`];
+  }
+
+  // Returns the line whose number is drawn at a height of the window.
+  lineAt(height) {
+    return this.drawn.first + 1 + Math.floor((height - this.rows[0].getBoundingClientRect().top) / this.drawn.height);
   }
 
   number(line) {

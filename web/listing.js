@@ -10,6 +10,9 @@ function unquoted(text) {
   return text.replace(CODE, (_, code) => NAMED[code] ?? String.fromCharCode(parseInt(code.slice(1), 16)));
 }
 
+// Returns the text of bytes that are given by one character each.
+const textOfLetters = (letters) => new TextDecoder().decode(Uint8Array.from(letters, (letter) => letter.charCodeAt(0)));
+
 // Reads a listing, perhaps one that is cut off: its runs, and whether no further run exists.
 function readListing(text) {
   const lines = text.slice(0, text.lastIndexOf('\n') + 1).split('\n').slice(0, -1);

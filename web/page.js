@@ -14,10 +14,11 @@ const DEEPEST = 1e6; // choices of a run that are read
 const LATE = 150; // milliseconds after which a call shows how long it takes, and how often it does
 const PAUSE = 250; // milliseconds without a key, after which the program is looked over
 const LIMIT_OF_RUNS = '10000'; // the default of `ick runs`, which is another one than that of `ick run`
+const MOST_STATES = '20000'; // states that are searched for outcomes without a limit
 const FIRST = 'quiet'; // the example that the page begins with
 const FIELDS = ['source', 'input', 'choices', 'seed', 'limit', 'count'];
 const STORE = 'ick.form'; // where the tab keeps the form
-const PARTS = ['drawn', 'written', 'said', 'question', 'stepped', 'weighed', 'listed'];
+const PARTS = ['drawn', 'written', 'said', 'question', 'stepped', 'staged', 'weighed', 'listed'];
 const ASKED = 2000; // runs in a listing whose tree says what asks
 const ADVISED = 200; // pieces of advice that are listed; the lines of all are marked
 const HEADLINES = {
@@ -28,11 +29,12 @@ const HEADLINES = {
 const GAVE_UP = ['ok', 'The program gave up'];
 const UNABLE = 'This page needs WebAssembly, which this browser lacks or has switched off.';
 
-const { examples, library, advice: tables, made } = JSON.parse($('content').textContent);
+const { examples, library, advice: tables, equations, made } = JSON.parse($('content').textContent);
 const advice = new Advice(tables);
 const advising = [...document.querySelectorAll('[data-advises]')].map((it) => it.textContent);
 const adviser = new Adviser(advising, tables, advise);
 const editor = new Editor($('source'), $('numbers'), $('shown'));
+const stagesView = new StagesView($('staged'), equations, follow);
 let engine = null; // null if this browser can't run the module
 let listing = null; // the runs that are shown, and what was asked for them
 let weighed = null; // what was asked for the outcomes that are shown
@@ -41,7 +43,7 @@ let isBusy = false;
 let filled = ''; // the form as it was last filled, as text: what differs was typed
 let kept = null; // the form that was typed before an example or a file took its place
 let failing = null; // the line of the last fault or refusal, and what is to be said of it
-let meeting = null; // the statement that a session meets next, and its line
+let meeting = null; // the statement that a session meets next, or whose stages are shown, and a line of it
 let advised = { source: '', found: [] }; // the source that was looked over last, and what was found in it
 
 /* The form */
@@ -135,6 +137,7 @@ function advise(source, found) {
   if (source !== sourceOf(form())) return;
   advised = { source, found };
   mark();
+  if (staged?.statement) stagesView.advise(advisedOn(staged.statement));
 }
 
 // Marks the lines of all advice, of the last fault or refusal, and of the statement that is met next.
@@ -147,10 +150,31 @@ function mark() {
     const before = marks.get(line);
     marks.set(line, { kind: before?.kind === 'bad' ? 'bad' : kind, text: before ? `${before.text}\n${text}` : text });
   }
-  if (meeting) marks.set(meeting.line, { kind: 'here', text: `Statement ${meeting.number} is met next` });
+  if (meeting) marks.set(meeting.line, { kind: 'here', text: `Statement ${meeting.number} ${meeting.said}` });
+  for (const { line, number } of stopping()) {
+    const { kind, text } = marks.get(line) ?? { kind: '', text: '' };
+    marks.set(line, { kind: `${kind} stop`.trim(), text: `${text}\nBreakpoint at statement ${number}`.trim() });
+  }
   editor.mark(marks);
   const left = all.length - ADVISED, rest = left > 0 ? [element('li', { textContent: `… and ${left} more` })] : [];
   $('advice').replaceChildren(...all.slice(0, ADVISED).map(adviceItem), ...rest);
+}
+
+// Returns the statements of the session that have breakpoints, with their lines.
+function stopping() {
+  if (!session || session.request.file !== sourceOf(form())) return [];
+  const { file, commands } = session.request, statements = cut(file);
+  return [...breakpointsOf(commands)].map((number) =>
+    ({ number, line: file.slice(0, statements[number - 1].start).split('\n').length }));
+}
+
+// Sets a breakpoint at the first statement that begins on a line, or deletes it.
+function toggleBreakpoint(line) {
+  if (!session || session.request.file !== sourceOf(form())) return;
+  const { file, commands } = session.request, { starts, source } = editor;
+  const [start, end] = [starts[line - 1], starts[line] ?? source.length];
+  const statement = cut(file).find((it) => it.start >= start && it.start < end);
+  if (statement) command(`${breakpointsOf(commands).has(statement.number) ? 'delete' : 'break'} ${statement.number}`);
 }
 
 function adviceItem({ line, text, kind }) {
@@ -198,6 +222,9 @@ const FILES = {
   'outcomes txt': () => weighed.text,
   'outcomes json': () =>
     linesOfJson([...weighed.lines.map(fieldsOfOutcome), ...(weighed.isWhole ? [{ listing: 'DONE' }] : [])]),
+  'stages txt': () => staged.text,
+  'stages json': () => linesOfJson([...linesOfStages(staged.text).map(fieldsOfStages), { listing: 'DONE' }]),
+  'stages svg': () => textOfDrawing($('nodes').querySelector('svg')),
   'tree svg': () => textOfDrawing($('tree').querySelector('svg')),
 };
 
@@ -250,8 +277,9 @@ function say([kind, text], more = '') {
 function clear() {
   for (const id of PARTS) $(id).hidden = true;
   $('status').replaceChildren();
-  [listing, weighed, session] = [null, null, null];
-  if (meeting === null) return;
+  const isMarked = meeting !== null || session !== null;
+  [listing, weighed, staged, session] = [null, null, null, null];
+  if (!isMarked) return;
   meeting = null;
   lookOver();
 }
@@ -363,7 +391,7 @@ function showSession(answer, request, errors) {
   $('back').hidden = true;
   const next = asks ? $('question').querySelector('button') : $('stepped').querySelector('[data-step=step]');
   if (isDecided || focused?.matches('[data-job=step]')) next.focus({ preventScroll: true });
-  meeting = met && request.file === sourceOf(form()) ? met : null;
+  meeting = met && request.file === sourceOf(form()) ? { ...met, said: 'is met next' } : null;
   lookOver();
   if (meeting) editor.reveal(meeting.line);
   if (end) return say(end[1] === 'G' ? GAVE_UP : HEADLINES[1], more);
@@ -410,24 +438,26 @@ function keepFocus() {
 function show(answer, request, askers) {
   const [output, errors] = [answer.output, answer.errors].map((bytes) => new TextDecoder().decode(bytes));
   const isOfTree = request.job === 'run' && request.isOfTree;
-  if (!isOfTree && request.from === undefined && !request.session) clear();
+  if (!isOfTree && request.from === undefined && !request.session && !request.staged) clear();
   if (request.job === 'runs') showListing(answer, request, output, errors, askers);
   else if (request.job === 'outcomes') showOutcomes(answer, request, output, errors);
   else if (request.job === 'step') showSession(answer, request, errors);
+  else if (request.job === 'stages') showStages(answer, request, output, errors);
   else showRun(answer, request, output, errors);
   const isFirst = request.isFirst && request.job === 'runs' && request.from === undefined;
   if (isOfTree) $(output ? 'written' : 'said').scrollIntoView({ block: 'nearest' });
-  else if (request.from === undefined && !request.session && !isFirst) reveal($('status'));
+  else if (request.from === undefined && !request.session && !request.staged && !isFirst) reveal($('status'));
   if (!isFirst) keepFocus();
 }
 
 /* Jobs */
 
-function argumentsOf({ job, choices, seed, limit, count, from }) {
-  const options = { run: { choices, seed, limit }, runs: { from, count, limit }, outcomes: { limit },
-    asked: { limit, asked: 'listing' }, step: { input: 'input', choices, seed, limit } }[job] ?? {};
+function argumentsOf({ job, choices, seed, limit, count, from, statement }) {
+  const options = { run: { choices, seed, limit }, runs: { from, count, limit }, outcomes: limit ? { limit } : { most: MOST_STATES },
+    asked: { limit, asked: 'listing' }, step: { input: 'input', choices, seed, limit }, stages: { statement },
+  }[job] ?? {};
   const given = Object.entries(options).filter(([, value]) => value).map(([name, value]) => `--${name}=${value}`);
-  return [...(isOfOutcomes(job) || job === 'step' ? [] : [job]), ...given, 'program.i'];
+  return [...(['run', 'runs', 'list', 'check'].includes(job) ? [job] : []), ...given, 'program.i'];
 }
 
 // Tells whether a job is one of `ick-outcomes`.
@@ -439,7 +469,7 @@ function callFor(request, lines = new Uint8Array()) {
     argv: argvOf(argumentsOf(request)), file: bytesOf(request.file), input: bytesOf(request.input),
     most: request.job === 'outcomes' ? MOST_OUTCOMES : MOST,
     listing: isOfOutcomes(request.job) ? lines : null,
-    commands: request.job === 'step' ? bytesOf(linesOf(request.commands)) : null,
+    commands: request.job === 'step' ? bytesOf(linesOf(request.commands)) : null, stages: request.job === 'stages',
   });
 }
 
@@ -475,12 +505,23 @@ function showTime() {
   }, LATE);
 }
 
+// Tells whether outcomes without a limit have too many states, or states that take too much memory. Then they are shown
+// as far as runs of 10,000 steps go.
+function isUnfinished(answer, { job, limit }) {
+  if (job !== 'outcomes' || limit || answer?.status !== 4) return false;
+  return /TRY --limit|OUT OF MEMORY/.test(new TextDecoder().decode(answer.errors));
+}
+
 // Makes one call and shows its answer. A call that takes long says so.
 async function ask(request) {
   if (isBusy || engine === null) return;
   setBusy(true);
   const clock = showTime();
-  const answer = await callFor(request);
+  let answer = await callFor(request);
+  if (isUnfinished(answer, request)) {
+    request = { ...request, limit: LIMIT_OF_RUNS };
+    answer = await callFor(request);
+  }
   const askers = await askersOf(answer, request);
   clearInterval(clock);
   setBusy(false);
@@ -565,6 +606,7 @@ async function followLink() {
 /* Keys and clicks */
 
 const inSession = (line) => () => session && command(line);
+const lineOfCursor = () => $('source').value.slice(0, $('source').selectionStart).split('\n').length;
 const answerBy = (choice) => () => !$('question').hidden && decide(choice);
 
 const keys = new Keys([
@@ -573,7 +615,10 @@ const keys = new Keys([
   [['s'], 'Make a step', inSession('step')],
   [['b', 'Shift F8'], 'Take a step back', inSession('back')],
   [['n'], 'Make a step, and if it is a NEXT, all until it comes back', inSession('next')],
-  [['r', 'F9'], 'Run on until a choice, the end or the limit', inSession('run')],
+  [['o'], 'Make steps until the newest return address was removed', inSession('out')],
+  [['t'], 'Set a breakpoint on the line of the editor’s cursor, or delete it',
+    () => toggleBreakpoint(lineOfCursor())],
+  [['r', 'F9'], 'Run on until a choice, a breakpoint, the end or the limit', inSession('run')],
   [['0'], 'Answer a question: pass over the statement', answerBy('0')],
   [['1'], 'Answer a question: do the statement', answerBy('1')],
   [['Escape'], 'Stop what runs', stop],
@@ -613,6 +658,8 @@ function listen() {
     undo();
   };
   $('form').oninput = changed;
+  $('source').onclick = showClicked;
+  $('numbers').onclick = ({ clientY }) => toggleBreakpoint(editor.lineAt(clientY));
   document.onkeydown = (event) => {
     if (!$('help').open) keys.press(event);
   };
@@ -621,7 +668,7 @@ function listen() {
     if (target === $('help')) $('help').close();
   };
   for (const button of document.querySelectorAll('[type=button][data-job]')) {
-    button.onclick = () => askForm(button.dataset.job);
+    button.onclick = () => (button.dataset.job === 'stages' ? askStages() : askForm(button.dataset.job));
   }
   for (const button of document.querySelectorAll('[data-choice]')) {
     button.onclick = () => decide(button.dataset.choice);
@@ -660,6 +707,17 @@ function listen() {
     const outcome = target.closest('.outcome');
     if (outcome) runAgain(outcome, weighed.request);
   };
+  $('staged').onclick = ({ target }) => {
+    const button = target.closest('[data-statement]');
+    if (button) goToStatement(button.dataset.statement);
+  };
+  $('chooser').onkeydown = (event) => {
+    const next = nextPlace(event.key, staged.statement.number - 1, staged.request.statements);
+    if (next === null) return;
+    event.preventDefault();
+    showStatement(next + 1);
+  };
+  $('statement').onchange = () => goToStatement($('statement').value);
   document.querySelector('.skip').onclick = (event) => {
     event.preventDefault();
     $('status').focus();

@@ -1,5 +1,5 @@
-// Files of what is shown: programs, listings and outcomes as text, the latter two as JSON as `ick-json` prints it, and
-// trees as SVG.
+// Files of what is shown: programs, listings, outcomes and stages as text, all but programs as JSON as `ick-json` prints
+// it, and trees as SVG.
 'use strict';
 
 const TYPES = { i: 'text/plain', txt: 'text/plain', json: 'application/json', svg: 'image/svg+xml' };
@@ -24,16 +24,21 @@ function termsOf(weight) {
 
 // Returns the fields of a run as ick-json has them.
 function fieldsOf({ choices, end, quoted }) {
-  const letters = unquoted(quoted), bytes = Uint8Array.from(letters, (letter) => letter.charCodeAt(0));
+  const letters = unquoted(quoted);
   const [, fault, statement] = /^E(\d+)@(\d+)$/.exec(end) ?? [];
   const ended = fault ? { end: 'FAULT', fault: Number(fault), statement: Number(statement) } : { end };
-  return { choices, ...ended, output: new TextDecoder().decode(bytes), base64: btoa(letters) };
+  return { choices, ...ended, output: textOfLetters(letters), base64: btoa(letters) };
 }
 
 function fieldsOfOutcome(outcome) {
   const { count, weight, share } = outcome, [numerator, denominator] = termsOf(weight);
   return { runs: count === '*' ? null : BigInt(count), weight, numerator, denominator, decimal: share,
     ...fieldsOf(outcome) };
+}
+
+// Returns the fields of a line of stages: those of a statement with its text.
+function fieldsOfStages({ letters, ...fields }) {
+  return letters === undefined ? fields : { ...fields, text: textOfLetters(letters), base64: btoa(letters) };
 }
 
 // Returns objects as lines of JSON. Whole numbers may have any number of digits.

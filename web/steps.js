@@ -31,6 +31,16 @@ function asksBehind(answer, asked) {
   return /^\d+ /m.test(answer) ? /^ {2}asks %\d+\n$/m.test(answer.split(/^(?=\d+ )/m).at(-1)) : asked;
 }
 
+// Returns the numbers of the statements that have a breakpoint behind these commands.
+function breakpointsOf(commands) {
+  const found = new Set();
+  for (const [verb, number] of commands.map((line) => line.split(' '))) {
+    if (verb === 'break') found.add(Number(number));
+    if (verb === 'delete') found.delete(Number(number));
+  }
+  return found;
+}
+
 // Returns the lines of a text as elements. Each one that `isMarked` holds of is marked.
 function linesOfText(text, isMarked) {
   return text.split('\n').slice(0, -1).map((line) =>

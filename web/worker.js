@@ -32,10 +32,11 @@ const copyOut = (address, length) =>
   new Uint8Array(ick.memory.buffer).slice(Number(address), Number(address) + length);
 
 // Returns the function for a message, and its texts: `ick-outcomes` if there are bytes for its LISTING, `ick-step` if
-// there are commands, or else `ick`.
-function callOf({ argv, file, listing, input, commands }) {
+// there are commands, `ick-stages` if stages are asked for, or else `ick`.
+function callOf({ argv, file, listing, input, commands, stages }) {
   if (listing) return [ick.ick_outcomes_serve, [argv, file, listing, input]];
   if (commands) return [ick.ick_step_serve, [argv, file, input, commands]];
+  if (stages) return [ick.ick_stages_serve, [argv, file, input]];
   return [ick.ick_serve, [argv, file, input]];
 }
 

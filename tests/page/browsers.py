@@ -69,8 +69,8 @@ class Browser:
 class Chromium(Browser):
     """Chromium over its pipe for debugging: texts of JSON, each of which ends in a byte 0."""
 
-    KEYS = {"Tab": 9, "Enter": 13, "Escape": 27, " ": 32, "End": 35, "Home": 36, "ArrowUp": 38, "ArrowDown": 40,
-            "F8": 119, "F9": 120}
+    KEYS = {"Tab": 9, "Enter": 13, "Escape": 27, " ": 32, "End": 35, "Home": 36, "ArrowLeft": 37, "ArrowUp": 38,
+            "ArrowRight": 39, "ArrowDown": 40, "F8": 119, "F9": 120}
 
     def __init__(self):
         theirs, self.to = os.pipe()
@@ -150,6 +150,9 @@ class Chromium(Browser):
         for kind in ("mousePressed", "mouseReleased"):
             self.call("Input.dispatchMouseEvent", type=kind, x=x, y=y, button="left", clickCount=1)
 
+    def point(self, x, y):
+        self.call("Input.dispatchMouseEvent", type="mouseMoved", x=x, y=y)
+
     def resize(self, width, height):
         self.call("Emulation.setDeviceMetricsOverride", width=width, height=height, deviceScaleFactor=1, mobile=False)
 
@@ -162,16 +165,24 @@ class Chromium(Browser):
 
 
 class ByActions(Browser):
-    """A browser whose keys are actions of WebDriver, which `actions` hands over."""
+    """A browser whose keys and pointer are actions of WebDriver, which `perform` hands over."""
 
     KEYS = {"Tab": "\ue004", "Enter": "\ue007", "Escape": "\ue00c", "End": "\ue010", "Home": "\ue011",
-            "ArrowUp": "\ue013", "ArrowDown": "\ue015", "F8": "\ue038", "F9": "\ue039"}
+            "ArrowLeft": "\ue012", "ArrowUp": "\ue013", "ArrowRight": "\ue014", "ArrowDown": "\ue015", "F8": "\ue038", "F9": "\ue039"}
     CONTROL, SHIFT = "\ue009", "\ue008"
     # The script answers by the last of its arguments.
     SCRIPT = "Promise.resolve({}).then(arguments[0], (error) => arguments[0](String(error)))"
 
-    def actions(self, *steps):
+    def perform(self, source):
         raise NotImplementedError
+
+    def actions(self, *steps):
+        self.perform({"type": "key", "id": "keys", "actions": list(steps)})
+
+    def point(self, x, y):
+        """Moves the pointer to a place of the window."""
+        self.perform({"type": "pointer", "id": "mouse", "parameters": {"pointerType": "mouse"},
+                      "actions": [{"type": "pointerMove", "duration": 0, "x": round(x), "y": round(y)}]})
 
     def press(self, key, control=False, shift=False):
         values = [self.KEYS.get(key, key), *([self.CONTROL] if control else []), *([self.SHIFT] if shift else [])]
@@ -243,8 +254,8 @@ class Firefox(ByActions):
         script = self.SCRIPT.format(expression)
         return self.call("WebDriver:ExecuteAsyncScript", script=script, args=[], sandbox=None)["value"]
 
-    def actions(self, *steps):
-        self.call("WebDriver:PerformActions", actions=[{"type": "key", "id": "keys", "actions": list(steps)}])
+    def perform(self, source):
+        self.call("WebDriver:PerformActions", actions=[source])
 
     def resize(self, width, height):
         self.call("WebDriver:SetWindowRect", width=width, height=height + 85)
@@ -339,15 +350,22 @@ class WebKit(ByActions):
     def evaluate(self, expression):
         return self.call("POST", "/execute/async", script=self.SCRIPT.format(expression), args=[])
 
-    def actions(self, *steps):
-        self.call("POST", "/actions", actions=[{"type": "key", "id": "keys", "actions": list(steps)}])
+    def perform(self, source):
+        self.call("POST", "/actions", actions=[source])
 
     def resize(self, width, height):
-        """Gives the page a size. A window has a frame, so its size is corrected by what the page has of it."""
-        self.call("POST", "/window/rect", width=width, height=height)
-        wide, high = self.evaluate("[innerWidth, innerHeight]")
-        self.call("POST", "/window/rect", width=2 * width - wide, height=2 * height - high)
-        self.wait(f"innerWidth === {width}")
+        """Gives the page a size. A window has a frame, so its size is corrected by what the page has of it, which may
+        come late.
+        """
+        last, outer = time.monotonic() + SECONDS, (width, height)
+        while time.monotonic() < last:
+            self.call("POST", "/window/rect", width=outer[0], height=outer[1])
+            time.sleep(0.2)
+            wide, high = self.evaluate("[innerWidth, innerHeight]")
+            if wide == width:
+                return
+            outer = outer[0] + width - wide, outer[1] + height - high
+        raise Failed(f"the page is not {width} pixels wide within {SECONDS} seconds")
 
     def picture(self, path):
         """Takes a picture. WebKit doesn't answer now and then if it has just drawn the page, and is asked again."""

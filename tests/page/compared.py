@@ -22,10 +22,10 @@ MOST = 1 << 26
 # The module has one file, so it can't be without one.
 LACKING = {"no-such-file", "."}
 SERVED = """
-globalThis.served = async (...given) => {
+globalThis.served = async (stages, ...given) => {
   const bytes = given.map((text) => Uint8Array.from(atob(text), (letter) => letter.charCodeAt(0)));
   const [argv, file, input, listing] = bytes;
-  const { status, failed, ...found } = await engine.call({ argv, file, input, listing, most: MOST_BYTES });
+  const { status, failed, ...found } = await engine.call({ argv, file, input, listing, stages, most: MOST_BYTES });
   const packed = await Promise.all([found.output, found.errors].map((bytes) => new Promise((done) => {
     const reader = new FileReader();
     reader.onload = () => done(reader.result.split(',')[1]);
@@ -43,12 +43,14 @@ class Module:
         self.chromium = chromium
         chromium.evaluate(SERVED)
 
-    def answer(self, words, file, given, listing=None):
-        """Returns the status, the output and the error text of `ick`, or of `ick-outcomes` if there is a listing."""
+    def answer(self, words, file, given, listing=None, stages=False):
+        """Returns the status, the output and the error text of `ick`, of `ick-outcomes` if there is a listing, or of
+        `ick-stages`.
+        """
         words = b"".join((word.encode() if isinstance(word, str) else word) + b"\0" for word in words)
         parts = [words, file, given, *([] if listing is None else [listing])]
         texts = ", ".join(f"'{base64.b64encode(part).decode()}'" for part in parts)
-        found = self.chromium.evaluate(f"served({texts})")
+        found = self.chromium.evaluate(f"served({'true' if stages else 'false'}, {texts})")
         return found["status"], base64.b64decode(found["output"]), base64.b64decode(found["errors"])
 
 
@@ -77,8 +79,8 @@ def read(path, default=b""):
         return file.read()
 
 
-def compare_examples(tally, module, program, outcomes):
-    """Each example by each command and by ick-outcomes, with its own options."""
+def compare_examples(tally, module, program, outcomes, stages):
+    """Each example by each command, by ick-outcomes with its own options, and by ick-stages."""
     for path in sorted(glob.glob(f"{TOP}/examples/*.i")):
         name = os.path.basename(path)[:-2]
         options, source = example_words(name), read(path)
@@ -97,6 +99,10 @@ def compare_examples(tally, module, program, outcomes):
             done = subprocess.run([outcomes, *words, file.name], input=given, capture_output=True, check=False)
             tally.equal(f"ick-outcomes {' '.join(words)} {name}.i", module.answer([*words, "FILE"], source, given, b""),
                         (done.returncode, done.stdout, done.stderr))
+            for words in ([], ["--statement", "2"]):
+                done = subprocess.run([stages, *words, file.name], input=b"", capture_output=True, check=False)
+                found = module.answer([*words, "FILE"], source, b"", stages=True)
+                tally.equal(f"ick-stages {' '.join(words)} {name}.i", found, (done.returncode, done.stdout, done.stderr))
 
 
 def compare_asked(tally, module, outcomes, path, given, listing, options):

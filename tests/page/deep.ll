@@ -24,3 +24,7 @@ define i8 @ick_outcomes_serve() {
 define i8 @ick_step_serve() {
   ret i8 0
 }
+
+define i8 @ick_stages_serve() {
+  ret i8 0
+}

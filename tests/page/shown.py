@@ -260,6 +260,11 @@ def outcomes(tally, page):
     page.choose("die")
     page.set(limit="")
     page.job("outcomes")
+    tally.equal("the outcomes of a die without a limit", page.texts("#status .ok"), "6 outcomes, and no other")
+    tally.equal("their weights", page.browser.evaluate(texts.format("weight")), ",".join(["1/6 = 16.7 %"] * 6))
+    tally.equal("their numbers of runs", page.browser.evaluate(texts.format("many")), ",".join(["infinitely many runs"] * 6))
+    page.set(limit="10000")
+    page.job("outcomes")
     found = re.match(r"(.*) lies behind the limit", page.status())[1]
     tally.check(re.fullmatch(r"\d\.\de-\d{3} %", found), f"{found!r} lies behind 10,000 steps of a die")
     for weight, wanted in (("1", "100 %"), ("0.333333333333333..", "33.3 %"), ("0.000000152", "1.5e-5 %"),
@@ -275,12 +280,19 @@ def limits(tally, page):
     for name in ("life", "primes"):
         page.choose(name)
         page.job("outcomes")
+        tally.equal(f"the outcome of {name} without a limit", page.texts("#status .ok"), "1 outcome, and no other")
+        page.set(limit="10000")
+        page.job("outcomes")
         tally.check(page.status().startswith("100 % lies behind the limitno outcome within it"),
                     f"the status {page.status()!r} of the outcomes of {name}")
         page.job("runs")
         tally.check(page.status().startswith("1 run reaches the limit1 run, and no other, 0 outcomes"),
                     f"the status {page.status()!r} of the runs of {name}")
         tally.equal(f"a headline of {name} in green", page.texts("#status .ok"), "")
+    page.set(source=PRINTS_ON, limit="")
+    page.job("outcomes")
+    tally.check(page.status().startswith("100 % lies behind the limitno outcome within it"),
+                f"the status {page.status()!r} of a loop that prints")
     page.choose("walk")
     page.job("runs")
     tally.check(re.match(r"\d+ runs reach the limit", page.status()), f"the status {page.status()!r} of walk")
@@ -294,6 +306,8 @@ def limits(tally, page):
     """), ["33.3 % never ends", 1, "2/3 = 66.7 %GIVE-UPinfinitely many runs", "100%"])
 
 
+# A loop that prints without an end, so the states are without an end too.
+PRINTS_ON = "(1) DO FORGET #1\nDO READ OUT #1\nPLEASE DO (1) NEXT\n"
 # Two statements with unlike chances, and ten that each print another number.
 UNLIKE = "DO %90 READ OUT #1\nDO %30 READ OUT #2\nPLEASE GIVE UP\n"
 MANY = "".join(f"{'DO' if at % 4 else 'PLEASE'} %50 READ OUT #{at + 1}\n" for at in range(10)) + "DO GIVE UP\n"
@@ -384,7 +398,7 @@ def stepping(tally, page):
         tally.equal(f"a question {name}", asks, said.endswith("choice"))
     page.set(watched="x")
     page.press("[data-step=why]")
-    tally.equal("no name", page.text("told"), "unknown command; help lists all commands\n")
+    tally.equal("no name", page.text("told"), "why takes one variable or array, such as .1 or ,2\n")
     page.job("run")
     tally.equal("a session behind a run", (page.text("told"), page.value("choices")), (None, ""))
     page.press("[data-choice='0']")
@@ -408,6 +422,48 @@ def stepping(tally, page):
     tally.check("is refused" in page.status() and page.text("told") is None, "a refusal has a session")
 
 
+def breakpoints(tally, page):
+    """A click on a line's number sets a breakpoint, at which a session stops, and deletes it again."""
+    page.set(source=CALLS, input="", choices="", seed="", limit="")
+    page.job("step")
+    for action, said, lines, told in STOPS:
+        if action == "click":
+            page.browser.evaluate(CLICK_AT_LINE.replace("LINE", "4"))
+            page.idle()
+        else:
+            page.press(f"[data-step={action}]")
+        tally.check(page.status().startswith(said), f"the status {page.status()!r} after {action}")
+        tally.equal(f"the breakpoints after {action}", page.texts("#numbers .stop"), lines)
+        tally.check(told in page.text("told"), f"the answer {page.text('told')!r} to {action}")
+    page.browser.evaluate("document.getElementById('source').setSelectionRange(0, 0), document.activeElement.blur()")
+    page.browser.press("t")
+    page.idle()
+    tally.equal("a breakpoint by its key", page.texts("#numbers .stop"), "1")
+    page.browser.press("o")
+    page.idle()
+    tally.equal("out by its key", page.text("told"), "the NEXT stack is empty\n")
+    page.job("run")
+    tally.equal("breakpoints behind a session", page.texts("#numbers .stop"), "")
+
+
+CALLS = "DO (10) NEXT\nDO READ OUT #1\nPLEASE GIVE UP\n(10) DO .1 <- #2\nDO RESUME #1\n"
+CLICK_AT_LINE = """(() => {
+  const range = document.createRange();
+  range.selectNode([...document.querySelector('#numbers div').childNodes].find((it) => it.textContent === 'LINE'));
+  const { top, height } = range.getBoundingClientRect(), clientY = top + height / 2;
+  document.getElementById('numbers').dispatchEvent(new MouseEvent('click', { clientY, bubbles: true }));
+})()"""
+# What is done, and what the page shows: the status, the lines with breakpoints, and a part of the answer.
+STOPS = [
+    ("click", "Statement 1 is met next", "4", 'breakpoint at 4 4:1 "(10) DO .1 <- #2"\n'),
+    ("run", "Statement 4 is met next", "4", "  breakpoint\n"),
+    ("out", "Statement 2 is met next", "4", '3 2 2:1 "DO READ OUT #1"\n'),
+    ("back", "Statement 5 is met next", "4", '2 5 5:1 "DO RESUME #1"\n'),
+    ("back", "Statement 4 is met next", "4", "  breakpoint\n"),
+    ("click", "Statement 4 is met next", "", "breakpoint deleted\n"),
+    ("back", "Statement 1 is met next", "", '0 1 1:1 "DO (10) NEXT"\n'),
+    ("run", "The program gave up", "", "5 ended: GIVE UP\n"),
+]
 MIDDLE = "DO %50 GIVE UP\nDO READ OUT #1\nPLEASE GIVE UP\n"
 FAR = "DO .1 <- #1\nDO .1 <- #1\nDO .1 <- #1\nPLEASE .1 <- #1\n" * 20 + "DO %50 READ OUT .1\nDO GIVE UP\n"
 HERE_IS_SEEN = """(() => {
@@ -712,7 +768,7 @@ def alone(tally, page):
     for width in (320, 375, 1280):
         page.browser.resize(width, 800)
         page.choose("guess")
-        for job in ("run", "runs", "outcomes", "list"):
+        for job in ("run", "runs", "outcomes", "list", "stages"):
             page.job(job)
             tally.check(page.browser.evaluate("document.documentElement.scrollWidth <= innerWidth"),
                         f"the page is wider than {width} pixels after {job}")
@@ -731,6 +787,8 @@ CONTRAST = """(() => {
     return .2126 * red + .7152 * green + .0722 * blue;
   };
   const behind = (it) => {
+    const box = it.matches('.node text:not(.number)') && it.parentElement.querySelector('rect');
+    if (box) return getComputedStyle(box).fill;
     const colour = getComputedStyle(it).backgroundColor;
     return colour.endsWith(', 0)') && it.parentElement ? behind(it.parentElement) : colour;
   };
@@ -765,6 +823,12 @@ def contrast(tally, page):
         page.job("step")
         page.press("[data-step=step]")
         check_contrast(tally, page, scheme)
+        page.job("stages")
+        page.press("#chooser [data-statement='6']")
+        for number in range(1, 4):
+            page.browser.evaluate(f"document.querySelector('[data-stage=tree] [data-numbers=\"{number}\"] rect')"
+                                  ".dispatchEvent(new MouseEvent('mouseover', { bubbles: true }))")
+            check_contrast(tally, page, scheme)
 
 
 def unable(tally, page):
