@@ -22,27 +22,27 @@
 #![tactic(auto)]
 
 mod body;
-mod body_bytes;
-mod boundaries;
-mod bytes;
+pub mod body_bytes;
+pub mod boundaries;
+pub mod bytes;
 mod cursor;
-mod expression;
+pub mod expression;
 mod labels;
 mod laws;
-mod lead;
+pub mod lead;
 mod listing;
-mod parsed;
-mod part;
+pub mod parsed;
+pub mod part;
 mod politeness;
-mod position;
+pub mod position;
 mod programs;
-mod qualifiers;
+pub mod qualifiers;
 mod ranges;
 mod refusals;
 mod source;
-mod statement_reader;
-mod token;
-mod verb;
+pub mod statement_reader;
+pub mod token;
+pub mod verb;
 
 pub use ick_syntax::{
     BinaryOp, Body, Element, Expr, Gerund, Item, Kind, Name, NameKind, Place, Program, Statement,

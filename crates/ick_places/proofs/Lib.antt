@@ -1,0 +1,10 @@
+pub mod WalkLemmas
+pub mod SpanLemmas
+pub mod TokenWalks
+pub mod ExpressionWalks
+pub mod RepeatedWalks
+pub mod AddLemmas
+pub mod BodyWalks
+pub mod HeadLemmas
+pub mod StatementLemmas
+pub mod Rows
