@@ -74,6 +74,7 @@ pub fn place_statement(
     statement: &Statement<'_>,
 ) -> Result<Places, NoMemory>
     requires { at ≤ length source.now }
+    ensures from { IfOk result (λ p. p.from ≡ at) }
     ensures placed { IfOk result (λ p. (to : ℕ) →
         IsStatement source.now at to (statement_tree_of statement.now) →
         IsPlaced source.now at (statement_tree_of statement.now) p) }

@@ -5,3 +5,4 @@ mod StepLaws
 mod LeftLaws
 mod StageLaws
 mod StagesLaws
+pub mod PartLaws

@@ -11,31 +11,33 @@ use Rattle.ick_inspect.specs.declared.text.Text.{Text}
 use Rattle.ick_instructions.specs.declared.layout.Layout.{Layout}
 use Rattle.ick_instructions.specs.declared.lowered.Lowered.{Lowered}
 use Rattle.ick_lowering.specs.declared.draft.Draft.{Draft}
-use Rattle.ick_stages.specs.Stages.{AddsStage, AreStages, no_stage, stage_more}
+use Rattle.ick_stages.specs.Stages.{AddsStage, AreStages, IsPlacedAt, no_stage, stage_more}
 use Rattle.ick_stages.specs.declared.stages.Asked.{Asked}
+use Rattle.ick_stages.specs.declared.stages.Placed.{Placed}
 use Rattle.ick_syntax.specs.StatementTree.{StatementTree, statement_tree_of, statement_trees}
 use Rattle.ick_syntax.specs.declared.statements.Statement.{Statement}
 
-pub record AddsFirst (lowered : Lowered) (layout : Layout) (asked : Asked) (trees : List StatementTree)
-    (positions : List Position) (n : ℕ) (d : Draft) (before after : Text) : Type 0 where
+pub record AddsFirst (lowered : Lowered) (layout : Layout) (source : List ℕ) (asked : Asked)
+    (trees : List StatementTree) (positions : List Position) (n : ℕ) (d : Draft) (before after : Text) : Type 0 where
   pub lines : List ℕ
-  pub stages : AreStages lowered layout asked trees positions n d lines
+  pub stages : AreStages lowered layout source asked trees positions n d lines
   pub added : Adds before after lines
 
-module _ {lowered : Lowered} {layout : Layout} {asked : Asked} {trees : List StatementTree} {positions : List Position} where
+module _ {lowered : Lowered} {layout : Layout} {source : List ℕ} {asked : Asked} {trees : List StatementTree}
+    {positions : List Position} where
   pub first_none : (d : Draft) (text : Text) → d.subscripts.items ≡ [] → d.constants.list.items ≡ [] →
-      AddsFirst lowered layout asked trees positions 0 d text text
+      AddsFirst lowered layout source asked trees positions 0 d text text
   first_none d text subscripts constants = record {
     lines = [];
     stages = no_stage subscripts constants;
     added = nothing text;
   }
 
-  pub first_more : {n : ℕ} {t : StatementTree} {position : Position} {old new : Draft} {a b c : Text} →
-      AddsFirst lowered layout asked trees positions n old a b →
-      slice_get trees n ≡ Some t → slice_get positions n ≡ Some position →
-      AddsStage lowered layout asked (n + 1) t position old new b c →
-      AddsFirst lowered layout asked trees positions (n + 1) new a c
+  pub first_more : {n : ℕ} {t : StatementTree} {placed : Placed} {old new : Draft} {a b c : Text} →
+      AddsFirst lowered layout source asked trees positions n old a b →
+      slice_get trees n ≡ Some t → IsPlacedAt source asked trees positions n t placed →
+      AddsStage lowered layout asked (n + 1) t placed old new b c →
+      AddsFirst lowered layout source asked trees positions (n + 1) new a c
   first_more first tree place stage = record {
     lines = first.lines ++ stage.piece;
     stages = stage_more first.stages tree place stage.has;

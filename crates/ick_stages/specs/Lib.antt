@@ -10,4 +10,5 @@ pub mod Rules
 pub mod Steps
 pub mod Left
 pub mod Statements
+pub mod Parts
 pub mod Stages

@@ -14,10 +14,12 @@ use Rattle.ick_lowering.specs.declared.draft.Draft.{Draft}
 use Rattle.ick_stages.specs.Bodies.{body_text}
 use Rattle.ick_stages.specs.Left.{Sorts, dropped_text, instructions_text, kept_of, sorted_first}
 use Rattle.ick_stages.specs.Operations.{operations_text}
+use Rattle.ick_stages.specs.Parts.{ArePlaces, BeginsThere, parts_text}
 use Rattle.ick_stages.specs.Registers.{drafted, lowered_names}
 use Rattle.ick_stages.specs.Statements.{placed_line}
 use Rattle.ick_stages.specs.Steps.{AreSteps, IsCleared, Made, asked_text}
 use Rattle.ick_stages.specs.declared.stages.Asked.{Asked}
+use Rattle.ick_stages.specs.declared.stages.Placed.{Placed}
 use Rattle.ick_syntax.specs.BodyTree.{BodyTree}
 use Rattle.ick_syntax.specs.StatementTree.{StatementTree}
 
@@ -29,11 +31,12 @@ is_shown (Some only) n = only == n
 abbrev pub tree_line : Option BodyTree → List ℕ
 tree_line body = codes "  tree " ++ body_text body ++ codes "\n"
 
--- what the text of a statement gives: its line, its tree and its operations
-unfoldable pub top_text : Code → Asked → (n : ℕ) → StatementTree → Position → List ℕ
-top_text code asked n t position =
-    placed_line n position t ++ asked_text asked.tree (tree_line t.body)
+-- what the text of a statement gives: its line, its tree, its operations and the places of its parts
+unfoldable pub top_text : Code → Asked → (n : ℕ) → StatementTree → Placed → List ℕ
+top_text code asked n t placed =
+    placed_line n placed.position t ++ asked_text asked.tree (tree_line t.body)
     ++ asked_text asked.operations (operations_text (code_slots code) (code_ops code n))
+    ++ asked_text asked.parts (parts_text placed.places.from placed.places.marks.items)
 
 -- what its draft and its instructions give: the instructions that are dropped, and those that are left
 abbrev pub bottom_text : Lowered → Layout → Asked → (n : ℕ) → Draft → Made → Sorts → List ℕ
@@ -48,40 +51,47 @@ sorts_by lowered n draft made =
     sorted_first draft.instructions.items made.first (kept_of lowered.parts n) (length draft.instructions.items)
 
 -- all lines of a statement that are asked for, by the lines of its steps
-abbrev pub stage_text : Lowered → Layout → Asked → (n : ℕ) → StatementTree → Position → (lines : List ℕ) → Made →
+abbrev pub stage_text : Lowered → Layout → Asked → (n : ℕ) → StatementTree → Placed → (lines : List ℕ) → Made →
     Draft → List ℕ
-stage_text lowered layout asked n t position lines made draft =
+stage_text lowered layout asked n t placed lines made draft =
     let shown = is_shown asked.only n in
-    asked_text shown (top_text lowered.code.now asked n t position) ++ asked_text (shown && asked.rules) lines
+    asked_text shown (top_text lowered.code.now asked n t placed) ++ asked_text (shown && asked.rules) lines
     ++ asked_text shown (bottom_text lowered layout asked n draft made (sorts_by lowered n draft made))
 
 -- the lines of a statement that was lowered again, from a draft to a draft
 pub record HasStage (lowered : Lowered) (layout : Layout) (asked : Asked) (n : ℕ) (t : StatementTree)
-    (position : Position) (old new : Draft) (piece : List ℕ) : Type 0 where
+    (placed : Placed) (old new : Draft) (piece : List ℕ) : Type 0 where
   pub first : Draft
   pub cleared : IsCleared old first
   pub lines : List ℕ
   pub made : Made
   pub steps : AreSteps (code_program lowered.code.now) (code_slots lowered.code.now) layout
       (code_ops lowered.code.now n) first new lines made
-  pub text_is : piece ≡ stage_text lowered layout asked n t position lines made new
+  pub text_is : piece ≡ stage_text lowered layout asked n t placed lines made new
 
 pub record AddsStage (lowered : Lowered) (layout : Layout) (asked : Asked) (n : ℕ) (t : StatementTree)
-    (position : Position) (old new : Draft) (before after : Text) : Type 0 where
+    (placed : Placed) (old new : Draft) (before after : Text) : Type 0 where
   pub piece : List ℕ
-  pub has : HasStage lowered layout asked n t position old new piece
+  pub has : HasStage lowered layout asked n t placed old new piece
   pub added : Adds before after piece
 
+-- the line and the column of a statement, and where its parts are in the source
+pub record IsPlacedAt (source : List ℕ) (asked : Asked) (trees : List StatementTree) (positions : List Position)
+    (index : ℕ) (t : StatementTree) (placed : Placed) : Type 0 where
+  pub position : slice_get positions index ≡ Some placed.position
+  pub begins : BeginsThere source trees index placed.places.from
+  pub places : asked.parts ≡ true → ArePlaces source placed.places.from t placed.places
+
 -- the lines of the first statements, and the draft that they left
-pub data AreStages (lowered : Lowered) (layout : Layout) (asked : Asked) (trees : List StatementTree)
+pub data AreStages (lowered : Lowered) (layout : Layout) (source : List ℕ) (asked : Asked) (trees : List StatementTree)
     (positions : List Position) : ℕ → Draft → List ℕ → Type 0 where
   no_stage : {d : Draft} → d.subscripts.items ≡ [] → d.constants.list.items ≡ [] →
-      AreStages lowered layout asked trees positions 0 d []
-  stage_more : {n : ℕ} {t : StatementTree} {position : Position} {old new : Draft} {lines piece : List ℕ} →
-      AreStages lowered layout asked trees positions n old lines →
-      slice_get trees n ≡ Some t → slice_get positions n ≡ Some position →
-      HasStage lowered layout asked (n + 1) t position old new piece →
-      AreStages lowered layout asked trees positions (n + 1) new (lines ++ piece)
+      AreStages lowered layout source asked trees positions 0 d []
+  stage_more : {n : ℕ} {t : StatementTree} {placed : Placed} {old new : Draft} {lines piece : List ℕ} →
+      AreStages lowered layout source asked trees positions n old lines →
+      slice_get trees n ≡ Some t → IsPlacedAt source asked trees positions n t placed →
+      HasStage lowered layout asked (n + 1) t placed old new piece →
+      AreStages lowered layout source asked trees positions (n + 1) new (lines ++ piece)
 
 -- the lines of all statements of a code, which was compiled from a source, and `DONE`
 pub record HasStages (code : Code) (source : List ℕ) (asked : Asked) (text : List ℕ) : Type 0 where
@@ -94,7 +104,7 @@ pub record HasStages (code : Code) (source : List ℕ) (asked : Asked) (text : L
       positions ≡ map (position_in source) starts
   pub last : Draft
   pub lines : List ℕ
-  pub stages : AreStages lowered layout asked (code_program code) positions (length (code_program code)) last lines
+  pub stages : AreStages lowered layout source asked (code_program code) positions (length (code_program code)) last lines
   pub text_is : text ≡ lines ++ codes "DONE\n"
 
 pub record AddsStages (code : Code) (source : List ℕ) (asked : Asked) (before after : Text) : Type 0 where

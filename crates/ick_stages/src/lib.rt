@@ -10,6 +10,7 @@
 //! | `rule` | the names of the rules of lowering, by what is seen of a step |
 //! | `steps` | the steps by which a statement is lowered |
 //! | `left` | the instructions that are left of a statement, and those that are dropped |
+//! | `parts` | the places of the parts of a statement |
 //! | `statement` | statements as `ick list` shows them, with their lines and columns |
 //! | `stages` | the stages of a whole program |
 #![tactic(auto)]
@@ -19,6 +20,7 @@ mod instruction;
 mod left;
 mod names;
 mod operation;
+mod parts;
 mod registers;
 mod rule;
 mod stages;
@@ -31,6 +33,7 @@ mod value;
 pub use body::append_body;
 pub use instruction::append_instruction;
 pub use operation::{append_operation, append_operations};
+pub use parts::append_parts;
 pub use registers::{Registers, append_register};
 pub use rule::{Step, append_rules};
 pub use stages::{Asked, append_stages};

@@ -6,6 +6,7 @@ ghost use Rattle.ick_inspect.specs.Text.{Adds};
 ghost use Rattle.ick_lowering.specs.Programs.{CanLower, LowersTo};
 ghost use Rattle.ick_stages.specs.Left.{dropped_text, instructions_text, kept_of, sorts_of};
 ghost use Rattle.ick_stages.specs.Operations.{operations_text};
+ghost use Rattle.ick_stages.specs.Parts.{parts_text};
 ghost use Rattle.ick_stages.specs.Registers.{drafted, lowered_names};
 ghost use Rattle.ick_stages.specs.Stages.{AddsStage, AddsStages, bottom_text, is_shown as shows};
 ghost use Rattle.ick_stages.specs.Stages.{top_text, tree_line};
@@ -17,6 +18,7 @@ ghost use Rattle.ick_syntax.specs.StatementTree.{statement_tree_of};
 use crate::body::append_body;
 use crate::left::{Sorted, append_dropped, append_instructions, instructions_of};
 use crate::operation::append_operations;
+use crate::parts::{append_parts, places_of};
 use crate::registers::Registers;
 use crate::statement::append_line;
 use crate::steps::{Makers, append_steps};
@@ -27,6 +29,8 @@ use ick_instructions::{Layout, Lowered};
 use ick_lowering::draft::Draft;
 use ick_lowering::lower;
 use ick_lowering::lowering::layout_of;
+use ick_places::Places;
+use ick_source::bytes::after_white;
 use ick_syntax::{Body, Program, Statement};
 use std::alloc::Global;
 
@@ -35,10 +39,18 @@ use std::alloc::Global;
 pub struct Asked {
     pub tree: bool,
     pub operations: bool,
+    pub parts: bool,
     pub rules: bool,
     pub instructions: bool,
     /// The number of the only statement that is shown.
     pub only: Option<u32>,
+}
+
+/// Where a statement is in the source: its line and column, and the places of its parts.
+#[derive(Drop)]
+struct Placed {
+    position: Position,
+    places: Places,
 }
 
 /// A statement that is lowered again: its draft, the operations that made the instructions, and
@@ -97,24 +109,36 @@ fn append_operation_lines(text: &mut Text, code: &Code<'_>, n: u32, asked: bool)
     }
 }
 
-/// Appends the lines of a statement that its text gives: its own line, its tree and its operations.
+/// Appends the places of the parts of a statement, if they are asked for.
+fn append_part_lines(text: &mut Text, places: &Places, asked: bool)
+    ensures { Adds text.old text.new (asked_text asked
+        (parts_text places.now.from places.now.marks.items)) }
+{
+    if asked {
+        append_parts(text, places.from, &places.marks);
+    }
+}
+
+/// Appends the lines of a statement that its text gives: its own line, its tree, its operations and
+/// the places of its parts.
 #[tactic(auto, unfolding(crate::specs::Stages::top_text))]
 fn append_top(
     text: &mut Text,
     code: &Code<'_>,
     statement: &Statement<'_>,
-    position: Position,
+    placed: &Placed,
     n: u32,
     asked: &Asked,
 )
     requires first { 1 ≤ n }
     requires last { n ≤ length (code_program code.now) }
     ensures { Adds text.old text.new
-        (top_text code.now asked.now n (statement_tree_of statement.now) position) }
+        (top_text code.now asked.now n (statement_tree_of statement.now) placed.now) }
 {
-    append_line(text, n, statement, position);
+    append_line(text, n, statement, placed.position);
     append_tree_line(text, &statement.body, asked.tree);
     append_operation_lines(text, code, n, asked.operations);
+    append_part_lines(text, &placed.places, asked.parts);
 }
 
 /// Appends the lines of the instructions of a draft that are dropped, if they are asked for.
@@ -177,7 +201,7 @@ fn append_top_if(
     text: &mut Text,
     code: &Code<'_>,
     statement: &Statement<'_>,
-    position: Position,
+    placed: &Placed,
     n: u32,
     asked: &Asked,
     shown: bool,
@@ -185,10 +209,10 @@ fn append_top_if(
     requires first { 1 ≤ n }
     requires last { n ≤ length (code_program code.now) }
     ensures { Adds text.old text.new (asked_text shown
-        (top_text code.now asked.now n (statement_tree_of statement.now) position)) }
+        (top_text code.now asked.now n (statement_tree_of statement.now) placed.now)) }
 {
     if shown {
-        append_top(text, code, statement, position, n, asked);
+        append_top(text, code, statement, placed, n, asked);
     }
 }
 
@@ -218,7 +242,7 @@ fn append_stage(
     lowered: &Lowered<'_, '_>,
     layout: Layout,
     statement: &Statement<'_>,
-    position: Position,
+    placed: &Placed,
     n: u32,
     asked: &Asked,
 ) -> Result<(), NoMemory>
@@ -230,11 +254,11 @@ fn append_stage(
     ensures lowers { OnOk result (LowersTo lowered.now.code.now layout
         (code_ops lowered.now.code.now n) work.old.draft work.new.draft) }
     ensures stage { OnOk result (AddsStage lowered.now layout asked.now n
-        (statement_tree_of statement.now) position work.old.draft work.new.draft
+        (statement_tree_of statement.now) placed.now work.old.draft work.new.draft
         text.old text.new) }
 {
     let shown = is_shown(asked.only, n);
-    append_top_if(text, lowered.code, statement, position, n, asked, shown);
+    append_top_if(text, lowered.code, statement, placed, n, asked, shown);
     let lines = are_both(shown, asked.rules);
     append_steps(
         text,
@@ -287,16 +311,21 @@ pub fn append_stages(
         },
         sorted: Sorted::new(alloc),
     };
+    let mut end = 0;
     for at in 0..code.count() {
         let position = position_at(&positions, at as usize);
         let statement = &statements[at as usize];
+        let start = after_white(source, end);
+        let places = places_of(alloc, source, start, statement, asked.parts)?;
+        let placed = Placed { position, places };
+        end = start + statement.text.len().min(source.len() - start);
         append_stage(
             text,
             &mut work,
             &lowered,
             layout,
             statement,
-            position,
+            &placed,
             at + 1,
             asked,
         )?;
