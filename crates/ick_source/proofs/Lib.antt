@@ -1,12 +1,15 @@
+pub mod AllFaultLemmas
 pub mod BodyByteLemmas
 pub mod BodyByteReadings
 pub mod BodyReadings
 pub mod BoundaryLemmas
 pub mod ByteLemmas
 pub mod ClampedLemmas
+pub mod ClampedStatements
 pub mod ClampedWhole
 pub mod CursorLemmas
 pub mod CutLemmas
+pub mod DigitLemmas
 pub mod ExpressionReadings
 pub mod GrammarLaws
 pub mod GrammarShorter
@@ -24,8 +27,11 @@ pub mod RefusalLemmas
 pub mod RepeatedFound
 pub mod RepeatedReadings
 pub mod Rows
+pub mod SeenLemmas
 pub mod SequenceFound
 pub mod SourceLemmas
 pub mod StatementLemmas
+pub mod SurveyLemmas
 pub mod TokenShorter
+pub mod UsedLabelLemmas
 pub mod WordReadings

@@ -17,7 +17,7 @@ value-after (d ∷ ds) n =
     let shifted : n * (10 ^ length (d ∷ ds)) ≡ n * (10 * power) = ap (λ q. n * q) (pow-succ' 10 (length ds)) in
     value-after ds (n * 10 + (d - 48)) ∙ omega (arith, shifted, add-mul (n * 10) (d - 48) power, mul_assoc n 10 power)
 
-value-is : (ds : List ℕ) → value_after 0 ds ≡ value_of_digits ds
+pub value-is : (ds : List ℕ) → value_after 0 ds ≡ value_of_digits ds
 value-is ds = value-after ds 0 ∙ omega arith
 
 digits-split : (l : List ℕ) → l ≡ digits_of l ++ past_digits l
@@ -27,7 +27,7 @@ digits-split (b ∷ l) =
     elim (is_digit b) as (λ d. b ∷ l ≡ cond d (b ∷ digits_of l) []
     ++ cond d (past_digits l) (b ∷ l)) [ true ↦ ap (λ x. b ∷ x) (digits-split l) | false ↦ refl ]
 
-digits-all : (l : List ℕ) → list_all is_digit (digits_of l) ≡ true
+pub digits-all : (l : List ℕ) → list_all is_digit (digits_of l) ≡ true
 unfolding digits_of
 digits-all [] = refl
 digits-all (b ∷ l) = all_by l b (is_digit b) refl (digits-all l)

@@ -1,3 +1,4 @@
+pub mod AllFaults
 pub mod BodyAnswers
 pub mod BodyBytes
 pub mod BodyGrammar
@@ -5,12 +6,14 @@ pub mod Boundaries
 pub mod Bytes
 pub mod Cursors
 pub mod Cut
+pub mod Digits
 pub mod Expression
 pub mod Grammar
 pub mod HeadAnswers
 pub mod Labels
 pub mod Laws
 pub mod Lead
+pub mod Listed
 pub mod Listing
 pub mod Position
 pub mod Qualifiers
@@ -18,10 +21,14 @@ pub mod Ranges
 pub mod Reading
 pub mod RefusalAnswers
 pub mod Refusals
+pub mod Seen
+pub mod SeenAnswers
 pub mod SourceAnswers
 pub mod StatementAnswers
 pub mod Statements
+pub mod Surveys
 pub mod Token
+pub mod UsedLabels
 pub mod Verb
 pub use Rattle.ick_syntax.specs.BodyTree
 pub use Rattle.ick_syntax.specs.ProgramFaults

@@ -16,17 +16,27 @@
 //! - `ranges`, `labels`, `politeness`: numbers out of range, labels, and politeness
 //! - `programs`: refuses statements that make no program
 //!
+//! Statements and all faults of a text that may be refused:
+//!
+//! - `digits`, `label_digits`: the digits by which labels of any size are compared
+//! - `seen`: a statement and the digits of its labels, and all statements of a text
+//! - `survey`, `all_faults`: decides which faults a statement has, and lists all of them
+//! - `statements`: the whole of a text
+//!
 //! `listing` appends the lines of a program.
 //!
 //! `laws` states laws of every text.
 #![tactic(auto)]
 
+mod all_faults;
 mod body;
 mod body_bytes;
 mod boundaries;
 mod bytes;
 mod cursor;
+mod digits;
 mod expression;
+mod label_digits;
 mod labels;
 mod laws;
 mod lead;
@@ -39,11 +49,15 @@ mod programs;
 mod qualifiers;
 mod ranges;
 mod refusals;
+mod seen;
 mod source;
 mod statement_reader;
+mod statements;
+mod survey;
 mod token;
 mod verb;
 
+pub use all_faults::FaultAt;
 pub use ick_syntax::{
     BinaryOp, Body, Element, Expr, Gerund, Item, Kind, Name, NameKind, Place, Program, Statement,
     Target, UnaryOp,
@@ -51,4 +65,6 @@ pub use ick_syntax::{
 pub use laws::{one_body, one_cut, one_reading, one_refusal};
 pub use listing::append_listing;
 pub use refusals::Refusal;
+pub use seen::Seen;
 pub use source::read_source;
+pub use statements::{Listed, read_statements};

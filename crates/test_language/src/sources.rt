@@ -1,8 +1,8 @@
 //! How sources are cut, listed and refused.
 
 use crate::failure::Failure;
-use crate::texts::{Text, append_number, append_refusal, append_shown};
-use ick_source::{Refusal, read_source};
+use crate::texts::{Text, append_fault, append_number, append_refusal, append_shown};
+use ick_source::{FaultAt, Listed, Refusal, Seen, read_source, read_statements};
 use ick_syntax::{Body, Program};
 use std::alloc::Global;
 use test_rows::Row;
@@ -52,6 +52,58 @@ fn refusal_of(alloc: Global, source: &[u8]) -> Option<Refusal> {
     match read_source(alloc, source) {
         Ok(_) => None,
         Err(refusal) => Some(refusal),
+    }
+}
+
+/// Appends all faults for which a source is refused.
+pub fn faults(alloc: Global, row: &Row, out: &mut Text) -> Result<(), Failure> {
+    let listed = listed(alloc, row)?;
+    for fault in &listed.faults {
+        append_fault_at(out, fault);
+    }
+    if listed.faults.is_empty() {
+        out.append(b"no fault");
+    }
+    Ok(())
+}
+
+/// Appends a kind of fault and the number of its statement.
+fn append_fault_at(out: &mut Text, fault: &FaultAt) {
+    if !out.is_empty() {
+        out.push(b' ');
+    }
+    append_fault(out, fault.kind);
+    append_number(out, b"@", u64::from(fault.number));
+}
+
+/// Appends the statements of a source that may be refused.
+pub fn statements(alloc: Global, row: &Row, out: &mut Text) -> Result<(), Failure> {
+    let listed = listed(alloc, row)?;
+    for seen in &listed.statements {
+        append_seen(out, seen);
+    }
+    Ok(())
+}
+
+/// Appends the number, the label and the kind of a statement.
+fn append_seen(out: &mut Text, seen: &Seen<'_>) {
+    if !out.is_empty() {
+        out.append(b"; ");
+    }
+    out.append_decimal(u64::from(seen.statement.number));
+    match seen.statement.label {
+        Some(label) => append_number(out, b" ", u64::from(label)),
+        None => out.append(b" -"),
+    }
+    out.push(b' ');
+    out.append(seen.statement.body.kind().word());
+}
+
+/// Reads the statements of a row's source, and finds its faults.
+fn listed<'a>(alloc: Global, row: &'a Row) -> Result<Listed<'a>, Failure> {
+    match read_statements(alloc, row.field(b"source")) {
+        Ok(listed) => Ok(listed),
+        Err(refusal) => Err(Failure::Source(refusal)),
     }
 }
 
