@@ -1,5 +1,6 @@
 use Rattle.std.proofs.Common.{◌∙◌, refl, arith}
 use Rattle.ick_syntax.specs.declared.body.Gerund.TheVariants.{Calculating}
+use Rattle.ick_source.specs.declared.wanted.Wanted.TheVariants.{Gerund}
 use Rattle.ick_syntax.specs.Gerund.{gerund_word}
 use Rattle.ick_source.specs.BodyGrammar.{all_gerunds, gerunds}
 use Rattle.ick_source.proofs.CursorLemmas.{does_decided}
@@ -18,7 +19,7 @@ unfolding gerunds
 returns-in_default c =
     let before = c.loop-gerund.invariant in
     does_decided _ _ _ _ _ _ _
-    (does_among gerund_word all_gerunds _ Calculating _ _ _ _ _ (let passed = c.loop-gerund-test.true in omega arith) before.0 c.word.ensures
+    (does_among Gerund gerund_word all_gerunds _ Calculating _ _ _ _ _ (let passed = c.loop-gerund-test.true in omega arith) before.0 c.word.ensures
     c.if-eats.ensures before.1 (record { same = refl; none = refl })) (λ u e. e)
     (one_word _ _ _ c.in_default.ensures)
 
@@ -27,7 +28,7 @@ unfolding gerunds
 returns-in-Some c =
     let before = c.loop-gerund.invariant in
     does_decided _ _ _ _ _ _ _
-    (does_among gerund_word all_gerunds _ Calculating _ _ _ _ _ (let passed = c.loop-gerund-test.true in omega arith) before.0 c.word.ensures
+    (does_among Gerund gerund_word all_gerunds _ Calculating _ _ _ _ _ (let passed = c.loop-gerund-test.true in omega arith) before.0 c.word.ensures
     c.if-eats.ensures before.1 (record { same = refl; none = refl })) c.expect.ensures.stays
     (two_words _ _ _ _ _ c.in-Some.ensures c.expect.ensures)
 
@@ -36,6 +37,6 @@ unfolding gerunds
 returns c =
     let before = c.loop-gerund.invariant in
     does_decided _ _ _ _ _ Calculating _
-    (among_refused gerund_word all_gerunds Calculating _ _ _ _ before.0 c.refuse.ensures
+    (among_refused Gerund gerund_word all_gerunds Calculating _ _ _ _ refl before.0 c.refuse.ensures
     (λ fine k low. let passed = c.loop-gerund-test.false in before.1 fine k (omega arith))) (λ u e. e)
     (one_word _ _ _ refl)

@@ -1,5 +1,7 @@
-use Rattle.ick_source.specs.BodyGrammar.{names}
-use Rattle.ick_source.proofs.CursorLemmas.{does_by, does_decided, nothing_refused}
+use Rattle.std.proofs.Common.{ap, refl}
+use Rattle.ick_source.specs.BodyGrammar.{names, name_by}
+use Rattle.ick_source.specs.Position.{left_at}
+use Rattle.ick_source.proofs.CursorLemmas.{does_by, does_stopped}
 use Rattle.ick_source.proofs.PartReadings.{other_name}
 use Rattle.ick_source.proofs.part.NamePart.read.Goals as goal
 
@@ -16,5 +18,5 @@ returns-in-Array c =
 pub returns-in_default : goal.returns-in_default
 unfolding names
 returns-in_default c =
-    does_decided _ _ _ _ _ _ _ c.sign.ensures c.refuse.ensures.stays
-    (other_name _ _ _ _ c.in_default.not-Spot c.in_default.not-Array (nothing_refused _ _ _ c.refuse.ensures))
+    does_stopped name_by _ _ _ _ _ _ _ c.sign.ensures (λ text. ap (λ t. left_at t.now c.args.cursor.now.at) text)
+    c.refuse_at.ensures (other_name _ c.in_default.not-Spot c.in_default.not-Array) refl
