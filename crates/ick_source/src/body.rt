@@ -20,13 +20,14 @@ impl<'a> Cursor<'a> {
     pub fn body(&mut self) -> Body
         ensures { Reads bodies body_trees self.old self.new (body_tree_of result) }
     {
-        match self.lead() {
+        let next = self.peek();
+        match next.value {
             Lead::Spot(kind) => {
-                self.sign();
+                self.pass(next.to);
                 self.scalar_body(kind)
             }
             Lead::Array(kind) => {
-                self.sign();
+                self.pass(next.to);
                 self.array_body(kind)
             }
             _ => {

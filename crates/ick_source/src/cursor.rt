@@ -5,14 +5,14 @@
 //! is looked at once, at the end.
 
 ghost use Rattle.std.specs.Prelude.{◌≡◌, None, Some};
-ghost use Rattle.ick_source.specs.Cursors.{Does, Eats, IsPlain, Keeps, Makes, Reads};
-ghost use Rattle.ick_source.specs.Cursors.{Refuses, Sees, faults_by, left, numbers};
+ghost use Rattle.ick_source.specs.Cursors.{Does, Eats, IsPlain, Keeps, Makes, Peeks, Reads};
+ghost use Rattle.ick_source.specs.Cursors.{Refuses, Sees, faults_by, left, moved, numbers};
 ghost use Rattle.ick_source.specs.Expression.{unaries};
-ghost use Rattle.ick_source.specs.Grammar.{number, sign, word};
-ghost use Rattle.ick_source.specs.Position.{left_at, next_lead};
+ghost use Rattle.ick_source.specs.Grammar.{number, word};
+ghost use Rattle.ick_source.specs.Position.{next_lead};
 
 use crate::lead::Lead;
-use crate::parsed::Unread;
+use crate::parsed::{Scanned, Unread};
 use crate::position::{Position, lead_at};
 use crate::token::{number_at, word_at};
 use crate::wanted::Wanted;
@@ -61,17 +61,6 @@ impl<'a> Cursor<'a> {
         }
     }
 
-    /// Refuses at an earlier position: the next character there is none that the grammar expects.
-    #[inline(always)]
-    pub fn refuse_at(&mut self, at: Position, wanted: Wanted)
-        ensures { Refuses wanted (left_at self.old.text.now at) self.old self.new }
-    {
-        if self.refusal.is_none() {
-            self.at = at;
-            self.refusal = Some(Unread::Absent(wanted));
-        }
-    }
-
     /// Returns the part of an expression that the next character begins. Returns `Lead::Other`
     /// after a refusal.
     #[inline(always)]
@@ -85,17 +74,27 @@ impl<'a> Cursor<'a> {
         lead_at(self.text, self.at).value
     }
 
-    /// Moves past the next character, and returns the part of an expression that it begins.
+    /// Returns the part of an expression that the next character begins, and the position after that
+    /// character. Returns `Lead::Other` after a refusal.
     #[inline(always)]
-    pub fn sign(&mut self) -> Lead
-        ensures { Does sign self.old self.new (IsPlain result) }
+    pub fn peek(&self) -> Scanned<Lead, Position>
+        ensures { Peeks self.now result }
     {
         if self.refusal.is_some() {
-            return Lead::Other;
+            return Scanned {
+                value: Lead::Other,
+                to: self.at,
+            };
         }
-        let next = lead_at(self.text, self.at);
-        self.at = next.to;
-        next.value
+        lead_at(self.text, self.at)
+    }
+
+    /// Moves past a character, after which the cursor is at this position.
+    #[inline(always)]
+    pub fn pass(&mut self, to: Position)
+        ensures { self.new ≡ moved self.old to }
+    {
+        self.at = to;
     }
 
     /// Reads the unary operator that comes next, if there is one.
@@ -103,9 +102,10 @@ impl<'a> Cursor<'a> {
     pub fn unary(&mut self) -> Option<UnaryOp>
         ensures { Does unaries self.old self.new (IsPlain result) }
     {
-        match self.lead() {
+        let next = self.peek();
+        match next.value {
             Lead::Unary(op) => {
-                self.sign();
+                self.pass(next.to);
                 Some(op)
             }
             _ => None,
