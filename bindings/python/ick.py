@@ -47,8 +47,8 @@ from typing import NamedTuple, Optional
 __all__ = ["Answer", "Asker", "Outcome", "Refused", "Run", "Session", "Statement", "Summary", "asked", "check", "outcomes", "run",
            "runs", "serve", "serve_outcomes", "serve_stages", "serve_step", "stages", "steps", "trace", "version"]
 
-# Sizes of the room for a text, the first of which the system grants is taken. No text is longer than the first size. A
-# room is only addresses: a page of it takes memory when a text is written there.
+# Sizes of the room for a text. The module takes the first size that the system grants. No text is longer than the first
+# one. A room is only addresses: a page of it takes memory when a text is written there.
 ROOMS = (1 << 40, 1 << 32, 1 << 16)
 NO_RESERVE = getattr(mmap, "MAP_NORESERVE", 0x4000)  # Python before 3.11 doesn't name it
 RUN = re.compile(rb'(\S+) (\S+) "(.*)"')
